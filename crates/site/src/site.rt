@@ -1,0 +1,57 @@
+//! The site that a build works on.
+
+ghost use Rattle.std.specs.Prelude.{◌≡◌, ℕ, true, false, IsTrue, IfOk, OnOk, OnErr};
+ghost use Rattle.model.specs.World.{View, file_at, stamp_of, runs};
+ghost use Rattle.model.specs.Calls.{OnlyLooks, HasCause, Sees, Ticks, TicksOrNot, Starts, StartsOrNot, Finishes};
+
+use manifest::Texts;
+use model::{Act, Event, Finished, SiteFault};
+
+/// The files, the clock and the commands that a build works on.
+///
+/// While commands run, they and others may write during any call. A call that answers `Device` has counted a failure.
+/// Once a call has answered `Stopped`, so does each later one, and nothing changes.
+pub trait Site: Texts {
+    ghost use Rattle.model.specs.declared.act.Act.{Act};
+    ghost use Rattle.model.specs.declared.outcome.Outcome.{Outcome};
+
+    /// What a command gives in a view.
+    ghost outcome: { Act → View → Outcome };
+
+    /// The stamp of the file at the path, or nothing where there is no file.
+    fn stat(&mut self, path: &str) -> Result<Option<u64>, SiteFault>
+        ensures looks { OnlyLooks Self.tells (Self.world self.old) (Self.world self.new) }
+        ensures cause { HasCause (Self.world self.old) (Self.world self.new) result }
+        ensures stamp { IsTrue Self.tells → IfOk result (λ stamp. Sees (λ history. stamp_of (file_at history path.now)) stamp (Self.world self.old).history (Self.world self.new).history) };
+
+    /// Gives the file at the path a new stamp, and answers it. A file that is absent is made, with nothing in it.
+    /// Where it fails, the file may have been touched.
+    fn tick(&mut self, path: &str) -> Result<u64, SiteFault>
+        ensures cause { HasCause (Self.world self.old) (Self.world self.new) result }
+        ensures ticks { IfOk result (λ stamp. Ticks Self.tells path.now stamp (Self.world self.old) (Self.world self.new)) }
+        ensures err { OnErr result (TicksOrNot Self.tells path.now (Self.world self.old) (Self.world self.new)) };
+
+    /// Makes the folder and those above it, where they are absent. A folder is no file of the model.
+    fn make_dirs(&mut self, path: &str) -> Result<(), SiteFault>
+        ensures looks { OnlyLooks Self.tells (Self.world self.old) (Self.world self.new) }
+        ensures cause { HasCause (Self.world self.old) (Self.world self.new) result };
+
+    /// Starts the command of a job that does not run. With `console` it has the program's own input and output.
+    /// Where it fails, the command may have been started.
+    fn start(&mut self, job: usize, act: &Act, console: bool) -> Result<(), SiteFault>
+        requires { runs job (Self.world self.old).events ≡ false }
+        ensures cause { HasCause (Self.world self.old) (Self.world self.new) result }
+        ensures starts { OnOk result (Starts Self.tells job act.now (Self.world self.old) (Self.world self.new)) }
+        ensures err { OnErr result (StartsOrNot Self.tells job act.now (Self.world self.old) (Self.world self.new)) };
+
+    /// Waits until a running command has ended, and takes it in. Which of several is open.
+    fn wait_any(&mut self) -> Result<Finished, SiteFault>
+        requires { (job : ℕ) × (runs job (Self.world self.old).events ≡ true) }
+        ensures cause { HasCause (Self.world self.old) (Self.world self.new) result }
+        ensures finishes { IfOk result (λ finished. Finishes Self.tells finished.job finished.ok (Self.world self.old) (Self.world self.new)) }
+        ensures err { OnErr result (OnlyLooks Self.tells (Self.world self.old) (Self.world self.new)) };
+
+    /// All starts and finishes so far, oldest first.
+    fn events(&self) -> &[Event]
+        ensures { result.now ≡ (Self.world self.now).events };
+}

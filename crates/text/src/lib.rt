@@ -1,0 +1,12 @@
+//! Texts, paths, bytes and lists, as contracts see them.
+#![tactic(auto)]
+
+mod bytes;
+mod items;
+mod path;
+mod text;
+
+pub use bytes::Bytes;
+pub use items::Items;
+pub use path::Path;
+pub use text::Text;
