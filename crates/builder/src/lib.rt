@@ -1,8 +1,14 @@
 //! One build: reads the build files, decides which commands are needed, and runs them.
 #![tactic(auto)]
 
+mod cone;
+mod graph;
+mod missing;
 mod one_build;
+mod plan;
 mod report;
+mod run;
+mod start;
 
 pub use one_build::build;
-pub use report::{Options, Refusal, Report};
+pub use report::{Missing, Options, Refusal, Report};

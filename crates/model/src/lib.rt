@@ -5,10 +5,16 @@ mod act;
 mod event;
 mod fault;
 mod graph;
+mod moves;
 mod outcome;
+mod reason;
+mod record;
 
 pub use act::Act;
 pub use event::{Event, Finished, Moment, Writer};
 pub use fault::SiteFault;
 pub use graph::{BuildGraph, Deps, Edge, Pool};
+pub use moves::Move;
 pub use outcome::{Outcome, Write};
+pub use reason::Reason;
+pub use record::{DepsRecord, Record};

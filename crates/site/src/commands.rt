@@ -4,7 +4,8 @@ ghost use Rattle.std.specs.Prelude.{◌≡◌, ℕ, List, IfOk};
 ghost use Rattle.model.specs.World.{View, view_of};
 ghost use Rattle.model.specs.Calls.{AgreeOn};
 
-use model::{Act, Moment, Outcome};
+use crate::history::History;
+use model::{Act, Outcome};
 use std::alloc::{AllocError, Global};
 
 /// Commands as functions of what they read.
@@ -19,7 +20,7 @@ pub trait Commands {
     ghost reads: { Act → View → List (List ℕ) };
 
     /// What the act gives, the files being those of this history.
-    fn run(&self, alloc: Global, act: &Act, history: &[Moment]) -> Result<Outcome, AllocError>
+    fn run(&self, alloc: Global, act: &Act, history: &History) -> Result<Outcome, AllocError>
         ensures { IfOk result (λ given. given ≡ outcome act.now (view_of history.now)) };
 
     /// Where two views hold the same at the paths read in the first, the outcome is the same.

@@ -3,10 +3,15 @@
 
 mod bytes;
 mod items;
+mod marks;
 mod path;
 mod text;
 
 pub use bytes::Bytes;
 pub use items::Items;
+pub use marks::cut;
 pub use path::Path;
 pub use text::Text;
+
+#[cfg(test)]
+mod tests;

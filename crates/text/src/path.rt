@@ -91,7 +91,7 @@ impl PartialEq for Path {
     ghost laws = { partial_equiv_from_equiv nat_list_eq_equiv };
 
     fn eq(&self, other: &Path) -> bool {
-        self.string.as_str() == other.string.as_str()
+        self.as_str() == other.as_str()
     }
 }
 
@@ -107,6 +107,6 @@ impl fmt::Display for Path {
     ghost output = { λ path. Some path };
 
     fn fmt<W: fmt::Write>(&self, f: &mut fmt::Formatter<W>) -> fmt::Result {
-        f.write_str(self.string.as_str())
+        f.write_str(self.as_str())
     }
 }

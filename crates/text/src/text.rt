@@ -89,7 +89,7 @@ impl PartialEq for Text {
     ghost laws = { partial_equiv_from_equiv nat_list_eq_equiv };
 
     fn eq(&self, other: &Text) -> bool {
-        self.string.as_str() == other.string.as_str()
+        self.as_str() == other.as_str()
     }
 }
 
@@ -105,6 +105,6 @@ impl fmt::Display for Text {
     ghost output = { λ text. Some text };
 
     fn fmt<W: fmt::Write>(&self, f: &mut fmt::Formatter<W>) -> fmt::Result {
-        f.write_str(self.string.as_str())
+        f.write_str(self.as_str())
     }
 }

@@ -1,0 +1,29 @@
+use Rattle.std.proofs.Common.{◌≡◌, ◌-◌, ◌<◌, Bool, List, length, arith, sym, ◌∙◌, ap, subst}
+use Rattle.model.specs.declared.graph.Edge.{Edge}
+use Rattle.builder.specs.declared.plan.Standing.{Standing}
+use Rattle.builder.specs.Run.{IsAt}
+use Rattle.builder.proofs.Standings.{IsRunningEdge, some_job, edge_runs, at_finished}
+use Rattle.builder.proofs.run.wait.Goals as goal
+
+pub wait_any-requires : goal.wait_any-requires
+wait_any-requires g c = some_job c.requires.at.0 c.args.plan.now.standings.items c.requires.at.1 (g.S.Texts.world c.args.site.now) c.requires.at.2 c.requires.at.3 c.requires.some
+
+pub overflow_sub-finished : goal.overflow_sub-finished
+overflow_sub-finished g c =
+    (edge_runs c.requires.at.0 c.args.plan.now.standings.items c.requires.at.1 (g.S.Texts.world c.args.site.now) c.requires.at.2 c.requires.at.3 c.in_ok-finished.finished.job c.in_ok-finished.ensures.finishes.ran).positive
+
+pub finished-requires : goal.finished-requires
+finished-requires g c =
+    let edge = edge_runs c.requires.at.0 c.args.plan.now.standings.items c.requires.at.1 (g.S.Texts.world c.args.site.now) c.requires.at.2 c.requires.at.3 c.in_ok-finished.finished.job c.in_ok-finished.ensures.finishes.ran in
+    let lt = edge.within in record { within = omega (arith, lt, c.args.plan.now.standings.ok.0) }
+
+pub returns-clause-kept : goal.returns-clause-kept
+returns-clause-kept g c edges entry idle at =
+    let edge = edge_runs edges c.args.plan.now.standings.items entry (g.S.Texts.world c.args.site.now) idle at c.in_ok-finished.finished.job c.in_ok-finished.ensures.finishes.ran in
+    subst (λ (ss : List Standing). IsAt edges ss entry (g.S.Texts.world c.wait_any.new.self)) (sym {A = List Standing} c.finished.ensures.standings)
+    (at_finished edges c.args.plan.now.standings.items entry (g.S.Texts.world c.args.site.now) (g.S.Texts.world c.wait_any.new.self) c.in_ok-finished.finished.job c.in_ok-finished.finished.ok at edge c.in_ok-finished.ensures.finishes.events)
+
+pub returns-clause-ended : goal.returns-clause-ended
+returns-clause-ended g c =
+    let edge = edge_runs c.requires.at.0 c.args.plan.now.standings.items c.requires.at.1 (g.S.Texts.world c.args.site.now) c.requires.at.2 c.requires.at.3 c.in_ok-finished.finished.job c.in_ok-finished.ensures.finishes.ran in
+    record { positive = edge.positive; within = edge.within; ran = edge.runs; after = c.finished.ensures.standings }

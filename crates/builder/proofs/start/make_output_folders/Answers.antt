@@ -1,0 +1,12 @@
+use Rattle.std.proofs.Common.{arith}
+use Rattle.builder.proofs.Calls.{looks_then}
+use Rattle.builder.proofs.start.make_output_folders.Goals as goal
+
+pub returns-in_err-make_folder-clause-looks : goal.returns-in_err-make_folder-clause-looks
+returns-in_err-make_folder-clause-looks g c = looks_then g.S.Texts.tells (g.S.Texts.world c.args.site.now) (g.S.Texts.world c.loop-output.site) (g.S.Texts.world c.make_folder.new.site) c.loop-output.invariant.looks c.make_folder.ensures.looks
+
+pub loop-output-preserved : goal.loop-output-preserved
+loop-output-preserved g c = record {
+  looks = looks_then g.S.Texts.tells (g.S.Texts.world c.args.site.now) (g.S.Texts.world c.loop-output.site) (g.S.Texts.world c.make_folder.new.site) c.loop-output.invariant.looks c.make_folder.ensures.looks;
+  failures = omega arith;
+}

@@ -1,0 +1,79 @@
+-- What a build answers, and what it did by then.
+use Rattle.std.specs.Prelude.{◌≡◌, ℕ, ◌≤◌, ◌<◌, Bool, true, false, List, [], ◌++◌, length, count_by, Result, IfErr}
+use Rattle.model.specs.declared.graph.Edge.{Edge}
+use Rattle.model.specs.declared.event.Event.{Event}
+use Rattle.model.specs.declared.fault.SiteFault.{SiteFault}
+use Rattle.model.specs.declared.fault.SiteFault.TheVariants.{Device, Stopped, Memory}
+use Rattle.model.specs.World.{World, IsIdle}
+use Rattle.model.specs.Calls.{OnlyLooks}
+use Rattle.manifest.specs.declared.fault.ReadError.{ReadError}
+use Rattle.manifest.specs.declared.fault.ReadError.TheVariants as read
+use Rattle.builder.specs.declared.graph.GraphFault.{GraphFault}
+use Rattle.builder.specs.declared.graph.GraphFault.TheVariants as graph
+use Rattle.builder.specs.declared.report.Refusal.TheVariants as refusal
+use Rattle.builder.specs.declared.report.Report.{Report}
+use Rattle.builder.specs.declared.report.Report.TheVariants.{Success, Failed, Refused, Fault}
+use Rattle.builder.specs.declared.plan.Standing.{Standing}
+use Rattle.builder.specs.declared.plan.End.{End}
+use Rattle.builder.specs.declared.plan.End.TheVariants as ending
+use Rattle.builder.specs.Plan.{is_well}
+use Rattle.builder.specs.Run.{Lawful, starts_in, failures_in}
+
+-- what a fault says about the site
+abbrev pub IsSeen : World → World → SiteFault → Type 0
+IsSeen old new Device = old.failures < new.failures
+IsSeen old new Stopped = new.stopped ≡ true
+IsSeen old new Memory = Unit {0}
+
+-- a fault has its cause, and no failure is forgotten
+pub record Causes {T : Type 0} (old new : World) (result : Result T SiteFault) : Type 0 where
+  pub grows : old.failures ≤ new.failures
+  pub seen : IfErr result (IsSeen old new)
+
+-- what was started and taken in since the entry
+pub record Ran (edges : List Edge) (old new : World) : Type 0 where
+  pub events : List Event
+  pub grows : new.events ≡ old.events ++ events
+  pub lawful : Lawful edges [] events
+
+-- nothing runs, and so many commands were started and failed
+pub record Ended (edges : List Edge) (started failed : ℕ) (old new : World) : Type 0 where
+  pub ran : Ran edges old new
+  pub idle : IsIdle new.events
+  pub starts : starts_in ran.events ≡ started
+  pub failures : failures_in ran.events ≡ failed
+
+-- Success: no command failed. Failed: some did. Refused: nothing was done. A fault has its cause.
+abbrev pub Answers : Bool → List Edge → World → World → Report → Type 0
+Answers tells edges old new (Success started) = Ended edges started 0 old new
+Answers tells edges old new (Failed outputs) = (0 < length outputs) × ((started : ℕ) × Ended edges started (length outputs) old new)
+Answers tells edges old new (Refused refusal) = OnlyLooks tells old new
+Answers tells edges old new (Fault fault) = Ran edges old new × IsSeen old new fault
+
+-- the report of a run that has ended so
+abbrev pub Reports : List Standing → List ℕ → End → Report → Type 0
+Reports standings failed ending.Well (Success started) = started ≡ count_by is_well standings
+Reports standings failed ending.Well (Failed outputs) = ⊥
+Reports standings failed ending.Well (Refused refusal) = ⊥
+Reports standings failed ending.Well (Fault fault) = ⊥
+Reports standings failed ending.Failed (Success started) = ⊥
+Reports standings failed ending.Failed (Failed outputs) = length outputs ≡ length failed
+Reports standings failed ending.Failed (Refused refusal) = ⊥
+Reports standings failed ending.Failed (Fault fault) = ⊥
+
+-- the report of a build whose files were not read
+abbrev pub unread : ReadError → Report
+unread read.Memory = Fault Memory
+unread (read.Site fault) = Fault fault
+unread (read.Refused fault) = Refused (refusal.File fault)
+
+-- the report of a build without a graph or a cone
+abbrev pub uncut : GraphFault → Report
+uncut graph.Memory = Fault Memory
+uncut (graph.MadeTwice path) = Refused (refusal.MadeTwice path)
+uncut graph.Cycle = Refused (refusal.Cycle [])
+
+abbrev pub is_stop : SiteFault → Bool
+is_stop Device = false
+is_stop Stopped = true
+is_stop Memory = false

@@ -1,0 +1,4 @@
+pub mod Plan
+pub mod Cone
+pub mod Run
+pub mod Answers

@@ -1,0 +1,138 @@
+//! Running commands until a plan has ended.
+
+ghost use Rattle.std.specs.Prelude.{◌≡◌, ◌≤◌, ◌<◌, IfOk, IfErr, OnOk, MatchOption, List, length, slice_set, count_by};
+ghost use Rattle.model.specs.World.{World, IsIdle};
+ghost use Rattle.builder.specs.declared.plan.Standing.{Standing};
+ghost use Rattle.builder.specs.Plan.{is_running, standing_at, standing_after, EndsSo};
+ghost use Rattle.builder.specs.Run.{IsAt, IsEndOf, IsNoted, work_left};
+ghost use Rattle.builder.specs.Answers.{Causes, IsSeen, is_stop};
+
+use crate::plan::{End, Plan, Step, Verdict};
+use crate::start::start_edge;
+use model::{Edge, Finished, SiteFault};
+use site::Site;
+
+/// Does what the plan says until it has ended, and notes the edges whose command failed, in the order in which they
+/// ended.
+pub fn run<S: Site>(
+    site: &mut S,
+    tick: &str,
+    edges: &[Edge],
+    plan: &mut Plan<'_>,
+    failed: &mut Vec<usize>,
+) -> Result<End, SiteFault>
+    requires at { (entry : World) × IsIdle entry.events × IsAt edges.now plan.old.standings.items entry (S.world site.old) }
+    requires noted { IsNoted plan.old.standings.items failed.old.items }
+    ensures kept { (entry : World) → IsIdle entry.events → IsAt edges.now plan.old.standings.items entry (S.world site.old) → IsAt edges.now plan.new.standings.items entry (S.world site.new) }
+    ensures cause { Causes (S.world site.old) (S.world site.new) result }
+    ensures noted { OnOk result (IsNoted plan.new.standings.items failed.new.items) }
+    ensures idle { OnOk result (count_by is_running plan.new.standings.items ≡ 0) }
+    ensures end { IfOk result (EndsSo plan.new.standings.items) }
+{
+    'run: loop {
+        if let Some(end) = go_on(site, tick, edges, plan, failed)? {
+            return Ok(end);
+        }
+    }
+}
+
+/// Takes one step of the plan.
+fn go_on<S: Site>(
+    site: &mut S,
+    tick: &str,
+    edges: &[Edge],
+    plan: &mut Plan<'_>,
+    failed: &mut Vec<usize>,
+) -> Result<Option<End>, SiteFault>
+    requires at { (entry : World) × IsIdle entry.events × IsAt edges.now plan.old.standings.items entry (S.world site.old) }
+    requires noted { IsNoted plan.old.standings.items failed.old.items }
+    ensures kept { (entry : World) → IsIdle entry.events → IsAt edges.now plan.old.standings.items entry (S.world site.old) → IsAt edges.now plan.new.standings.items entry (S.world site.new) }
+    ensures cause { Causes (S.world site.old) (S.world site.new) result }
+    ensures noted { OnOk result (IsNoted plan.new.standings.items failed.new.items) }
+    ensures more { IfOk result (λ end. MatchOption end (work_left plan.new.standings.items < work_left plan.old.standings.items) (λ end. (count_by is_running plan.new.standings.items ≡ 0) × EndsSo plan.new.standings.items end)) }
+{
+    match plan.next() {
+        // No output has a record, so every edge is out of date.
+        Step::Judge(number) => {
+            plan.judged(number, Verdict::OutOfDate);
+            Ok(None)
+        }
+        Step::Start(number) => {
+            start_edge(site, tick, edges, plan, number)?;
+            Ok(None)
+        }
+        Step::Wait => {
+            take_in(site, plan, failed)?;
+            Ok(None)
+        }
+        Step::Ended(end) => Ok(Some(end)),
+    }
+}
+
+/// Takes in a command that has ended.
+fn take_in<S: Site>(
+    site: &mut S,
+    plan: &mut Plan<'_>,
+    failed: &mut Vec<usize>,
+) -> Result<(), SiteFault>
+    requires at { (edges : List Edge) × (entry : World) × IsIdle entry.events × IsAt edges plan.old.standings.items entry (S.world site.old) }
+    requires noted { IsNoted plan.old.standings.items failed.old.items }
+    requires some { 0 < count_by is_running plan.old.standings.items }
+    ensures kept { (edges : List Edge) (entry : World) → IsIdle entry.events → IsAt edges plan.old.standings.items entry (S.world site.old) → IsAt edges plan.new.standings.items entry (S.world site.new) }
+    ensures cause { Causes (S.world site.old) (S.world site.new) result }
+    ensures noted { OnOk result (IsNoted plan.new.standings.items failed.new.items) }
+    ensures nearer { OnOk result (work_left plan.new.standings.items < work_left plan.old.standings.items) }
+{
+    let finished = wait(site, plan)?;
+    note_end(failed, finished.job - 1, finished.ok)
+}
+
+/// Waits for a command, and tells the plan how it ended.
+fn wait<S: Site>(site: &mut S, plan: &mut Plan<'_>) -> Result<Finished, SiteFault>
+    requires at { (edges : List Edge) × (entry : World) × IsIdle entry.events × IsAt edges plan.old.standings.items entry (S.world site.old) }
+    requires some { 0 < count_by is_running plan.old.standings.items }
+    ensures kept { (edges : List Edge) (entry : World) → IsIdle entry.events → IsAt edges plan.old.standings.items entry (S.world site.old) → IsAt edges plan.new.standings.items entry (S.world site.new) }
+    ensures cause { Causes (S.world site.old) (S.world site.new) result }
+    ensures ended { IfOk result (λ finished. IsEndOf finished.job finished.ok plan.old.standings.items plan.new.standings.items) }
+{
+    let finished = site.wait_any()?;
+    plan.finished(finished.job - 1, finished.ok);
+    Ok(finished)
+}
+
+/// Notes the edge, where its command failed.
+fn note_end(failed: &mut Vec<usize>, number: usize, ok: bool) -> Result<(), SiteFault>
+    ensures memory { IfErr result (λ fault. fault ≡ SiteFault.Memory) }
+    ensures noted { OnOk result ((standings : List Standing) → number < length standings → standing_at standings number ≡ Standing.Running → IsNoted standings failed.old.items → IsNoted (slice_set standings number (standing_after ok)) failed.new.items) }
+{
+    if ok {
+        return Ok(());
+    }
+    failed.push(number)?;
+    Ok(())
+}
+
+/// Takes in what runs after a fault, as long as the site answers. A site that has stopped is not asked.
+pub fn take_in_rest<S: Site>(site: &mut S, plan: &mut Plan<'_>, fault: SiteFault) -> SiteFault
+    requires at { (edges : List Edge) × (entry : World) × IsIdle entry.events × IsAt edges plan.old.standings.items entry (S.world site.old) }
+    ensures kept { (edges : List Edge) (entry : World) → IsIdle entry.events → IsAt edges plan.old.standings.items entry (S.world site.old) → IsAt edges plan.new.standings.items entry (S.world site.new) }
+    ensures seen { (entry : World) → IsSeen entry (S.world site.old) fault → IsSeen entry (S.world site.new) result }
+{
+    if is_stop(fault) {
+        return fault;
+    }
+    'rest: while plan.running() > 0 {
+        match wait(site, plan) {
+            Ok(_) => {}
+            Err(SiteFault::Stopped) => return SiteFault::Stopped,
+            Err(_) => return fault,
+        }
+    }
+    fault
+}
+
+fn is_stop(fault: SiteFault) -> bool
+    ensures { result ≡ is_stop fault }
+{
+    matches!(fault, SiteFault::Stopped)
+}

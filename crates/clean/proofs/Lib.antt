@@ -1,0 +1,5 @@
+pub mod Lists
+pub mod Rounds
+pub mod Beyond
+pub mod PremisesMet
+pub mod WorkedRows

@@ -1,0 +1,80 @@
+-- Two commands, of which one reads what the other makes and reports an input.
+use Rattle.std.specs.Prelude.{ℕ, true, false, List, [], ◌∷◌, ◌++◌, Some, None, codes}
+use Rattle.model.specs.declared.act.Act.{Act}
+use Rattle.model.specs.declared.graph.Deps.TheVariants.{Gcc}
+use Rattle.model.specs.declared.graph.Edge.{Edge}
+use Rattle.model.specs.declared.event.Event.TheVariants.{Start, Finish}
+use Rattle.model.specs.declared.event.Moment.{Moment}
+use Rattle.model.specs.declared.event.Moment.TheVariants.{Wrote, Happened}
+use Rattle.model.specs.declared.event.Writer.TheVariants.{Program, Command, Someone}
+use Rattle.model.specs.Graph.{has}
+use Rattle.model.specs.Outcome.{Behaviour}
+use Rattle.model.specs.Records.{OwnFiles}
+use Rattle.model.specs.Schedule.{Step, Judged, Started, Ended}
+use Rattle.site.specs.Toy.{toy_outcome}
+
+-- an act with a command and, where it is not empty, a depfile
+abbrev pub act_with : List ℕ → List ℕ → Act
+act_with command depfile = record { command = command; depfile = depfile; response_path = []; response_content = [] }
+
+-- an edge with these explicit outputs and inputs, order-only inputs and validations
+abbrev pub edge_with : List (List ℕ) → List (List ℕ) → List (List ℕ) → List (List ℕ) → Act → Edge
+edge_with outs ins order_only validations act = record {
+  explicit_outputs = outs;
+  implicit_outputs = [];
+  explicit_inputs = ins;
+  implicit_inputs = [];
+  order_only_inputs = order_only;
+  validations = validations;
+  act = act;
+  description = [];
+  deps = Gcc;
+  restat = false;
+  pool = None;
+  dyndep = None;
+  phony = false;
+}
+
+-- `build b: cat a`, `build o: both o o.d b` with the depfile `o.d`
+abbrev pub two_edges : List Edge
+two_edges =
+    edge_with (codes "b" ∷ []) (codes "a" ∷ []) [] [] (act_with (codes "cat b a") [])
+    ∷ edge_with (codes "o" ∷ []) (codes "b" ∷ []) [] [] (act_with (codes "both o o.d b") (codes "o.d"))
+    ∷ []
+
+-- the toy commands, with depfiles that hold just one path
+abbrev pub toys : Behaviour
+toys = record { outcome = toy_outcome; depfile = λ content. Some (content ∷ []) }
+
+abbrev pub own : OwnFiles
+own = record {
+  build_log = codes ".nj_log";
+  deps_log = codes ".nj_deps";
+  files = λ p. has (codes ".nj_log" ∷ codes ".nj_deps" ∷ codes "tick" ∷ []) p;
+  set = λ p. has (codes ".nj_log" ∷ codes ".nj_deps" ∷ codes "tick" ∷ codes "o.d" ∷ []) p;
+}
+
+-- both commands are judged out of date and run, one after the other
+abbrev pub one_by_one : List Step
+one_by_one = Judged 1 true ∷ Started 1 ∷ Ended 1 true ∷ Judged 2 true ∷ Started 2 ∷ Ended 2 true ∷ []
+
+-- `a` holds `h`, the name of a file that is there too
+abbrev pub before : List Moment
+before = Wrote Someone (codes "a") (Some (codes "h")) 1 ∷ Wrote Someone (codes "h") (Some (codes "z")) 2 ∷ []
+
+-- what a build does
+abbrev pub during : List Moment
+during =
+    Wrote Program (codes "tick") (Some []) 3
+    ∷ Happened (Start 1 (act_with (codes "cat b a") []) 3)
+    ∷ Wrote (Command 1) (codes "b") (Some (codes "h")) 4
+    ∷ Happened (Finish 1 true)
+    ∷ Wrote Program (codes "tick") (Some []) 5
+    ∷ Happened (Start 2 (act_with (codes "both o o.d b") (codes "o.d")) 5)
+    ∷ Wrote (Command 2) (codes "o") (Some (codes "h")) 6
+    ∷ Wrote (Command 2) (codes "o.d") (Some (codes "h")) 7
+    ∷ Happened (Finish 2 true)
+    ∷ []
+
+abbrev pub after : List Moment
+after = before ++ during

@@ -1,0 +1,5 @@
+pub mod Made
+pub mod Beyond
+pub mod Example
+pub mod PremisesMet
+pub mod Rows

@@ -1,0 +1,17 @@
+pub mod Lists
+pub mod Makers
+pub mod Settled
+pub mod Rounds
+pub mod Steps
+pub mod Events
+pub mod Moments
+pub mod Runs
+pub mod Files
+pub mod Exit
+pub mod Nothing
+pub mod Turns
+pub mod Cones
+pub mod Looks
+pub mod Builds
+pub mod Counts
+pub mod Stated

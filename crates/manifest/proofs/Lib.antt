@@ -1,0 +1,4 @@
+mod Growth
+mod Lists
+mod PathLemmas
+mod ReadLemmas

@@ -1,0 +1,6 @@
+pub mod Template
+pub mod Paths
+pub mod FirstStage
+pub mod Stops
+pub mod Edges
+pub mod Answer

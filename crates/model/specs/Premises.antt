@@ -1,0 +1,169 @@
+-- What the claims about contents suppose of commands, stamps and other people. Each premise is said of the history from the
+-- entry of a build to its exit; none speaks of what the program writes. All are this project's own.
+-- That a read gives what the file holds, and that different canonical paths are different files, needs no premise here:
+-- a site that tells its files promises the first in its calls, and the history has one file for each path.
+use Rattle.std.specs.Prelude.{◌≡◌, ◌≢◌, ◌⊎◌, ℕ, ◌<◌, true, false, List, [], ◌∷◌, ◌++◌, Some, None}
+use Rattle.std.specs.List.{AllByRecursion}
+use Rattle.model.specs.declared.event.Event.TheVariants.{Finish}
+use Rattle.model.specs.declared.event.Moment.{Moment}
+use Rattle.model.specs.declared.event.Moment.TheVariants.{Wrote, Happened}
+use Rattle.model.specs.declared.event.Writer.TheVariants.{Program, Command, Someone}
+use Rattle.model.specs.declared.graph.Edge.{Edge}
+use Rattle.model.specs.World.{World, View, view_of, latest, IsIdle}
+use Rattle.model.specs.Calls.{AgreeOn}
+use Rattle.model.specs.Graph.{has, has_number, edge_at, maker, outputs, inputs, IsCommand}
+use Rattle.model.specs.Outcome.{Behaviour, GivesTheSame, ends_well, given, reports_of, depfile_in, listed}
+use Rattle.model.specs.Reading.{IsRead, IsAbove, needs}
+use Rattle.model.specs.Records.{OwnFiles}
+use Rattle.model.specs.Schedule.{Step, judged_in, well_in}
+
+-- each moment since the first history is of this kind
+abbrev pub AllSince : (Moment → Type 0) → List Moment → List Moment → Type 0
+AllSince kind old new = (more : List Moment) → new ≡ old ++ more → AllByRecursion kind more
+
+-- ---- commands are functions of what they declare and report
+
+-- the view holds what these files hold on the reading set of edge i
+abbrev pub AgreesOnReading : List Edge → View → ℕ → View → Type 0
+AgreesOnReading edges files i view = (p : List ℕ) → IsRead edges files i p → view p ≡ files p
+
+-- Two views that hold what the files hold on the reading set of edge i, and agree on what its command reports in the first,
+-- where it ends well: the command gives the same in both.
+abbrev pub HasOneOutcome : Behaviour → List Edge → View → ℕ → Type 0
+HasOneOutcome B edges files i =
+    (u v : View) → AgreesOnReading edges files i u → AgreesOnReading edges files i v
+    → ends_well B (edge_at edges i).act u ≡ true
+    → AgreeOn (reports_of B (edge_at edges i).act u) u v
+    → GivesTheSame B (edge_at edges i).act (outputs (edge_at edges i)) u v
+
+-- of each edge that was judged, the files being those of the exit
+abbrev pub OneOutcome : Behaviour → List Edge → List Step → View → Type 0
+OneOutcome B edges steps files = (i : ℕ) → has_number (judged_in steps) i ≡ true → HasOneOutcome B edges files i
+
+-- What the command of edge i left, outputs and reports, is what it gives in a view that holds what the files hold on its
+-- reading set and on its reports.
+pub record LeftOutcome (B : Behaviour) (edges : List Edge) (files after : View) (i : ℕ) : Type 0 where
+  pub seen : View
+  pub well : ends_well B (edge_at edges i).act seen ≡ true
+  pub reading : AgreesOnReading edges files i seen
+  pub reports : AgreeOn (reports_of B (edge_at edges i).act seen) seen files
+  pub contents : AllByRecursion (λ o. after o ≡ given B (edge_at edges i).act seen o) (outputs (edge_at edges i))
+  pub depfile : depfile_in B (edge_at edges i).act after ≡ Some (reports_of B (edge_at edges i).act seen)
+
+-- the history at which the command of edge i ended well by itself
+pub record EndedAt (i : ℕ) (old new at : List Moment) : Type 0 where
+  pub before : List Moment
+  pub after : List Moment
+  pub is : at ≡ old ++ before
+  pub splits : new ≡ old ++ (before ++ Happened (Finish i true) ∷ after)
+
+-- each command that ended well left an outcome
+abbrev pub LeaveOutcomes : Behaviour → List Edge → List Step → List Moment → List Moment → Type 0
+LeaveOutcomes B edges steps old new =
+    (i : ℕ) (at : List Moment) → EndedAt i old new at → has_number (well_in steps) i ≡ true → LeftOutcome B edges (view_of new) (view_of at) i
+
+-- ---- stamps grow
+
+abbrev pub Increases : ℕ → List Moment → Type 0
+Increases last [] = Unit {0}
+Increases last (Wrote by path content stamp ∷ ms) = (last < stamp) × Increases stamp ms
+Increases last (Happened event ∷ ms) = Increases last ms
+
+-- every write and every tick is stamped later than all before
+abbrev pub StampsGrow : List Moment → List Moment → Type 0
+StampsGrow old new = (more : List Moment) → new ≡ old ++ more → Increases (latest old) more
+
+-- ---- only commands write outputs
+
+-- a command writes and deletes only the outputs and the depfile of its edge
+abbrev pub IsWithinEdge : List Edge → Moment → Type 0
+IsWithinEdge edges (Wrote Program path content stamp) = Unit {0}
+IsWithinEdge edges (Wrote (Command job) path content stamp) = (has (outputs (edge_at edges job)) path ≡ true) ⊎ (path ≡ (edge_at edges job).act.depfile)
+IsWithinEdge edges (Wrote Someone path content stamp) = Unit {0}
+IsWithinEdge edges (Happened event) = Unit {0}
+
+abbrev pub KeepToOutputs : List Edge → List Moment → List Moment → Type 0
+KeepToOutputs edges old new = AllSince (IsWithinEdge edges) old new
+
+-- a path that an act may name or not is in the set, and none of the program's own files
+abbrev pub LiesIn : OwnFiles → List ℕ → Type 0
+LiesIn own p = p ≢ [] → (own.set p ≡ true) × (own.files p ≡ false)
+
+-- the depfile and the response file of one edge are not those of another
+abbrev pub SharesNone : List ℕ → List ℕ → Type 0
+SharesNone p q = p ≢ [] → p ≢ q
+
+-- The program's own files, depfiles and response files lie in one set of paths that holds no input and no output; no two
+-- edges share one.
+pub record OwnFilesApart (own : OwnFiles) (edges : List Edge) : Type 0 where
+  pub within : (p : List ℕ) → own.files p ≡ true → own.set p ≡ true
+  pub build_log : own.files own.build_log ≡ true
+  pub deps_log : own.files own.deps_log ≡ true
+  pub inputs : (i : ℕ) (p : List ℕ) → has (inputs (edge_at edges i)) p ≡ true → own.set p ≡ false
+  pub outputs : (i : ℕ) (p : List ℕ) → has (outputs (edge_at edges i)) p ≡ true → own.set p ≡ false
+  pub depfiles : (i : ℕ) → IsCommand edges i → LiesIn own (edge_at edges i).act.depfile
+  pub responses : (i : ℕ) → IsCommand edges i → LiesIn own (edge_at edges i).act.response_path
+  pub apart : (i j : ℕ) → IsCommand edges i → IsCommand edges j → i ≢ j →
+      SharesNone (edge_at edges i).act.depfile (edge_at edges j).act.depfile
+      × SharesNone (edge_at edges i).act.response_path (edge_at edges j).act.response_path
+      × SharesNone (edge_at edges i).act.depfile (edge_at edges j).act.response_path
+
+-- ---- nothing is edited during a build
+
+abbrev pub IsNoEdit : Moment → Type 0
+IsNoEdit (Wrote Program path content stamp) = Unit {0}
+IsNoEdit (Wrote (Command job) path content stamp) = Unit {0}
+IsNoEdit (Wrote Someone path content stamp) = ⊥
+IsNoEdit (Happened event) = Unit {0}
+
+abbrev pub NothingIsEdited : List Moment → List Moment → Type 0
+NothingIsEdited old new = AllSince IsNoEdit old new
+
+-- ---- reports come from above
+
+-- a path that edge i reported is none of the set, and made by no command or by one above
+pub record IsFromAbove (own : OwnFiles) (edges : List Edge) (recorded : ℕ → List (List ℕ)) (i : ℕ) (p : List ℕ) : Type 0 where
+  pub apart : own.set p ≡ false
+  pub above : (j : ℕ) → maker edges p ≡ Some j → IsCommand edges j → IsAbove (needs edges recorded) (maker edges) j i
+
+-- what is read in the depfile that a command left comes from above, recorded inputs being those of the entry
+abbrev pub ReportsComeFromAbove : Behaviour → OwnFiles → List Edge → (ℕ → List (List ℕ)) → List Step → List Moment → List Moment → Type 0
+ReportsComeFromAbove B own edges recorded steps old new =
+    (i : ℕ) (at : List Moment) → EndedAt i old new at → has_number (well_in steps) i ≡ true
+    → AllByRecursion (IsFromAbove own edges recorded i) (listed (depfile_in B (edge_at edges i).act (view_of at)))
+
+-- the edge names the dyndep file, or one above it does, by a chain that runs through no output which only a dyndep file names
+abbrev pub IsBelowDyndep : List Edge → List Edge → (ℕ → List (List ℕ)) → List ℕ → ℕ → Type 0
+IsBelowDyndep declared edges recorded file i =
+    ((edge_at edges i).dyndep ≡ Some file)
+    ⊎ ((k : ℕ) × ((edge_at edges k).dyndep ≡ Some file) × IsAbove (needs edges recorded) (maker declared) k i)
+
+-- An output that only a dyndep file names is read only below that file: `declared` are the edges as the build files have
+-- them, `edges` those with what the loaded dyndep files add.
+abbrev pub DyndepOutputsAreReadBelow : List Edge → List Edge → (ℕ → List (List ℕ)) → View → Type 0
+DyndepOutputsAreReadBelow declared edges recorded files =
+    (i j : ℕ) (p file : List ℕ) → (IsRead edges files i p ⊎ (has (recorded i) p ≡ true))
+    → maker edges p ≡ Some j → maker declared p ≡ None → (edge_at edges j).dyndep ≡ Some file
+    → IsBelowDyndep declared edges recorded file i
+
+-- ---- commands have ended before the next move
+
+abbrev pub HaveEnded : World → Type 0
+HaveEnded world = IsIdle world.events
+
+-- ---- together
+
+-- what the verdicts, the refusals and the frame suppose: only commands write outputs, and nothing is edited
+pub record FilesAreKept (own : OwnFiles) (edges : List Edge) (old new : List Moment) : Type 0 where
+  pub commands : KeepToOutputs edges old new
+  pub own_files : OwnFilesApart own edges
+  pub edits : NothingIsEdited old new
+
+-- what the contents of a clean build suppose
+pub record Premises (B : Behaviour) (own : OwnFiles) (declared edges : List Edge) (recorded : ℕ → List (List ℕ)) (steps : List Step) (old new : List Moment) : Type 0 where
+  pub kept : FilesAreKept own edges old new
+  pub one_outcome : OneOutcome B edges steps (view_of new)
+  pub left_outcomes : LeaveOutcomes B edges steps old new
+  pub stamps : StampsGrow old new
+  pub reports : ReportsComeFromAbove B own edges recorded steps old new
+  pub dyndep : DyndepOutputsAreReadBelow declared edges recorded (view_of new)

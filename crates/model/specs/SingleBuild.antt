@@ -1,0 +1,259 @@
+-- What one build is: its schedule, its answer, what it leaves alone, and what its success means. `build` promises this record.
+use Rattle.std.specs.Prelude.{◌≡◌, ◌≢◌, ◌⊎◌, ℕ, ◌<◌, Bool, true, false, IsTrue, List, [], ◌∷◌, ◌++◌, map, length, Option, Some, None}
+use Rattle.std.specs.List.{AllByRecursion}
+use Rattle.model.specs.declared.act.Act.{Act}
+use Rattle.model.specs.declared.event.Event.{Event}
+use Rattle.model.specs.declared.event.Event.TheVariants.{Start}
+use Rattle.model.specs.declared.event.Moment.{Moment}
+use Rattle.model.specs.declared.event.Moment.TheVariants.{Wrote, Happened}
+use Rattle.model.specs.declared.event.Writer.TheVariants.{Program, Command, Someone}
+use Rattle.model.specs.declared.fault.SiteFault.{SiteFault}
+use Rattle.model.specs.declared.fault.SiteFault.TheVariants.{Device, Stopped, Memory}
+use Rattle.model.specs.declared.graph.BuildGraph.{BuildGraph}
+use Rattle.model.specs.declared.graph.Edge.{Edge}
+use Rattle.model.specs.World.{World, View, file_at, view_of, IsIdle}
+use Rattle.model.specs.Calls.{OnlyLooks}
+use Rattle.model.specs.Graph.{has, has_number, edge_at, maker, outputs, inputs, first_output, is_named, targets_of, IsCommand, IsMadeOnce, IsMadeTwice}
+use Rattle.model.specs.Outcome.{Behaviour, depfile_in, is_accepted}
+use Rattle.model.specs.Clean.{clean_build}
+use Rattle.model.specs.Reading.{IsInCone, IsCycle, needs}
+use Rattle.model.specs.Records.{Store, LogFormat, OwnFiles, store_in, recorded_inputs}
+use Rattle.model.specs.OutOfDate.{IsVerdict, NothingIsMissing, IsMissingInput, IsFirstMissing}
+use Rattle.model.specs.Schedule.{Task, Step, Judged, IsLawful, IsSettled, AreEventsOf, AreFinishes, NoneMayBeJudged, NoneMayStart, done_in, started_in, ended_in, out_of_date_in, well_in, failed_in}
+use Rattle.model.specs.Premises.{FilesAreKept, Premises, NothingIsEdited, EndedAt}
+
+-- ---- what a build was asked, and what it answers
+
+-- what a build was asked: the graph that it read, the canonical targets (an empty text for one without a canonical path),
+-- and how many commands at once; `declared` are the edges as the build files have them, without what dyndep files add
+pub record Asked : Type 0 where
+  pub graph : BuildGraph
+  pub declared : List Edge
+  pub targets : List (List ℕ)
+  pub jobs : ℕ
+  pub keep : ℕ
+
+-- what a build whose files were read and make a graph answers (this project's own)
+pub data Answer : Type 0 where
+  -- all is settled, and so many commands were started
+  Success : ℕ → Answer
+  -- the first outputs of the edges that failed, in order of finish
+  Failed : List (List ℕ) → Answer
+  -- a target that no build line names
+  Unknown : List ℕ → Answer
+  -- a dependency cycle: its paths, the first one again at the end
+  Cyclic : List (List ℕ) → Answer
+  -- a target that is absent and made by no edge
+  MissingTarget : List ℕ → Answer
+  -- an input that is absent and made by no edge, and the first output of the edge that needs it
+  MissingInput : List ℕ → List ℕ → Answer
+  -- a path that is made twice
+  MadeTwice : List ℕ → Answer
+  -- a dyndep file that is no input of an edge which names it
+  NoDyndepInput : List ℕ → Answer
+  -- a form that is not taken yet, or a fault of a dyndep file; what stands in it is said by the part that finds it
+  Refused : Answer
+  Fault : SiteFault → Answer
+
+abbrev pub IsSuccess : Answer → Type 0
+IsSuccess (Success started) = Unit {0}
+IsSuccess (Failed outputs) = ⊥
+IsSuccess (Unknown path) = ⊥
+IsSuccess (Cyclic paths) = ⊥
+IsSuccess (MissingTarget path) = ⊥
+IsSuccess (MissingInput path output) = ⊥
+IsSuccess (MadeTwice path) = ⊥
+IsSuccess (NoDyndepInput path) = ⊥
+IsSuccess Refused = ⊥
+IsSuccess (Fault fault) = ⊥
+
+-- the build went on until nothing was left to do
+abbrev pub WentOn : Answer → Type 0
+WentOn (Success started) = Unit {0}
+WentOn (Failed outputs) = Unit {0}
+WentOn (Unknown path) = ⊥
+WentOn (Cyclic paths) = ⊥
+WentOn (MissingTarget path) = ⊥
+WentOn (MissingInput path output) = ⊥
+WentOn (MadeTwice path) = ⊥
+WentOn (NoDyndepInput path) = ⊥
+WentOn Refused = ⊥
+WentOn (Fault fault) = ⊥
+
+-- the task of a build that found these records
+abbrev pub task_of : Asked → Store → Task
+task_of asked store = record {
+  graph = asked.graph;
+  recorded = recorded_inputs store asked.graph.edges;
+  targets = targets_of asked.graph asked.targets;
+  jobs = asked.jobs;
+  keep = asked.keep;
+}
+
+abbrev pub InCone : Asked → Store → ℕ → Type 0
+InCone asked store i = IsInCone asked.graph.edges (recorded_inputs store asked.graph.edges) (targets_of asked.graph asked.targets) i
+
+-- ---- 1. the schedule
+
+-- The site's own events grew by the starts and finishes of a lawful schedule, and after a fault or a refusal by finishes alone.
+pub record IsScheduled (asked : Asked) (store : Store) (steps : List Step) (old new : World) (answer : Answer) : Type 0 where
+  pub lawful : IsLawful (task_of asked store) steps
+  pub first : List Event
+  pub later : List Event
+  pub grows : new.events ≡ old.events ++ (first ++ later)
+  pub of_steps : AreEventsOf asked.graph.edges steps first
+  pub finishes : AreFinishes (old.events ++ first) later
+  pub whole : WentOn answer → later ≡ []
+
+-- Each verdict is that of the table, and a command that ended well by itself failed just where its depfile is refused.
+pub record IsJudged (B : Behaviour) (asked : Asked) (store : Store) (steps : List Step) (old new : List Moment) : Type 0 where
+  pub verdicts : (before after : List Step) (i : ℕ) (out_of_date : Bool) → steps ≡ before ++ Judged i out_of_date ∷ after
+      → IsVerdict asked.graph.edges store (well_in before) old new i out_of_date
+  pub depfiles : (i : ℕ) (at : List Moment) → EndedAt i old new at → has_number (ended_in steps) i ≡ true
+      → has_number (well_in steps) i ≡ is_accepted (depfile_in B (edge_at asked.graph.edges i).act (view_of at))
+
+-- ---- 2. the answer
+
+-- no command runs, and nothing may be judged or started
+pub record HasEnded (asked : Asked) (store : Store) (steps : List Step) (new : World) : Type 0 where
+  pub idle : IsIdle new.events
+  pub judged : NoneMayBeJudged (task_of asked store) steps
+  pub started : NoneMayStart (task_of asked store) steps
+
+-- a cycle as it is shown: it begins and ends at one path, and each path is made by an edge that needs the next
+abbrev pub IsChainOf : List Edge → (ℕ → List (List ℕ)) → List (List ℕ) → Type 0
+IsChainOf edges recorded [] = Unit {0}
+IsChainOf edges recorded (p ∷ []) = Unit {0}
+IsChainOf edges recorded (p ∷ q ∷ ps) =
+    ((i : ℕ) × (maker edges p ≡ Some i) × (has (needs edges recorded i) q ≡ true)) × IsChainOf edges recorded (q ∷ ps)
+
+pub record IsShownCycle (asked : Asked) (store : Store) (paths : List (List ℕ)) : Type 0 where
+  pub first : List ℕ
+  pub middle : List (List ℕ)
+  pub round : paths ≡ first ∷ (middle ++ first ∷ [])
+  pub chain : IsChainOf asked.graph.edges (recorded_inputs store asked.graph.edges) paths
+  -- its edges are in the cone, and the first path is of the lowest of them
+  pub within : (p : List ℕ) (i : ℕ) → has paths p ≡ true → maker asked.graph.edges p ≡ Some i → InCone asked store i
+  pub lowest : (p : List ℕ) (i j : ℕ) → maker asked.graph.edges first ≡ Some i → has paths p ≡ true → maker asked.graph.edges p ≡ Some j → j < i → ⊥
+
+abbrev pub AllNamed : Asked → Type 0
+AllNamed asked = AllByRecursion (λ p. is_named asked.graph.edges p ≡ true) asked.targets
+
+abbrev pub HasNoCycle : Asked → Store → Type 0
+HasNoCycle asked store = (i : ℕ) → InCone asked store i → IsCycle asked.graph.edges (recorded_inputs store asked.graph.edges) i → ⊥
+
+-- an edge names a dyndep file that is none of its inputs (manual: "Dynamic Dependencies")
+pub record NamesOther (edges : List Edge) (file : List ℕ) : Type 0 where
+  pub edge : ℕ
+  pub names : (edge_at edges edge).dyndep ≡ Some file
+  pub other : has (inputs (edge_at edges edge)) file ≡ false
+
+-- all that is refused before the first start is in order
+pub record IsInOrder (tells : Bool) (own : OwnFiles) (asked : Asked) (store : Store) (old new : World) : Type 0 where
+  pub made_once : IsMadeOnce asked.graph.edges
+  pub dyndep : (file : List ℕ) → NamesOther asked.graph.edges file → ⊥
+  pub named : AllNamed asked
+  pub no_cycle : HasNoCycle asked store
+  pub sources : IsTrue tells → FilesAreKept own asked.graph.edges old.history new.history
+      → NothingIsMissing asked.graph.edges store old.history (targets_of asked.graph asked.targets)
+
+-- a refusal has started nothing and written nothing, unless a dyndep file may have been loaded before it
+abbrev pub IsUntouched : Bool → Asked → World → World → Type 0
+IsUntouched tells asked old new = ((i : ℕ) → (edge_at asked.graph.edges i).dyndep ≡ None) → OnlyLooks tells old new
+
+-- each answer has its cause, and comes where its cause is
+abbrev pub IsAnswer : Bool → OwnFiles → Asked → Store → List Step → World → World → Answer → Type 0
+IsAnswer tells own asked store steps old new (Success started) =
+    IsInOrder tells own asked store old new × HasEnded asked store steps new
+    × ((i : ℕ) → InCone asked store i → IsSettled asked.graph.edges (done_in steps) i)
+    × (failed_in steps ≡ []) × (length (started_in steps) ≡ started)
+IsAnswer tells own asked store steps old new (Failed outputs) =
+    IsInOrder tells own asked store old new × HasEnded asked store steps new
+    × (map (λ i. first_output (edge_at asked.graph.edges i)) (failed_in steps) ≡ outputs) × (failed_in steps ≢ [])
+IsAnswer tells own asked store steps old new (Unknown path) =
+    IsUntouched tells asked old new × (has asked.targets path ≡ true) × (is_named asked.graph.edges path ≡ false)
+IsAnswer tells own asked store steps old new (Cyclic paths) =
+    IsUntouched tells asked old new × AllNamed asked × IsShownCycle asked store paths
+IsAnswer tells own asked store steps old new (MissingTarget path) =
+    IsUntouched tells asked old new × AllNamed asked × HasNoCycle asked store
+    × (IsTrue tells → FilesAreKept own asked.graph.edges old.history new.history
+    → IsFirstMissing asked.graph.edges old.history (targets_of asked.graph asked.targets) path)
+IsAnswer tells own asked store steps old new (MissingInput path output) =
+    IsUntouched tells asked old new × AllNamed asked × HasNoCycle asked store
+    × (IsTrue tells → FilesAreKept own asked.graph.edges old.history new.history
+    → (i : ℕ) × (output ≡ first_output (edge_at asked.graph.edges i))
+    × IsMissingInput asked.graph.edges store old.history (targets_of asked.graph asked.targets) i path)
+IsAnswer tells own asked store steps old new (MadeTwice path) =
+    IsUntouched tells asked old new × IsMadeTwice asked.graph.edges path
+IsAnswer tells own asked store steps old new (NoDyndepInput path) =
+    IsUntouched tells asked old new × NamesOther asked.graph.edges path
+IsAnswer tells own asked store steps old new Refused =
+    IsUntouched tells asked old new × IsIdle new.events
+IsAnswer tells own asked store steps old new (Fault Device) = old.failures < new.failures
+IsAnswer tells own asked store steps old new (Fault Stopped) = new.stopped ≡ true
+IsAnswer tells own asked store steps old new (Fault Memory) = Unit {0}
+
+-- ---- 3. the frame
+
+-- the program writes its own files, and of an edge judged out of date it removes the depfile, and writes or removes the response file
+abbrev pub IsOwnWrite : OwnFiles → List Edge → List Step → List ℕ → Option (List ℕ) → Type 0
+IsOwnWrite own edges steps path content =
+    (own.files path ≡ true)
+    ⊎ ((i : ℕ) × (has_number (out_of_date_in steps) i ≡ true) × (path ≡ (edge_at edges i).act.depfile) × (content ≡ None))
+    ⊎ ((i : ℕ) × (has_number (out_of_date_in steps) i ≡ true) × (path ≡ (edge_at edges i).act.response_path))
+
+-- written by the program where it may, by a command that this build started, or by somebody else
+abbrev pub IsOfBuild : OwnFiles → List Edge → List Step → Moment → Type 0
+IsOfBuild own edges steps (Wrote Program path content stamp) = IsOwnWrite own edges steps path content
+IsOfBuild own edges steps (Wrote (Command job) path content stamp) = has_number (started_in steps) job ≡ true
+IsOfBuild own edges steps (Wrote Someone path content stamp) = Unit {0}
+IsOfBuild own edges steps (Happened event) = Unit {0}
+
+-- a path that a build may change
+abbrev pub MayChange : OwnFiles → List Edge → List Step → List ℕ → Type 0
+MayChange own edges steps p =
+    (own.files p ≡ true)
+    ⊎ ((i : ℕ) × (has_number (started_in steps) i ≡ true) × (has (outputs (edge_at edges i)) p ≡ true))
+    ⊎ ((i : ℕ) × (has_number (out_of_date_in steps) i ≡ true) × (p ≡ (edge_at edges i).act.depfile))
+    ⊎ ((i : ℕ) × (has_number (out_of_date_in steps) i ≡ true) × (p ≡ (edge_at edges i).act.response_path))
+
+-- No file changes but outputs of started commands, depfiles and response files of edges judged out of date, and the
+-- program's own files; and up to its start an edge's outputs are as at the entry.
+pub record IsFrame (own : OwnFiles) (edges : List Edge) (steps : List Step) (old new : List Moment) : Type 0 where
+  pub more : List Moment
+  pub grows : new ≡ old ++ more
+  pub writes : AllByRecursion (IsOfBuild own edges steps) more
+  pub unchanged : FilesAreKept own edges old new → (p : List ℕ) → (file_at new p ≡ file_at old p) ⊎ MayChange own edges steps p
+  pub until_start : FilesAreKept own edges old new → (i stamp : ℕ) (act : Act) (o : List ℕ) (before after : List Moment)
+      → more ≡ before ++ Happened (Start i act stamp) ∷ after → has (outputs (edge_at edges i)) o ≡ true
+      → file_at (old ++ before) o ≡ file_at old o
+
+-- ---- 4. from nothing
+
+-- no output of a command is there, and no log
+pub record IsFromNothing (own : OwnFiles) (edges : List Edge) (files : View) : Type 0 where
+  pub outputs : (i : ℕ) (o : List ℕ) → IsCommand edges i → has (outputs (edge_at edges i)) o ≡ true → files o ≡ None
+  pub build_log : files own.build_log ≡ None
+  pub deps_log : files own.deps_log ≡ None
+
+-- each output of each command in the cone holds what the clean build of the present sources gives, absence included
+abbrev pub IsCleanlyBuilt : Behaviour → Asked → Store → View → Type 0
+IsCleanlyBuilt B asked store files =
+    (i : ℕ) (o : List ℕ) → InCone asked store i → IsCommand asked.graph.edges i → has (outputs (edge_at asked.graph.edges i)) o ≡ true
+    → files o ≡ clean_build B asked.graph.edges files o
+
+-- ---- the build
+
+-- One build, from its entry to its exit.
+pub record SingleBuild (tells : Bool) (B : Behaviour) (format : LogFormat) (own : OwnFiles) (asked : Asked) (old new : World) (answer : Answer) : Type 0 where
+  -- the records that the build found; where the site tells its files, those of its logs
+  pub store : Store
+  pub logs : IsTrue tells → NothingIsEdited old.history new.history → store ≡ store_in format own (view_of old.history)
+  pub steps : List Step
+  pub schedule : IsScheduled asked store steps old new answer
+  pub judged : IsTrue tells → FilesAreKept own asked.graph.edges old.history new.history → IsJudged B asked store steps old.history new.history
+  pub answers : IsAnswer tells own asked store steps old new answer
+  pub frame : IsTrue tells → IsFrame own asked.graph.edges steps old.history new.history
+  pub from_nothing : IsTrue tells → IsSuccess answer → IsFromNothing own asked.graph.edges (view_of old.history)
+      → Premises B own asked.declared asked.graph.edges (recorded_inputs store asked.graph.edges) steps old.history new.history
+      → IsCleanlyBuilt B asked store (view_of new.history)

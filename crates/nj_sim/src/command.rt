@@ -1,0 +1,102 @@
+//! The lines of a script.
+
+/// A line of a script, without its newline.
+#[derive(Drop)]
+pub enum Line<'a> {
+    Command(Command<'a>),
+    /// `|CONTENT`: a line of the file that the `file` line above begins.
+    Content(&'a [u8]),
+}
+
+/// What a line asks for. A path is one word, and is taken as it stands.
+#[derive(Drop)]
+pub enum Command<'a> {
+    /// `file PATH`: the file gets the content lines that follow.
+    File { path: &'a str },
+    /// `write PATH TEXT`: the file gets the text, in which `Unescaped` reads the escapes. Without a text the file is
+    /// written as it stands.
+    Write {
+        path: &'a str,
+        text: Option<&'a [u8]>,
+    },
+    /// `delete PATH`.
+    Delete { path: &'a str },
+    /// `build`: what the build file asks for by default is built.
+    Build,
+    /// `show PATH`: what the file holds is printed.
+    Show { path: &'a str },
+}
+
+impl<'a> Line<'a> {
+    /// Reads a line. Nothing is answered for one that is no command.
+    pub fn parse(line: &'a [u8]) -> Option<Line<'a>> {
+        match line.split_first() {
+            Some((b'|', content)) => Some(Line::Content(content)),
+            _ => Command::parse(line).map(Line::Command),
+        }
+    }
+}
+
+impl<'a> Command<'a> {
+    fn parse(line: &'a [u8]) -> Option<Command<'a>> {
+        let (word, rest) = first_word(line);
+        match (str::from_utf8(word).ok()?, rest) {
+            ("build", None) => Some(Command::Build),
+            ("file", Some(rest)) => Some(Command::File {
+                path: lone_path(rest)?,
+            }),
+            ("write", Some(rest)) => {
+                let (word, text) = first_word(rest);
+                let path = lone_path(word)?;
+                Some(Command::Write { path, text })
+            }
+            ("delete", Some(rest)) => Some(Command::Delete {
+                path: lone_path(rest)?,
+            }),
+            ("show", Some(rest)) => Some(Command::Show {
+                path: lone_path(rest)?,
+            }),
+            _ => None,
+        }
+    }
+}
+
+/// What stands before the first space, and what stands behind it where there is one.
+fn first_word(line: &[u8]) -> (&[u8], Option<&[u8]>) {
+    match line.iter().position(|&byte| byte == b' ') {
+        Some(at) => (&line[..at], Some(&line[at + 1..])),
+        None => (line, None),
+    }
+}
+
+/// A path with nothing behind it.
+fn lone_path(word: &[u8]) -> Option<&str> {
+    if word.is_empty() || word.contains(&b' ') {
+        return None;
+    }
+    str::from_utf8(word).ok()
+}
+
+/// The bytes that a text stands for: `\n` is a newline and `\\` a backslash. Before anything else a backslash stands.
+#[derive(Drop)]
+pub struct Unescaped<'a>(pub &'a [u8]);
+
+impl<'a> Iterator for Unescaped<'a> {
+    type Item = u8;
+
+    ghost use Rattle.std.specs.Prelude.{length};
+    ghost use Rattle.std.specs.Iterator.{at_most};
+
+    ghost remaining = { λ text. at_most (length text.0.now) };
+
+    fn next(&mut self) -> Option<u8> {
+        let (byte, behind) = match self.0 {
+            [b'\\', b'n', behind @ ..] => (b'\n', behind),
+            [b'\\', b'\\', behind @ ..] => (b'\\', behind),
+            [byte, behind @ ..] => (*byte, behind),
+            [] => return None,
+        };
+        self.0 = behind;
+        Some(byte)
+    }
+}

@@ -1,0 +1,64 @@
+//! What a script prints.
+
+use builder::Report;
+use indexmap::IndexMap;
+use model::Event;
+use site::SiteFault;
+use std::alloc::Global;
+use std::io::{self, Write};
+use text::{Bytes, Text};
+
+/// Prints a line for each event. The line of an end has the command of its job's start.
+pub fn print_events<W: Write>(alloc: Global, writer: &mut W, events: &[Event]) -> io::Result<()> {
+    let mut commands = IndexMap::new(alloc);
+    for event in events {
+        match event {
+            Event::Start { job, act, .. } => {
+                commands.insert(*job, &act.command)?;
+                let command = &act.command;
+                writeln!(writer, "start {command}")?;
+            }
+            Event::Finish { job, ok } => {
+                if let Some(command) = commands.get(job) {
+                    let word = if *ok { "end" } else { "fail" };
+                    writeln!(writer, "{word} {command}")?;
+                }
+            }
+        }
+    }
+    Ok(())
+}
+
+/// Prints the line that tells how a build ended.
+pub fn print_report<W: Write>(writer: &mut W, report: &Report) -> io::Result<()> {
+    match report {
+        Report::Success { started } => writeln!(writer, "success {started}"),
+        Report::Failed { outputs } => {
+            write!(writer, "failed")?;
+            for output in outputs.as_slice() {
+                write!(writer, " {output}")?;
+            }
+            writeln!(writer, "")
+        }
+        Report::Refused(refusal) => writeln!(writer, "refused {refusal}"),
+        Report::Fault(SiteFault::Device) => writeln!(writer, "fault N60"),
+        Report::Fault(SiteFault::Memory) => writeln!(writer, "fault N61"),
+        Report::Fault(SiteFault::Stopped) => writeln!(writer, "stopped"),
+    }
+}
+
+/// Prints what a file holds.
+pub fn print_file<W: Write>(
+    writer: &mut W,
+    path: &str,
+    content: Option<&Bytes>,
+) -> io::Result<()> {
+    match content {
+        Some(content) => {
+            write!(writer, "{path}=")?;
+            writer.write_all(content.as_slice())?;
+            writeln!(writer, "")
+        }
+        None => writeln!(writer, "{path} absent"),
+    }
+}

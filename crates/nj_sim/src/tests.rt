@@ -1,0 +1,149 @@
+use crate::fault::ScriptFault;
+use crate::run::script;
+use std::io::{self, ErrorKind, Read};
+use std::test::Fail;
+
+const TWO_COMMANDS: &str = "file build.ninja
+|rule cat
+|  command = cat $out $in
+|build b: cat a
+|build c: cat b a
+write a x
+build
+show c
+";
+
+const TWO_COMMANDS_PRINTED: &str = "start cat b a
+end cat b a
+start cat c b a
+end cat c b a
+success 2
+c=xx
+";
+
+const ABSENT_SOURCE: &str = "file build.ninja
+|rule cat
+|  command = cat $out $in
+|build b: cat a
+|build c: cat b a
+build
+";
+
+const ABSENT_SOURCE_PRINTED: &str =
+    "refused N32: 'a', needed by 'b', is missing and no rule makes it\n";
+
+const FAILING_COMMAND: &str = "file build.ninja
+|rule cat
+|  command = cat $out $in
+|rule fail
+|  command = fail $out $in
+|build b: fail a
+|build c: cat b
+write a x
+build
+";
+
+const FAILING_COMMAND_PRINTED: &str = "start fail b a\nfail fail b a\nfailed b\n";
+
+/// Scripts with what they print. Each ends with status 0.
+const ROWS: [(&str, &str); 5] = [
+    ("", ""),
+    ("file build.ninja\nbuild\n", "success 0\n"),
+    (TWO_COMMANDS, TWO_COMMANDS_PRINTED),
+    (ABSENT_SOURCE, ABSENT_SOURCE_PRINTED),
+    (FAILING_COMMAND, FAILING_COMMAND_PRINTED),
+];
+
+/// Lines that are no command.
+const BAD_LINES: [&[u8]; 13] = [
+    b"",
+    b" ",
+    b"|x",
+    b"build x",
+    b"build ",
+    b"-j 1",
+    b"show",
+    b"show ",
+    b"show a b",
+    b"write",
+    b"write ",
+    b"delete \xff",
+    b"file a\r\n|x\nbuild \r",
+];
+
+#[test]
+fn rows_print_what_is_expected(rt: HostRuntime) -> Result<(), Fail> {
+    for (row, expected) in ROWS {
+        let mut printed = Vec::new(rt.alloc());
+        let status = script(rt.alloc(), &mut row.as_bytes(), &mut printed)?;
+        assert_eq!(rt; status, 0, "{row}");
+        assert_eq!(rt; str::from_utf8(&printed)?, expected, "{row}");
+    }
+    Ok(())
+}
+
+#[test]
+fn content_need_not_be_text(rt: HostRuntime) -> Result<(), Fail> {
+    let mut printed = Vec::new(rt.alloc());
+    let mut reader = b"file a\n|\xff\nshow a".as_slice();
+    let status = script(rt.alloc(), &mut reader, &mut printed)?;
+    assert_eq!(rt; status, 0);
+    assert_eq!(rt; printed.as_slice(), b"a=\xff\n\n".as_slice());
+    Ok(())
+}
+
+#[test]
+fn bad_lines_end_a_script(rt: HostRuntime) -> Result<(), Fail> {
+    for line in BAD_LINES {
+        let mut printed = Vec::new(rt.alloc());
+        let mut reader = b"show a\n".as_slice().chain(line).chain(b"\nshow a\n".as_slice());
+        let status = script(rt.alloc(), &mut reader, &mut printed)?;
+        assert_eq!(rt; status, 2, "{line:?}");
+        assert_eq!(rt; printed.as_slice(), b"a absent\nbad line\n".as_slice(), "{line:?}");
+    }
+    Ok(())
+}
+
+/// A reader that gives nothing.
+#[derive(Drop)]
+struct Unreadable;
+
+impl Read for Unreadable {
+    fn read(&mut self, _buffer: &mut [u8]) -> io::Result<usize> {
+        Err(io::Error::from(ErrorKind::PermissionDenied))
+    }
+}
+
+#[test]
+fn a_reader_that_fails_is_told(rt: HostRuntime) -> Result<(), Fail> {
+    let mut printed = Vec::new(rt.alloc());
+    let mut reader = b"write a x\nsh".as_slice().chain(Unreadable);
+    let answer = script(rt.alloc(), &mut reader, &mut printed);
+    assert_eq!(rt; answer, Err(ScriptFault::Read));
+    Ok(())
+}
+
+#[test]
+fn a_writer_that_fails_is_told(rt: HostRuntime) -> Result<(), Fail> {
+    let mut room = [0u8; 4];
+    let mut writer = room.as_mut_slice();
+    let mut reader = b"show a\n".as_slice();
+    let answer = script(rt.alloc(), &mut reader, &mut writer);
+    assert_eq!(rt; answer, Err(ScriptFault::Write));
+    Ok(())
+}
+
+/// Where an allocation fails, no other answer comes in place of the fault.
+#[test]
+fn refused_memory_is_told(rt: HostRuntime) -> Result<(), Fail> {
+    let mut printed = Vec::new(rt.alloc());
+    match script(rt.alloc(), &mut TWO_COMMANDS.as_bytes(), &mut printed) {
+        Ok(status) => {
+            assert_eq!(rt; status, 0);
+            let printed = str::from_utf8(&printed)?;
+            assert!(rt; printed == TWO_COMMANDS_PRINTED || printed.contains("fault N61\n"), "{printed}");
+        }
+        Err(fault) => assert_eq!(rt; fault, ScriptFault::Memory),
+    }
+    Ok(())
+}

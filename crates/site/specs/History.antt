@@ -1,0 +1,45 @@
+-- What a history tells, and what the writes of a command add to it.
+use Rattle.std.specs.Prelude.{◌≡◌, ℕ, ◌+◌, Bool, if◌then◌else◌, List, [], ◌∷◌, ◌++◌, bytes_eq, ◌&&◌}
+use Rattle.std.specs.Option.{option_eq}
+use denote.Ref.{Bor}
+use Rattle.model.specs.declared.event.Event.{Event}
+use Rattle.model.specs.declared.event.Moment.{Moment}
+use Rattle.model.specs.declared.event.Moment.TheVariants.{Wrote, Happened}
+use Rattle.model.specs.declared.event.Writer.TheVariants.{Command}
+use Rattle.model.specs.declared.outcome.Write.{Write}
+use Rattle.model.specs.World.{View, File, view_of, latest}
+
+-- the starts and ends among the moments
+abbrev pub events_of : List Moment → List Event
+events_of [] = []
+events_of (Wrote by path content stamp ∷ moments) = events_of moments
+events_of (Happened event ∷ moments) = event ∷ events_of moments
+
+-- a file whose content is borrowed
+abbrev pub file_seen : Bor (List ℕ) × ℕ → File
+file_seen held = record { content = held.0.now; stamp = held.1 }
+
+-- some moments more
+abbrev pub IsLonger : List Moment → List Moment → Type 0
+IsLonger old new = (more : List Moment) × (new ≡ old ++ more)
+
+-- a command may leave a file alone that holds already what it would write
+abbrev pub is_skipped : View → Write → Bool
+is_skipped view write = write.only_changes && option_eq bytes_eq (view write.path) write.content
+
+-- the history once the job has made the write
+abbrev pub with_write : ℕ → Write → List Moment → List Moment
+with_write job write history = if is_skipped (view_of history) write then history else history ++ Wrote (Command job) write.path write.content (latest history + 1) ∷ []
+
+-- the history once the job has made the writes, one after the other
+abbrev pub with_writes : ℕ → List Write → List Moment → List Moment
+with_writes job [] history = history
+with_writes job (write ∷ writes) history = with_writes job writes (with_write job write history)
+
+-- what the paths hold after a write
+abbrev pub after_write : View → Write → View
+after_write view write = λ path. if bytes_eq write.path path then write.content else view path
+
+abbrev pub after_writes : View → List Write → View
+after_writes view [] = view
+after_writes view (write ∷ writes) = after_writes (after_write view write) writes

@@ -1,0 +1,267 @@
+//! What happened on a site in memory.
+
+ghost use Rattle.std.specs.Prelude.{◌≡◌, ◌+◌, ◌<◌, ◌++◌, ◌∷◌, ℕ, [], Some, vec_len, vec_capacity, option_copied, option_map, bytes_eq, IfOk, OnOk, OnErr};
+ghost use Rattle.std.specs.Option.{option_eq};
+ghost use Rattle.model.specs.World.{view_of, file_at, stamp_of, latest};
+ghost use Rattle.site.specs.History.{events_of, file_seen, with_write, with_writes, IsLonger};
+
+use model::{Event, Moment, Write, Writer};
+use std::alloc::{AllocError, Global};
+use std::marker::Model;
+use text::{Bytes, Items, Path};
+
+/// All that was written, started and ended, oldest first, as contracts see it. Every write has the next whole number
+/// as its stamp.
+#[derive(Debug, Drop)]
+pub struct History {
+    moments: Vec<Moment>,
+    /// The starts and ends among the moments.
+    events: Vec<Event>,
+    /// The greatest stamp.
+    clock: u64,
+}
+
+impl Model for History {
+    ghost use Rattle.std.specs.Prelude.{List};
+    ghost use Rattle.model.specs.declared.event.Moment.{Moment};
+
+    ghost Value = { List Moment };
+
+    ghost use Rattle.site.specs.HistoryInside.{moments_of, IsSound};
+
+    ghost view = { moments_of };
+
+    ghost invariant = { IsSound };
+}
+
+impl History {
+    /// Nothing has happened. This takes no memory.
+    pub fn new(alloc: Global) -> History
+        ensures { result ≡ [] }
+    {
+        History {
+            moments: Vec::new(alloc),
+            events: Vec::new(alloc),
+            clock: 0,
+        }
+    }
+
+    /// What the file at the path holds, or nothing where there is no file.
+    pub fn content(&self, path: &str) -> Option<&Bytes>
+        ensures { option_copied result ≡ view_of self.now path.now }
+    {
+        match file_in(&self.moments, path) {
+            Some((content, _)) => Some(content),
+            None => None,
+        }
+    }
+
+    /// The stamp of the file at the path, or nothing where there is no file.
+    pub fn stamp(&self, path: &str) -> Option<u64>
+        ensures { result ≡ stamp_of (file_at self.now path.now) }
+    {
+        match file_in(&self.moments, path) {
+            Some((_, stamp)) => Some(stamp),
+            None => None,
+        }
+    }
+
+    /// The greatest stamp so far, or 0.
+    pub fn latest(&self) -> u64
+        ensures { result ≡ latest self.now }
+    {
+        self.clock
+    }
+
+    /// The starts and ends of commands, oldest first.
+    pub fn events(&self) -> &[Event]
+        ensures { result.now ≡ events_of self.now }
+    {
+        &self.events
+    }
+
+    /// Writes a file, or with no content deletes it, and gives the stamp. Where memory is refused, or no stamp is
+    /// left, nothing has happened.
+    pub fn write(
+        &mut self,
+        by: Writer,
+        path: Path,
+        content: Option<Bytes>,
+    ) -> Result<u64, AllocError>
+        ensures stamp { IfOk result (λ stamp. stamp ≡ latest self.old + 1) }
+        ensures ok { OnOk result (self.new ≡ self.old ++ Moment.Wrote by path content (latest self.old + 1) ∷ []) }
+        ensures err { OnErr result (self.new ≡ self.old) }
+    {
+        append_write(&mut self.moments, &mut self.clock, by, path, content)?;
+        Ok(self.clock)
+    }
+
+    /// Adds a start or an end of a command. Where memory is refused, nothing has happened.
+    pub fn happen(&mut self, event: Event) -> Result<(), AllocError>
+        ensures ok { OnOk result (self.new ≡ self.old ++ Moment.Happened event ∷ []) }
+        ensures err { OnErr result (self.new ≡ self.old) }
+    {
+        append_event(&mut self.moments, &mut self.events, event)?;
+        Ok(())
+    }
+
+    /// The job makes its writes, one after the other, and ends. Where memory is refused, nothing has happened.
+    pub fn finish(&mut self, job: usize, writes: Items<Write>, ok: bool) -> Result<(), AllocError>
+        ensures ok { OnOk result (self.new ≡ with_writes job writes self.old ++ Moment.Happened (Event.Finish job ok) ∷ []) }
+        ensures err { OnErr result (self.new ≡ self.old) }
+    {
+        let length = self.moments.len();
+        let clock = self.clock;
+        match append_finish(
+            &mut self.moments,
+            &mut self.events,
+            &mut self.clock,
+            job,
+            writes,
+            ok,
+        ) {
+            Ok(()) => Ok(()),
+            Err(error) => {
+                self.moments.truncate(length);
+                self.clock = clock;
+                Err(error)
+            }
+        }
+    }
+}
+
+/// The content and the stamp of the file at the path: what the last write there left.
+fn file_in<'a>(moments: &'a [Moment], path: &str) -> Option<(&'a Bytes, u64)>
+    ensures { option_map file_seen result ≡ file_at moments.now path.now }
+{
+    let mut rest = moments;
+    while let Some((moment, front)) = rest.split_last() {
+        if let Moment::Wrote {
+            path: written,
+            content,
+            stamp,
+            ..
+        } = moment
+        {
+            if written.as_str() == path {
+                return match content {
+                    Some(content) => Some((content, *stamp)),
+                    None => None,
+                };
+            }
+        }
+        rest = front;
+    }
+    None
+}
+
+/// Adds a write under the next stamp. Where that fails, nothing has changed.
+fn append_write(
+    moments: &mut Vec<Moment>,
+    clock: &mut u64,
+    by: Writer,
+    path: Path,
+    content: Option<Bytes>,
+) -> Result<(), AllocError>
+    ensures ok { OnOk result (moments.new.items ≡ moments.old.items ++ Moment.Wrote by path content (clock.old + 1) ∷ []) }
+    ensures stamp { OnOk result (clock.new ≡ clock.old + 1) }
+    ensures err { OnErr result (moments.new.items ≡ moments.old.items) }
+    ensures still { OnErr result (clock.new ≡ clock.old) }
+{
+    let stamp = clock.checked_add(1).ok_or(AllocError)?;
+    moments.push(Moment::Wrote {
+        by,
+        path,
+        content,
+        stamp,
+    })?;
+    *clock = stamp;
+    Ok(())
+}
+
+/// Adds an event to both lists, or to none where memory is refused.
+fn append_event(
+    moments: &mut Vec<Moment>,
+    events: &mut Vec<Event>,
+    event: Event,
+) -> Result<(), AllocError>
+    ensures ok { OnOk result (moments.new.items ≡ moments.old.items ++ Moment.Happened event ∷ []) }
+    ensures told { OnOk result (events.new.items ≡ events.old.items ++ event ∷ []) }
+    ensures err { OnErr result (moments.new.items ≡ moments.old.items) }
+    ensures untold { OnErr result (events.new.items ≡ events.old.items) }
+{
+    let told = event.clone()?;
+    events.reserve(1)?;
+    moments.push(Moment::Happened(event))?;
+    push_reserved(events, told);
+    Ok(())
+}
+
+/// Adds an item to a vector that has room.
+fn push_reserved<T: Drop>(items: &mut Vec<T>, item: T)
+    requires { vec_len items.old < vec_capacity items.old }
+    ensures { items.new.items ≡ items.old.items ++ item ∷ [] }
+{
+    match items.push(item) {
+        Ok(()) => {}
+        Err(_) => unreachable!(),
+    }
+}
+
+/// The writes of a job and its end. Where that fails, a beginning of the writes may stand.
+fn append_finish(
+    moments: &mut Vec<Moment>,
+    events: &mut Vec<Event>,
+    clock: &mut u64,
+    job: usize,
+    writes: Items<Write>,
+    ok: bool,
+) -> Result<(), AllocError>
+    requires { clock.old ≡ latest moments.old.items }
+    ensures ok { OnOk result (moments.new.items ≡ with_writes job writes moments.old.items ++ Moment.Happened (Event.Finish job ok) ∷ []) }
+    ensures told { OnOk result (events.new.items ≡ events.old.items ++ Event.Finish job ok ∷ []) }
+    ensures stamp { OnOk result (clock.new ≡ latest moments.new.items) }
+    ensures err { OnErr result (IsLonger moments.old.items moments.new.items) }
+    ensures untold { OnErr result (events.new.items ≡ events.old.items) }
+{
+    for write in writes.into_vec() {
+        leave(moments, clock, job, write)?;
+    }
+    append_event(moments, events, Event::Finish { job, ok })?;
+    Ok(())
+}
+
+/// What a write of a job leaves. Where that fails, nothing has changed.
+fn leave(
+    moments: &mut Vec<Moment>,
+    clock: &mut u64,
+    job: usize,
+    write: Write,
+) -> Result<(), AllocError>
+    requires { clock.old ≡ latest moments.old.items }
+    ensures ok { OnOk result (moments.new.items ≡ with_write job write moments.old.items) }
+    ensures stamp { OnOk result (clock.new ≡ latest moments.new.items) }
+    ensures err { OnErr result (moments.new.items ≡ moments.old.items) }
+{
+    let Write {
+        path,
+        content,
+        only_changes,
+    } = write;
+    if only_changes && holds(moments, &path, &content) {
+        return Ok(());
+    }
+    append_write(moments, clock, Writer::Command { job }, path, content)?;
+    Ok(())
+}
+
+/// Whether the path holds just this.
+fn holds(moments: &[Moment], path: &Path, content: &Option<Bytes>) -> bool
+    ensures { result ≡ option_eq bytes_eq (view_of moments.now path.now) content.now }
+{
+    let held = match file_in(moments, path.as_str()) {
+        Some((held, _)) => Some(held),
+        None => None,
+    };
+    held == content.as_ref()
+}
