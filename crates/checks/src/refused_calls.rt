@@ -41,11 +41,7 @@ const PLACES: [Call; 7] = [
 const MANY: u64 = 1000;
 
 /// A fresh site with a build file and the source `a`, whose device refuses the call after so many.
-fn host_with(
-    alloc: Global,
-    build_file: &[u8],
-    passing: u64,
-) -> Result<Host<Sim<Toy>>, AllocError>
+fn host_with(alloc: Global, build_file: &[u8], passing: u64) -> Result<Host<Sim<Toy>>, AllocError>
     ensures { IfOk result (λ host. IsIdle (world_of host.site).events) }
 {
     let mut site = Sim::new(alloc, Toy);
@@ -76,7 +72,10 @@ fn two_commands_are_built_where_no_file_is_told(rt: HostRuntime) -> Result<(), F
     let alloc = rt.alloc();
     let mut host = host_with(alloc, TWO_COMMANDS, MANY)?;
     let report = build(alloc, &mut host, &options(alloc)?, &[]);
-    assert!(rt; matches!(&report, Report::Success { started: 2 }), "{report:?}");
+    assert!(rt;
+        matches!(&report, Report::Success { started: 2 }),
+        "{report:?}"
+    );
     assert_eq!(rt; host.events().len(), 4);
     let content = host.site.content("c").map(|content| content.as_slice());
     assert_eq!(rt; content, Some(b"xx".as_slice()));
@@ -85,20 +84,22 @@ fn two_commands_are_built_where_no_file_is_told(rt: HostRuntime) -> Result<(), F
 
 /// Builds again and again, with the first call refused, then the second and so on, until all calls pass. Gives the
 /// places at which one was refused.
-fn refuse_each_call(
-    rt: &impl Abort,
-    alloc: Global,
-    build_file: &[u8],
-) -> Result<Vec<Call>, Fail> {
+fn refuse_each_call(rt: &impl Abort, alloc: Global, build_file: &[u8]) -> Result<Vec<Call>, Fail> {
     let mut places = Vec::new(alloc);
     for passing in 0..MANY {
         let mut host = host_with(alloc, build_file, passing)?;
         let report = build(alloc, &mut host, &options(alloc)?, &[]);
         let Some(place) = host.calls.refused else {
-            assert!(rt; matches!(&report, Report::Success { started: 2 }), "{report:?}");
+            assert!(rt;
+                matches!(&report, Report::Success { started: 2 }),
+                "{report:?}"
+            );
             return Ok(places);
         };
-        assert!(rt; matches!(&report, Report::Fault(SiteFault::Device)), "{place:?}: {report:?}");
+        assert!(rt;
+            matches!(&report, Report::Fault(SiteFault::Device)),
+            "{place:?}: {report:?}"
+        );
         assert_eq!(rt; host.calls.late_starts, 0, "{place:?}");
         // A command is taken in after every fault, but for one of the call that takes it in.
         let left = if place == Call::WaitAny { 1 } else { 0 };

@@ -12,7 +12,9 @@ pub enum Line<'a> {
 #[derive(Drop)]
 pub enum Command<'a> {
     /// `file PATH`: the file gets the content lines that follow.
-    File { path: &'a str },
+    File {
+        path: &'a str,
+    },
     /// `write PATH TEXT`: the file gets the text, in which `Unescaped` reads the escapes. Without a text the file is
     /// written as it stands.
     Write {
@@ -20,11 +22,15 @@ pub enum Command<'a> {
         text: Option<&'a [u8]>,
     },
     /// `delete PATH`.
-    Delete { path: &'a str },
+    Delete {
+        path: &'a str,
+    },
     /// `build`: what the build file asks for by default is built.
     Build,
     /// `show PATH`: what the file holds is printed.
-    Show { path: &'a str },
+    Show {
+        path: &'a str,
+    },
 }
 
 impl<'a> Line<'a> {

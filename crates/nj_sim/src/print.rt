@@ -48,11 +48,7 @@ pub fn print_report<W: Write>(writer: &mut W, report: &Report) -> io::Result<()>
 }
 
 /// Prints what a file holds.
-pub fn print_file<W: Write>(
-    writer: &mut W,
-    path: &str,
-    content: Option<&Bytes>,
-) -> io::Result<()> {
+pub fn print_file<W: Write>(writer: &mut W, path: &str, content: Option<&Bytes>) -> io::Result<()> {
     match content {
         Some(content) => {
             write!(writer, "{path}=")?;

@@ -84,11 +84,7 @@ impl Run {
     }
 
     /// Does what the line asks for. Answers false for a content line with no file above it.
-    fn take_line<W: Write>(
-        &mut self,
-        line: Line<'_>,
-        writer: &mut W,
-    ) -> Result<bool, ScriptFault> {
+    fn take_line<W: Write>(&mut self, line: Line<'_>, writer: &mut W) -> Result<bool, ScriptFault> {
         match line {
             Line::Content(line) => Ok(self.add_content(line)?),
             Line::Command(command) => {
@@ -109,8 +105,9 @@ impl Run {
             Command::Write { path, text } => self.write(path, text)?,
             Command::Delete { path } => self.site.erase(path)?,
             Command::Build => self.build(writer)?,
-            Command::Show { path } => print_file(writer, path, self.site.content(path))
-                .map_err(ScriptFault::of_writer)?,
+            Command::Show { path } => print_file(writer, path, self.site.content(path)).map_err(
+                ScriptFault::of_writer,
+            )?,
         }
         Ok(())
     }

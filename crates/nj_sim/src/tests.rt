@@ -96,10 +96,17 @@ fn content_need_not_be_text(rt: HostRuntime) -> Result<(), Fail> {
 fn bad_lines_end_a_script(rt: HostRuntime) -> Result<(), Fail> {
     for line in BAD_LINES {
         let mut printed = Vec::new(rt.alloc());
-        let mut reader = b"show a\n".as_slice().chain(line).chain(b"\nshow a\n".as_slice());
+        let mut reader = b"show a\n"
+            .as_slice()
+            .chain(line)
+            .chain(b"\nshow a\n".as_slice());
         let status = script(rt.alloc(), &mut reader, &mut printed)?;
         assert_eq!(rt; status, 2, "{line:?}");
-        assert_eq!(rt; printed.as_slice(), b"a absent\nbad line\n".as_slice(), "{line:?}");
+        assert_eq!(rt;
+            printed.as_slice(),
+            b"a absent\nbad line\n".as_slice(),
+            "{line:?}"
+        );
     }
     Ok(())
 }
@@ -141,7 +148,10 @@ fn refused_memory_is_told(rt: HostRuntime) -> Result<(), Fail> {
         Ok(status) => {
             assert_eq!(rt; status, 0);
             let printed = str::from_utf8(&printed)?;
-            assert!(rt; printed == TWO_COMMANDS_PRINTED || printed.contains("fault N61\n"), "{printed}");
+            assert!(rt;
+                printed == TWO_COMMANDS_PRINTED || printed.contains("fault N61\n"),
+                "{printed}"
+            );
         }
         Err(fault) => assert_eq!(rt; fault, ScriptFault::Memory),
     }
