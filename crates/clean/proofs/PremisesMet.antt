@@ -197,6 +197,7 @@ pub premises_met : PremisesAreMet
 premises_met = record {
   premises = record {
     kept = kept;
+    recorded_apart = λ i p h. absurd cc;
     one_outcome = one_outcome;
     left_outcomes = λ i at ended well. at_ended Leaves each_leaves i at ended;
     stamps = stamps;

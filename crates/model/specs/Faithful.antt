@@ -1,17 +1,12 @@
 -- When the records of earlier builds may be believed. All is this project's own.
-use Rattle.std.specs.Prelude.{◌≡◌, ℕ, ◌≤◌, true, List, Option, Some, None}
+use Rattle.std.specs.Prelude.{◌≡◌, ℕ, ◌≤◌, true, false, List, Option, Some, None}
 use Rattle.model.specs.declared.event.Moment.{Moment}
 use Rattle.model.specs.declared.graph.Edge.{Edge}
 use Rattle.model.specs.declared.record.DepsRecord.{DepsRecord}
 use Rattle.model.specs.World.{World, File, View, file_at, view_of, latest, runs}
-use Rattle.model.specs.Graph.{has, edge_at, outputs, StandsTwice}
+use Rattle.model.specs.Graph.{has, edge_at, outputs}
 use Rattle.model.specs.Outcome.{Behaviour, ends_well, given, reports_of}
-use Rattle.model.specs.Records.{Store, LogFormat, OwnFiles, Made, store_in, in_force, deps_in_force}
-
--- the list has each of these paths once, and no other
-pub record ListsOnce (paths reported : List (List ℕ)) : Type 0 where
-  pub same : (p : List ℕ) → has paths p ≡ has reported p
-  pub once : (p : List ℕ) → StandsTwice paths p → ⊥
+use Rattle.model.specs.Records.{Store, LogFormat, OwnFiles, Made, store_in, in_force, deps_in_force, ListsOnce}
 
 -- A record of output o is faithful where some view explains it: the recorded act ends well in that view; o, if it is there,
 -- holds what the act gives in it; a deps record of the same start lists what the act reports in it; and each file that is
@@ -28,11 +23,12 @@ pub record IsFaithfulRecord (B : Behaviour) (store : Store) (history : List Mome
 abbrev pub IsReadable : {A : Type 0} → (List ℕ → Option (List A)) → Option (List ℕ) → Type 0
 IsReadable {A} reading held = (content : List ℕ) → held ≡ Some content → (records : List A) × (reading content ≡ Some records)
 
--- all records in force are faithful, the logs are not damaged, and no output of a running command has a record in force
+-- all records in force are faithful and of none of the program's own files, the logs are not damaged, and no output of a
+-- running command has a record in force
 pub record IsFaithfulStore (B : Behaviour) (format : LogFormat) (own : OwnFiles) (edges : List Edge) (world : World) : Type 0 where
   pub build_log : IsReadable format.records (view_of world.history own.build_log)
   pub deps_log : IsReadable format.deps (view_of world.history own.deps_log)
   pub records : (o : List ℕ) (made : Made) → in_force (store_in format own (view_of world.history)).records o ≡ Some made
-      → IsFaithfulRecord B (store_in format own (view_of world.history)) world.history o made
+      → IsFaithfulRecord B (store_in format own (view_of world.history)) world.history o made × (own.set o ≡ false)
   pub running : (job : ℕ) (o : List ℕ) → runs job world.events ≡ true → has (outputs (edge_at edges job)) o ≡ true
       → in_force (store_in format own (view_of world.history)).records o ≡ None

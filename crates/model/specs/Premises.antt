@@ -153,15 +153,22 @@ HaveEnded world = IsIdle world.events
 
 -- ---- together
 
--- what the verdicts, the refusals and the frame suppose: only commands write outputs, and nothing is edited
+-- what the verdicts, the refusals and the frame suppose: only commands write outputs, the program's own files are apart from
+-- what the graph names, and nothing is edited
 pub record FilesAreKept (own : OwnFiles) (edges : List Edge) (old new : List Moment) : Type 0 where
   pub commands : KeepToOutputs edges old new
   pub own_files : OwnFilesApart own edges
   pub edits : NothingIsEdited old new
 
+-- The set that holds the program's own files, depfiles and response files holds no recorded input in use: what an earlier
+-- build recorded was a report.
+abbrev pub RecordedApart : OwnFiles → (ℕ → List (List ℕ)) → Type 0
+RecordedApart own recorded = (i : ℕ) (p : List ℕ) → has (recorded i) p ≡ true → own.set p ≡ false
+
 -- what the contents of a clean build suppose
 pub record Premises (B : Behaviour) (own : OwnFiles) (declared edges : List Edge) (recorded : ℕ → List (List ℕ)) (steps : List Step) (old new : List Moment) : Type 0 where
   pub kept : FilesAreKept own edges old new
+  pub recorded_apart : RecordedApart own recorded
   pub one_outcome : OneOutcome B edges steps (view_of new)
   pub left_outcomes : LeaveOutcomes B edges steps old new
   pub stamps : StampsGrow old new

@@ -1,5 +1,5 @@
 -- What the logs tell of earlier builds, and the inputs that commands discovered.
-use Rattle.std.specs.Prelude.{ℕ, ◌==◌, ◌&&◌, Bool, false, if◌then◌else◌, List, [], ◌∷◌, ◌++◌, Option, Some, None, bytes_eq}
+use Rattle.std.specs.Prelude.{◌≡◌, ℕ, ◌==◌, ◌&&◌, Bool, false, if◌then◌else◌, List, [], ◌∷◌, ◌++◌, Option, Some, None, bytes_eq}
 use Rattle.std.specs.List.{list_all}
 use Rattle.model.specs.declared.act.Act.{Act}
 use Rattle.model.specs.declared.graph.Edge.{Edge}
@@ -7,7 +7,7 @@ use Rattle.model.specs.declared.record.Record.{Record}
 use Rattle.model.specs.declared.record.Record.TheVariants.{Begun, Done}
 use Rattle.model.specs.declared.record.DepsRecord.{DepsRecord}
 use Rattle.model.specs.World.{View}
-use Rattle.model.specs.Graph.{has, outputs, edge_at}
+use Rattle.model.specs.Graph.{has, outputs, edge_at, StandsTwice}
 
 -- what both logs tell, oldest record first (manual: "Ninja log", "Depfile"; the logs are this project's own)
 pub record Store : Type 0 where
@@ -94,3 +94,10 @@ recorded_of store e =
 -- the recorded inputs in use of each command edge
 abbrev pub recorded_inputs : Store → List Edge → ℕ → List (List ℕ)
 recorded_inputs store edges i = if (edge_at edges i).phony then [] else recorded_of store (edge_at edges i)
+
+-- ---- what a record of reports lists
+
+-- the list has each of these paths once, and no other
+pub record ListsOnce (paths reported : List (List ℕ)) : Type 0 where
+  pub same : (p : List ℕ) → has paths p ≡ has reported p
+  pub once : (p : List ℕ) → StandsTwice paths p → ⊥

@@ -161,7 +161,8 @@ pub record IsInOrder (tells : Bool) (own : OwnFiles) (asked : Asked) (store : St
 abbrev pub IsUntouched : Bool → Asked → World → World → Type 0
 IsUntouched tells asked old new = ((i : ℕ) → (edge_at asked.graph.edges i).dyndep ≡ None) → OnlyLooks tells old new
 
--- each answer has its cause, and comes where its cause is
+-- each answer has its cause, and comes where its cause is; want of memory is shown by tests alone, and a refusal of another
+-- part has its cause in that part's contract
 abbrev pub IsAnswer : Bool → OwnFiles → Asked → Store → List Step → World → World → Answer → Type 0
 IsAnswer tells own asked store steps old new (Success started) =
     IsInOrder tells own asked store old new × HasEnded asked store steps new
