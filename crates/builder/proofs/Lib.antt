@@ -4,3 +4,4 @@ pub mod Counts
 pub mod Reports
 pub mod Standings
 pub mod Starting
+pub mod Walking

@@ -1,10 +1,9 @@
 -- What a run that has ended reports.
-use Rattle.std.proofs.Common.{◌≡◌, ℕ, zero, suc, ◌+◌, ◌<◌, ◌≤◌, cond, Bool, true, false, List, [], ◌∷◌, ◌++◌, length, map, count_by, Err, refl, sym, ◌∙◌, ap, subst, arith, append_assoc}
+use Rattle.std.proofs.Common.{◌≡◌, ℕ, zero, suc, ◌+◌, ◌≤◌, cond, Bool, List, [], ◌∷◌, ◌++◌, length, map, count_by, Err, refl, sym, ◌∙◌, ap, subst, arith}
 use Rattle.std.proofs.lemmas.List.{append-nil}
 use Rattle.std.proofs.lemmas.List.Sums.{sum_by-cons}
 use Rattle.model.specs.declared.graph.Edge.{Edge}
 use Rattle.model.specs.declared.event.Event.{Event}
-use Rattle.model.specs.declared.fault.SiteFault.{SiteFault}
 use Rattle.model.specs.World.{World, IsIdle}
 use Rattle.model.specs.Calls.{OnlyLooks, HasCause}
 use Rattle.manifest.specs.Answer.{site_part}
@@ -21,8 +20,8 @@ use Rattle.builder.specs.declared.plan.End.TheVariants as ending
 use Rattle.builder.specs.declared.report.Report.{Report}
 use Rattle.builder.specs.declared.report.Report.TheVariants.{Success, Failed, Refused, Fault}
 use Rattle.builder.specs.Plan.{standing_at, first_standing, is_running, is_failed, is_well, EndsSo, IsFresh}
-use Rattle.builder.specs.Run.{NotStarted, Lawful, course_by, standing_of, is_started, IsAt, IsNoted}
-use Rattle.builder.specs.Answers.{IsSeen, Ran, Ended, Answers, Reports, unread, uncut}
+use Rattle.builder.specs.Run.{NotStarted, course_by, standing_of, is_started, IsAt, IsNoted}
+use Rattle.builder.specs.Answers.{Ran, Ended, Answers, Reports, unread, uncut}
 use Rattle.builder.proofs.Calls.{looks_none, looks_then, seen_of, seen_before}
 use Rattle.builder.proofs.Standings.{idle_at_end}
 

@@ -1,7 +1,7 @@
 -- Where a run stands after one more judgement, start or finish.
-use Rattle.std.proofs.Common.{◌≡◌, ◌⊎◌, inl, inr, ℕ, zero, suc, ◌+◌, ◌-◌, ◌<◌, ◌==◌, cond, Bool, true, false, List, [], ◌∷◌, ◌++◌, Option, Some, None, length, get_or, slice_index, slice_index_or, count_by, slice_get, option_map, refl, sym, ◌∙◌, ap, subst, arith, append_assoc, add-one}
+use Rattle.std.proofs.Common.{◌≡◌, inl, inr, ℕ, zero, suc, ◌+◌, ◌-◌, ◌<◌, ◌==◌, cond, Bool, true, false, List, [], ◌∷◌, ◌++◌, Some, length, get_or, slice_index, slice_index_or, count_by, refl, sym, ◌∙◌, ap, subst, arith, append_assoc}
 use Rattle.std.proofs.Math.ListN.{set}
-use Rattle.std.proofs.lemmas.List.{append-nil, get_or-set_same, get_or-set_other, length-set}
+use Rattle.std.proofs.lemmas.List.{get_or-set_same, get_or-set_other, length-set}
 use Rattle.std.proofs.lemmas.Bool.{cases_Bool, eqb-true, eq-eqb, false≢true, cond-true, cond-false, and_parts}
 use Rattle.model.specs.declared.act.Act.{Act}
 use Rattle.model.specs.declared.graph.Edge.{Edge}
@@ -13,9 +13,9 @@ use Rattle.builder.specs.declared.plan.Standing.TheVariants.{Outside, Unjudged, 
 use Rattle.std.specs.List.{list_all}
 use Rattle.builder.specs.declared.graph.Links.{Links}
 use Rattle.builder.specs.Plan.{standing_at, is_unjudged, is_out_of_date, is_failed, is_running, standing_after, path_settled, may_judge, may_start, IsFirst}
-use Rattle.builder.specs.Run.{Course, NotStarted, Runs, EndedWell, EndedBadly, course_after, course_of, starts_in, failures_in, act_of, Step, Lawful, standing_of, course_by, is_started, IsAt, IsNoted}
+use Rattle.builder.specs.Run.{Course, NotStarted, Runs, EndedWell, EndedBadly, course_after, course_of, failures_in, act_of, standing_of, course_by, is_started, IsAt, IsNoted}
 use Rattle.builder.proofs.Courses.{is_runs, course_push, runs_since, starts_start, starts_finish, failures_start, failures_well, failures_bad, lawful_push}
-use Rattle.builder.proofs.Counts.{count_gains, count_keeps, count_loses, count_none, count_some}
+use Rattle.builder.proofs.Counts.{count_gains, count_keeps, count_none, count_some}
 
 pub course_set : (ss : List Standing) (e : ℕ) (v : Standing) (j : ℕ) → e < length ss → course_by (standing_of (set ss e v) j) ≡ cond (e + 1 == j) (course_by v) (course_by (standing_of ss j))
 course_set ss e v zero lt = sym (cond-false (e + 1 == 0) (course_by v) NotStarted (never (e + 1 == 0) (λ h. eqb-true (e + 1) 0 h)))

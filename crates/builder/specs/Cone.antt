@@ -1,9 +1,40 @@
--- Walks from edges up to what they need.
-use Rattle.std.specs.Prelude.{◌≡◌, ℕ, ◌+◌, ◌-◌, ◌*◌, ◌<◌, ◌≤◌, Bool, true, false, List, [], ◌∷◌, ◌++◌, length, slice_index, slice_index_or, slice_get, vec_len, count_by, sum, EachIndex, Option, Some, None}
+-- The edges that a build needs, and walks from edges up to what they need.
+use Rattle.std.specs.Prelude.{◌≡◌, ◌≢◌, ℕ, ◌+◌, ◌-◌, ◌*◌, ◌<◌, ◌≤◌, Bool, true, false, List, [], ◌∷◌, ◌++◌, length, slice_index, slice_index_or, slice_get, count_by, sum, Option, Some, None}
+use Rattle.model.specs.Graph.{has_number}
 use Rattle.builder.specs.declared.graph.Links.{Links}
 use Rattle.builder.specs.declared.cone.Mark.{Mark}
 use Rattle.builder.specs.declared.cone.Mark.TheVariants.{Unseen, Open, Listed}
 use Rattle.builder.specs.declared.cone.Walk.{Walk}
+
+abbrev pub inputs_at : Links → ℕ → List ℕ
+inputs_at links e = slice_index_or links.inputs.items e []
+
+-- the maker of the input at this place of the edge's list; None for a source
+abbrev pub maker_at : Links → ℕ → ℕ → Option ℕ
+maker_at links e k = slice_get links.makers.items (slice_index (inputs_at links e) k)
+
+-- ---- the cone
+
+-- an edge that was asked for, or one that makes what such an edge needs, and so on
+pub data IsNeeded (links : Links) (requested : List ℕ) : ℕ → Type 0 where
+  Asked : (k : ℕ) → k < length requested → IsNeeded links requested (slice_index requested k)
+  Above : (e k m : ℕ) → IsNeeded links requested e → k < length (inputs_at links e) → maker_at links e k ≡ Some m → IsNeeded links requested m
+
+abbrev pub made_by : List ℕ → Option ℕ → Bool
+made_by edges None = true
+made_by edges (Some e) = has_number edges e
+
+-- the edge is none of those before it, and they make all that it needs
+pub record Follows (links : Links) (before : List ℕ) (e : ℕ) : Type 0 where
+  pub once : has_number before e ≡ false
+  pub made : (k : ℕ) → k < length (inputs_at links e) → made_by before (maker_at links e k) ≡ true
+
+-- each edge once, and after the makers of what it needs
+abbrev pub IsOrder : Links → List ℕ → List ℕ → Type 0
+IsOrder links before [] = Unit {0}
+IsOrder links before (e ∷ es) = Follows links before e × IsOrder links (before ++ e ∷ []) es
+
+-- ---- marks
 
 abbrev pub mark_at : List Mark → ℕ → Mark
 mark_at marks e = slice_index_or marks e Unseen
@@ -13,25 +44,58 @@ is_listed Unseen = false
 is_listed Open = false
 is_listed Listed = true
 
+abbrev pub is_open : Mark → Bool
+is_open Unseen = false
+is_open Open = true
+is_open Listed = false
+
 abbrev pub is_unseen : Mark → Bool
 is_unseen Unseen = true
 is_unseen Open = false
 is_unseen Listed = false
 
-abbrev pub inputs_at : Links → ℕ → List ℕ
-inputs_at links e = slice_index_or links.inputs.items e []
+-- just the needed edges, in an order without a cycle; the marks show which they are
+pub record IsCone (links : Links) (requested order : List ℕ) (marks : List Mark) : Type 0 where
+  pub fits : length marks ≡ length links.inputs.items
+  pub ordered : IsOrder links [] order
+  pub asked : (k : ℕ) → k < length requested → has_number order (slice_index requested k) ≡ true
+  pub needed : (e : ℕ) → has_number order e ≡ true → IsNeeded links requested e
+  pub marked : (e : ℕ) → is_listed (mark_at marks e) ≡ has_number order e
+
+-- ---- walks
+
+abbrev pub maker_listed : List Mark → Option ℕ → Bool
+maker_listed marks None = true
+maker_listed marks (Some e) = is_listed (mark_at marks e)
+
+-- what stands between the steps of a walk
+pub record IsWalkAt (links : Links) (requested order : List ℕ) (marks : List Mark) (left stack : List ℕ) : Type 0 where
+  pub fits : length marks ≡ length links.inputs.items
+  pub lefts : length left ≡ length links.inputs.items
+  pub some_left : (e : ℕ) → e < length links.inputs.items → slice_index left e ≤ length (inputs_at links e)
+  -- the open edges are those on the stack, each once
+  pub within : (k : ℕ) → k < length stack → slice_index stack k < length links.inputs.items
+  pub opened : (k : ℕ) → k < length stack → mark_at marks (slice_index stack k) ≡ Open
+  pub apart : (j k : ℕ) → j < k → k < length stack → slice_index stack j ≢ slice_index stack k
+  pub stacked : (e : ℕ) → mark_at marks e ≡ Open → (k : ℕ) × (k < length stack) × (slice_index stack k ≡ e)
+  -- the makers of the inputs that were looked at are listed
+  pub looked : (e k : ℕ) → e < length links.inputs.items → slice_index left e ≤ k → k < length (inputs_at links e) → maker_listed marks (maker_at links e k) ≡ true
+  pub listed : (e : ℕ) → is_listed (mark_at marks e) ≡ has_number order e
+  pub ordered : IsOrder links [] order
+  pub needed : (e : ℕ) → is_unseen (mark_at marks e) ≡ false → IsNeeded links requested e
+
+pub record IsWalk (links : Links) (requested : List ℕ) (walk : Walk) : Type 0 where
+  pub same : walk.links.now ≡ links
+  pub asked : walk.requested.now ≡ requested
+  pub at : IsWalkAt links requested walk.order.items walk.marks.items walk.left.items walk.stack.items
+
+-- what was seen stays so
+abbrev pub Keeps : List Mark → List Mark → Type 0
+Keeps old new = (e : ℕ) → is_unseen (mark_at old e) ≡ false → is_unseen (mark_at new e) ≡ false
 
 -- what a walk has still to do
 abbrev pub work : Walk → ℕ
 work walk = 2 * count_by is_unseen walk.marks.items + sum walk.left.items + length walk.stack.items
-
--- what stands between the steps of a walk
-pub record IsWalk (links : Links) (walk : Walk) : Type 0 where
-  pub same : walk.links.now ≡ links
-  pub marks : vec_len walk.marks ≡ vec_len links.inputs
-  pub lefts : vec_len walk.left ≡ vec_len links.inputs
-  pub left : (e : ℕ) → e < vec_len links.inputs → slice_index walk.left.items e ≤ length (inputs_at links e)
-  pub stack : EachIndex walk.stack.items (λ k. slice_index walk.stack.items k < vec_len links.inputs)
 
 -- the last open edge
 pub record IsLast (stack : List ℕ) (e : ℕ) : Type 0 where

@@ -1,7 +1,7 @@
 //! The edges that a build needs.
 
-ghost use Rattle.std.specs.Prelude.{◌≡◌, ℕ, false, ◌+◌, ◌*◌, ◌<◌, IfOk, OnOk, vec_len, length, slice_index, EachIndex, MatchOption};
-ghost use Rattle.builder.specs.Cone.{is_listed, mark_at, IsWalk, IsLast, IsNextInput, work};
+ghost use Rattle.std.specs.Prelude.{◌≡◌, ℕ, true, false, ◌+◌, ◌-◌, ◌*◌, ◌<◌, IfOk, OnOk, vec_len, length, slice_index, EachIndex, MatchOption};
+ghost use Rattle.builder.specs.Cone.{is_listed, is_unseen, mark_at, maker_at, maker_listed, Keeps, IsCone, IsNeeded, IsWalk, IsLast, IsNextInput, work};
 
 use crate::graph::{GraphFault, Links};
 use std::alloc::{AllocError, Global};
@@ -36,9 +36,10 @@ impl Cone {
     /// The edges that these edges need, and they themselves.
     pub fn of(alloc: Global, links: &Links, requested: &[usize]) -> Result<Cone, GraphFault>
         requires { EachIndex requested.now (λ k. slice_index requested.now k < vec_len links.now.inputs) }
+        ensures cone { IfOk result (λ cone. IsCone links.now requested.now cone.order.items cone.marks.items) }
         ensures marks { IfOk result (λ cone. vec_len cone.marks ≡ vec_len links.now.inputs) }
     {
-        let mut walk = Walk::new(alloc, links)?;
+        let mut walk = Walk::new(alloc, links, requested)?;
         for edge in requested {
             walk.enter(*edge)?;
             walk.finish()?;
@@ -60,6 +61,8 @@ impl Cone {
 #[derive(Drop)]
 struct Walk<'a> {
     links: &'a Links,
+    /// The edges that the walks begin with.
+    requested: &'a [usize],
     order: Vec<usize>,
     marks: Vec<Mark>,
     /// How many inputs of each edge are still to be looked at; the last one is looked at first.
@@ -69,11 +72,13 @@ struct Walk<'a> {
 }
 
 impl<'a> Walk<'a> {
-    fn new(alloc: Global, links: &'a Links) -> Result<Walk<'a>, AllocError>
-        ensures { IfOk result (IsWalk links.now) }
+    fn new(alloc: Global, links: &'a Links, requested: &'a [usize]) -> Result<Walk<'a>, AllocError>
+        ensures walk { IfOk result (IsWalk links.now requested.now) }
+        ensures stack { IfOk result (λ walk. length walk.stack.items ≡ 0) }
     {
         Ok(Walk {
             links,
+            requested,
             order: Vec::new(alloc),
             marks: vec![in alloc; Mark::Unseen; links.inputs.len()]?,
             left: links
@@ -87,9 +92,12 @@ impl<'a> Walk<'a> {
 
     /// Opens the edge, unless it is listed.
     fn enter(&mut self, edge: usize) -> Result<(), GraphFault>
-        requires at { IsWalk self.old.links.now self.old }
+        requires at { IsWalk self.old.links.now self.old.requested.now self.old }
         requires within { edge < vec_len self.old.links.now.inputs }
-        ensures walk { OnOk result (IsWalk self.old.links.now self.new) }
+        requires needed { IsNeeded self.old.links.now self.old.requested.now edge }
+        ensures walk { OnOk result (IsWalk self.old.links.now self.old.requested.now self.new) }
+        ensures keeps { OnOk result (Keeps self.old.marks.items self.new.marks.items) }
+        ensures seen { OnOk result (is_unseen (mark_at self.new.marks.items edge) ≡ false) }
         ensures nearer { OnOk result (is_listed (mark_at self.old.marks.items edge) ≡ false → work self.new < work self.old) }
     {
         match self.marks[edge] {
@@ -101,10 +109,13 @@ impl<'a> Walk<'a> {
 
     /// Opens an edge that was not seen.
     fn open(&mut self, edge: usize) -> Result<(), GraphFault>
-        requires at { IsWalk self.old.links.now self.old }
+        requires at { IsWalk self.old.links.now self.old.requested.now self.old }
         requires within { edge < vec_len self.old.links.now.inputs }
+        requires needed { IsNeeded self.old.links.now self.old.requested.now edge }
         requires unseen { mark_at self.old.marks.items edge ≡ Mark.Unseen }
-        ensures walk { OnOk result (IsWalk self.old.links.now self.new) }
+        ensures walk { OnOk result (IsWalk self.old.links.now self.old.requested.now self.new) }
+        ensures keeps { OnOk result (Keeps self.old.marks.items self.new.marks.items) }
+        ensures seen { OnOk result (is_unseen (mark_at self.new.marks.items edge) ≡ false) }
         ensures nearer { OnOk result (work self.new < work self.old) }
     {
         self.stack.push(edge)?;
@@ -114,8 +125,10 @@ impl<'a> Walk<'a> {
 
     /// Lists all open edges, and what they need.
     fn finish(&mut self) -> Result<(), GraphFault>
-        requires { IsWalk self.old.links.now self.old }
-        ensures { OnOk result (IsWalk self.old.links.now self.new) }
+        requires { IsWalk self.old.links.now self.old.requested.now self.old }
+        ensures walk { OnOk result (IsWalk self.old.links.now self.old.requested.now self.new) }
+        ensures stack { OnOk result (length self.new.stack.items ≡ 0) }
+        ensures keeps { OnOk result (Keeps self.old.marks.items self.new.marks.items) }
     {
         'walk: while let Some(edge) = self.stack.last().copied() {
             self.step(edge)?;
@@ -125,9 +138,10 @@ impl<'a> Walk<'a> {
 
     /// Looks at one input of the last open edge, or lists that edge.
     fn step(&mut self, edge: usize) -> Result<(), GraphFault>
-        requires at { IsWalk self.old.links.now self.old }
+        requires at { IsWalk self.old.links.now self.old.requested.now self.old }
         requires last { IsLast self.old.stack.items edge }
-        ensures walk { OnOk result (IsWalk self.old.links.now self.new) }
+        ensures walk { OnOk result (IsWalk self.old.links.now self.old.requested.now self.new) }
+        ensures keeps { OnOk result (Keeps self.old.marks.items self.new.marks.items) }
         ensures nearer { OnOk result (work self.new < work self.old) }
     {
         match self.next_input(edge) {
@@ -138,7 +152,7 @@ impl<'a> Walk<'a> {
 
     /// The input of an edge that is to be looked at.
     fn next_input(&self, edge: usize) -> Option<usize>
-        requires at { IsWalk self.now.links.now self.now }
+        requires at { IsWalk self.now.links.now self.now.requested.now self.now }
         requires within { edge < vec_len self.now.links.now.inputs }
         ensures { MatchOption result (slice_index self.now.left.items edge ≡ 0) (IsNextInput self.now.links.now (slice_index self.now.left.items edge) edge) }
     {
@@ -152,10 +166,11 @@ impl<'a> Walk<'a> {
 
     /// Goes on to the maker of an input, or past the input where nothing has to be done for it.
     fn look(&mut self, edge: usize, path: usize) -> Result<(), GraphFault>
-        requires at { IsWalk self.old.links.now self.old }
-        requires within { edge < vec_len self.old.links.now.inputs }
+        requires at { IsWalk self.old.links.now self.old.requested.now self.old }
+        requires last { IsLast self.old.stack.items edge }
         requires next { IsNextInput self.old.links.now (slice_index self.old.left.items edge) edge path }
-        ensures walk { OnOk result (IsWalk self.old.links.now self.new) }
+        ensures walk { OnOk result (IsWalk self.old.links.now self.old.requested.now self.new) }
+        ensures keeps { OnOk result (Keeps self.old.marks.items self.new.marks.items) }
         ensures nearer { OnOk result (work self.new < work self.old) }
     {
         match self.links.maker(path) {
@@ -166,10 +181,12 @@ impl<'a> Walk<'a> {
 
     /// Goes past the last input that is left.
     fn pass(&mut self, edge: usize) -> Result<(), GraphFault>
-        requires at { IsWalk self.old.links.now self.old }
+        requires at { IsWalk self.old.links.now self.old.requested.now self.old }
         requires within { edge < vec_len self.old.links.now.inputs }
         requires left { 0 < slice_index self.old.left.items edge }
-        ensures walk { OnOk result (IsWalk self.old.links.now self.new) }
+        requires done { maker_listed self.old.marks.items (maker_at self.old.links.now edge (slice_index self.old.left.items edge - 1)) ≡ true }
+        ensures walk { OnOk result (IsWalk self.old.links.now self.old.requested.now self.new) }
+        ensures keeps { OnOk result (Keeps self.old.marks.items self.new.marks.items) }
         ensures nearer { OnOk result (work self.new < work self.old) }
     {
         self.left[edge] -= 1;
@@ -178,10 +195,11 @@ impl<'a> Walk<'a> {
 
     /// Lists the last open edge, all inputs of which were looked at.
     fn list(&mut self, edge: usize) -> Result<(), GraphFault>
-        requires at { IsWalk self.old.links.now self.old }
+        requires at { IsWalk self.old.links.now self.old.requested.now self.old }
         requires last { IsLast self.old.stack.items edge }
         requires all { slice_index self.old.left.items edge ≡ 0 }
-        ensures walk { OnOk result (IsWalk self.old.links.now self.new) }
+        ensures walk { OnOk result (IsWalk self.old.links.now self.old.requested.now self.new) }
+        ensures keeps { OnOk result (Keeps self.old.marks.items self.new.marks.items) }
         ensures nearer { OnOk result (work self.new < work self.old) }
     {
         self.order.push(edge)?;

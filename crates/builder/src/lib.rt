@@ -9,6 +9,8 @@ mod plan;
 mod report;
 mod run;
 mod start;
+#[cfg(test)]
+mod tests;
 
 pub use one_build::build;
 pub use report::{Missing, Options, Refusal, Report};

@@ -12,7 +12,7 @@ use crate::graph::{Graph, GraphFault};
 use crate::missing::{first_missing, first_outputs};
 use crate::plan::{End, Plan};
 use crate::report::{Options, Refusal, Report};
-use crate::run::{run, take_in_rest};
+use crate::run::{end_after_fault, run};
 use manifest::{Manifest, ReadError};
 use model::{Edge, SiteFault};
 use site::Site;
@@ -148,7 +148,7 @@ fn run_plan<S: Site>(
 {
     match try_run(alloc, site, edges, tick, plan) {
         Ok(report) => report,
-        Err(fault) => Report::Fault(take_in_rest(site, plan, fault)),
+        Err(fault) => Report::Fault(end_after_fault(site, plan, fault)),
     }
 }
 

@@ -112,8 +112,9 @@ fn note_end(failed: &mut Vec<usize>, number: usize, ok: bool) -> Result<(), Site
     Ok(())
 }
 
-/// Takes in what runs after a fault, as long as the site answers. A site that has stopped is not asked.
-pub fn take_in_rest<S: Site>(site: &mut S, plan: &mut Plan<'_>, fault: SiteFault) -> SiteFault
+/// Takes in what runs after a fault, as long as the site answers, and gives the fault of the build: that the site
+/// stopped, where it did, and else the first. A site that has stopped is not asked.
+pub fn end_after_fault<S: Site>(site: &mut S, plan: &mut Plan<'_>, fault: SiteFault) -> SiteFault
     requires at { (edges : List Edge) × (entry : World) × IsIdle entry.events × IsAt edges plan.old.standings.items entry (S.world site.old) }
     ensures kept { (edges : List Edge) (entry : World) → IsIdle entry.events → IsAt edges plan.old.standings.items entry (S.world site.old) → IsAt edges plan.new.standings.items entry (S.world site.new) }
     ensures seen { (entry : World) → IsSeen entry (S.world site.old) fault → IsSeen entry (S.world site.new) result }
@@ -121,14 +122,23 @@ pub fn take_in_rest<S: Site>(site: &mut S, plan: &mut Plan<'_>, fault: SiteFault
     if is_stop(fault) {
         return fault;
     }
-    'rest: while plan.running() > 0 {
-        match wait(site, plan) {
-            Ok(_) => {}
-            Err(SiteFault::Stopped) => return SiteFault::Stopped,
-            Err(_) => return fault,
-        }
+    match take_in_rest(site, plan) {
+        Err(SiteFault::Stopped) => SiteFault::Stopped,
+        _ => fault,
     }
-    fault
+}
+
+/// Takes in all that runs.
+fn take_in_rest<S: Site>(site: &mut S, plan: &mut Plan<'_>) -> Result<(), SiteFault>
+    requires at { (edges : List Edge) × (entry : World) × IsIdle entry.events × IsAt edges plan.old.standings.items entry (S.world site.old) }
+    ensures kept { (edges : List Edge) (entry : World) → IsIdle entry.events → IsAt edges plan.old.standings.items entry (S.world site.old) → IsAt edges plan.new.standings.items entry (S.world site.new) }
+    ensures cause { Causes (S.world site.old) (S.world site.new) result }
+    ensures idle { OnOk result (count_by is_running plan.new.standings.items ≡ 0) }
+{
+    'rest: while plan.running() > 0 {
+        wait(site, plan)?;
+    }
+    Ok(())
 }
 
 fn is_stop(fault: SiteFault) -> bool

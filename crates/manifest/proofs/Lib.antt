@@ -2,3 +2,4 @@ mod Growth
 mod Lists
 mod PathLemmas
 mod ReadLemmas
+mod DeclareLemmas

@@ -1,7 +1,6 @@
 -- What was read stands in lines of the text, before and after one more line is read.
-use Rattle.std.proofs.Common.{◌≡◌, ◌≢◌, ℕ, List, [], ◌∷◌, ◌++◌, None, refl, sym}
-use Rattle.std.specs.Prelude.{Option}
-use Rattle.std.specs.List.{AllByRecursion, AllZip}
+use Rattle.std.proofs.Common.{◌≡◌, ℕ, List, [], ◌∷◌, ◌++◌, None}
+use Rattle.std.specs.List.{AllByRecursion}
 use Rattle.lexer.specs.declared.statement.BuildLine.{BuildLine}
 use Rattle.lexer.specs.Places.{IsLineOf}
 use Rattle.manifest.specs.declared.edge.ReadEdge.{ReadEdge}

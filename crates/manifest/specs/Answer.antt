@@ -1,5 +1,5 @@
 -- What the answer of a read says of the site and of the main file.
-use Rattle.std.specs.Prelude.{◌≡◌, ℕ, ◌*◌, ◌<◌, ◌≤◌, List, Option, Some, None, Result, Ok, Err, IsErrOf, IfErr, length, IsUtf8}
+use Rattle.std.specs.Prelude.{◌≡◌, ℕ, ◌*◌, ◌<◌, ◌≤◌, List, Option, Some, None, Result, Ok, Err, IsErrOf, IfErr, IfOk, length, IsUtf8}
 use Rattle.model.specs.declared.graph.BuildGraph.{BuildGraph}
 use Rattle.model.specs.declared.fault.SiteFault.{SiteFault}
 use Rattle.model.specs.declared.event.Moment.{Moment}
@@ -7,6 +7,7 @@ use Rattle.model.specs.World.{file_at, content_of}
 use Rattle.model.specs.Calls.{Sees}
 use Rattle.lexer.specs.Places.{IsLineOf}
 use Rattle.lexer.specs.declared.fault.FaultKind.TheVariants.{TooLarge}
+use Rattle.manifest.specs.Declares.{Declares}
 use Rattle.manifest.specs.declared.fault.FaultKind.{FaultKind}
 use Rattle.manifest.specs.declared.fault.FaultKind.TheVariants.{NotUtf8, Line, NotFound}
 use Rattle.manifest.specs.declared.fault.ReadError.{ReadError}
@@ -63,6 +64,7 @@ pub record IsAnswerOfBytes (name : List ℕ) (bytes : List ℕ) (result : Result
   pub too_large : largest_file < length bytes → IsErrOf result (refused name 1 (Line TooLarge))
   pub not_utf8 : length bytes ≤ largest_file → ¬ IsUtf8 bytes → IsErrOf result (refused name 1 NotUtf8)
   pub faults : IfErr result (IsFaultOf bytes)
+  pub declared : IfOk result (Declares bytes)
 
 -- memory may be refused at any time; else the fact holds
 abbrev pub UnlessMemory : Result BuildGraph ReadError → Type 0 → Type 0

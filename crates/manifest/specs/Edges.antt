@@ -1,7 +1,8 @@
 -- Edges between their build lines and the expansion of their rules.
 use Rattle.std.specs.Prelude.{◌≡◌, ◌≢◌, ℕ, List, [], ◌∷◌, ◌++◌, Option, None, Some, IfSome, option_map}
-use Rattle.std.specs.List.{AllByRecursion, AllZip}
+use Rattle.std.specs.List.{AllByRecursion}
 use Rattle.lexer.specs.declared.statement.BuildLine.{BuildLine}
+use Rattle.lexer.specs.declared.statement.Line.{Line}
 use Rattle.lexer.specs.declared.statement.Statement.{Statement}
 use Rattle.lexer.specs.declared.statement.Statement.TheVariants.{Build}
 use Rattle.lexer.specs.Places.{IsLineOf}
@@ -47,6 +48,9 @@ block_line block = option_map (λ rule. rule.line) block
 abbrev pub StopsAtBlock : Option OpenRule → Stop → Type 0
 StopsAtBlock None stop = ⊥
 StopsAtBlock (Some rule) stop = StopsAt rule.line stop
+
+abbrev pub AreLinesOf : List ℕ → List Line → Type 0
+AreLinesOf text lines = AllByRecursion (λ (line : Line). IsLineOf text line.number) lines
 
 -- edges of build lines of the text
 abbrev pub AreReadIn : List ℕ → List ReadEdge → Type 0

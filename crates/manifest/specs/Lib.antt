@@ -3,4 +3,5 @@ pub mod Paths
 pub mod FirstStage
 pub mod Stops
 pub mod Edges
+pub mod Declares
 pub mod Answer

@@ -1,10 +1,13 @@
 //! Reading build files.
 
-ghost use Rattle.std.specs.Prelude.{◌≡◌, ◌<◌, ◌≤◌, Some, None, Ok, OnOk, IfOk, IfErr, IsTrue, IsErrOf, length, IsUtf8};
+ghost use Rattle.std.specs.Prelude.{ℕ, List, ◌≡◌, ◌<◌, ◌≤◌, Some, None, Ok, OnOk, IfOk, IfErr, IsTrue, IsErrOf, length, IsUtf8};
+ghost use Rattle.std.specs.List.{AllZip};
 ghost use Rattle.model.specs.Calls.{OnlyLooks, HasCause};
 ghost use Rattle.lexer.specs.declared.fault.FaultKind.TheVariants.{TooLarge};
 ghost use Rattle.manifest.specs.FirstStage.{IsFirstStage};
 ghost use Rattle.manifest.specs.Answer.{site_part, refused, NamesFile, IsMemoryOr, UnlessMemory, IsAnswerOf, IsAnswerOfBytes, IsStopOf, ReadsFile};
+ghost use Rattle.manifest.specs.Declares.{Declares, IsReadOf, build_lines};
+ghost use Rattle.manifest.specs.Edges.{IsReadIn, AreLinesOf};
 ghost use Rattle.manifest.specs.Stops.{StopsIn};
 ghost use Rattle.manifest.specs.declared.stop.Stop.TheVariants.{Fault};
 
@@ -13,7 +16,7 @@ use crate::fault::{FaultKind, ReadError};
 use crate::statements::Declared;
 use crate::stop::Stop;
 use crate::texts::Texts;
-use lexer::Statements;
+use lexer::{Line, Statements};
 use std::alloc::Global;
 use text::{Bytes, Text};
 
@@ -80,6 +83,7 @@ fn read_bytes(alloc: Global, bytes: &[u8]) -> Result<Manifest, Stop>
     ensures too_large { LARGEST_FILE < length bytes.now → IsErrOf result (Fault 1 (FaultKind.Line TooLarge)) }
     ensures not_utf8 { length bytes.now ≤ LARGEST_FILE → ¬ IsUtf8 bytes.now → IsErrOf result (Fault 1 FaultKind.NotUtf8) }
     ensures faults { IfErr result (IsStopOf bytes.now) }
+    ensures declared { IfOk result (Declares bytes.now) }
     ensures stage { IfOk result IsFirstStage }
 {
     if bytes.len() > LARGEST_FILE {
@@ -95,16 +99,30 @@ fn read_bytes(alloc: Global, bytes: &[u8]) -> Result<Manifest, Stop>
 }
 
 fn read_text(alloc: Global, text: &str) -> Result<Manifest, Stop>
+    requires { length text.now ≤ LARGEST_FILE }
+    ensures declared { IfOk result (Declares text.now) }
     ensures stage { IfOk result IsFirstStage }
     ensures stop { IfErr result (StopsIn text.now) }
 {
     let Statements { lines, fault } = lexer::statements(alloc, text)?;
+    let declared = read_lines(alloc, lines.into_vec())?;
+    match fault {
+        Some(fault) => Err(Stop::in_line(fault.line, fault.kind)),
+        None => {
+            let manifest = declared.finish(alloc)?;
+            Ok(manifest)
+        }
+    }
+}
+
+fn read_lines<'a>(alloc: Global, lines: Vec<Line<'a>>) -> Result<Declared<'a>, Stop>
+    ensures edges { IfOk result (λ declared. AllZip IsReadOf (build_lines lines.entry.items) declared.edges.items) }
+    ensures lines { IfOk result (λ declared. (text : List ℕ) → AreLinesOf text lines.entry.items → IsReadIn text declared) }
+    ensures stop { IfErr result (λ stop. (text : List ℕ) → AreLinesOf text lines.entry.items → StopsIn text stop) }
+{
     let mut declared = Declared::new(alloc);
-    for line in lines.into_vec() {
+    for line in lines {
         declared.read_line(alloc, line)?;
     }
-    if let Some(fault) = fault {
-        return Err(Stop::in_line(fault.line, fault.kind));
-    }
-    declared.finish(alloc)
+    Ok(declared)
 }

@@ -1,6 +1,6 @@
 //! Statements, one after another.
 
-ghost use Rattle.std.specs.Prelude.{◌≡◌, ℕ, List, Some, None, IfOk, IfErr, OnOk};
+ghost use Rattle.std.specs.Prelude.{◌≡◌, ℕ, List, [], Some, None, IfOk, IfErr, OnOk};
 ghost use Rattle.std.specs.List.{AllByRecursion, AllZip};
 ghost use Rattle.lexer.specs.Places.{IsLineOf};
 ghost use Rattle.manifest.specs.FirstStage.{IsFirstStage};
@@ -40,7 +40,8 @@ pub struct Declared<'a> {
 impl<'a> Declared<'a> {
     /// Nothing is read yet.
     pub fn new(alloc: Global) -> Declared<'a>
-        ensures { (text : List ℕ) → IsReadIn text result }
+        ensures empty { result.edges.items ≡ [] }
+        ensures lines { (text : List ℕ) → IsReadIn text result }
     {
         Declared {
             scopes: Scopes::new(alloc),

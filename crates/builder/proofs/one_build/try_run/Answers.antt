@@ -1,5 +1,5 @@
-use Rattle.std.proofs.Common.{◌≡◌, List, ℕ, length, sym, ◌∙◌, subst}
-use Rattle.builder.specs.Run.{IsAt, IsNoted}
+use Rattle.std.proofs.Common.{List, ℕ, sym, subst}
+use Rattle.builder.specs.Run.{IsNoted}
 use Rattle.builder.proofs.Reports.{at_entry, noted_entry, answers_at}
 use Rattle.builder.proofs.one_build.try_run.Goals as goal
 

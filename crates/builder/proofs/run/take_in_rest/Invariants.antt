@@ -1,14 +1,13 @@
-use Rattle.std.proofs.Common.{List}
+use Rattle.std.proofs.Common.{◌≤◌, List}
 use Rattle.model.specs.declared.graph.Edge.{Edge}
 use Rattle.model.specs.World.{World, IsIdle}
 use Rattle.builder.specs.Run.{IsAt, work_left}
-use Rattle.builder.specs.Answers.{IsSeen}
 use Rattle.builder.proofs.run.take_in_rest.Given as goal
 
 abbrev pub invariant-rest : goal.invariant-rest
 invariant-rest g l = record {
   kept : (edges : List Edge) (entry : World) → IsIdle entry.events → IsAt edges l.fn.plan.standings.items entry (g.S.Texts.world l.fn.site) → IsAt edges l.plan.standings.items entry (g.S.Texts.world l.site);
-  seen : (entry : World) → IsSeen entry (g.S.Texts.world l.fn.site) l.fault → IsSeen entry (g.S.Texts.world l.site) l.fault;
+  failures : (g.S.Texts.world l.fn.site).failures ≤ (g.S.Texts.world l.site).failures;
 }
 
 abbrev pub decreases-rest : goal.decreases-rest

@@ -1,8 +1,7 @@
-use Rattle.std.proofs.Common.{◌≡◌, ◌-◌, ◌<◌, Bool, List, length, arith, sym, ◌∙◌, ap, subst}
-use Rattle.model.specs.declared.graph.Edge.{Edge}
+use Rattle.std.proofs.Common.{List, arith, sym, subst}
 use Rattle.builder.specs.declared.plan.Standing.{Standing}
 use Rattle.builder.specs.Run.{IsAt}
-use Rattle.builder.proofs.Standings.{IsRunningEdge, some_job, edge_runs, at_finished}
+use Rattle.builder.proofs.Standings.{some_job, edge_runs, at_finished}
 use Rattle.builder.proofs.run.wait.Goals as goal
 
 pub wait_any-requires : goal.wait_any-requires

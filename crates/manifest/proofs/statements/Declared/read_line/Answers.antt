@@ -1,4 +1,3 @@
-use Rattle.std.proofs.Common.{rules}
 use Rattle.manifest.proofs.ReadLemmas.{reads_build}
 use Rattle.manifest.proofs.statements.Declared.read_line.Goals as goal
 

@@ -1,0 +1,107 @@
+//! Builds on a site in memory.
+
+use crate::build;
+use crate::report::{Options, Refusal, Report};
+use site::{Sim, Toy};
+use std::alloc::{AllocError, Global};
+use std::test::Fail;
+use text::Text;
+
+const RULES: &str = "rule cat\n  command = cat $out $in\nrule fail\n  command = fail $out $in\n";
+
+/// The report of one build of these edges, and the site as it left it.
+fn build_once(
+    alloc: Global,
+    edges: &str,
+    source: Option<&str>,
+) -> Result<(Report, Sim<Toy>), AllocError> {
+    let file = format!(in alloc; "{RULES}{edges}")?;
+    let mut site = Sim::new(alloc, Toy);
+    site.put("build.ninja", file.as_bytes())?;
+    if let Some(path) = source {
+        site.put(path, b"x")?;
+    }
+    let options = Options {
+        file: Text::from_str(alloc, "build.ninja")?,
+        jobs: 4,
+        keep: 1,
+    };
+    let report = build(alloc, &mut site, &options, &[]);
+    Ok((report, site))
+}
+
+#[test]
+fn two_commands_run_in_order(rt: HostRuntime) -> Result<(), Fail> {
+    let (report, site) = build_once(rt.alloc(), "build c: cat b a\nbuild b: cat a\n", Some("a"))?;
+    assert!(rt;
+        matches!(report, Report::Success { started: 2 }),
+        "{report:?}"
+    );
+    let c = site.content("c").ok_or("no c")?;
+    assert_eq!(rt; c.as_slice(), b"xx".as_slice());
+    Ok(())
+}
+
+#[test]
+fn nothing_starts_after_a_failure(rt: HostRuntime) -> Result<(), Fail> {
+    let (report, site) = build_once(
+        rt.alloc(),
+        "build b: fail a\nbuild c: cat b\nbuild d: cat a\n",
+        Some("a"),
+    )?;
+    match report {
+        Report::Failed { outputs } => {
+            assert_eq!(rt; outputs.len(), 1);
+            assert_eq!(rt; outputs.as_slice()[0].as_str(), "b");
+        }
+        other => panic!(rt; "{other:?}"),
+    }
+    assert!(rt; site.content("d").is_none());
+    Ok(())
+}
+
+#[test]
+fn an_absent_source_is_named(rt: HostRuntime) -> Result<(), Fail> {
+    let (report, site) = build_once(rt.alloc(), "build b: cat a\nbuild c: cat b a\n", None)?;
+    match report {
+        Report::Refused(refusal) => {
+            let text = format!(in rt.alloc(); "{refusal}")?;
+            assert_eq!(rt;
+                text.as_str(),
+                "N32: 'a', needed by 'b', is missing and no rule makes it"
+            );
+        }
+        other => panic!(rt; "{other:?}"),
+    }
+    assert!(rt; site.content(".nj_tick").is_none());
+    Ok(())
+}
+
+#[test]
+fn a_cycle_and_a_second_maker_are_refused(rt: HostRuntime) -> Result<(), Fail> {
+    let (report, _) = build_once(rt.alloc(), "build a: cat b\nbuild b: cat a\n", None)?;
+    assert!(rt;
+        matches!(report, Report::Refused(Refusal::Cycle(_))),
+        "{report:?}"
+    );
+    let (report, _) = build_once(rt.alloc(), "build b: cat a\nbuild c b: cat a\n", Some("a"))?;
+    match report {
+        Report::Refused(Refusal::MadeTwice(path)) => assert_eq!(rt; path.as_str(), "b"),
+        other => panic!(rt; "{other:?}"),
+    }
+    Ok(())
+}
+
+#[test]
+fn a_cycle_outside_the_cone_is_no_refusal(rt: HostRuntime) -> Result<(), Fail> {
+    let (report, _) = build_once(
+        rt.alloc(),
+        "build p: cat q\nbuild q: cat p\nbuild b: cat a\n",
+        Some("a"),
+    )?;
+    assert!(rt;
+        matches!(report, Report::Success { started: 1 }),
+        "{report:?}"
+    );
+    Ok(())
+}
