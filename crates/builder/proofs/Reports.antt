@@ -1,5 +1,5 @@
 -- What a run that has ended reports.
-use Rattle.std.proofs.Common.{◌≡◌, ℕ, zero, suc, ◌+◌, ◌≤◌, cond, Bool, List, [], ◌∷◌, ◌++◌, length, map, count_by, Err, refl, sym, ◌∙◌, ap, subst, arith}
+use Rattle.std.proofs.Common.{◌≡◌, inl, inr, ℕ, zero, suc, ◌+◌, ◌≤◌, cond, Bool, List, [], ◌∷◌, ◌++◌, length, map, count_by, Err, refl, sym, ◌∙◌, ap, subst, arith}
 use Rattle.std.proofs.lemmas.List.{append-nil}
 use Rattle.std.proofs.lemmas.List.Sums.{sum_by-cons}
 use Rattle.model.specs.declared.graph.Edge.{Edge}
@@ -11,6 +11,9 @@ use Rattle.manifest.specs.declared.fault.ReadError.{ReadError}
 use Rattle.manifest.specs.declared.fault.ReadError.TheVariants as read
 use Rattle.builder.specs.declared.graph.GraphFault.{GraphFault}
 use Rattle.builder.specs.declared.graph.GraphFault.TheVariants as graph
+use Rattle.builder.specs.declared.cone.ConeFault.{ConeFault}
+use Rattle.builder.specs.declared.cone.ConeFault.TheVariants as cone
+use Rattle.model.specs.declared.fault.SiteFault.TheVariants.{Memory}
 use Rattle.builder.specs.declared.cone.Mark.{Mark}
 use Rattle.builder.specs.declared.cone.Mark.TheVariants.{Unseen, Open, Listed}
 use Rattle.builder.specs.declared.plan.Standing.{Standing}
@@ -21,7 +24,7 @@ use Rattle.builder.specs.declared.report.Report.{Report}
 use Rattle.builder.specs.declared.report.Report.TheVariants.{Success, Failed, Refused, Fault}
 use Rattle.builder.specs.Plan.{standing_at, first_standing, is_running, is_failed, is_well, EndsSo, IsFresh}
 use Rattle.builder.specs.Run.{NotStarted, course_by, standing_of, is_started, IsAt, IsNoted}
-use Rattle.builder.specs.Answers.{Ran, Ended, Answers, Reports, unread, uncut}
+use Rattle.builder.specs.Answers.{Ran, Ended, Answers, Reports, unread, ungraphed, Uncut}
 use Rattle.builder.proofs.Calls.{looks_none, looks_then, seen_of, seen_before}
 use Rattle.builder.proofs.Standings.{idle_at_end}
 
@@ -131,6 +134,12 @@ answers_at tells edges ss failed ending.Failed old now (Success started) idle at
 answers_at tells edges ss failed ending.Failed old now (Refused refusal) idle at noted none ends is = absurd is
 answers_at tells edges ss failed ending.Failed old now (Fault fault) idle at noted none ends is = absurd is
 
+abbrev ran_nothing : (tells : Bool) (edges : List Edge) (old now : World) → OnlyLooks tells old now → Ran edges old now
+ran_nothing tells edges old now looks = record { events = []; grows = looks.events ∙ sym (append-nil old.events); lawful = tt }
+
+of_memory : (tells : Bool) (edges : List Edge) (now : World) (report : Report) → report ≡ Fault Memory → Answers tells edges now now report
+of_memory tells edges now report is = subst (λ (r : Report). Answers tells edges now now r) (sym {A = Report} is) (ran_nothing tells edges now now (looks_none tells now), tt)
+
 pub ran_none : (tells : Bool) (edges : List Edge) (old now : World) → OnlyLooks tells old now → Ran edges old now
 ran_none tells edges old now looks = record { events = []; grows = looks.events ∙ sym (append-nil old.events); lawful = tt }
 
@@ -157,8 +166,13 @@ answers_unread tells edges old now read.Memory looks cause = (ran_none tells edg
 answers_unread tells edges old now (read.Site fault) looks cause = (ran_none tells edges old now looks, seen_of old now (Err fault) cause)
 answers_unread tells edges old now (read.Refused fault) looks cause = looks
 
--- what a build answers without a graph or a cone
-pub answers_uncut : (tells : Bool) (edges : List Edge) (now : World) (fault : GraphFault) → Answers tells edges now now (uncut fault)
-answers_uncut tells edges now graph.Memory = (ran_none tells edges now now (looks_none tells now), tt)
-answers_uncut tells edges now (graph.MadeTwice path) = looks_none tells now
-answers_uncut tells edges now graph.Cycle = looks_none tells now
+-- what a build answers without a graph
+pub answers_ungraphed : (tells : Bool) (edges : List Edge) (now : World) (fault : GraphFault) → Answers tells edges now now (ungraphed fault)
+answers_ungraphed tells edges now graph.Memory = (ran_none tells edges now now (looks_none tells now), tt)
+answers_ungraphed tells edges now (graph.MadeTwice path) = looks_none tells now
+
+-- what a build answers without a cone
+pub answers_uncut : (tells : Bool) (edges : List Edge) (now : World) (paths : List (List ℕ)) (fault : ConeFault) (report : Report) → Uncut paths fault report → Answers tells edges now now report
+answers_uncut tells edges now paths cone.Memory report is = of_memory tells edges now report is
+answers_uncut tells edges now paths (cone.Cycle numbers) report (inl is) = subst (λ (r : Report). Answers tells edges now now r) (sym {A = Report} is) (looks_none tells now)
+answers_uncut tells edges now paths (cone.Cycle numbers) report (inr is) = of_memory tells edges now report is

@@ -29,14 +29,14 @@ one_more : (xs : List Event) (x : Event) → length (xs ++ x ∷ []) ≡ length 
 one_more xs x = length_push xs x
 
 -- as many events as before show that nothing was started
-unshown : (known now : List Event) → now ≡ known → ltb (length known) (length now) ≡ false
+pub unshown : (known now : List Event) → now ≡ known → ltb (length known) (length now) ≡ false
 unshown known now same = by_test (ltb (length known) (length now)) (Decides-ltb (length known) (length now)).0
   where
     by_test : (b : Bool) → (b ≡ true → length known < length now) → b ≡ false
     by_test false h = refl
     by_test true h = absurd (omega (arith, h refl, ap length same))
 
-shown : (known now : List Event) (e : Event) → now ≡ known ++ e ∷ [] → ltb (length known) (length now) ≡ true
+pub shown : (known now : List Event) (e : Event) → now ≡ known ++ e ∷ [] → ltb (length known) (length now) ≡ true
 shown known now e more = (Decides-ltb (length known) (length now)).1 (omega (arith, ap length more, one_more known e))
 
 module _ (tells : Bool) (edges : List Edge) (ss after : List Standing) (e : ℕ) (act : Act) (old new : World) (known now : List Event)

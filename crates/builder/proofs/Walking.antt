@@ -7,7 +7,7 @@ use Rattle.model.specs.Graph.{has_number}
 use Rattle.builder.specs.declared.graph.Links.{Links}
 use Rattle.builder.specs.declared.cone.Mark.{Mark}
 use Rattle.builder.specs.declared.cone.Mark.TheVariants.{Unseen, Open, Listed}
-use Rattle.builder.specs.Cone.{inputs_at, maker_at, IsNeeded, Asked, Above, IsNextInput, made_by, Follows, IsOrder, mark_at, is_listed, is_unseen, IsCone, maker_listed, IsWalkAt, IsLast, Keeps}
+use Rattle.builder.specs.Cone.{inputs_at, maker_at, IsNeeded, Asked, Above, IsNextInput, Awaits, made_by, Follows, IsOrder, mark_at, is_listed, is_unseen, IsCone, maker_listed, IsWalkAt, IsLast, Keeps}
 
 has_number-push : (xs : List ℕ) (i j : ℕ) → has_number (xs ++ i ∷ []) j ≡ (has_number xs j || (i == j))
 has_number-push [] i j = or_nothing (i == j)
@@ -44,7 +44,7 @@ mark_here marks e m lt = get_or-set_same marks e m Unseen lt
 mark_else : (marks : List Mark) (e j : ℕ) (m : Mark) → j ≢ e → mark_at (set marks e m) j ≡ mark_at marks j
 mark_else marks e j m other = get_or-set_other marks e j m Unseen other
 
-same_or_other : (i j : ℕ) → (j ≡ i) ⊎ (j ≢ i)
+pub same_or_other : (i j : ℕ) → (j ≡ i) ⊎ (j ≢ i)
 same_or_other i j = elim (cases_Bool (j == i)) [
   | inl is ↦ inl (eqb-true j i is)
   | inr not ↦ inr (λ is. false≢true (sym not ∙ eq-eqb j i is))
@@ -57,12 +57,12 @@ test_set test marks e m lt same j = elim (same_or_other e j) [
   | inr not ↦ ap test (mark_else marks e j m not)
 ]
 
-open_not_unseen : (m : Mark) → m ≡ Open → is_unseen m ≡ false
+pub open_not_unseen : (m : Mark) → m ≡ Open → is_unseen m ≡ false
 open_not_unseen m is = ap is_unseen is
 
 module _ (links : Links) (requested order : List ℕ) (marks : List Mark) (left stack : List ℕ) (at : IsWalkAt links requested order marks left stack) where
-  pub walk_open : (e : ℕ) → e < length links.inputs.items → mark_at marks e ≡ Unseen → IsNeeded links requested e → IsWalkAt links requested order (set marks e Open) left (stack ++ e ∷ [])
-  walk_open e lt unseen need = record {
+  pub walk_open : (e : ℕ) → e < length links.inputs.items → mark_at marks e ≡ Unseen → IsNeeded links requested e → ((last : ℕ) → IsLast stack last → Awaits links left last e) → IsWalkAt links requested order (set marks e Open) left (stack ++ e ∷ [])
+  walk_open e lt unseen need waiting = record {
     fits = length-set marks e Open ∙ at.fits;
     lefts = at.lefts;
     some_left = at.some_left;
@@ -85,6 +85,16 @@ module _ (links : Links) (requested order : List ℕ) (marks : List Mark) (left 
       | inr there ↦
           let old = at.stacked j (sym (mark_else marks e j Open there) ∙ is) in
           (old.0, omega (arith, old.1, length_push stack e), push_old stack e old.0 old.1 ∙ old.2)
+    ];
+    awaits = λ k h. elim (was (suc k) h) [
+      | inl old ↦
+          subst (λ (n : ℕ). Awaits links left n (slice_index (stack ++ e ∷ []) (suc k))) (sym (push_old stack e k (omega (arith, old))))
+          (subst (λ (n : ℕ). Awaits links left (slice_index stack k) n) (sym (push_old stack e (suc k) old)) (at.awaits k old))
+      | inr new ↦
+          let here : k ≡ length stack - 1 = omega (arith, new) in
+          subst (λ (n : ℕ). Awaits links left n (slice_index (stack ++ e ∷ []) (suc k))) (sym (push_old stack e k (omega (arith, new))))
+          (subst (λ (n : ℕ). Awaits links left (slice_index stack k) n) (sym (push_new stack e (suc k) new))
+          (waiting (slice_index stack k) record { some = omega (arith, new); is = ap (slice_index stack) (sym here) }))
     ];
     looked = λ j k within low high. kept (maker_at links j k) (at.looked j k within low high);
     listed = λ j. test_set is_listed marks e Open in_marks (sym (ap is_listed unseen)) j ∙ at.listed j;
@@ -114,8 +124,11 @@ module _ (links : Links) (requested order : List ℕ) (marks : List Mark) (left 
       kept None h = refl
       kept (Some m) h = test_set is_listed marks e Open in_marks (sym (ap is_listed unseen)) m ∙ h
 
-  pub walk_pass : (e : ℕ) → e < length links.inputs.items → 0 < slice_index left e → maker_listed marks (maker_at links e (slice_index left e - 1)) ≡ true → IsWalkAt links requested order marks (set left e (slice_index left e - 1)) stack
-  walk_pass e lt some done = record {
+  pub last_within : (e : ℕ) → IsLast stack e → e < length links.inputs.items
+  last_within e last = subst (λ (n : ℕ). n < length links.inputs.items) last.is (at.within (length stack - 1) (omega (arith, last.some)))
+
+  pub walk_pass : (e : ℕ) → IsLast stack e → 0 < slice_index left e → maker_listed marks (maker_at links e (slice_index left e - 1)) ≡ true → IsWalkAt links requested order marks (set left e (slice_index left e - 1)) stack
+  walk_pass e last some done = record {
     fits = at.fits;
     lefts = length-set left e (slice_index left e - 1) ∙ at.lefts;
     some_left = λ j h. elim (same_or_other e j) [
@@ -126,6 +139,7 @@ module _ (links : Links) (requested order : List ℕ) (marks : List Mark) (left 
     opened = at.opened;
     apart = at.apart;
     stacked = at.stacked;
+    awaits = λ k h. else_awaits (slice_index stack k) (slice_index stack (suc k)) (not_last k h) (at.awaits k h);
     looked = λ j k within low high. elim (same_or_other e j) [
       | inl here ↦ subst (λ (n : ℕ). maker_listed marks (maker_at links n k) ≡ true) (sym here)
           (looked_here k (subst (λ (n : ℕ). slice_index (set left e (slice_index left e - 1)) n ≤ k) here low) (subst (λ (n : ℕ). k < length (inputs_at links n)) here high))
@@ -136,14 +150,26 @@ module _ (links : Links) (requested order : List ℕ) (marks : List Mark) (left 
     needed = at.needed;
   }
     where
+      lt : e < length links.inputs.items
+      lt = last_within e last
+
       in_left : e < length left
       in_left = omega (arith, lt, at.lefts)
+
+      not_last : (k : ℕ) → suc k < length stack → slice_index stack k ≢ e
+      not_last k h same = at.apart k (length stack - 1) (omega (arith, h)) (omega (arith, h)) (same ∙ sym last.is)
 
       here_left : slice_index (set left e (slice_index left e - 1)) e ≡ slice_index left e - 1
       here_left = get_or-set_same left e (slice_index left e - 1) 0 in_left
 
       else_left : (j : ℕ) → j ≢ e → slice_index (set left e (slice_index left e - 1)) j ≡ slice_index left j
       else_left j other = get_or-set_other left e j (slice_index left e - 1) 0 other
+
+      else_awaits : (j d : ℕ) → j ≢ e → Awaits links left j d → Awaits links (set left e (slice_index left e - 1)) j d
+      else_awaits j d other waits = record {
+        some = omega (arith, waits.some, else_left j other);
+        made = ap (λ (n : ℕ). slice_get links.makers.items (slice_index (inputs_at links j) (n - 1))) (else_left j other) ∙ waits.made;
+      }
 
       looked_here : (k : ℕ) → slice_index (set left e (slice_index left e - 1)) e ≤ k → k < length (inputs_at links e) → maker_listed marks (maker_at links e k) ≡ true
       looked_here k low high = elim (same_or_other (slice_index left e - 1) k) [
@@ -169,6 +195,9 @@ module _ (links : Links) (requested order : List ℕ) (marks : List Mark) (left 
           let low : old.0 < length (take (length stack - 1) stack) = in_front old.0 old.1 (λ top. there (sym old.2 ∙ (ap (slice_index stack) top ∙ last.is))) in
           (old.0, low, kept_at old.0 low ∙ old.2)
     ];
+    awaits = λ k h.
+        subst (λ (n : ℕ). Awaits links left n (slice_index (take (length stack - 1) stack) (suc k))) (sym (kept_at k (omega (arith, h))))
+        (subst (λ (n : ℕ). Awaits links left (slice_index stack k) n) (sym (kept_at (suc k) h)) (at.awaits k (lower (suc k) h)));
     looked = λ j k within low high. more (maker_at links j k) (at.looked j k within low high);
     listed = listed;
     ordered = order_push links [] order e at.ordered record {
@@ -258,14 +287,19 @@ pub needed_last : (links : Links) (requested order : List ℕ) (marks : List Mar
 needed_last links requested order marks left stack e at last =
     subst (IsNeeded links requested) last.is (at.needed (slice_index stack (length stack - 1)) (open_not_unseen (mark_at marks (slice_index stack (length stack - 1))) (at.opened (length stack - 1) (omega (arith, last.some)))))
 
--- the maker of what the last open edge needs is needed
-pub needed_above : (links : Links) (requested order : List ℕ) (marks : List Mark) (left stack : List ℕ) (e p m : ℕ) → IsWalkAt links requested order marks left stack → IsLast stack e → IsNextInput links (slice_index left e) e p → Some m ≡ slice_get links.makers.items p → IsNeeded links requested m
-needed_above links requested order marks left stack e p m at last next made =
-    Above e (slice_index left e - 1) m (needed_last links requested order marks left stack e at last) (omega (arith, next.some, at.some_left e within))
-    (ap (slice_get links.makers.items) next.is ∙ sym made)
-  where
-    within : e < length links.inputs.items
-    within = subst (λ (n : ℕ). n < length links.inputs.items) last.is (at.within (length stack - 1) (omega (arith, last.some)))
+-- an edge that the last open one waits for is needed
+pub needed_awaited : (links : Links) (requested order : List ℕ) (marks : List Mark) (left stack : List ℕ) (e d : ℕ) → IsWalkAt links requested order marks left stack → IsLast stack e → Awaits links left e d → IsNeeded links requested d
+needed_awaited links requested order marks left stack e d at last waits =
+    Above e (slice_index left e - 1) d (needed_last links requested order marks left stack e at last)
+    (omega (arith, waits.some, at.some_left e (last_within links requested order marks left stack at e last))) waits.made
+
+-- an edge that the last open one waits for is waited for by each that is the last
+pub awaits_by_last : (links : Links) (left stack : List ℕ) (e d : ℕ) → IsLast stack e → Awaits links left e d → (last : ℕ) → IsLast stack last → Awaits links left last d
+awaits_by_last links left stack e d is_last waits last other = subst (λ (n : ℕ). Awaits links left n d) (sym is_last.is ∙ other.is) waits
+
+-- the last open edge waits for the maker of its next input
+pub awaits_maker : (links : Links) (left : List ℕ) (e p d : ℕ) → IsNextInput links (slice_index left e) e p → Some d ≡ slice_get links.makers.items p → Awaits links left e d
+awaits_maker links left e p d next made = record { some = next.some; made = ap (slice_get links.makers.items) next.is ∙ sym made }
 
 pub needed_asked : (links other : Links) (requested others : List ℕ) (k : ℕ) → other ≡ links → others ≡ requested → k < length requested → IsNeeded other others (slice_index requested k)
 needed_asked links other requested others k same asked lt =

@@ -1,5 +1,5 @@
 -- What a build answers, and what it did by then.
-use Rattle.std.specs.Prelude.{◌≡◌, ℕ, ◌≤◌, ◌<◌, Bool, true, false, List, [], ◌++◌, length, count_by, Result, IfErr}
+use Rattle.std.specs.Prelude.{◌≡◌, ◌⊎◌, map, ℕ, ◌≤◌, ◌<◌, Bool, true, false, List, [], ◌++◌, length, count_by, Result, IfErr}
 use Rattle.model.specs.declared.graph.Edge.{Edge}
 use Rattle.model.specs.declared.event.Event.{Event}
 use Rattle.model.specs.declared.fault.SiteFault.{SiteFault}
@@ -10,6 +10,9 @@ use Rattle.manifest.specs.declared.fault.ReadError.{ReadError}
 use Rattle.manifest.specs.declared.fault.ReadError.TheVariants as read
 use Rattle.builder.specs.declared.graph.GraphFault.{GraphFault}
 use Rattle.builder.specs.declared.graph.GraphFault.TheVariants as graph
+use Rattle.builder.specs.declared.cone.ConeFault.{ConeFault}
+use Rattle.builder.specs.declared.cone.ConeFault.TheVariants as cone
+use Rattle.builder.specs.Linked.{path_at}
 use Rattle.builder.specs.declared.report.Refusal.TheVariants as refusal
 use Rattle.builder.specs.declared.report.Report.{Report}
 use Rattle.builder.specs.declared.report.Report.TheVariants.{Success, Failed, Refused, Fault}
@@ -67,11 +70,15 @@ unread read.Memory = Fault Memory
 unread (read.Site fault) = Fault fault
 unread (read.Refused fault) = Refused (refusal.File fault)
 
--- the report of a build without a graph or a cone
-abbrev pub uncut : GraphFault → Report
-uncut graph.Memory = Fault Memory
-uncut (graph.MadeTwice path) = Refused (refusal.MadeTwice path)
-uncut graph.Cycle = Refused (refusal.Cycle [])
+-- the report of edges that are no graph
+abbrev pub ungraphed : GraphFault → Report
+ungraphed graph.Memory = Fault Memory
+ungraphed (graph.MadeTwice path) = Refused (refusal.MadeTwice path)
+
+-- the report of a build without a cone: want of memory, or the paths round a cycle, if there is memory for them
+abbrev pub Uncut : List (List ℕ) → ConeFault → Report → Type 0
+Uncut paths cone.Memory report = report ≡ Fault Memory
+Uncut paths (cone.Cycle numbers) report = (report ≡ Refused (refusal.Cycle (map (path_at paths) numbers))) ⊎ (report ≡ Fault Memory)
 
 abbrev pub is_stop : SiteFault → Bool
 is_stop Device = false

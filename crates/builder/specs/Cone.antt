@@ -1,10 +1,12 @@
 -- The edges that a build needs, and walks from edges up to what they need.
-use Rattle.std.specs.Prelude.{◌≡◌, ◌≢◌, ℕ, ◌+◌, ◌-◌, ◌*◌, ◌<◌, ◌≤◌, Bool, true, false, List, [], ◌∷◌, ◌++◌, length, slice_index, slice_index_or, slice_get, count_by, sum, Option, Some, None}
+use Rattle.std.specs.Prelude.{◌≡◌, ◌≢◌, ℕ, suc, ◌+◌, ◌-◌, ◌*◌, ◌<◌, ◌≤◌, Bool, true, false, List, [], ◌∷◌, ◌++◌, length, slice_index, slice_index_or, slice_get, count_by, sum, Option, Some, None}
 use Rattle.model.specs.Graph.{has_number}
 use Rattle.builder.specs.declared.graph.Links.{Links}
 use Rattle.builder.specs.declared.cone.Mark.{Mark}
 use Rattle.builder.specs.declared.cone.Mark.TheVariants.{Unseen, Open, Listed}
 use Rattle.builder.specs.declared.cone.Walk.{Walk}
+use Rattle.builder.specs.declared.cone.ConeFault.{ConeFault}
+use Rattle.builder.specs.declared.cone.ConeFault.TheVariants.{Memory, Cycle}
 
 abbrev pub inputs_at : Links → ℕ → List ℕ
 inputs_at links e = slice_index_or links.inputs.items e []
@@ -62,7 +64,49 @@ pub record IsCone (links : Links) (requested order : List ℕ) (marks : List Mar
   pub needed : (e : ℕ) → has_number order e ≡ true → IsNeeded links requested e
   pub marked : (e : ℕ) → is_listed (mark_at marks e) ≡ has_number order e
 
+-- ---- cycles
+
+-- the path is made by an edge that needs the other
+pub record IsMadeFrom (links : Links) (p q : ℕ) : Type 0 where
+  pub edge : ℕ
+  pub made : slice_get links.makers.items p ≡ Some edge
+  pub needs : has_number (inputs_at links edge) q ≡ true
+
+-- each of these paths is made by an edge that needs the next
+abbrev pub IsChain : Links → List ℕ → Type 0
+IsChain links [] = Unit {0}
+IsChain links (p ∷ []) = Unit {0}
+IsChain links (p ∷ q ∷ ps) = IsMadeFrom links p q × IsChain links (q ∷ ps)
+
+-- the paths lead round a cycle of needed edges, and begin and end with the path of the lowest of these
+pub record IsRound (links : Links) (requested paths : List ℕ) : Type 0 where
+  pub first : ℕ
+  pub middle : List ℕ
+  pub round : paths ≡ first ∷ (middle ++ first ∷ [])
+  pub chain : IsChain links paths
+  pub needed : (p e : ℕ) → has_number paths p ≡ true → slice_get links.makers.items p ≡ Some e → IsNeeded links requested e
+  pub lowest : (p d e : ℕ) → slice_get links.makers.items first ≡ Some d → has_number paths p ≡ true → slice_get links.makers.items p ≡ Some e → d ≤ e
+
+-- a cycle is told only where there is one
+abbrev pub IsConeFault : Links → List ℕ → ConeFault → Type 0
+IsConeFault links requested Memory = Unit {0}
+IsConeFault links requested (Cycle paths) = IsRound links requested paths
+
 -- ---- walks
+
+-- the path that an edge waits for: the last of its inputs that are left
+abbrev pub awaited : Links → List ℕ → ℕ → ℕ
+awaited links left e = slice_index (inputs_at links e) (slice_index left e - 1)
+
+-- an input of the edge is left
+pub record IsLeft (links : Links) (left : List ℕ) (e : ℕ) : Type 0 where
+  pub some : 0 < slice_index left e
+  pub fits : slice_index left e ≤ length (inputs_at links e)
+
+-- the edge waits for a path that the other makes
+pub record Awaits (links : Links) (left : List ℕ) (e d : ℕ) : Type 0 where
+  pub some : 0 < slice_index left e
+  pub made : slice_get links.makers.items (awaited links left e) ≡ Some d
 
 abbrev pub maker_listed : List Mark → Option ℕ → Bool
 maker_listed marks None = true
@@ -78,6 +122,8 @@ pub record IsWalkAt (links : Links) (requested order : List ℕ) (marks : List M
   pub opened : (k : ℕ) → k < length stack → mark_at marks (slice_index stack k) ≡ Open
   pub apart : (j k : ℕ) → j < k → k < length stack → slice_index stack j ≢ slice_index stack k
   pub stacked : (e : ℕ) → mark_at marks e ≡ Open → (k : ℕ) × (k < length stack) × (slice_index stack k ≡ e)
+  -- each waits for what the next one makes
+  pub awaits : (k : ℕ) → suc k < length stack → Awaits links left (slice_index stack k) (slice_index stack (suc k))
   -- the makers of the inputs that were looked at are listed
   pub looked : (e k : ℕ) → e < length links.inputs.items → slice_index left e ≤ k → k < length (inputs_at links e) → maker_listed marks (maker_at links e k) ≡ true
   pub listed : (e : ℕ) → is_listed (mark_at marks e) ≡ has_number order e

@@ -1,4 +1,12 @@
-pub mod Plan
-pub mod Cone
-pub mod Run
 pub mod Answers
+pub mod Build
+pub mod Cone
+pub mod ConeOf
+pub mod Ended
+pub mod Linked
+pub mod Missing
+pub mod Numbers
+pub mod Plan
+pub mod PlanOf
+pub mod Planned
+pub mod Run

@@ -1,14 +1,22 @@
 -- What commands were started and taken in, and how the standings of edges follow from that.
-use Rattle.std.specs.Prelude.{◌≡◌, ℕ, zero, suc, ◌+◌, ◌-◌, ◌==◌, Bool, true, false, if◌then◌else◌, List, [], ◌∷◌, ◌++◌, Option, Some, None, option_map, length, slice_get, slice_index, slice_set, count_by, EachIndex, ◌<◌}
+use Rattle.std.specs.Prelude.{◌≡◌, ℕ, zero, suc, ◌+◌, ◌-◌, ◌==◌, Bool, true, false, if◌then◌else◌, List, [], ◌∷◌, ◌++◌, Option, Some, None, option_map, length, slice_get, slice_index, slice_set, count_by, map, EachIndex, ◌<◌}
 use Rattle.std.specs.List.{sum_by}
 use Rattle.model.specs.declared.act.Act.{Act}
 use Rattle.model.specs.declared.graph.Edge.{Edge}
 use Rattle.model.specs.declared.event.Event.{Event}
 use Rattle.model.specs.declared.event.Event.TheVariants.{Start, Finish}
 use Rattle.model.specs.World.{World}
+use Rattle.model.specs.Records.{OwnFiles}
+use Rattle.model.specs.Schedule.{Task, Step as Done, clean_in, failed_in}
+use Rattle.laws.specs.Run.{IsRun, IsRunOrRest}
 use Rattle.builder.specs.declared.plan.Standing.{Standing}
 use Rattle.builder.specs.declared.plan.Standing.TheVariants.{Outside, Unjudged, Clean, OutOfDate, Running, Well, Failed}
+use Rattle.builder.specs.declared.plan.Plan.{Plan}
+use Rattle.builder.specs.declared.plan.End.{End}
+use Rattle.builder.specs.declared.plan.Step.TheVariants.{Ended as Over}
 use Rattle.builder.specs.Plan.{standing_at, standing_after, is_failed}
+use Rattle.builder.specs.Planned.{IsNextOf}
+use Rattle.builder.specs.PlanOf.{IsPlanOf}
 
 -- what has become of the command of a job
 pub data Course : Type 0 where
@@ -115,3 +123,35 @@ pub record IsEndOf (job : ℕ) (ok : Bool) (old new : List Standing) : Type 0 wh
   pub within : job - 1 < length old
   pub ran : standing_at old (job - 1) ≡ Running
   pub after : new ≡ slice_set old (job - 1) (standing_after ok)
+
+-- ---- the steps of a build
+
+-- the edges are those of the task, and the file that ticks touch is the program's own
+pub record Suits (own : OwnFiles) (task : Task) (tick : List ℕ) (edges : List Edge) : Type 0 where
+  pub same : task.graph.edges ≡ edges
+  pub owned : own.files tick ≡ true
+
+-- where a build stands after some steps: the plan is of these steps, so is all that the site did since the entry, nothing
+-- was judged clean, and the failed edges are noted
+pub record IsOn (tells : Bool) (own : OwnFiles) (task : Task) (plan : Plan) (failed : List ℕ) (old now : World) : Type 0 where
+  pub steps : List Done
+  pub planned : IsPlanOf task plan steps
+  pub run : IsRun tells own task steps old now
+  pub stale : clean_in steps ≡ []
+  pub noted : map suc failed ≡ failed_in steps
+
+-- nothing is left to do
+pub record IsOver (tells : Bool) (own : OwnFiles) (task : Task) (plan : Plan) (failed : List ℕ) (end : End) (old now : World) : Type 0 where
+  pub on : IsOn tells own task plan failed old now
+  pub over : IsNextOf task on.steps (Over end)
+
+-- where a fault has left a build
+pub record IsCut (tells : Bool) (own : OwnFiles) (task : Task) (old now : World) : Type 0 where
+  pub steps : List Done
+  pub rest : IsRunOrRest tells own task steps old now
+  pub stale : clean_in steps ≡ []
+
+-- the failed edges, when the command of one more has ended
+abbrev pub failed_after : List ℕ → ℕ → Bool → List ℕ
+failed_after failed e true = failed
+failed_after failed e false = failed ++ e ∷ []

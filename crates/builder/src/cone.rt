@@ -1,10 +1,45 @@
 //! The edges that a build needs.
 
-ghost use Rattle.std.specs.Prelude.{◌≡◌, ℕ, true, false, ◌+◌, ◌-◌, ◌*◌, ◌<◌, IfOk, OnOk, vec_len, length, slice_index, EachIndex, MatchOption};
-ghost use Rattle.builder.specs.Cone.{is_listed, is_unseen, mark_at, maker_at, maker_listed, Keeps, IsCone, IsNeeded, IsWalk, IsLast, IsNextInput, work};
+ghost use Rattle.std.specs.Prelude.{◌≡◌, ℕ, ◌∷◌, true, false, map, ◌-◌, ◌*◌, ◌<◌, IfOk, IfErr, OnOk, vec_len, length, nat_lt, slice_index, EachIndex, MatchOption};
+ghost use Rattle.std.specs.List.{IsFirstBest};
+ghost use Rattle.builder.specs.Cone.{is_listed, is_unseen, mark_at, maker_at, maker_listed, awaited, Awaits, IsLeft, Keeps, IsCone, IsConeFault, IsNeeded, IsRound, IsWalk, IsLast, IsNextInput, work};
+ghost use Rattle.builder.specs.ConeOf.{IsConeForEach, IsFaultForEach};
 
-use crate::graph::{GraphFault, Links};
-use std::alloc::{AllocError, Global};
+use crate::graph::Links;
+use std::alloc::{AllocError, AllocFailed, Global};
+use text::Items;
+
+/// Why edges have no cone.
+#[derive(Debug, Drop)]
+pub enum ConeFault {
+    /// A growth of memory was refused.
+    Memory,
+    /// Edges need one another in a circle. The numbers of paths lead round it: each path is made by an edge that needs
+    /// the next one. They begin and end with the path of the lowest edge.
+    Cycle(Items<usize>),
+}
+
+impl From<AllocError> for ConeFault {
+    ghost use Rattle.std.specs.Prelude.{◌≡◌};
+    ghost use Rattle.builder.specs.declared.cone.ConeFault.TheVariants.{Memory};
+
+    ghost from_gives = { λ _ fault. fault ≡ Memory };
+
+    fn from(_: AllocError) -> ConeFault {
+        ConeFault::Memory
+    }
+}
+
+impl<T: Drop> From<AllocFailed<T>> for ConeFault {
+    ghost use Rattle.std.specs.Prelude.{◌≡◌};
+    ghost use Rattle.builder.specs.declared.cone.ConeFault.TheVariants.{Memory};
+
+    ghost from_gives = { λ _ fault. fault ≡ Memory };
+
+    fn from(_: AllocFailed<T>) -> ConeFault {
+        ConeFault::Memory
+    }
+}
 
 /// How far a walk has come with an edge.
 #[derive(Clone, Copy, Debug, PartialEq, Eq)]
@@ -33,15 +68,18 @@ pub struct Cone {
 }
 
 impl Cone {
-    /// The edges that these edges need, and they themselves.
-    pub fn of(alloc: Global, links: &Links, requested: &[usize]) -> Result<Cone, GraphFault>
+    /// The edges that these edges need, and they themselves. A cycle among them is refused.
+    pub fn of(alloc: Global, links: &Links, requested: &[usize]) -> Result<Cone, ConeFault>
         requires { EachIndex requested.now (λ k. slice_index requested.now k < vec_len links.now.inputs) }
         ensures cone { IfOk result (λ cone. IsCone links.now requested.now cone.order.items cone.marks.items) }
         ensures marks { IfOk result (λ cone. vec_len cone.marks ≡ vec_len links.now.inputs) }
+        ensures cone_of { IfOk result (λ cone. IsConeForEach links.now requested.now cone.order.items cone.marks.items) }
+        ensures fault { IfErr result (IsConeFault links.now requested.now) }
+        ensures shown { IfErr result (IsFaultForEach links.now requested.now) }
     {
         let mut walk = Walk::new(alloc, links, requested)?;
         for edge in requested {
-            walk.enter(*edge)?;
+            walk.begin(*edge)?;
             walk.finish()?;
         }
         let Walk { order, marks, .. } = walk;
@@ -60,6 +98,7 @@ impl Cone {
 /// A walk up from an edge to what it needs, with a stack of its own.
 #[derive(Drop)]
 struct Walk<'a> {
+    alloc: Global,
     links: &'a Links,
     /// The edges that the walks begin with.
     requested: &'a [usize],
@@ -77,6 +116,7 @@ impl<'a> Walk<'a> {
         ensures stack { IfOk result (λ walk. length walk.stack.items ≡ 0) }
     {
         Ok(Walk {
+            alloc,
             links,
             requested,
             order: Vec::new(alloc),
@@ -90,29 +130,29 @@ impl<'a> Walk<'a> {
         })
     }
 
-    /// Opens the edge, unless it is listed.
-    fn enter(&mut self, edge: usize) -> Result<(), GraphFault>
+    /// Opens the edge, unless it is listed. No other one is open.
+    fn begin(&mut self, edge: usize) -> Result<(), AllocError>
         requires at { IsWalk self.old.links.now self.old.requested.now self.old }
+        requires none { length self.old.stack.items ≡ 0 }
         requires within { edge < vec_len self.old.links.now.inputs }
         requires needed { IsNeeded self.old.links.now self.old.requested.now edge }
         ensures walk { OnOk result (IsWalk self.old.links.now self.old.requested.now self.new) }
         ensures keeps { OnOk result (Keeps self.old.marks.items self.new.marks.items) }
         ensures seen { OnOk result (is_unseen (mark_at self.new.marks.items edge) ≡ false) }
-        ensures nearer { OnOk result (is_listed (mark_at self.old.marks.items edge) ≡ false → work self.new < work self.old) }
     {
         match self.marks[edge] {
-            Mark::Listed => Ok(()),
-            Mark::Open => Err(GraphFault::Cycle),
+            Mark::Listed | Mark::Open => Ok(()),
             Mark::Unseen => self.open(edge),
         }
     }
 
-    /// Opens an edge that was not seen.
-    fn open(&mut self, edge: usize) -> Result<(), GraphFault>
+    /// Opens an edge that was not seen, which the last open one waits for.
+    fn open(&mut self, edge: usize) -> Result<(), AllocError>
         requires at { IsWalk self.old.links.now self.old.requested.now self.old }
         requires within { edge < vec_len self.old.links.now.inputs }
         requires needed { IsNeeded self.old.links.now self.old.requested.now edge }
         requires unseen { mark_at self.old.marks.items edge ≡ Mark.Unseen }
+        requires awaited { (last : ℕ) → IsLast self.old.stack.items last → Awaits self.old.links.now self.old.left.items last edge }
         ensures walk { OnOk result (IsWalk self.old.links.now self.old.requested.now self.new) }
         ensures keeps { OnOk result (Keeps self.old.marks.items self.new.marks.items) }
         ensures seen { OnOk result (is_unseen (mark_at self.new.marks.items edge) ≡ false) }
@@ -124,11 +164,12 @@ impl<'a> Walk<'a> {
     }
 
     /// Lists all open edges, and what they need.
-    fn finish(&mut self) -> Result<(), GraphFault>
+    fn finish(&mut self) -> Result<(), ConeFault>
         requires { IsWalk self.old.links.now self.old.requested.now self.old }
         ensures walk { OnOk result (IsWalk self.old.links.now self.old.requested.now self.new) }
         ensures stack { OnOk result (length self.new.stack.items ≡ 0) }
         ensures keeps { OnOk result (Keeps self.old.marks.items self.new.marks.items) }
+        ensures fault { IfErr result (IsConeFault self.old.links.now self.old.requested.now) }
     {
         'walk: while let Some(edge) = self.stack.last().copied() {
             self.step(edge)?;
@@ -137,16 +178,17 @@ impl<'a> Walk<'a> {
     }
 
     /// Looks at one input of the last open edge, or lists that edge.
-    fn step(&mut self, edge: usize) -> Result<(), GraphFault>
+    fn step(&mut self, edge: usize) -> Result<(), ConeFault>
         requires at { IsWalk self.old.links.now self.old.requested.now self.old }
         requires last { IsLast self.old.stack.items edge }
         ensures walk { OnOk result (IsWalk self.old.links.now self.old.requested.now self.new) }
         ensures keeps { OnOk result (Keeps self.old.marks.items self.new.marks.items) }
         ensures nearer { OnOk result (work self.new < work self.old) }
+        ensures fault { IfErr result (IsConeFault self.old.links.now self.old.requested.now) }
     {
         match self.next_input(edge) {
             Some(path) => self.look(edge, path),
-            None => self.list(edge),
+            None => Ok(self.list(edge)?),
         }
     }
 
@@ -165,36 +207,61 @@ impl<'a> Walk<'a> {
     }
 
     /// Goes on to the maker of an input, or past the input where nothing has to be done for it.
-    fn look(&mut self, edge: usize, path: usize) -> Result<(), GraphFault>
+    fn look(&mut self, edge: usize, path: usize) -> Result<(), ConeFault>
         requires at { IsWalk self.old.links.now self.old.requested.now self.old }
         requires last { IsLast self.old.stack.items edge }
         requires next { IsNextInput self.old.links.now (slice_index self.old.left.items edge) edge path }
         ensures walk { OnOk result (IsWalk self.old.links.now self.old.requested.now self.new) }
         ensures keeps { OnOk result (Keeps self.old.marks.items self.new.marks.items) }
         ensures nearer { OnOk result (work self.new < work self.old) }
+        ensures fault { IfErr result (IsConeFault self.old.links.now self.old.requested.now) }
     {
         match self.links.maker(path) {
-            Some(maker) if !self.marks[maker].is_listed() => self.enter(maker),
-            _ => self.pass(edge),
+            Some(maker) => self.visit(edge, maker),
+            None => {
+                self.pass(edge);
+                Ok(())
+            }
+        }
+    }
+
+    /// Goes on to an edge that the last open one waits for, or past it where it is listed. Where it is open too, the two
+    /// need one another.
+    fn visit(&mut self, edge: usize, maker: usize) -> Result<(), ConeFault>
+        requires at { IsWalk self.old.links.now self.old.requested.now self.old }
+        requires last { IsLast self.old.stack.items edge }
+        requires within { maker < vec_len self.old.links.now.inputs }
+        requires awaits { Awaits self.old.links.now self.old.left.items edge maker }
+        ensures walk { OnOk result (IsWalk self.old.links.now self.old.requested.now self.new) }
+        ensures keeps { OnOk result (Keeps self.old.marks.items self.new.marks.items) }
+        ensures nearer { OnOk result (work self.new < work self.old) }
+        ensures fault { IfErr result (IsConeFault self.old.links.now self.old.requested.now) }
+    {
+        match self.marks[maker] {
+            Mark::Listed => {
+                self.pass(edge);
+                Ok(())
+            }
+            Mark::Unseen => Ok(self.open(maker)?),
+            Mark::Open => Err(ConeFault::Cycle(self.round(edge, maker)?)),
         }
     }
 
     /// Goes past the last input that is left.
-    fn pass(&mut self, edge: usize) -> Result<(), GraphFault>
+    fn pass(&mut self, edge: usize)
         requires at { IsWalk self.old.links.now self.old.requested.now self.old }
-        requires within { edge < vec_len self.old.links.now.inputs }
+        requires last { IsLast self.old.stack.items edge }
         requires left { 0 < slice_index self.old.left.items edge }
         requires done { maker_listed self.old.marks.items (maker_at self.old.links.now edge (slice_index self.old.left.items edge - 1)) ≡ true }
-        ensures walk { OnOk result (IsWalk self.old.links.now self.old.requested.now self.new) }
-        ensures keeps { OnOk result (Keeps self.old.marks.items self.new.marks.items) }
-        ensures nearer { OnOk result (work self.new < work self.old) }
+        ensures walk { IsWalk self.old.links.now self.old.requested.now self.new }
+        ensures keeps { Keeps self.old.marks.items self.new.marks.items }
+        ensures nearer { work self.new < work self.old }
     {
         self.left[edge] -= 1;
-        Ok(())
     }
 
     /// Lists the last open edge, all inputs of which were looked at.
-    fn list(&mut self, edge: usize) -> Result<(), GraphFault>
+    fn list(&mut self, edge: usize) -> Result<(), AllocError>
         requires at { IsWalk self.old.links.now self.old.requested.now self.old }
         requires last { IsLast self.old.stack.items edge }
         requires all { slice_index self.old.left.items edge ≡ 0 }
@@ -207,4 +274,69 @@ impl<'a> Walk<'a> {
         self.marks[edge] = Mark::Listed;
         Ok(())
     }
+
+    /// The paths round a cycle: the last open edge waits for this one, which is open too.
+    fn round(&self, last: usize, edge: usize) -> Result<Items<usize>, AllocError>
+        requires at { IsWalk self.now.links.now self.now.requested.now self.now }
+        requires last { IsLast self.now.stack.items last }
+        requires awaits { Awaits self.now.links.now self.now.left.items last edge }
+        requires open { mark_at self.now.marks.items edge ≡ Mark.Open }
+        ensures { IfOk result (IsRound self.now.links.now self.now.requested.now) }
+    {
+        let mut edges = self.stack[self.place_of(edge)..].to_vec(self.alloc)?;
+        let lowest = place_of_lowest(&edges);
+        edges.rotate_left(lowest);
+        self.paths_round(&edges)
+    }
+
+    /// Where an open edge stands on the stack.
+    fn place_of(&self, edge: usize) -> usize
+        requires at { IsWalk self.now.links.now self.now.requested.now self.now }
+        requires open { mark_at self.now.marks.items edge ≡ Mark.Open }
+        ensures within { result < length self.now.stack.items }
+        ensures is { slice_index self.now.stack.items result ≡ edge }
+    {
+        self.stack.iter().position(|open| *open == edge).unwrap()
+    }
+
+    /// The paths round a cycle of edges, each of which waits for the next one: what the first one makes, which the last
+    /// one waits for, and what each of them waits for.
+    fn paths_round(&self, edges: &[usize]) -> Result<Items<usize>, AllocError>
+        requires some { 0 < length edges.now }
+        requires within { EachIndex edges.now (λ k. slice_index edges.now k < vec_len self.now.links.now.inputs) }
+        requires lefts { vec_len self.now.left ≡ vec_len self.now.links.now.inputs }
+        requires left { EachIndex edges.now (λ k. IsLeft self.now.links.now self.now.left.items (slice_index edges.now k)) }
+        ensures { IfOk result (λ paths. paths ≡ awaited self.now.links.now self.now.left.items (slice_index edges.now (length edges.now - 1)) ∷ map (awaited self.now.links.now self.now.left.items) edges.now) }
+    {
+        let mut paths = Items::new(self.alloc);
+        paths.push(self.awaited(edges[edges.len() - 1]))?;
+        for edge in edges {
+            paths.push(self.awaited(*edge))?;
+        }
+        Ok(paths)
+    }
+
+    /// The path that an open edge waits for.
+    fn awaited(&self, edge: usize) -> usize
+        requires within { edge < vec_len self.now.links.now.inputs }
+        requires lefts { vec_len self.now.left ≡ vec_len self.now.links.now.inputs }
+        requires left { IsLeft self.now.links.now self.now.left.items edge }
+        ensures { result ≡ awaited self.now.links.now self.now.left.items edge }
+    {
+        self.links.inputs[edge].as_slice()[self.left[edge] - 1]
+    }
+}
+
+/// Where the lowest of these stands, the first one where several are equal.
+fn place_of_lowest(edges: &[usize]) -> usize
+    requires { 0 < length edges.now }
+    ensures { IsFirstBest nat_lt edges.now (length edges.now) result }
+{
+    let mut lowest = 0;
+    for place in 1..edges.len() {
+        if edges[place] < edges[lowest] {
+            lowest = place;
+        }
+    }
+    lowest
 }

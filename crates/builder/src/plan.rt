@@ -1,8 +1,11 @@
 //! Which edge is judged and which command is started next.
 
-ghost use Rattle.std.specs.Prelude.{◌≡◌, true, ◌<◌, IfOk, MatchOption, vec_len, map, slice_get, slice_index_or, slice_set, length, count_by};
+ghost use Rattle.std.specs.Prelude.{◌≡◌, ℕ, suc, true, ◌<◌, IfOk, List, [], ◌∷◌, ◌++◌, MatchOption, vec_len, map, slice_set, length, count_by};
 ghost use Rattle.std.specs.List.{list_all};
-ghost use Rattle.builder.specs.Plan.{standing_at, is_unjudged, is_out_of_date, is_running, is_failed, is_well, is_settled, path_settled, may_judge, may_start, has_room, IsFirst, NonePasses, NoneToStart, IsNext, standing_by, standing_after, first_standing};
+ghost use Rattle.model.specs.Schedule.{Task, Step as Done, Judged, Started, Ended as Finished, IsLawful, IsLawfulStep, well_in, running_in, failed_in};
+ghost use Rattle.builder.specs.Linked.{IsLinksOf, IsConeOf};
+ghost use Rattle.builder.specs.Planned.{IsPlain, IsPlanned, IsNextOf, is_stale};
+ghost use Rattle.builder.specs.Plan.{is_unjudged, is_out_of_date, is_running, is_failed, is_well, is_settled, path_settled, may_judge, may_start, has_room, IsFirst, NonePasses, NoneToStart, IsNext, standing_by, standing_after, first_standing};
 
 use crate::cone::{Cone, Mark};
 use crate::graph::Links;
@@ -115,15 +118,11 @@ impl<'a> Plan<'a> {
         ensures links { IfOk result (λ plan. plan.links.now ≡ links.now) }
         ensures jobs { IfOk result (λ plan. plan.jobs ≡ jobs) }
         ensures keep { IfOk result (λ plan. plan.keep ≡ keep) }
+        ensures planned { IfOk result (λ plan. (task : Task) (order : List ℕ) → IsPlain task → task.jobs ≡ jobs → task.keep ≡ keep → IsLinksOf task.graph.edges task.recorded links.now → IsConeOf task.graph.edges task.recorded task.targets order cone.now.marks.items → IsPlanned task plan.links.now plan.jobs plan.keep plan.standings.items []) }
     {
-        let standings = cone
-            .marks
-            .iter()
-            .map(|mark| first_standing(*mark))
-            .collect(alloc)?;
         Ok(Plan {
             links,
-            standings,
+            standings: first_standings(alloc, &cone.marks)?,
             jobs,
             keep,
         })
@@ -131,7 +130,8 @@ impl<'a> Plan<'a> {
 
     /// What is to be done next: a judgement before a start, and the lowest edge first.
     pub fn next(&self) -> Step
-        ensures { IsNext self.now.links.now self.now.jobs self.now.keep self.now.standings.items result }
+        ensures next { IsNext self.now.links.now self.now.jobs self.now.keep self.now.standings.items result }
+        ensures lawful { (task : Task) (steps : List Done) → IsPlanned task self.now.links.now self.now.jobs self.now.keep self.now.standings.items steps → IsLawful task steps → IsNextOf task steps result }
     {
         if let Some(edge) = self.first_to_judge() {
             return Step::Judge(edge);
@@ -152,6 +152,7 @@ impl<'a> Plan<'a> {
     pub fn judged(&mut self, edge: usize, verdict: Verdict)
         requires within { edge < vec_len self.old.standings }
         ensures standings { self.new.standings.items ≡ slice_set self.old.standings.items edge (standing_by verdict) }
+        ensures planned { (task : Task) (steps : List Done) → IsPlanned task self.old.links.now self.old.jobs self.old.keep self.old.standings.items steps → IsLawful task steps → IsLawfulStep task steps (Judged (suc edge) (is_stale verdict)) → IsPlanned task self.new.links.now self.new.jobs self.new.keep self.new.standings.items (steps ++ Judged (suc edge) (is_stale verdict) ∷ []) }
         ensures links { self.new.links.now ≡ self.old.links.now }
         ensures limits { (self.new.jobs ≡ self.old.jobs) × (self.new.keep ≡ self.old.keep) }
     {
@@ -165,6 +166,7 @@ impl<'a> Plan<'a> {
     pub fn started(&mut self, edge: usize)
         requires within { edge < vec_len self.old.standings }
         ensures standings { self.new.standings.items ≡ slice_set self.old.standings.items edge Standing.Running }
+        ensures planned { (task : Task) (steps : List Done) → IsPlanned task self.old.links.now self.old.jobs self.old.keep self.old.standings.items steps → IsLawful task steps → IsLawfulStep task steps (Started (suc edge)) → IsPlanned task self.new.links.now self.new.jobs self.new.keep self.new.standings.items (steps ++ Started (suc edge) ∷ []) }
         ensures links { self.new.links.now ≡ self.old.links.now }
         ensures limits { (self.new.jobs ≡ self.old.jobs) × (self.new.keep ≡ self.old.keep) }
     {
@@ -175,6 +177,7 @@ impl<'a> Plan<'a> {
     pub fn finished(&mut self, edge: usize, ok: bool)
         requires within { edge < vec_len self.old.standings }
         ensures standings { self.new.standings.items ≡ slice_set self.old.standings.items edge (standing_after ok) }
+        ensures planned { (task : Task) (steps : List Done) → IsPlanned task self.old.links.now self.old.jobs self.old.keep self.old.standings.items steps → IsLawful task steps → IsLawfulStep task steps (Finished (suc edge) ok) → IsPlanned task self.new.links.now self.new.jobs self.new.keep self.new.standings.items (steps ++ Finished (suc edge) ok ∷ []) }
         ensures links { self.new.links.now ≡ self.old.links.now }
         ensures limits { (self.new.jobs ≡ self.old.jobs) × (self.new.keep ≡ self.old.keep) }
     {
@@ -183,21 +186,24 @@ impl<'a> Plan<'a> {
 
     /// How many commands run.
     pub fn running(&self) -> usize
-        ensures { result ≡ count_by is_running self.now.standings.items }
+        ensures count { result ≡ count_by is_running self.now.standings.items }
+        ensures steps { (task : Task) (steps : List Done) → IsPlanned task self.now.links.now self.now.jobs self.now.keep self.now.standings.items steps → IsLawful task steps → result ≡ length (running_in steps) }
     {
         self.standings.iter().filter(|s| s.is_running()).count()
     }
 
     /// How many commands failed.
     pub fn failed(&self) -> usize
-        ensures { result ≡ count_by is_failed self.now.standings.items }
+        ensures count { result ≡ count_by is_failed self.now.standings.items }
+        ensures steps { (task : Task) (steps : List Done) → IsPlanned task self.now.links.now self.now.jobs self.now.keep self.now.standings.items steps → IsLawful task steps → result ≡ length (failed_in steps) }
     {
         self.standings.iter().filter(|s| s.is_failed()).count()
     }
 
     /// How many commands ended well.
     pub fn well(&self) -> usize
-        ensures { result ≡ count_by is_well self.now.standings.items }
+        ensures count { result ≡ count_by is_well self.now.standings.items }
+        ensures steps { (task : Task) (steps : List Done) → IsPlanned task self.now.links.now self.now.jobs self.now.keep self.now.standings.items steps → IsLawful task steps → result ≡ length (well_in steps) }
     {
         self.standings.iter().filter(|s| s.is_well()).count()
     }
@@ -265,6 +271,16 @@ impl<'a> Plan<'a> {
         (self.jobs == 0 || self.running() < self.jobs)
             && (self.keep == 0 || self.failed() < self.keep)
     }
+}
+
+/// Where each edge stands before the first judgement.
+fn first_standings(alloc: Global, marks: &[Mark]) -> Result<Vec<Standing>, AllocError>
+    ensures { IfOk result (λ standings. standings.items ≡ map first_standing marks.now) }
+{
+    marks
+        .iter()
+        .map(|mark| first_standing(*mark))
+        .collect(alloc)
 }
 
 fn first_standing(mark: Mark) -> Standing

@@ -1,10 +1,12 @@
 //! Running commands until a plan has ended.
 
-ghost use Rattle.std.specs.Prelude.{◌≡◌, ◌≤◌, ◌<◌, IfOk, IfErr, OnOk, MatchOption, List, length, slice_set, count_by};
+ghost use Rattle.std.specs.Prelude.{◌≡◌, ℕ, ◌<◌, ◌-◌, IfOk, IfErr, OnOk, OnErr, MatchOption, List, length, slice_set, count_by};
 ghost use Rattle.model.specs.World.{World, IsIdle};
+ghost use Rattle.model.specs.Records.{OwnFiles};
+ghost use Rattle.model.specs.Schedule.{Task, NoneMayBeJudged, NoneMayStart};
 ghost use Rattle.builder.specs.declared.plan.Standing.{Standing};
 ghost use Rattle.builder.specs.Plan.{is_running, standing_at, standing_after, EndsSo};
-ghost use Rattle.builder.specs.Run.{IsAt, IsEndOf, IsNoted, work_left};
+ghost use Rattle.builder.specs.Run.{IsAt, IsEndOf, IsNoted, work_left, Suits, IsOn, IsOver, IsCut, failed_after};
 ghost use Rattle.builder.specs.Answers.{Causes, IsSeen, is_stop};
 
 use crate::plan::{End, Plan, Step, Verdict};
@@ -28,6 +30,8 @@ pub fn run<S: Site>(
     ensures noted { OnOk result (IsNoted plan.new.standings.items failed.new.items) }
     ensures idle { OnOk result (count_by is_running plan.new.standings.items ≡ 0) }
     ensures end { IfOk result (EndsSo plan.new.standings.items) }
+    ensures over { IfOk result (λ end. (own : OwnFiles) (task : Task) (entry : World) → Suits own task tick.now edges.now → IsIdle entry.events → IsOn S.tells own task plan.old failed.old.items entry (S.world site.old) → IsOver S.tells own task plan.new failed.new.items end entry (S.world site.new)) }
+    ensures cut { OnErr result ((own : OwnFiles) (task : Task) (entry : World) → Suits own task tick.now edges.now → IsIdle entry.events → IsOn S.tells own task plan.old failed.old.items entry (S.world site.old) → IsCut S.tells own task entry (S.world site.new)) }
 {
     'run: loop {
         if let Some(end) = go_on(site, tick, edges, plan, failed)? {
@@ -50,6 +54,8 @@ fn go_on<S: Site>(
     ensures cause { Causes (S.world site.old) (S.world site.new) result }
     ensures noted { OnOk result (IsNoted plan.new.standings.items failed.new.items) }
     ensures more { IfOk result (λ end. MatchOption end (work_left plan.new.standings.items < work_left plan.old.standings.items) (λ end. (count_by is_running plan.new.standings.items ≡ 0) × EndsSo plan.new.standings.items end)) }
+    ensures on { IfOk result (λ end. (own : OwnFiles) (task : Task) (entry : World) → Suits own task tick.now edges.now → IsIdle entry.events → IsOn S.tells own task plan.old failed.old.items entry (S.world site.old) → MatchOption end (IsOn S.tells own task plan.new failed.new.items entry (S.world site.new)) (λ end. IsOver S.tells own task plan.new failed.new.items end entry (S.world site.new))) }
+    ensures cut { OnErr result ((own : OwnFiles) (task : Task) (entry : World) → Suits own task tick.now edges.now → IsIdle entry.events → IsOn S.tells own task plan.old failed.old.items entry (S.world site.old) → IsCut S.tells own task entry (S.world site.new)) }
 {
     match plan.next() {
         // No output has a record, so every edge is out of date.
@@ -82,6 +88,8 @@ fn take_in<S: Site>(
     ensures cause { Causes (S.world site.old) (S.world site.new) result }
     ensures noted { OnOk result (IsNoted plan.new.standings.items failed.new.items) }
     ensures nearer { OnOk result (work_left plan.new.standings.items < work_left plan.old.standings.items) }
+    ensures on { OnOk result ((own : OwnFiles) (task : Task) (entry : World) → IsIdle entry.events → (on : IsOn S.tells own task plan.old failed.old.items entry (S.world site.old)) → NoneMayBeJudged task on.steps → NoneMayStart task on.steps → IsOn S.tells own task plan.new failed.new.items entry (S.world site.new)) }
+    ensures cut { (own : OwnFiles) (task : Task) (entry : World) → IsCut S.tells own task entry (S.world site.old) → IsCut S.tells own task entry (S.world site.new) }
 {
     let finished = wait(site, plan)?;
     note_end(failed, finished.job - 1, finished.ok)
@@ -94,6 +102,8 @@ fn wait<S: Site>(site: &mut S, plan: &mut Plan<'_>) -> Result<Finished, SiteFaul
     ensures kept { (edges : List Edge) (entry : World) → IsIdle entry.events → IsAt edges plan.old.standings.items entry (S.world site.old) → IsAt edges plan.new.standings.items entry (S.world site.new) }
     ensures cause { Causes (S.world site.old) (S.world site.new) result }
     ensures ended { IfOk result (λ finished. IsEndOf finished.job finished.ok plan.old.standings.items plan.new.standings.items) }
+    ensures on { IfOk result (λ finished. (own : OwnFiles) (task : Task) (failed : List ℕ) (entry : World) → IsIdle entry.events → (on : IsOn S.tells own task plan.old failed entry (S.world site.old)) → NoneMayBeJudged task on.steps → NoneMayStart task on.steps → IsOn S.tells own task plan.new (failed_after failed (finished.job - 1) finished.ok) entry (S.world site.new)) }
+    ensures cut { (own : OwnFiles) (task : Task) (entry : World) → IsCut S.tells own task entry (S.world site.old) → IsCut S.tells own task entry (S.world site.new) }
 {
     let finished = site.wait_any()?;
     plan.finished(finished.job - 1, finished.ok);
@@ -104,6 +114,7 @@ fn wait<S: Site>(site: &mut S, plan: &mut Plan<'_>) -> Result<Finished, SiteFaul
 fn note_end(failed: &mut Vec<usize>, number: usize, ok: bool) -> Result<(), SiteFault>
     ensures memory { IfErr result (λ fault. fault ≡ SiteFault.Memory) }
     ensures noted { OnOk result ((standings : List Standing) → number < length standings → standing_at standings number ≡ Standing.Running → IsNoted standings failed.old.items → IsNoted (slice_set standings number (standing_after ok)) failed.new.items) }
+    ensures after { OnOk result (failed.new.items ≡ failed_after failed.old.items number ok) }
 {
     if ok {
         return Ok(());
@@ -118,6 +129,7 @@ pub fn end_after_fault<S: Site>(site: &mut S, plan: &mut Plan<'_>, fault: SiteFa
     requires at { (edges : List Edge) × (entry : World) × IsIdle entry.events × IsAt edges plan.old.standings.items entry (S.world site.old) }
     ensures kept { (edges : List Edge) (entry : World) → IsIdle entry.events → IsAt edges plan.old.standings.items entry (S.world site.old) → IsAt edges plan.new.standings.items entry (S.world site.new) }
     ensures seen { (entry : World) → IsSeen entry (S.world site.old) fault → IsSeen entry (S.world site.new) result }
+    ensures cut { (own : OwnFiles) (task : Task) (entry : World) → IsCut S.tells own task entry (S.world site.old) → IsCut S.tells own task entry (S.world site.new) }
 {
     if is_stop(fault) {
         return fault;
@@ -134,6 +146,7 @@ fn take_in_rest<S: Site>(site: &mut S, plan: &mut Plan<'_>) -> Result<(), SiteFa
     ensures kept { (edges : List Edge) (entry : World) → IsIdle entry.events → IsAt edges plan.old.standings.items entry (S.world site.old) → IsAt edges plan.new.standings.items entry (S.world site.new) }
     ensures cause { Causes (S.world site.old) (S.world site.new) result }
     ensures idle { OnOk result (count_by is_running plan.new.standings.items ≡ 0) }
+    ensures cut { (own : OwnFiles) (task : Task) (entry : World) → IsCut S.tells own task entry (S.world site.old) → IsCut S.tells own task entry (S.world site.new) }
 {
     'rest: while plan.running() > 0 {
         wait(site, plan)?;

@@ -1,11 +1,14 @@
 //! Starting the command of an edge.
 
-ghost use Rattle.std.specs.Prelude.{◌≡◌, ◌<◌, length, vec_len, slice_set, if◌then◌else◌, OnOk};
+ghost use Rattle.std.specs.Prelude.{◌≡◌, ℕ, suc, ◌<◌, List, [], ◌∷◌, ◌++◌, length, vec_len, slice_set, true, false, if◌then◌else◌, OnOk};
 ghost use Rattle.model.specs.World.{World, IsIdle};
+ghost use Rattle.model.specs.Records.{OwnFiles};
+ghost use Rattle.model.specs.Schedule.{Task, Step as Done, Started, IsLawful, IsLawfulStep};
 ghost use Rattle.model.specs.Calls.{OnlyLooks};
 ghost use Rattle.builder.specs.declared.plan.Standing.{Standing};
 ghost use Rattle.builder.specs.Plan.{standing_at};
-ghost use Rattle.builder.specs.Run.{IsAt};
+ghost use Rattle.builder.specs.PlanOf.{IsPlanOf};
+ghost use Rattle.builder.specs.Run.{IsAt, Suits, IsOn};
 ghost use Rattle.builder.specs.Answers.{Causes};
 
 use crate::plan::Plan;
@@ -29,6 +32,7 @@ pub fn start_edge<S: Site>(
     ensures cause { Causes (S.world site.old) (S.world site.new) result }
     ensures links { plan.new.links.now ≡ plan.old.links.now }
     ensures standings { OnOk result (plan.new.standings.items ≡ slice_set plan.old.standings.items number Standing.Running) }
+    ensures on { (own : OwnFiles) (task : Task) (failed : List ℕ) (entry : World) → Suits own task tick.now edges.now → (on : IsOn S.tells own task plan.old failed entry (S.world site.old)) → IsLawfulStep task on.steps (Started (suc number)) → IsOn S.tells own task plan.new failed entry (S.world site.new) }
 {
     make_folders(site, tick, &edges[number])?;
     site.tick(tick)?;
@@ -49,6 +53,7 @@ fn start_command<S: Site>(
     ensures cause { Causes (S.world site.old) (S.world site.new) result }
     ensures links { plan.new.links.now ≡ plan.old.links.now }
     ensures standings { OnOk result (plan.new.standings.items ≡ slice_set plan.old.standings.items number Standing.Running) }
+    ensures on { (own : OwnFiles) (task : Task) (failed : List ℕ) (entry : World) → task.graph.edges ≡ edges.now → (on : IsOn S.tells own task plan.old failed entry (S.world site.old)) → IsLawfulStep task on.steps (Started (suc number)) → IsOn S.tells own task plan.new failed entry (S.world site.new) }
 {
     let known = site.events().len();
     let result = site.start(number + 1, &edges[number].act, false);
@@ -62,6 +67,8 @@ fn note_start(plan: &mut Plan<'_>, number: usize, is_started: bool)
     requires { number < vec_len plan.old.standings }
     ensures standings { plan.new.standings.items ≡ (if is_started then slice_set plan.old.standings.items number Standing.Running else plan.old.standings.items) }
     ensures links { plan.new.links.now ≡ plan.old.links.now }
+    ensures still { is_started ≡ false → plan.new ≡ plan.old }
+    ensures planned { is_started ≡ true → (task : Task) (steps : List Done) → IsPlanOf task plan.old steps → IsLawful task steps → IsLawfulStep task steps (Started (suc number)) → IsPlanOf task plan.new (steps ++ Started (suc number) ∷ []) }
 {
     if is_started {
         plan.started(number);

@@ -1,17 +1,14 @@
 -- One place behind another.
-use Rattle.std.proofs.Common.{◌≡◌, ℕ, ◌+◌, ◌≤◌, Bool, true, false, List, [], ◌∷◌, ◌++◌, length, length-append, ap, sym, arith, refl, ◌∙◌, append_assoc, add-zero, zero-add, cond}
+use Rattle.std.proofs.Common.{◌≡◌, ℕ, ◌+◌, ◌≤◌, Bool, true, false, List, [], ◌∷◌, ◌++◌, length, length-append, ap, sym, arith, refl, ◌∙◌, append_assoc, add-zero, zero-add, cond, ◌<◌, ◌≢◌, Option, Some, None}
 use Rattle.std.specs.Prelude.{◌==◌}
 use mir.Val.{bool_byte}
 use Rattle.std.proofs.lemmas.Bool.{eqb-true}
 use Rattle.std.proofs.lemmas.List.Sums.{sum_by-append}
-use Rattle.lexer.specs.Characters.{is_of, AllPass}
-use Rattle.lexer.specs.Places.{IsBehind, StopsBehind, line_feeds, IsLineOf, IsPlaceOf, StopsIn}
-use Rattle.lexer.specs.declared.statement.Line.{Line}
-use Rattle.std.specs.List.{AllByRecursion}
+use Rattle.lexer.specs.Characters.{is_of, run_of, behind_run}
+use Rattle.lexer.specs.Tokens.{behind, is_quoted, quoted}
+use Rattle.lexer.specs.Places.{IsBehind, line_feeds}
 use Rattle.lexer.specs.declared.characters.Class.{Class}
 use Rattle.lexer.specs.declared.cursor.Cursor.{Cursor}
-use Rattle.lexer.specs.declared.stop.Stop.{Stop}
-use Rattle.lexer.specs.declared.stop.Stop.TheVariants.{Memory, Found}
 use Rattle.lexer.specs.declared.characters.Class.TheVariants.{Space, Name, BareName, Path, Value, Comment}
 
 -- a line feed is of no class
@@ -30,19 +27,26 @@ other_than_line_feed class b e = go (b == 10) refl
     go true f = let same = eqb-true b 10 f in let clash : is_of class 10 ≡ true = ap (is_of class) (sym same) ∙ e in let no = no_line_feed class in cc
     go false f = refl
 
-pub line_feeds-run : (class : Class) (run : List ℕ) → AllPass (is_of class) run → line_feeds run ≡ 0
-line_feeds-run class [] all = refl
-line_feeds-run class (b ∷ run) all = rw (other_than_line_feed class b all.0) (line_feeds-run class run all.1)
+feeds_more : (b : ℕ) (run : List ℕ) → (b == 10) ≡ false → line_feeds run ≡ 0 → line_feeds (b ∷ run) ≡ 0
+feeds_more b run e none = rw e (omega arith)
+
+run_step : (class : Class) (b : ℕ) (run : List ℕ) (t : Bool) → is_of class b ≡ t → line_feeds run ≡ 0 → line_feeds (cond t (b ∷ run) []) ≡ 0
+run_step class b run true e none = feeds_more b run (other_than_line_feed class b e) none
+run_step class b run false e none = refl
+
+pub line_feeds-run : (class : Class) (bytes : List ℕ) → line_feeds (run_of class bytes) ≡ 0
+line_feeds-run class [] = refl
+line_feeds-run class (b ∷ bytes) = run_step class b (run_of class bytes) (is_of class b) refl (line_feeds-run class bytes)
 
 pub line_feeds-append : (a b : List ℕ) → line_feeds (a ++ b) ≡ line_feeds a + line_feeds b
 line_feeds-append a b = sum_by-append (λ x. cond (x == 10) 1 0) a b
 
 -- behind a run of a class
-pub behind_run : (class : Class) (before after : Cursor) (run : List ℕ) → before.rest.now ≡ run ++ after.rest.now → AllPass (is_of class) run → after.line ≡ before.line → IsBehind before after
-behind_run class before after run spelled all line = record {
-  taken = run;
+pub behind_a_run : (class : Class) (before after : Cursor) → before.rest.now ≡ run_of class before.rest.now ++ after.rest.now → after.line ≡ before.line → IsBehind before after
+behind_a_run class before after spelled line = record {
+  taken = run_of class before.rest.now;
   spelled = spelled;
-  line_is = let none = line_feeds-run class run all in omega arith;
+  line_is = let none = line_feeds-run class before.rest.now in omega arith;
 }
 
 pub behind_none : (before : Cursor) → IsBehind before before
@@ -55,53 +59,12 @@ behind_both a b c first second = record {
   line_is = let feeds = line_feeds-append first.taken second.taken in let x = first.line_is in let y = second.line_is in omega arith;
 }
 
--- a fault behind a place that is behind another
-pub stops_behind : (a b : Cursor) (stop : Stop) → IsBehind a b → StopsBehind b stop → StopsBehind a stop
-stops_behind a b Memory first stops = tt
-stops_behind a b (Found fault) first stops = record {
-  taken = first.taken ++ stops.taken;
-  rest = stops.rest;
-  spelled = first.spelled ∙ (ap (λ (rest : List ℕ). first.taken ++ rest) stops.spelled ∙ sym (append_assoc first.taken stops.taken stops.rest));
-  line_is = let feeds = line_feeds-append first.taken stops.taken in let x = first.line_is in let y = stops.line_is in omega arith;
-}
-
 -- nothing is gained on the way
 pub behind_length : (a b : Cursor) → IsBehind a b → length b.rest.now ≤ length a.rest.now
 behind_length a b behind = rw (behind.spelled) (omega (arith, length-append behind.taken b.rest.now))
 
 -- what follows of places one behind another
-pub ruleset placing = (behind_both, stops_behind, behind_length)
-
--- ---- places of one text
-
-pub place_first : (text : List ℕ) (place : Cursor) → place.rest.now ≡ text → place.line ≡ 1 → IsPlaceOf text place
-place_first text place spelled line = record { front = []; spelled = sym spelled; line_is = line }
-
-pub place_next : (text : List ℕ) (a b : Cursor) → IsPlaceOf text a → IsBehind a b → IsPlaceOf text b
-place_next text a b place behind = record {
-  front = place.front ++ behind.taken;
-  spelled = place.spelled ∙ (ap (λ (rest : List ℕ). place.front ++ rest) behind.spelled ∙ sym (append_assoc place.front behind.taken b.rest.now));
-  line_is = let feeds = line_feeds-append place.front behind.taken in let x = place.line_is in let y = behind.line_is in omega arith;
-}
-
-pub place_line : (text : List ℕ) (a : Cursor) → IsPlaceOf text a → IsLineOf text a.line
-place_line text a place = record { front = place.front; rest = a.rest.now; spelled = place.spelled; number_is = place.line_is }
-
-pub stop_line : (text : List ℕ) (a : Cursor) (stop : Stop) → IsPlaceOf text a → StopsBehind a stop → StopsIn text stop
-stop_line text a Memory place behind = tt
-stop_line text a (Found fault) place behind = record {
-  front = place.front ++ behind.taken;
-  rest = behind.rest;
-  spelled = place.spelled ∙ (ap (λ (rest : List ℕ). place.front ++ rest) behind.spelled ∙ sym (append_assoc place.front behind.taken behind.rest));
-  number_is = let feeds = line_feeds-append place.front behind.taken in let x = place.line_is in let y = behind.line_is in omega arith;
-}
-
-pub first_line : (text : List ℕ) → IsLineOf text 1
-first_line text = record { front = []; rest = text; spelled = refl; number_is = refl }
-
-pub line_more : (text : List ℕ) (lines : List Line) (line : Line) → AllByRecursion (λ x. IsLineOf text x.number) lines → IsLineOf text line.number → AllByRecursion (λ x. IsLineOf text x.number) (lines ++ line ∷ [])
-line_more text [] line all one = (one, tt)
-line_more text (first ∷ lines) line all one = (all.0, line_more text lines line all.1 one)
+pub ruleset placing = (behind_both, behind_length)
 
 -- what a test counts for
 pub counted : (test : Bool) → bool_byte test ≡ cond test 1 0
@@ -111,3 +74,68 @@ counted false = refl
 -- behind one character
 pub behind_byte : (before after : Cursor) (b : ℕ) → before.rest.now ≡ b ∷ after.rest.now → after.line ≡ before.line + cond (b == 10) 1 0 → IsBehind before after
 behind_byte before after b spelled line = record { taken = b ∷ []; spelled = spelled; line_is = line ∙ ap (λ (n : ℕ). before.line + n) (sym (zero-add (cond (b == 10) 1 0))) }
+
+-- a byte that was stripped stood there
+stripped_step : (wanted b : ℕ) (bytes rest : List ℕ) (t : Bool) → (b == wanted) ≡ t → Some rest ≡ cond t (Some bytes) None → b ∷ bytes ≡ wanted ∷ rest
+stripped_step wanted b bytes rest true e some = let same = eqb-true b wanted e in cc
+stripped_step wanted b bytes rest false e some = absurd (cc)
+
+pub stripped : (wanted : ℕ) (bytes rest : List ℕ) → Some rest ≡ behind wanted bytes → bytes ≡ wanted ∷ rest
+stripped wanted [] rest some = absurd (cc)
+stripped wanted (b ∷ bytes) rest some = stripped_step wanted b bytes rest (b == wanted) refl some
+
+no_quoted_feed : (b : ℕ) → is_quoted b ≡ true → (b == 10) ≡ false
+no_quoted_feed b e = go (b == 10) refl
+  where
+    go : (t : Bool) → (b == 10) ≡ t → t ≡ false
+    go true f = let same = eqb-true b 10 f in let clash : is_quoted 10 ≡ true = ap is_quoted (sym same) ∙ e in let no : is_quoted 10 ≡ false = refl in cc
+    go false f = refl
+
+abbrev rest_or : Option (List ℕ × List ℕ) → List ℕ → List ℕ
+rest_or None other = other
+rest_or (Some parts) other = parts.1
+
+quoted_step : (b : ℕ) (bytes sign rest : List ℕ) (t : Bool) → is_quoted b ≡ t → ◌≡◌ {A = Option (List ℕ × List ℕ)} (Some (sign, rest)) (cond t (Some (b ∷ [], bytes)) None) → (c : ℕ) × (b ∷ bytes ≡ c ∷ rest) × ((c == 10) ≡ false)
+quoted_step b bytes sign rest true e some = let same : rest ≡ bytes = ap (λ (o : Option (List ℕ × List ℕ)). rest_or o bytes) some in (b, cc, no_quoted_feed b e)
+quoted_step b bytes sign rest false e some = absurd (cc)
+
+quoted_is : (bytes sign rest : List ℕ) → ◌≡◌ {A = Option (List ℕ × List ℕ)} (Some (sign, rest)) (quoted bytes) → (c : ℕ) × (bytes ≡ c ∷ rest) × ((c == 10) ≡ false)
+quoted_is [] sign rest some = absurd (cc)
+quoted_is (b ∷ bytes) sign rest some = quoted_step b bytes sign rest (is_quoted b) refl some
+
+-- behind a space, a colon or a dollar
+pub behind_quoted : (before after : Cursor) (sign : List ℕ) → ◌≡◌ {A = Option (List ℕ × List ℕ)} (Some (sign, after.rest.now)) (quoted before.rest.now) → after.line ≡ before.line → IsBehind before after
+behind_quoted before after sign some line =
+    let found = quoted_is before.rest.now sign after.rest.now some in
+    let none = feeds_more found.0 [] found.2 refl in record {
+      taken = found.0 ∷ [];
+      spelled = found.1;
+      line_is = omega arith;
+    }
+
+-- what stands behind a run of some characters is shorter
+behind_run_length : (class : Class) (bytes : List ℕ) → length (behind_run class bytes) ≤ length bytes
+behind_run_length class [] = omega arith
+behind_run_length class (b ∷ bytes) = let less = behind_run_length class bytes in go (is_of class b) less
+  where
+    go : (t : Bool) → length (behind_run class bytes) ≤ length bytes → length (cond t (behind_run class bytes) (b ∷ bytes)) ≤ length (b ∷ bytes)
+    go true less = omega arith
+    go false less = omega arith
+
+pub run_shorter : (class : Class) (bytes : List ℕ) → run_of class bytes ≢ [] → length (behind_run class bytes) < length bytes
+run_shorter class [] some = absurd (some refl)
+run_shorter class (b ∷ bytes) some = go (is_of class b) (behind_run_length class bytes) some
+  where
+    go : (t : Bool) → length (behind_run class bytes) ≤ length bytes → cond t (b ∷ run_of class bytes) [] ≢ [] → length (cond t (behind_run class bytes) (b ∷ bytes)) < length (b ∷ bytes)
+    go true less some = omega arith
+    go false less some = absurd (some refl)
+
+pub empty_run : (run : List ℕ) → (length run == 0) ≡ true → run ≡ []
+empty_run [] e = refl
+empty_run (b ∷ run) e = let none = eqb-true (length (b ∷ run)) 0 e in absurd (omega arith)
+
+pub some_run : (run : List ℕ) → (length run == 0) ≡ false → run ≢ []
+some_run run e none = let clash : (length run == 0) ≡ true = ap (λ (xs : List ℕ). length xs == 0) none in cc
+
+pub behind_run_shorter : (class : Class) (bytes run rest : List ℕ) → run ≡ run_of class bytes → rest ≡ behind_run class bytes → (length run == 0) ≡ false → length rest < length bytes
+behind_run_shorter class bytes run rest is_run is_rest some = rw is_rest (run_shorter class bytes (λ none. some_run run some (is_run ∙ none)))

@@ -1,6 +1,5 @@
--- Characters that stand together in a build file.
-use Rattle.std.specs.Prelude.{◌≡◌, ℕ, Bool, true, false, not, List, [], ◌∷◌, ◌==◌, ◌&&◌, ◌||◌, nat_le}
-use Rattle.std.specs.List.{AllByRecursion}
+-- Characters that stand together in a build file (manual: "Lexical syntax").
+use Rattle.std.specs.Prelude.{◌≡◌, ℕ, Bool, true, false, not, List, [], ◌∷◌, ◌==◌, ◌&&◌, ◌||◌, cond, nat_le}
 use Rattle.lexer.specs.declared.characters.Class.{Class}
 use Rattle.lexer.specs.declared.characters.Class.TheVariants.{Space, Name, BareName, Path, Value, Comment}
 
@@ -13,22 +12,18 @@ is_of Space b = b == 32
 is_of Name b = is_name b
 -- no dot
 is_of BareName b = is_name b && not (b == 46)
--- `/` and `+` too
-is_of Path b = is_name b || b == 47 || b == 43
--- all but NUL, LF, CR and the dollar
+-- all but NUL, tab, LF, CR, space, dollar, colon and bar
+is_of Path b = not (b == 0 || b == 9 || b == 10 || b == 13 || b == 32 || b == 36 || b == 58 || b == 124)
+-- all but NUL, LF, CR and dollar
 is_of Value b = not (b == 0 || b == 10 || b == 13 || b == 36)
 -- all but NUL, LF and CR
 is_of Comment b = not (b == 0 || b == 10 || b == 13)
 
-abbrev pub AllPass : (ℕ → Bool) → List ℕ → Type 0
-AllPass test = AllByRecursion (λ b. test b ≡ true)
+-- the longest front of a class, and what stands behind it
+abbrev pub run_of : Class → List ℕ → List ℕ
+run_of class [] = []
+run_of class (b ∷ bytes) = cond (is_of class b) (b ∷ run_of class bytes) []
 
--- the next byte, if there is one, does not pass
-abbrev pub Stops : (ℕ → Bool) → List ℕ → Type 0
-Stops test [] = Unit {0}
-Stops test (b ∷ bytes) = test b ≡ false
-
--- a path ends at a space, a colon, a bar or the line's end
-abbrev pub ends_path : List ℕ → Bool
-ends_path [] = true
-ends_path (b ∷ bytes) = b == 32 || b == 58 || b == 124 || b == 10 || b == 13
+abbrev pub behind_run : Class → List ℕ → List ℕ
+behind_run class [] = []
+behind_run class (b ∷ bytes) = cond (is_of class b) (behind_run class bytes) (b ∷ bytes)

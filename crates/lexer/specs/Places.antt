@@ -1,9 +1,11 @@
 -- Places in a text, and the lines in which they are.
-use Rattle.std.specs.Prelude.{◌≡◌, ℕ, ◌+◌, List, ◌++◌, ◌==◌, count_by}
+use Rattle.std.specs.Prelude.{◌≡◌, ℕ, ◌+◌, List, ◌++◌, ◌==◌, count_by, Option, option_map}
 use Rattle.lexer.specs.declared.cursor.Cursor.{Cursor}
 use Rattle.lexer.specs.declared.fault.Fault.{Fault}
 use Rattle.lexer.specs.declared.stop.Stop.{Stop}
 use Rattle.lexer.specs.declared.stop.Stop.TheVariants.{Memory, Found}
+use Rattle.lexer.specs.Grammar.{Outcome}
+use Rattle.lexer.specs.Grammar.Outcome.{Broken}
 
 abbrev pub line_feeds : List ℕ → ℕ
 line_feeds = count_by (λ b. b == 10)
@@ -14,16 +16,21 @@ pub record IsBehind (before after : Cursor) : Type 0 where
   pub spelled : before.rest.now ≡ taken ++ after.rest.now
   pub line_is : after.line ≡ before.line + line_feeds taken
 
--- the fault is in the line of some place behind this one
-pub record IsFaultBehind (before : Cursor) (fault : Fault) : Type 0 where
+-- from here a grammar finds the fault, in the line of the place where it is stuck
+pub record IsStuck {X : Type 0} (One : List ℕ → Outcome X → Type 0) (before : Cursor) (fault : Fault) : Type 0 where
   pub taken : List ℕ
   pub rest : List ℕ
   pub spelled : before.rest.now ≡ taken ++ rest
+  pub reads : One before.rest.now (Broken fault.kind rest)
   pub line_is : fault.line ≡ before.line + line_feeds taken
 
-abbrev pub StopsBehind : Cursor → Stop → Type 0
-StopsBehind before Memory = Unit {0}
-StopsBehind before (Found fault) = IsFaultBehind before fault
+-- what a refused reading answers
+abbrev pub Breaks : {X : Type 0} → (List ℕ → Outcome X → Type 0) → Cursor → Stop → Type 0
+Breaks One before Memory = Unit {0}
+Breaks One before (Found fault) = IsStuck One before fault
+
+abbrev pub rest_of : Option Cursor → Option (List ℕ)
+rest_of = option_map (λ place. place.rest.now)
 
 -- the number of a line of the text, from 1: that many line feeds, and one, stand before some place in it
 pub record IsLineOf (text : List ℕ) (number : ℕ) : Type 0 where
@@ -31,13 +38,3 @@ pub record IsLineOf (text : List ℕ) (number : ℕ) : Type 0 where
   pub rest : List ℕ
   pub spelled : text ≡ front ++ rest
   pub number_is : number ≡ 1 + line_feeds front
-
--- the place is in the text, and its line is the right one
-pub record IsPlaceOf (text : List ℕ) (place : Cursor) : Type 0 where
-  pub front : List ℕ
-  pub spelled : text ≡ front ++ place.rest.now
-  pub line_is : place.line ≡ 1 + line_feeds front
-
-abbrev pub StopsIn : List ℕ → Stop → Type 0
-StopsIn text Memory = Unit {0}
-StopsIn text (Found fault) = IsLineOf text fault.line

@@ -1,195 +1,123 @@
--- The statements of a build file, as far as they are read (manual: "Lexical syntax").
-use Rattle.std.specs.Prelude.{◌≡◌, ◌≢◌, ℕ, Bool, true, false, List, [], ◌∷◌, ◌++◌, ◌⊎◌, ◌==◌, ◌||◌, Option, None, Some, codes}
-use Rattle.std.specs.Option.{option_to_list}
-use Rattle.std.specs.List.{flat_map}
-use Rattle.lexer.specs.declared.statement.Piece.{Piece}
-use Rattle.lexer.specs.declared.statement.Piece.TheVariants.{Text, Name}
-use Rattle.lexer.specs.declared.statement.Value.{Value}
-use Rattle.lexer.specs.declared.statement.Line.{Line}
-use Rattle.lexer.specs.declared.statement.BuildLine.{BuildLine}
-use Rattle.lexer.specs.declared.statement.Statement.{Statement}
-use Rattle.lexer.specs.declared.statement.Statement.TheVariants.{Binding, BlockBinding, Rule, Build, Pool, Default, Include, Subninja}
+-- What a statement's line says (manual: "Variables", "Rules", "Build statements", "Build outputs", "Build dependencies",
+-- "Validations", "Default target statements", "Pools", "Evaluation and scoping").
+use Rattle.std.specs.Prelude.{◌≡◌, ℕ, Bool, true, false, List, [], ◌∷◌, ◌++◌, Option, None, Some, is_some, codes, bytes_eq, cond, ◌||◌, ◌==◌}
 use Rattle.lexer.specs.declared.characters.Class.TheVariants as class
-use Rattle.lexer.specs.Characters.{ends_path}
-use Rattle.lexer.specs.Runs.{IsRun, AreSpaces, IsGap, IsName, EndsLine, AreInRow}
+use Rattle.lexer.specs.declared.fault.FaultKind.{FaultKind}
+use Rattle.lexer.specs.declared.fault.FaultKind.TheVariants.{EmptyPath}
+use Rattle.lexer.specs.declared.tokens.Mark.{Mark}
+use Rattle.lexer.specs.declared.tokens.Mark.TheVariants.{Bar, DoubleBar, BarAt}
+use Rattle.lexer.specs.declared.forms.Keyword.{Keyword}
+use Rattle.lexer.specs.declared.forms.Keyword.TheVariants as keyword
+use Rattle.lexer.specs.Characters.{run_of, behind_run}
+use Rattle.lexer.specs.Grammar.{Outcome, Grammar, Is, Give, Then, Either}
+use Rattle.lexer.specs.Grammar.Outcome.{Reached, Broken}
+use Rattle.lexer.specs.Said.{Fragments, Form, BuildForm}
+use Rattle.lexer.specs.Said.Form.{binding, block_binding, rule, build, pool, defaults, includes, subninja}
+use Rattle.lexer.specs.Tokens.{newline, unexpected, one, line_end, name, begins_path, word_end, mark, is_mark}
+use Rattle.lexer.specs.Values.{Blanks, OfValue, OfPath, Paths}
 
--- ---- values
+-- blanks, and the end of the line
+abbrev pub LineRest : Grammar (Unit {0})
+LineRest = Then Blanks (λ _. Is line_end)
 
--- characters that stand for themselves, or two dollars for one
-abbrev pub IsText : List ℕ → List ℕ → List ℕ → Type 0
-IsText text bytes rest = ((text ≢ []) × IsRun class.Value bytes text rest) ⊎ ((text ≡ 36 ∷ []) × (bytes ≡ 36 ∷ 36 ∷ rest))
+-- an equals sign and a value, which goes up to the line's end; blanks round the sign are dropped
+abbrev pub Bound : Grammar Fragments
+Bound = Then Blanks (λ _. Then (Is (one 61)) (λ _. Then Blanks (λ _. Then OfValue (λ value. Then (Is line_end) (λ _. Give value)))))
 
--- a dollar and a name that goes as far as it can
-pub record IsExpansion (name bytes rest : List ℕ) : Type 0 where
-  pub more : List ℕ
-  pub dollar : bytes ≡ 36 ∷ more
-  pub run : IsRun class.BareName more name rest
-  -- `in` and `out` are the names that are read
-  pub known : (name ≡ codes "in") ⊎ (name ≡ codes "out")
-
-abbrev pub IsPiece : Piece → List ℕ → List ℕ → Type 0
-IsPiece (Text text) bytes rest = IsText text.now bytes rest
-IsPiece (Name name) bytes rest = IsExpansion name.now bytes rest
-
--- a value ends with its line, and before what may stand in no value
-abbrev pub ends_value : List ℕ → Bool
-ends_value [] = true
-ends_value (b ∷ bytes) = b == 0 || b == 10 || b == 13
-
-abbrev pub IsValue : Value → List ℕ → List ℕ → Type 0
-IsValue value bytes rest = AreInRow IsPiece value.pieces bytes rest × (ends_value rest ≡ true)
+-- a name and no more
+abbrev pub NameAlone : Grammar (List ℕ)
+NameAlone = Then Blanks (λ _. Then (Is name) (λ word. Then LineRest (λ _. Give word)))
 
 -- ---- paths
 
-abbrev pub IsPathPiece : Piece → List ℕ → List ℕ → Type 0
-IsPathPiece (Text text) bytes rest = (text.now ≢ []) × IsRun class.Path bytes text.now rest
-IsPathPiece (Name name) bytes rest = ⊥
+-- a path must stand here, where the line's end is an empty one
+abbrev pub missing_path : List ℕ → Option (List ℕ) → Outcome Fragments
+missing_path [] newline = Broken EmptyPath []
+missing_path (b ∷ bytes) (Some rest) = Broken EmptyPath (b ∷ bytes)
+missing_path (b ∷ bytes) None = unexpected (b ∷ bytes)
 
-abbrev pub IsPath : Value → List ℕ → List ℕ → Type 0
-IsPath path bytes rest = (ends_path bytes ≡ false) × AreInRow IsPathPiece path.pieces bytes rest × (ends_path rest ≡ true)
+abbrev pub SomePath : Grammar Fragments
+SomePath bytes = Either (begins_path bytes) OfPath (Is (λ place. missing_path place (newline place))) bytes
 
--- a path and the spaces behind it
-abbrev pub IsPathAndSpaces : Value → List ℕ → List ℕ → Type 0
-IsPathAndSpaces path bytes rest = (end : List ℕ) × IsPath path bytes end × AreSpaces end rest
+-- one path and no more
+abbrev pub PathAlone : Grammar Fragments
+PathAlone = Then (Is word_end) (λ _. Then Blanks (λ _. Then SomePath (λ path. Then LineRest (λ _. Give path))))
 
--- all paths up to a colon, a bar or the line's end
-pub record ArePaths (paths : List Value) (bytes rest : List ℕ) : Type 0 where
-  pub start : List ℕ
-  pub spaces : AreSpaces bytes start
-  pub row : AreInRow IsPathAndSpaces paths start rest
-  pub ends : ends_path rest ≡ true
+-- at least one path must have been there
+abbrev pub some_of : List Fragments → List ℕ → Outcome (Unit {0})
+some_of [] bytes = unexpected bytes
+some_of (path ∷ paths) bytes = Reached tt bytes
 
--- ---- lines
+abbrev pub DefaultPaths : Grammar (List Fragments)
+DefaultPaths = Then (Is word_end) (λ _. Then Paths (λ paths. Then (Is (some_of paths)) (λ _. Then (Is line_end) (λ _. Give paths))))
 
--- `rule NAME`
-pub record IsRule (name bytes rest : List ℕ) : Type 0 where
-  pub behind_word : List ℕ
-  pub start : List ℕ
-  pub behind_name : List ℕ
-  pub end : List ℕ
-  pub word : bytes ≡ codes "rule" ++ behind_word
-  pub gap : IsGap behind_word start
-  pub is_name : IsName start name behind_name
-  pub spaces : AreSpaces behind_name end
-  pub ends : EndsLine end rest
+-- ---- `build` lines
 
--- the colon of a `build` line and the rule's name, which ends where a path would
-pub record IsRuleName (name bytes rest : List ℕ) : Type 0 where
-  pub behind_colon : List ℕ
-  pub start : List ℕ
-  pub colon : bytes ≡ 58 ∷ behind_colon
-  pub spaces : AreSpaces behind_colon start
-  pub is_name : IsName start name rest
-  pub ends : ends_path rest ≡ true
+-- the paths behind this mark, or none where it is not there
+abbrev pub MarkedBy : Mark → Option (Mark × List ℕ) → Grammar (List Fragments)
+MarkedBy wanted None bytes = Give [] bytes
+MarkedBy wanted (Some found) bytes = Either (is_mark wanted found.0) (λ _. Paths found.1) (Give []) bytes
 
--- `build OUTPUTS: RULE INPUTS`
-pub record IsBuild (build : BuildLine) (bytes rest : List ℕ) : Type 0 where
-  pub behind_word : List ℕ
-  pub start : List ℕ
-  pub colon : List ℕ
-  pub behind_rule : List ℕ
-  pub end : List ℕ
-  pub word : bytes ≡ codes "build" ++ behind_word
-  pub gap : IsGap behind_word start
-  pub outputs : ArePaths build.explicit_outputs start colon
-  pub some_output : build.explicit_outputs ≢ []
-  pub rule : IsRuleName build.rule.now colon behind_rule
-  pub inputs : ArePaths build.explicit_inputs behind_rule end
-  pub ends : EndsLine end rest
-  pub no_others : (build.implicit_outputs ≡ []) × (build.implicit_inputs ≡ []) × (build.order_only_inputs ≡ []) × (build.validations ≡ [])
+abbrev pub Marked : Mark → Grammar (List Fragments)
+Marked wanted bytes = MarkedBy wanted (mark bytes) bytes
 
--- an equals sign and the spaces round it
-pub record IsEquals (bytes rest : List ℕ) : Type 0 where
-  pub before : List ℕ
-  pub behind : List ℕ
-  pub spaces_before : AreSpaces bytes before
-  pub equals : before ≡ 61 ∷ behind
-  pub spaces_behind : AreSpaces behind rest
+-- explicit outputs and implicit ones, of which there is at least one
+abbrev pub Outputs : Grammar (List Fragments × List Fragments)
+Outputs = Then Paths (λ explicit. Then (Marked Bar) (λ implicit. Then (Is (some_of (explicit ++ implicit))) (λ _. Give (explicit, implicit))))
 
--- an equals sign and a value, up to the line's end
-pub record IsBoundValue (value : Value) (bytes rest : List ℕ) : Type 0 where
-  pub start : List ℕ
-  pub end : List ℕ
-  pub equals : IsEquals bytes start
-  pub is_value : IsValue value start end
-  pub ends : EndsLine end rest
+-- a colon and the rule's name
+abbrev pub OfRule : Grammar (List ℕ)
+OfRule = Then (Is (one 58)) (λ _. Then Blanks (λ _. Then (Is name) (λ word. Then (Is word_end) (λ _. Give word))))
 
--- `name = value`
-pub record IsBinding (name : List ℕ) (value : Value) (bytes rest : List ℕ) : Type 0 where
-  pub behind_name : List ℕ
-  pub is_name : IsName bytes name behind_name
-  pub bound : IsBoundValue value behind_name rest
+pub record InputsForm : Type 0 where
+  pub explicit : List Fragments
+  pub implicit : List Fragments
+  pub order_only : List Fragments
+  pub validations : List Fragments
 
-abbrev pub Says : Statement → List ℕ → List ℕ → Type 0
-Says (Binding name value) bytes rest = ⊥
-Says (BlockBinding name value) bytes rest = IsBinding name.now value bytes rest
-Says (Rule name) bytes rest = IsRule name.now bytes rest
-Says (Build build) bytes rest = IsBuild build bytes rest
-Says (Pool name) bytes rest = ⊥
-Says (Default paths) bytes rest = ⊥
-Says (Include path) bytes rest = ⊥
-Says (Subninja path) bytes rest = ⊥
+-- explicit, implicit and order-only inputs and validations, in this order
+abbrev pub Inputs : Grammar InputsForm
+Inputs = Then Paths (λ explicit. Then (Marked Bar) (λ implicit. Then (Marked DoubleBar) (λ order_only. Then (Marked BarAt) (λ validations. Give (record { explicit = explicit; implicit = implicit; order_only = order_only; validations = validations })))))
 
--- the statements of blocks are indented, the others are not
-abbrev pub IsIndented : Statement → List ℕ → List ℕ → Type 0
-IsIndented (BlockBinding name value) bytes start = bytes ≢ start
-IsIndented other bytes start = bytes ≡ start
+abbrev pub build_form : List Fragments × List Fragments → List ℕ → InputsForm → BuildForm
+build_form outputs rule_name inputs = record {
+  explicit_outputs = outputs.0;
+  implicit_outputs = outputs.1;
+  rule = rule_name;
+  explicit_inputs = inputs.explicit;
+  implicit_inputs = inputs.implicit;
+  order_only_inputs = inputs.order_only;
+  validations = inputs.validations;
+}
 
--- a line that says something
-pub record IsSaying (line : Line) (bytes rest : List ℕ) : Type 0 where
-  pub start : List ℕ
-  pub spaces : AreSpaces bytes start
-  pub indented : IsIndented line.statement bytes start
-  pub says : Says line.statement start rest
+abbrev pub BuildPaths : Grammar BuildForm
+BuildPaths = Then (Is word_end) (λ _. Then Outputs (λ outputs. Then OfRule (λ rule_name. Then Inputs (λ inputs. Then (Is line_end) (λ _. Give (build_form outputs rule_name inputs))))))
 
--- a line that goes on so, behind its spaces, is blank or a comment
-abbrev pub says_nothing : List ℕ → Bool
-says_nothing [] = true
-says_nothing (b ∷ bytes) = b == 10 || b == 13 || b == 35
+-- ---- statements
 
--- a blank line or a comment
-pub record IsPassed (bytes rest : List ℕ) : Type 0 where
-  pub start : List ℕ
-  pub text : List ℕ
-  pub end : List ℕ
-  pub spaces : AreSpaces bytes start
-  pub nothing : says_nothing start ≡ true
-  pub run : IsRun class.Comment start text end
-  pub ends : EndsLine end rest
+-- the words that begin a statement; every other word is bound
+abbrev pub keyword_of : List ℕ → Keyword
+keyword_of word =
+    cond (bytes_eq word (codes "rule")) keyword.Rule (
+    cond (bytes_eq word (codes "build")) keyword.Build (
+    cond (bytes_eq word (codes "pool")) keyword.Pool (
+    cond (bytes_eq word (codes "default")) keyword.Default (
+    cond (bytes_eq word (codes "include")) keyword.Include (
+    cond (bytes_eq word (codes "subninja")) keyword.Subninja keyword.Other)))))
 
-abbrev pub IsLine : Option Line → List ℕ → List ℕ → Type 0
-IsLine None bytes rest = IsPassed bytes rest
-IsLine (Some line) bytes rest = IsSaying line bytes rest
+abbrev pub BehindWord : Keyword → List ℕ → Grammar Form
+BehindWord keyword.Rule word = Then NameAlone (λ named. Give (rule named))
+BehindWord keyword.Build word = Then BuildPaths (λ line. Give (build line))
+BehindWord keyword.Pool word = Then NameAlone (λ named. Give (pool named))
+BehindWord keyword.Default word = Then DefaultPaths (λ paths. Give (defaults paths))
+BehindWord keyword.Include word = Then PathAlone (λ path. Give (includes path))
+BehindWord keyword.Subninja word = Then PathAlone (λ path. Give (subninja path))
+BehindWord keyword.Other word = Then Bound (λ value. Give (binding word value))
 
--- the lines that stand one behind another, and what those of them say that say something
-pub record AreLines (lines : List Line) (bytes rest : List ℕ) : Type 0 where
-  pub all : List (Option Line)
-  pub row : AreInRow IsLine all bytes rest
-  pub said : lines ≡ flat_map option_to_list all
+-- a statement at the beginning of its line
+abbrev pub OfStatement : Grammar Form
+OfStatement = Then (Is name) (λ word. BehindWord (keyword_of word) word)
 
--- ---- blocks
-
--- a statement behind which lines of a block may stand
-abbrev pub opens : Statement → Bool
-opens (Binding name value) = false
-opens (BlockBinding name value) = true
-opens (Rule name) = true
-opens (Build build) = true
-opens (Pool name) = true
-opens (Default paths) = false
-opens (Include path) = false
-opens (Subninja path) = false
-
--- whether lines of a block may stand behind these, where `inside` says it of those before them
-abbrev pub is_open_behind : Bool → List Line → Bool
-is_open_behind inside [] = inside
-is_open_behind inside (line ∷ lines) = is_open_behind (opens line.statement) lines
-
-abbrev pub MayStand : Bool → Statement → Type 0
-MayStand inside (BlockBinding name value) = inside ≡ true
-MayStand inside other = Unit {0}
-
--- lines of blocks stand in blocks only
-abbrev pub AreInBlocks : Bool → List Line → Type 0
-AreInBlocks inside [] = Unit {0}
-AreInBlocks inside (line ∷ lines) = MayStand inside line.statement × AreInBlocks (opens line.statement) lines
+-- a line of a block
+abbrev pub OfBlock : Grammar Form
+OfBlock = Then (Is name) (λ word. Then Bound (λ value. Give (block_binding word value)))

@@ -1,7 +1,8 @@
 //! Characters that stand together in a build file.
 
-ghost use Rattle.std.specs.Prelude.{◌≡◌, ◌++◌, ◌∷◌, IfSome};
-ghost use Rattle.lexer.specs.Characters.{is_name, is_of, AllPass, Stops};
+ghost use Rattle.std.specs.Prelude.{◌≡◌, ◌++◌, ◌∷◌, ◌<◌, List, ℕ, option_map};
+ghost use Rattle.lexer.specs.Characters.{is_name, is_of, run_of, behind_run};
+ghost use Rattle.lexer.specs.Tokens.{behind, quoted};
 
 /// Characters that go together, where they stand one behind another.
 #[derive(Clone, Copy, Debug, PartialEq, Eq)]
@@ -20,14 +21,17 @@ pub enum Class {
     Comment,
 }
 
-fn is_of(class: Class, byte: u8) -> bool
+pub fn is_of(class: Class, byte: u8) -> bool
     ensures { result ≡ is_of class byte }
 {
     match class {
         Class::Space => byte == b' ',
         Class::Name => is_name(byte),
         Class::BareName => is_name(byte) && byte != b'.',
-        Class::Path => is_name(byte) || byte == b'/' || byte == b'+',
+        Class::Path => !matches!(
+            byte,
+            b'\0' | b'\t' | b'\n' | b'\r' | b' ' | b'$' | b':' | b'|'
+        ),
         Class::Value => !matches!(byte, b'\0' | b'\n' | b'\r' | b'$'),
         Class::Comment => !matches!(byte, b'\0' | b'\n' | b'\r'),
     }
@@ -41,9 +45,9 @@ fn is_name(byte: u8) -> bool
 
 /// The longest front of the text that is of the class, and what stands behind it.
 pub fn split_run(text: &str, class: Class) -> (&str, &str)
-    ensures parts { text.now ≡ result.0.now ++ result.1.now }
-    ensures all { AllPass (is_of class) result.0.now }
-    ensures stops { Stops (is_of class) result.1.now }
+    ensures spelled { text.now ≡ result.0.now ++ result.1.now }
+    ensures run { result.0.now ≡ run_of class text.now }
+    ensures rest { result.1.now ≡ behind_run class text.now }
 {
     let bytes = text.as_bytes();
     for (i, byte) in bytes.iter().enumerate() {
@@ -54,12 +58,23 @@ pub fn split_run(text: &str, class: Class) -> (&str, &str)
     text.split_at(text.len())
 }
 
-/// The first character, where it is ASCII, and what stands behind it.
-pub fn split_ascii(text: &str) -> Option<(u8, &str)>
-    ensures { IfSome result (λ parts. text.now ≡ parts.0 ∷ parts.1.now) }
+/// What stands behind this ASCII character, where it stands first.
+pub fn strip_one(text: &str, wanted: u8) -> Option<&str>
+    requires { wanted < 128 }
+    ensures { option_map (λ rest. rest.now) result ≡ behind wanted text.now }
 {
     match text.as_bytes() {
-        [first, ..] if first.is_ascii() => Some((*first, &text[1..])),
+        [first, ..] if *first == wanted => Some(&text[1..]),
+        _ => None,
+    }
+}
+
+/// A space, a colon or a dollar, where one stands first, and what stands behind it.
+pub fn split_quoted(text: &str) -> Option<(&str, &str)>
+    ensures { option_map (λ parts. (parts.0.now, parts.1.now)) result ≡ quoted text.now }
+{
+    match text.as_bytes() {
+        [first, ..] if matches!(*first, b' ' | b':' | b'$') => Some(text.split_at(1)),
         _ => None,
     }
 }

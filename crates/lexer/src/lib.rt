@@ -1,21 +1,27 @@
 //! Paths and statements of a build file.
 #![tactic(auto)]
 
+mod bindings;
+mod build_lines;
 mod characters;
 mod cursor;
+mod escapes;
 mod fault;
 mod forms;
 mod lines;
 mod path;
 mod paths;
+mod shell;
 mod statement;
 mod steps;
 mod stop;
+mod tokens;
 mod values;
 
 pub use fault::{Fault, FaultKind, ReadFault};
-pub use lines::statements;
+pub use lines::{one_reading, statements};
 pub use path::canonical;
+pub use shell::{quote, quoted_is_one_word};
 pub use statement::{BuildLine, Line, Piece, Statement, Statements, Value};
 
 #[cfg(test)]

@@ -1,9 +1,11 @@
 //! The lines of a text.
 
-ghost use Rattle.std.specs.Prelude.{ℕ, List, ◌≡◌, ◌≢◌, ◌<◌, ◌≤◌, false, true, [], length, IfOk, IfErr, IfSome, IfNone, OnOk};
-ghost use Rattle.std.specs.List.{AllByRecursion};
-ghost use Rattle.lexer.specs.Statements.{AreLines, AreInBlocks, MayStand, IsLine, Says, IsIndented, says_nothing, is_open_behind, opens};
-ghost use Rattle.lexer.specs.Places.{IsBehind, StopsBehind, StopsIn, IsLineOf};
+ghost use Rattle.std.specs.Prelude.{ℕ, List, ◌≡◌, ◌<◌, ◌≤◌, false, [], length, map, option_map, Option, None, Some, IfOk, IfErr, OnOk};
+ghost use Rattle.lexer.specs.Grammar.{AreInRow};
+ghost use Rattle.lexer.specs.Grammar.Outcome.{Reached};
+ghost use Rattle.lexer.specs.Places.{IsBehind, Breaks};
+ghost use Rattle.lexer.specs.Said.{Said, form_of, said_of};
+ghost use Rattle.lexer.specs.Lines.{IsRead, AreLines, OfLine, Content, begins_with_space, says_nothing, opens, Nothing, StopsReading};
 
 use crate::characters::Class;
 use crate::cursor::{Cursor, LIMIT};
@@ -19,11 +21,7 @@ use text::Items;
 /// A text past the limit has the fault `TooLarge` in line 1, and no statements. The one error is a
 /// growth of memory that was refused.
 pub fn statements(alloc: Global, text: &str) -> Result<Statements<'_>, AllocError>
-    ensures said { length text.now ≤ LIMIT → IfOk result (λ found. (rest : List ℕ) × AreLines found.lines text.now rest × IfNone found.fault (rest ≡ [])) }
-    ensures large { LIMIT < length text.now → IfOk result (λ found. (found.lines ≡ []) × (found.fault ≡ Some (record { line = 1; kind = FaultKind.TooLarge }))) }
-    ensures blocks { IfOk result (λ found. AreInBlocks false found.lines) }
-    ensures numbers { IfOk result (λ found. AllByRecursion (λ line. IsLineOf text.now line.number) found.lines) }
-    ensures fault { IfOk result (λ found. IfSome found.fault (λ fault. IsLineOf text.now fault.line)) }
+    ensures { IfOk result (λ found. IsRead text.now (map said_of found.lines) found.fault) }
 {
     let mut lines = Items::new(alloc);
     if text.len() > LIMIT {
@@ -45,38 +43,36 @@ pub fn statements(alloc: Global, text: &str) -> Result<Statements<'_>, AllocErro
     }
 }
 
-/// Adds what the lines of a text say, up to the first that does not go.
+/// A law, which runs nothing: a text says one thing, and has at most one first fault. So a text with a
+/// fault cannot be read whole, and the fault that is answered is the first one.
+pub fn one_reading()
+    ensures { (text : List ℕ) (a b : List Said) (f g : Option Fault) → IsRead text a f → IsRead text b g → (a ≡ b) × (f ≡ g) }
+{}
+
+/// Adds what the lines of a text say, up to the first that has a fault.
 fn push_lines<'a>(alloc: Global, text: &'a str, lines: &mut Items<Line<'a>>) -> Result<(), Stop>
-    requires { length text.now ≤ LIMIT }
-    ensures said { lines.old ≡ [] → (rest : List ℕ) × AreLines lines.new text.now rest × OnOk result (rest ≡ []) }
-    ensures blocks { AreInBlocks false lines.old → AreInBlocks false lines.new }
-    ensures numbers { AllByRecursion (λ line. IsLineOf text.now line.number) lines.old → AllByRecursion (λ line. IsLineOf text.now line.number) lines.new }
-    ensures fault { IfErr result (StopsIn text.now) }
+    requires fits { length text.now ≤ LIMIT }
+    requires none { lines.old ≡ [] }
+    ensures whole { OnOk result (AreLines text.now (map said_of lines.new) None) }
+    ensures fault { IfErr result (StopsReading text.now (map said_of lines.new)) }
 {
     let mut at = Cursor::start(text);
+    let mut inside = false;
     'lines: while !at.rest.is_empty() {
-        let (found, after) = line_at(alloc, at, has_open_block(lines.as_slice()))?;
-        if let Some(line) = found {
-            lines.push(line)?;
+        let (found, after) = line_at(alloc, at, inside)?;
+        if let Some(statement) = found {
+            inside = opens_block(&statement);
+            let number = at.line;
+            lines.push(Line { number, statement })?;
         }
         at = after;
     }
     Ok(())
 }
 
-/// Whether a line that begins with a space belongs to the last of these statements.
-fn has_open_block(lines: &[Line<'_>]) -> bool
-    ensures { result ≡ is_open_behind false lines.now }
-{
-    match lines {
-        [] => false,
-        [.., last] => opens_block(&last.statement),
-    }
-}
-
 /// Whether lines of a block may stand behind it.
 fn opens_block(statement: &Statement<'_>) -> bool
-    ensures { result ≡ opens statement.now }
+    ensures { result ≡ opens (form_of statement.now) }
 {
     matches!(
         statement,
@@ -92,55 +88,71 @@ fn opens_block(statement: &Statement<'_>) -> bool
 fn line_at<'a>(
     alloc: Global,
     cursor: Cursor<'a>,
-    in_block: bool,
-) -> Result<(Option<Line<'a>>, Cursor<'a>), Stop>
+    inside: bool,
+) -> Result<(Option<Statement<'a>>, Cursor<'a>), Stop>
     requires { 0 < length cursor.rest.now }
-    ensures line { IfOk result (λ found. IsLine found.0 cursor.entry.rest.now found.1.rest.now) }
-    ensures block { IfOk result (λ found. IfSome found.0 (λ line. MayStand in_block line.statement)) }
+    ensures reads { IfOk result (λ found. OfLine inside cursor.entry.rest.now (Reached (option_map form_of found.0) found.1.rest.now)) }
     ensures behind { IfOk result (λ found. IsBehind cursor.entry found.1) }
     ensures shorter { IfOk result (λ found. length found.1.rest.now < length cursor.entry.rest.now) }
-    ensures number { IfOk result (λ found. IfSome found.0 (λ line. line.number ≡ cursor.entry.line)) }
-    ensures fault { IfErr result (StopsBehind cursor.entry) }
+    ensures fault { IfErr result (Breaks (OfLine inside) cursor.entry) }
 {
-    let start = cursor.skip_spaces();
-    if says_nothing(start.rest) {
-        let (_, end) = start.split_run(Class::Comment);
-        let next = end.end_line()?;
-        return Ok((None, next));
-    }
-    let is_indented = start.rest.len() < cursor.rest.len();
-    let number = cursor.line;
-    let (statement, next) = said_at(alloc, start, is_indented, in_block)?;
-    Ok((Some(Line { number, statement }), next))
+    let start = cursor.skip_blanks();
+    let indented = begins_with_space(cursor.rest);
+    let (said, next) = content_at(alloc, start, inside, indented)?;
+    Ok((said, next))
 }
 
-/// Whether a line that goes on so, behind its spaces, is blank or a comment.
+/// Whether a space stands here.
+fn begins_with_space(rest: &str) -> bool
+    ensures { result ≡ begins_with_space rest.now }
+{
+    matches!(rest.as_bytes().first(), Some(b' '))
+}
+
+/// Whether a line that goes on so, behind its blanks, is blank or a comment.
 fn says_nothing(rest: &str) -> bool
     ensures { result ≡ says_nothing rest.now }
 {
     matches!(rest.as_bytes().first(), None | Some(b'\n' | b'\r' | b'#'))
 }
 
-/// What a line says behind its spaces, if it has any, and the place of the next line.
-fn said_at<'a>(
+/// What a line says behind its blanks, if anything, and the place of the next line.
+#[tactic(auto, using(crate::proofs::Places::placing))]
+fn content_at<'a>(
     alloc: Global,
     start: Cursor<'a>,
-    is_indented: bool,
-    in_block: bool,
-) -> Result<(Statement<'a>, Cursor<'a>), Stop>
-    ensures says { IfOk result (λ found. Says found.0 start.entry.rest.now found.1.rest.now) }
-    ensures outside { is_indented ≡ false → IfOk result (λ found. IsIndented found.0 start.entry.rest.now start.entry.rest.now) }
-    ensures inside { is_indented ≡ true → IfOk result (λ found. (bytes : List ℕ) → bytes ≢ start.entry.rest.now → IsIndented found.0 bytes start.entry.rest.now) }
-    ensures block { IfOk result (λ found. MayStand in_block found.0) }
+    inside: bool,
+    indented: bool,
+) -> Result<(Option<Statement<'a>>, Cursor<'a>), Stop>
+    ensures reads { IfOk result (λ found. Content inside indented start.entry.rest.now (Reached (option_map form_of found.0) found.1.rest.now)) }
     ensures behind { IfOk result (λ found. IsBehind start.entry found.1) }
-    ensures shorter { IfOk result (λ found. length found.1.rest.now < length start.entry.rest.now) }
-    ensures fault { IfErr result (StopsBehind start.entry) }
+    ensures shorter { IfOk result (λ found. 0 < length start.entry.rest.now → length found.1.rest.now < length start.entry.rest.now) }
+    ensures fault { IfErr result (Breaks (Content inside indented) start.entry) }
 {
-    if !is_indented {
-        return statement_at(alloc, start);
+    if says_nothing(start.rest) {
+        let next = skip_comment(start)?;
+        return Ok((None, next));
     }
-    if !in_block {
-        return Err(start.unexpected());
+    if !indented {
+        let (statement, next) = statement_at(alloc, start)?;
+        return Ok((Some(statement), next));
     }
-    block_binding_at(alloc, start)
+    if !inside {
+        return Err(start.fault(FaultKind::Unexpected));
+    }
+    let (statement, next) = block_binding_at(alloc, start)?;
+    Ok((Some(statement), next))
+}
+
+/// The place behind a comment, of which there may be none, and the end of its line.
+#[tactic(auto, using(crate::proofs::Places::placing))]
+fn skip_comment<'a>(start: Cursor<'a>) -> Result<Cursor<'a>, Stop>
+    ensures reads { IfOk result (λ after. Nothing start.entry.rest.now (Reached None after.rest.now)) }
+    ensures behind { IfOk result (IsBehind start.entry) }
+    ensures shorter { IfOk result (λ after. 0 < length start.entry.rest.now → length after.rest.now < length start.entry.rest.now) }
+    ensures fault { IfErr result (Breaks Nothing start.entry) }
+{
+    let (_, end) = start.split_run(Class::Comment);
+    let next = end.end_line()?;
+    Ok(next)
 }

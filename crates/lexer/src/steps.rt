@@ -1,10 +1,12 @@
 //! Small steps from one place in a text to another.
 
-ghost use Rattle.std.specs.Prelude.{◌≡◌, ◌≢◌, ◌++◌, ◌∷◌, [], ◌<◌, ◌≤◌, length, IfSome, IfOk, IfErr};
-ghost use Rattle.lexer.specs.Runs.{IsRun, AreSpaces, IsGap, IsName, EndsLine};
-ghost use Rattle.lexer.specs.Places.{IsBehind, StopsBehind};
+ghost use Rattle.std.specs.Prelude.{◌≡◌, ◌≤◌, ◌<◌, length, IfSome};
+ghost use Rattle.lexer.specs.Characters.{run_of, behind_run};
+ghost use Rattle.lexer.specs.Places.{IsBehind, rest_of};
+ghost use Rattle.lexer.specs.Tokens.{behind, newline, join};
+ghost use Rattle.lexer.specs.Values.{AreBlanks};
 
-use crate::characters::{Class, split_ascii, split_run};
+use crate::characters::{Class, split_run, strip_one};
 use crate::cursor::{Cursor, LIMIT};
 use crate::fault::{Fault, FaultKind};
 use crate::stop::Stop;
@@ -24,7 +26,7 @@ impl<'a> Cursor<'a> {
 
     /// A fault in this line.
     pub fn fault(self, kind: FaultKind) -> Stop
-        ensures { StopsBehind self.entry result }
+        ensures { result ≡ Stop.Found (record { line = self.entry.line; kind = kind }) }
     {
         Stop::Found(Fault {
             line: self.line,
@@ -32,29 +34,47 @@ impl<'a> Cursor<'a> {
         })
     }
 
-    /// The fault that the next character is where no statement has it: a tab, or another.
-    pub fn unexpected(self) -> Stop
-        ensures { StopsBehind self.entry result }
+    /// The place behind this ASCII character, where it is the next.
+    pub fn strip_one(self, wanted: u8) -> Option<Cursor<'a>>
+        requires { wanted < 128 }
+        ensures rest { rest_of result ≡ behind wanted self.entry.rest.now }
+        ensures behind { IfSome result (IsBehind self.entry) }
+        ensures shorter { IfSome result (λ after. length after.rest.now < length self.entry.rest.now) }
     {
-        match split_ascii(self.rest) {
-            Some((b'\t', _)) => self.fault(FaultKind::Tab),
-            _ => self.fault(FaultKind::Unexpected),
-        }
+        let rest = strip_one(self.rest, wanted)?;
+        let line = self.line + usize::from(wanted == b'\n');
+        Some(Cursor { rest, line })
     }
 
-    /// The next character, where it is ASCII, and the place behind it.
-    pub fn split_ascii(self) -> Option<(u8, Cursor<'a>)>
-        ensures spelled { IfSome result (λ parts. self.entry.rest.now ≡ parts.0 ∷ parts.1.rest.now) }
-        ensures behind { IfSome result (λ parts. IsBehind self.entry parts.1) }
+    /// The place behind LF or CR LF, where one of them stands here.
+    #[tactic(auto, using(crate::proofs::Places::placing))]
+    pub fn strip_newline(self) -> Option<Cursor<'a>>
+        ensures rest { rest_of result ≡ newline self.entry.rest.now }
+        ensures behind { IfSome result (IsBehind self.entry) }
+        ensures shorter { IfSome result (λ after. length after.rest.now < length self.entry.rest.now) }
     {
-        let (byte, rest) = split_ascii(self.rest)?;
-        let line = self.line + usize::from(byte == b'\n');
-        Some((byte, Cursor { rest, line }))
+        if let Some(after) = self.strip_one(b'\n') {
+            return Some(after);
+        }
+        let after = self.strip_one(b'\r')?;
+        after.strip_one(b'\n')
+    }
+
+    /// The place behind a dollar and a newline, where they stand here.
+    #[tactic(auto, using(crate::proofs::Places::placing))]
+    pub fn strip_join(self) -> Option<Cursor<'a>>
+        ensures rest { rest_of result ≡ join self.entry.rest.now }
+        ensures behind { IfSome result (IsBehind self.entry) }
+        ensures shorter { IfSome result (λ after. length after.rest.now < length self.entry.rest.now) }
+    {
+        let after = self.strip_one(b'$')?;
+        after.strip_newline()
     }
 
     /// The longest front of the class, and the place behind it.
     pub fn split_run(self, class: Class) -> (&'a str, Cursor<'a>)
-        ensures run { IsRun class self.entry.rest.now result.0.now result.1.rest.now }
+        ensures run { result.0.now ≡ run_of class self.entry.rest.now }
+        ensures rest { result.1.rest.now ≡ behind_run class self.entry.rest.now }
         ensures behind { IsBehind self.entry result.1 }
     {
         let (run, rest) = split_run(self.rest, class);
@@ -64,68 +84,23 @@ impl<'a> Cursor<'a> {
 
     /// The place behind the spaces, of which there may be none.
     pub fn skip_spaces(self) -> Cursor<'a>
-        ensures spaces { AreSpaces self.entry.rest.now result.rest.now }
+        ensures rest { result.rest.now ≡ behind_run Class.Space self.entry.rest.now }
         ensures behind { IsBehind self.entry result }
     {
         let (_, after) = self.split_run(Class::Space);
         after
     }
 
-    /// The place behind the spaces, of which there must be one.
+    /// The place behind the spaces and the joined lines' ends, of which there may be none.
     #[tactic(auto, using(crate::proofs::Places::placing))]
-    pub fn skip_gap(self) -> Result<Cursor<'a>, Stop>
-        ensures gap { IfOk result (λ after. IsGap self.entry.rest.now after.rest.now) }
-        ensures behind { IfOk result (IsBehind self.entry) }
-        ensures fault { IfErr result (StopsBehind self.entry) }
+    pub fn skip_blanks(self) -> Cursor<'a>
+        ensures blanks { AreBlanks self.entry.rest.now result.rest.now }
+        ensures behind { IsBehind self.entry result }
     {
-        let after = self.skip_one(b' ')?;
-        Ok(after.skip_spaces())
-    }
-
-    /// The place behind this ASCII character, which must be the next.
-    pub fn skip_one(self, wanted: u8) -> Result<Cursor<'a>, Stop>
-        ensures spelled { IfOk result (λ after. self.entry.rest.now ≡ wanted ∷ after.rest.now) }
-        ensures behind { IfOk result (IsBehind self.entry) }
-        ensures fault { IfErr result (StopsBehind self.entry) }
-    {
-        match self.split_ascii() {
-            Some((byte, after)) if byte == wanted => Ok(after),
-            _ => Err(self.unexpected()),
+        let mut at = self;
+        'joins: while let Some(next) = at.skip_spaces().strip_join() {
+            at = next;
         }
-    }
-
-    /// The name that must stand here, and the place behind it.
-    pub fn split_name(self) -> Result<(&'a str, Cursor<'a>), Stop>
-        ensures name { IfOk result (λ found. IsName self.entry.rest.now found.0.now found.1.rest.now) }
-        ensures behind { IfOk result (λ found. IsBehind self.entry found.1) }
-        ensures shorter { IfOk result (λ found. length found.1.rest.now < length self.entry.rest.now) }
-        ensures fault { IfErr result (StopsBehind self.entry) }
-    {
-        let (name, after) = self.split_run(Class::Name);
-        if name.is_empty() {
-            return Err(self.unexpected());
-        }
-        Ok((name, after))
-    }
-
-    /// The place behind the end of the line, which must stand here: LF, CR LF or the end of the text.
-    #[tactic(auto, using(crate::proofs::Places::placing))]
-    pub fn end_line(self) -> Result<Cursor<'a>, Stop>
-        ensures ends { IfOk result (λ after. EndsLine self.entry.rest.now after.rest.now) }
-        ensures behind { IfOk result (IsBehind self.entry) }
-        ensures shorter { IfOk result (λ after. 0 < length self.entry.rest.now → length after.rest.now < length self.entry.rest.now) }
-        ensures fault { IfErr result (StopsBehind self.entry) }
-    {
-        if self.rest.is_empty() {
-            return Ok(self);
-        }
-        match self.split_ascii() {
-            Some((b'\n', after)) => Ok(after),
-            Some((b'\r', after)) => match after.split_ascii() {
-                Some((b'\n', next)) => Ok(next),
-                _ => Err(self.fault(FaultKind::Unexpected)),
-            },
-            _ => Err(self.unexpected()),
-        }
+        at.skip_spaces()
     }
 }

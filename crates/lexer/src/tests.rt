@@ -1,5 +1,7 @@
 use crate::cursor::LIMIT;
-use crate::{Fault, FaultKind, Piece, ReadFault, Statement, Value, canonical, statements};
+use crate::{
+    BuildLine, Fault, FaultKind, Piece, ReadFault, Statement, Value, canonical, quote, statements,
+};
 use std::alloc::{AllocError, Global};
 use std::test::Fail;
 
@@ -31,11 +33,13 @@ fn canonical_paths(rt: HostRuntime) -> Result<(), Fail> {
 fn whole_texts(rt: HostRuntime) -> Result<(), Fail> {
     let rows = [
         ("", ""),
-        ("\n  \n\r\n# note\t$\n   # note", ""),
+        ("\n  \n\r\n# note\t$\n   # note $", ""),
         ("rule cat\n", "1 rule cat\n"),
         ("rule  a.b-c_D9  ", "1 rule a.b-c_D9\n"),
+        ("rule $\n   $\r\n  cat $\n\n", "1 rule cat\n"),
+        ("rule$\ncat", "1 rule cat\n"),
         (
-            "rule cat\n  command = cat $out $in\n",
+            "rule cat\n  command = cat $out ${in}\n",
             "1 rule cat\n2 - command=[cat ]<out>[ ]<in>\n",
         ),
         (
@@ -46,15 +50,39 @@ fn whole_texts(rt: HostRuntime) -> Result<(), Fail> {
             "rule r\n # note\n\n  x.y =\n\n# note\n z = \t#=:|é",
             "1 rule r\n4 - x.y=\n7 - z=[\t#=:|é]\n",
         ),
+        (
+            "a-b=1\n\nc.d  =  ${a-b}$ $:$$$x.y \nrule_x = rule",
+            "1 a-b=[1]\n3 c.d=<a-b>[ ][:][$]<x>[.y ]\n4 rule_x=[rule]\n",
+        ),
+        (
+            "a = b $\n   c$\r\n \td$\n$\n\ne = $\n  f",
+            "1 a=[b ][c][\td]\n6 e=[f]\n",
+        ),
+        ("pool p\n depth = 1", "1 pool p\n2 - depth=[1]\n"),
+        (
+            "include $x/y$ z\nsubninja  é'#=\n",
+            "1 include <x>[/y][ ][z]\n2 subninja [é'#=]\n",
+        ),
+        ("default a $x$:b\n", "1 default [a] <x>[:][b]\n"),
         ("build a: phony", "1 build [a]: phony\n"),
         (
             "\nbuild  a-b +c:cat ../d  e/f.g_9 \n depth = 1",
             "2 build [a-b] [+c]: cat [../d] [e/f.g_9]\n3 - depth=[1]\n",
         ),
+        (
+            "build a|b:cat c|d||e|@f",
+            "1 build [a] | [b]: cat [c] | [d] || [e] |@ [f]\n",
+        ),
+        ("build | a : cat | || |@\n", "1 build | [a]: cat\n"),
+        (
+            "build $\n  a$ $\n  b c$:d $\n  : $\n cat$\n  || e\n",
+            "1 build [a][ ][b] [c][:][d]: cat || [e]\n",
+        ),
     ];
     for (text, wanted) in rows {
         let found = shown(rt.alloc(), text)?;
         assert_eq!(rt; found.as_str(), wanted);
+        assert_eq!(rt; statements(rt.alloc(), text)?.fault, None);
     }
     Ok(())
 }
@@ -68,46 +96,65 @@ fn first_faults(rt: HostRuntime) -> Result<(), Fail> {
         ("rule r\t", "", 1, FaultKind::Tab),
         ("x\t= 1", "", 1, FaultKind::Tab),
         ("build a:\tcat b", "", 1, FaultKind::Tab),
-        ("build a: cat b\tc", "", 1, FaultKind::Tab),
+        ("build a: cat b\tc$", "", 1, FaultKind::Tab),
         ("\t# note", "", 1, FaultKind::Tab),
         ("build a: cat $", "", 1, FaultKind::Escape),
-        ("build $a: cat", "", 1, FaultKind::Escape),
-        ("build a$: cat", "", 1, FaultKind::Escape),
-        ("rule r\n c = $x", "1 rule r\n", 2, FaultKind::Escape),
-        ("rule r\n c = ${in}", "1 rule r\n", 2, FaultKind::Escape),
-        ("rule r\n c = $ ", "1 rule r\n", 2, FaultKind::Escape),
-        ("rule r\n c = $\n", "1 rule r\n", 2, FaultKind::Escape),
-        ("rule r\n c = $in_x", "1 rule r\n", 2, FaultKind::Escape),
-        ("rule r\n c = $é", "1 rule r\n", 2, FaultKind::Escape),
+        ("build a: cat$", "", 1, FaultKind::Escape),
+        ("build a: cat $x $;\tb", "", 1, FaultKind::Escape),
+        ("x = $", "", 1, FaultKind::Escape),
+        ("x = $\ty", "", 1, FaultKind::Escape),
+        ("x = $\ry", "", 1, FaultKind::Escape),
+        ("x = $\0", "", 1, FaultKind::Escape),
+        ("x = $é", "", 1, FaultKind::Escape),
+        ("x = $.y", "", 1, FaultKind::Escape),
+        ("x = ${}", "", 1, FaultKind::Escape),
+        ("x = ${a", "", 1, FaultKind::Escape),
+        ("x = ${a b}", "", 1, FaultKind::Escape),
+        ("x = a $\n  b $\n c $! $\n d \0", "", 3, FaultKind::Escape),
         ("rule r\n c = a\rb", "1 rule r\n", 2, FaultKind::Unexpected),
         ("rule r\n c = a\r", "1 rule r\n", 2, FaultKind::Unexpected),
-        ("rule r\n c = a\0b", "1 rule r\n", 2, FaultKind::Unexpected),
-        ("rule r\n c = \r$", "1 rule r\n", 2, FaultKind::Unexpected),
+        ("rule r\n c = a\0$", "1 rule r\n", 2, FaultKind::Unexpected),
         ("# a\n# a\rb\n", "", 2, FaultKind::Unexpected),
         ("# a\0", "", 1, FaultKind::Unexpected),
         ("\r", "", 1, FaultKind::Unexpected),
         ("\0", "", 1, FaultKind::Unexpected),
-        ("x = 1", "", 1, FaultKind::Unexpected),
         (" x = 1", "", 1, FaultKind::Unexpected),
+        (" \tx = $", "", 1, FaultKind::Unexpected),
+        ("a = 1\n x = 1", "1 a=[1]\n", 2, FaultKind::Unexpected),
+        (
+            "default a\n\n b = 1",
+            "1 default [a]\n",
+            3,
+            FaultKind::Unexpected,
+        ),
+        ("rule r\n rule s", "1 rule r\n", 2, FaultKind::Unexpected),
         ("rule r\n c", "1 rule r\n", 2, FaultKind::Unexpected),
-        ("rule r\n c: 1", "1 rule r\n", 2, FaultKind::Unexpected),
         ("rule", "", 1, FaultKind::Unexpected),
-        ("rule \n", "", 1, FaultKind::Unexpected),
+        ("rule = 1", "", 1, FaultKind::Unexpected),
         ("rule a b", "", 1, FaultKind::Unexpected),
         ("rule a/b", "", 1, FaultKind::Unexpected),
         ("rules a", "", 1, FaultKind::Unexpected),
-        ("build", "", 1, FaultKind::Unexpected),
+        ("build/x: cat", "", 1, FaultKind::Unexpected),
         ("build a", "", 1, FaultKind::Unexpected),
         ("build a:", "", 1, FaultKind::Unexpected),
         ("build : cat b", "", 1, FaultKind::Unexpected),
+        ("build |: cat b", "", 1, FaultKind::Unexpected),
+        ("build a || b: cat", "", 1, FaultKind::Unexpected),
         ("build a: cat b: c", "", 1, FaultKind::Unexpected),
         ("build a: cat/b", "", 1, FaultKind::Unexpected),
-        ("build a | b: cat", "", 1, FaultKind::Unexpected),
-        ("build a: cat | b", "", 1, FaultKind::Unexpected),
-        ("build a: cat 'b'", "", 1, FaultKind::Unexpected),
-        ("build a: cat é", "", 1, FaultKind::Unexpected),
-        ("pool p", "", 1, FaultKind::Unexpected),
-        ("default a", "", 1, FaultKind::Unexpected),
+        ("build a: cat || b | c", "", 1, FaultKind::Unexpected),
+        ("build a: cat | b | c", "", 1, FaultKind::Unexpected),
+        ("default", "", 1, FaultKind::Unexpected),
+        ("default a: b", "", 1, FaultKind::Unexpected),
+        ("include a b", "", 1, FaultKind::Unexpected),
+        ("include :", "", 1, FaultKind::Unexpected),
+        ("include ", "", 1, FaultKind::EmptyPath),
+        (
+            "x = 1\nsubninja $\n  \r\n",
+            "1 x=[1]\n",
+            3,
+            FaultKind::EmptyPath,
+        ),
         (
             "\r\nbuild a: b\r\nx",
             "2 build [a]: b\n",
@@ -148,32 +195,66 @@ fn shown(alloc: Global, text: &str) -> Result<String, AllocError> {
     for line in said.lines.as_slice() {
         let number = format!(in alloc; "{} ", line.number)?;
         out.push_str(number.as_str())?;
-        match &line.statement {
-            Statement::Rule { name } => {
-                out.push_str("rule ")?;
-                out.push_str(name)?;
-            }
-            Statement::BlockBinding { name, value } => {
-                out.push_str("- ")?;
-                out.push_str(name)?;
-                out.push('=')?;
-                push_value(&mut out, value)?;
-            }
-            Statement::Build(build) => {
-                out.push_str("build")?;
-                push_paths(&mut out, build.explicit_outputs.as_slice())?;
-                out.push_str(": ")?;
-                out.push_str(build.rule)?;
-                push_paths(&mut out, build.explicit_inputs.as_slice())?;
-            }
-            _ => out.push_str("?")?,
-        }
+        push_statement(&mut out, &line.statement)?;
         out.push('\n')?;
     }
     Ok(out)
 }
 
-fn push_paths(out: &mut String, paths: &[Value<'_>]) -> Result<(), AllocError> {
+fn push_statement(out: &mut String, statement: &Statement<'_>) -> Result<(), AllocError> {
+    match statement {
+        Statement::Binding { name, value } => push_binding(out, "", name, value),
+        Statement::BlockBinding { name, value } => push_binding(out, "- ", name, value),
+        Statement::Rule { name } => push_words(out, "rule ", name),
+        Statement::Pool { name } => push_words(out, "pool ", name),
+        Statement::Build(build) => push_build(out, build),
+        Statement::Default { paths } => {
+            out.push_str("default")?;
+            push_paths(out, "", paths.as_slice())
+        }
+        Statement::Include { path } => {
+            out.push_str("include ")?;
+            push_value(out, path)
+        }
+        Statement::Subninja { path } => {
+            out.push_str("subninja ")?;
+            push_value(out, path)
+        }
+    }
+}
+
+fn push_words(out: &mut String, first: &str, second: &str) -> Result<(), AllocError> {
+    out.push_str(first)?;
+    out.push_str(second)
+}
+
+fn push_binding(
+    out: &mut String,
+    indent: &str,
+    name: &str,
+    value: &Value<'_>,
+) -> Result<(), AllocError> {
+    push_words(out, indent, name)?;
+    out.push('=')?;
+    push_value(out, value)
+}
+
+fn push_build(out: &mut String, build: &BuildLine<'_>) -> Result<(), AllocError> {
+    out.push_str("build")?;
+    push_paths(out, "", build.explicit_outputs.as_slice())?;
+    push_paths(out, " |", build.implicit_outputs.as_slice())?;
+    push_words(out, ": ", build.rule)?;
+    push_paths(out, "", build.explicit_inputs.as_slice())?;
+    push_paths(out, " |", build.implicit_inputs.as_slice())?;
+    push_paths(out, " ||", build.order_only_inputs.as_slice())?;
+    push_paths(out, " |@", build.validations.as_slice())
+}
+
+/// The mark, where there are any, and the paths.
+fn push_paths(out: &mut String, mark: &str, paths: &[Value<'_>]) -> Result<(), AllocError> {
+    if !paths.is_empty() {
+        out.push_str(mark)?;
+    }
     for path in paths {
         out.push(' ')?;
         push_value(out, path)?;
@@ -191,6 +272,31 @@ fn push_value(out: &mut String, value: &Value<'_>) -> Result<(), AllocError> {
         out.push(open)?;
         out.push_str(inside)?;
         out.push(close)?;
+    }
+    Ok(())
+}
+
+#[test]
+fn quoted_paths(rt: HostRuntime) -> Result<(), Fail> {
+    let rows = [
+        ("a/b-c+D_9.o", "a/b-c+D_9.o"),
+        ("azAZ09_+-./", "azAZ09_+-./"),
+        ("", "''"),
+        ("a b'c", r"'a b'\''c'"),
+        (" ", "' '"),
+        ("'", r"''\'''"),
+        ("''a''", r"''\'''\''a'\'''\'''"),
+        ("é/ü", "'é/ü'"),
+        ("a\nb", "'a\nb'"),
+        (r"a\b", r"'a\b'"),
+        ("~/*", "'~/*'"),
+        ("$x`y`\"z\"", "'$x`y`\"z\"'"),
+        ("@[`{:", "'@[`{:'"),
+        ("a=b,c", "'a=b,c'"),
+    ];
+    for (path, wanted) in rows {
+        let word = quote(rt.alloc(), path)?;
+        assert_eq!(rt; word.as_str(), wanted);
     }
     Ok(())
 }

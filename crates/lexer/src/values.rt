@@ -1,71 +1,63 @@
-//! Values: what stands behind the equals sign of a binding.
+//! Values, and the pieces of values and paths.
 
-ghost use Rattle.std.specs.Prelude.{◌≡◌, ◌<◌, length, IfOk, IfErr};
-ghost use Rattle.lexer.specs.Statements.{IsValue, IsPiece, ends_value};
-ghost use Rattle.lexer.specs.Places.{IsBehind, StopsBehind};
+ghost use Rattle.std.specs.Prelude.{◌≡◌, ◌<◌, false, length, option_map, IfOk, IfErr};
+ghost use Rattle.lexer.specs.Grammar.{Is};
+ghost use Rattle.lexer.specs.Grammar.Outcome.{Reached};
+ghost use Rattle.lexer.specs.Places.{IsBehind, Breaks};
+ghost use Rattle.lexer.specs.Said.{fragment_of, fragments_of};
+ghost use Rattle.lexer.specs.Tokens.{piece, ends};
+ghost use Rattle.lexer.specs.Values.{Pieces};
 
 use crate::characters::Class;
 use crate::cursor::Cursor;
-use crate::fault::FaultKind;
+use crate::escapes::escape_at;
 use crate::statement::{Piece, Value};
 use crate::stop::Stop;
+use crate::tokens::ends;
 use std::alloc::Global;
 use text::Items;
 
-/// The value that goes up to the line's end, and the place of that end.
+/// The value or path of this class that stands here, and the place behind it.
 #[tactic(auto, using(crate::proofs::Places::placing))]
-pub fn value_at<'a>(alloc: Global, cursor: Cursor<'a>) -> Result<(Value<'a>, Cursor<'a>), Stop>
-    ensures value { IfOk result (λ found. IsValue found.0 cursor.entry.rest.now found.1.rest.now) }
+pub fn pieces_at<'a>(
+    alloc: Global,
+    cursor: Cursor<'a>,
+    class: Class,
+) -> Result<(Value<'a>, Cursor<'a>), Stop>
+    ensures reads { IfOk result (λ found. Pieces class cursor.entry.rest.now (Reached (fragments_of found.0) found.1.rest.now)) }
     ensures behind { IfOk result (λ found. IsBehind cursor.entry found.1) }
-    ensures fault { IfErr result (StopsBehind cursor.entry) }
+    ensures shorter { ends class cursor.entry.rest.now ≡ false → IfOk result (λ found. length found.1.rest.now < length cursor.entry.rest.now) }
+    ensures fault { IfErr result (Breaks (Pieces class) cursor.entry) }
 {
     let mut pieces = Items::new(alloc);
     let mut at = cursor;
-    'pieces: while !ends_value(at.rest) {
-        let (piece, after) = piece_at(at)?;
-        pieces.push(piece)?;
+    'pieces: while !ends(at.rest, class) {
+        let (found, after) = piece_at(at, class)?;
+        if let Some(piece) = found {
+            pieces.push(piece)?;
+        }
         at = after;
     }
     Ok((Value { pieces }, at))
 }
 
-/// Whether a line's end stands here, or what may stand in no value.
-fn ends_value(rest: &str) -> bool
-    ensures { result ≡ ends_value rest.now }
-{
-    matches!(rest.as_bytes().first(), None | Some(b'\0' | b'\n' | b'\r'))
-}
-
-/// The next piece of a value.
+/// The next piece, or none where two lines are joined.
 #[tactic(auto, using(crate::proofs::Places::placing))]
-fn piece_at<'a>(cursor: Cursor<'a>) -> Result<(Piece<'a>, Cursor<'a>), Stop>
-    ensures piece { IfOk result (λ found. IsPiece found.0 cursor.entry.rest.now found.1.rest.now) }
+fn piece_at<'a>(cursor: Cursor<'a>, class: Class) -> Result<(Option<Piece<'a>>, Cursor<'a>), Stop>
+    ensures reads { IfOk result (λ found. Is (piece class) cursor.entry.rest.now (Reached (option_map fragment_of found.0) found.1.rest.now)) }
     ensures behind { IfOk result (λ found. IsBehind cursor.entry found.1) }
     ensures shorter { IfOk result (λ found. length found.1.rest.now < length cursor.entry.rest.now) }
-    ensures fault { IfErr result (StopsBehind cursor.entry) }
+    ensures fault { IfErr result (Breaks (Is (piece class)) cursor.entry) }
 {
-    let (text, after) = cursor.split_run(Class::Value);
-    if text.is_empty() {
-        return escape_at(cursor);
+    let (text, after) = cursor.split_run(class);
+    if !text.is_empty() {
+        return Ok((Some(Piece::Text(text)), after));
     }
-    Ok((Piece::Text(text), after))
-}
-
-/// The piece that begins with a dollar.
-#[tactic(auto, using(crate::proofs::Places::placing))]
-fn escape_at<'a>(cursor: Cursor<'a>) -> Result<(Piece<'a>, Cursor<'a>), Stop>
-    ensures piece { IfOk result (λ found. IsPiece found.0 cursor.entry.rest.now found.1.rest.now) }
-    ensures behind { IfOk result (λ found. IsBehind cursor.entry found.1) }
-    ensures shorter { IfOk result (λ found. length found.1.rest.now < length cursor.entry.rest.now) }
-    ensures fault { IfErr result (StopsBehind cursor.entry) }
-{
-    let start = cursor.skip_one(b'$')?;
-    if let Some((b'$', after)) = start.split_ascii() {
-        return Ok((Piece::Text("$"), after));
-    }
-    let (name, after) = start.split_run(Class::BareName);
-    match name {
-        "in" | "out" => Ok((Piece::Name(name), after)),
-        _ => Err(cursor.fault(FaultKind::Escape)),
+    match cursor.strip_one(b'$') {
+        Some(more) => match escape_at(cursor, more) {
+            Ok(found) => Ok(found),
+            Err(fault) => Err(Stop::Found(fault)),
+        },
+        None => Err(cursor.unexpected()),
     }
 }

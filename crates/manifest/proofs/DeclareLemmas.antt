@@ -1,14 +1,11 @@
 -- The edges that are read are those of the build lines, line by line.
-use Rattle.std.proofs.Common.{◌≡◌, ℕ, List, [], ◌∷◌, ◌++◌, append-nil, subst}
-use Rattle.std.specs.Prelude.{Option, None, Some, IfNone}
+use Rattle.std.proofs.Common.{◌≡◌, ℕ, List, [], ◌∷◌, ◌++◌, append-nil}
 use Rattle.std.specs.List.{AllZip}
 use Rattle.std.proofs.lemmas.Grind.{flat_map-append}
 use Rattle.lexer.specs.declared.statement.BuildLine.{BuildLine}
 use Rattle.lexer.specs.declared.statement.Line.{Line}
 use Rattle.lexer.specs.declared.statement.Statement.{Statement}
 use Rattle.lexer.specs.declared.statement.Statement.TheVariants.{Binding, BlockBinding, Rule, Build, Pool, Default, Include, Subninja}
-use Rattle.lexer.specs.declared.fault.Fault.{Fault as LineFault}
-use Rattle.lexer.specs.Statements.{AreLines}
 use Rattle.lexer.specs.Places.{IsLineOf}
 use Rattle.model.specs.declared.graph.Edge.{Edge}
 use Rattle.manifest.specs.declared.edge.ReadEdge.{ReadEdge}
@@ -54,8 +51,3 @@ line_of text all taken line rest parted of_text = behind taken (rw parted at of_
     behind : (front : List Line) → AreLinesOf text (front ++ line ∷ rest) → IsLineOf text line.number
     behind [] lines = lines.0
     behind (first ∷ front) lines = behind front lines.1
-
--- with no fault the lines are the whole text
-pub whole_text : (lines : List Line) (text rest : List ℕ) (fault : Option LineFault) → fault ≡ None → AreLines lines text rest → IfNone fault (rest ≡ []) → AreLines lines text []
-whole_text lines text rest None none are_lines ends = subst (AreLines lines text) ends are_lines
-whole_text lines text rest (Some fault) none are_lines ends = absurd cc

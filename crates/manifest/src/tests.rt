@@ -87,6 +87,11 @@ fn takes_rules_and_edges(rt: HostRuntime) -> Result<(), Fail> {
             "$y b/c e; ",
         ),
         ("rule r\n command =\nbuild b: r", "; "),
+        // escapes in a command
+        (
+            "rule r\r\n command = a$ $:$\n    b ${in}\r\nbuild $\n  o: r i\r\n",
+            "a :b i; ",
+        ),
     ];
     check(&rt, rt.alloc(), &rows)?;
     Ok(())
@@ -118,6 +123,24 @@ fn refuses_lines(rt: HostRuntime) -> Result<(), Fail> {
             "rule r\n command = x\nbuild a: r b | c\n",
             "N4: build.ninja:3: unexpected token",
         ),
+    ];
+    check(&rt, rt.alloc(), &rows)?;
+    Ok(())
+}
+
+/// Forms of the language that are read as statements, and not taken yet.
+#[test]
+fn refuses_what_is_not_taken(rt: HostRuntime) -> Result<(), Fail> {
+    let rows = [
+        ("include a\n", "N4: build.ninja:1: unexpected token"),
+        ("subninja a\n", "N4: build.ninja:1: unexpected token"),
+        ("build $x: r\n", "N3: build.ninja:1: bad $ escape"),
+        ("build a: r || ${x}\n", "N3: build.ninja:1: bad $ escape"),
+        ("build a | b: r\n", "N4: build.ninja:1: unexpected token"),
+        ("build a: r || b\n", "N4: build.ninja:1: unexpected token"),
+        ("build a: r |@ b\n", "N4: build.ninja:1: unexpected token"),
+        ("build a$ b: r\n", "N4: build.ninja:1: unexpected token"),
+        ("build a: r b$:c\n", "N4: build.ninja:1: unexpected token"),
     ];
     check(&rt, rt.alloc(), &rows)?;
     Ok(())

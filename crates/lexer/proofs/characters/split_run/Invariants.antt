@@ -1,5 +1,6 @@
 use Rattle.std.proofs.Common.{take}
-use Rattle.lexer.specs.Characters.{is_of, AllPass}
+use Rattle.lexer.specs.Characters.{is_of}
+use Rattle.lexer.proofs.Cuts.{AllPass}
 use Rattle.lexer.proofs.characters.split_run.Given as goal
 
 abbrev pub invariant-loop-i : goal.invariant-loop-i

@@ -1,0 +1,9 @@
+pub mod Bytes
+pub mod Escapes
+pub mod Lines
+pub mod Records
+pub mod Keeping
+pub mod Tails
+pub mod Reading
+pub mod Compaction
+pub mod LawLemmas

@@ -1,0 +1,5 @@
+use Rattle.build_log.proofs.LawLemmas.{front_of_lines_law}
+use Rattle.build_log.proofs.laws.front_of_lines.Goals as goal
+
+pub returns : goal.returns
+returns c = front_of_lines_law

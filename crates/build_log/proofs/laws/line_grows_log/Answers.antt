@@ -1,0 +1,5 @@
+use Rattle.build_log.proofs.LawLemmas.{line_grows_log_law}
+use Rattle.build_log.proofs.laws.line_grows_log.Goals as goal
+
+pub returns : goal.returns
+returns c = line_grows_log_law

@@ -1,0 +1,5 @@
+use Rattle.build_log.proofs.LawLemmas.{one_reading_law}
+use Rattle.build_log.proofs.laws.one_reading.Goals as goal
+
+pub returns : goal.returns
+returns c = one_reading_law

@@ -1,0 +1,246 @@
+-- What one build has come to, in the words of its contract.
+use Rattle.std.proofs.Common.{◌≡◌, inl, inr, ℕ, suc, ◌≤◌, Bool, true, IsTrue, List, [], ◌++◌, Option, Some, None, map, length, Result, append_assoc, refl, sym, ◌∙◌, ap, subst, arith}
+use Rattle.model.specs.declared.graph.BuildGraph.{BuildGraph}
+use Rattle.model.specs.declared.event.Moment.{Moment}
+use Rattle.model.specs.declared.fault.SiteFault.{SiteFault}
+use Rattle.model.specs.declared.fault.SiteFault.TheVariants.{Device, Stopped, Memory}
+use Rattle.model.specs.World.{World, View, view_of, IsIdle}
+use Rattle.model.specs.Calls.{OnlyLooks}
+use Rattle.model.specs.Graph.{edge_at, first_output, targets_of, IsMadeOnce}
+use Rattle.model.specs.Outcome.{Behaviour}
+use Rattle.model.specs.OutOfDate.{NothingIsMissing}
+use Rattle.model.specs.Premises.{FilesAreKept, NothingIsEdited}
+use Rattle.model.specs.Records.{OwnFiles, store_in, read_log}
+use Rattle.model.specs.Schedule.{Task, Step as Done, IsSettled, clean_in, started_in, well_in, failed_in, running_in, done_in}
+use Rattle.model.specs.SingleBuild as answer
+use Rattle.model.specs.SingleBuild.{Asked, Answer, IsSuccess, WentOn, InCone, IsScheduled, IsShownCycle, IsInOrder, HasEnded, IsAnswer, SingleBuild}
+use Rattle.manifest.specs.FirstStage.{IsFirstStage}
+use Rattle.manifest.specs.Answer.{ReadsFile}
+use Rattle.manifest.specs.declared.fault.ReadError.{ReadError}
+use Rattle.laws.specs.Order.{no_records}
+use Rattle.laws.specs.Run.{IsRun, IsRunOrRest}
+use Rattle.laws.proofs.Builds.{scheduled, scheduled_run, has_ended, clean_at_success, frame_of_run, judged_of_nothing}
+use Rattle.laws.proofs.Counts.{started_length, ended_length}
+use Rattle.laws.proofs.Looks.{looks_nothing, looks_then, frame_of_looks, edits_before, looks_keep}
+use Rattle.laws.proofs.Runs.{run_begins, run_looks, rest_begins}
+use Rattle.laws.proofs.Turns.{settled_at_end}
+use Rattle.builder.specs.declared.cone.Cone.{Cone}
+use Rattle.builder.specs.declared.cone.ConeFault.{ConeFault}
+use Rattle.builder.specs.declared.cone.ConeFault.TheVariants as cone_fault
+use Rattle.builder.specs.declared.graph.GraphFault.{GraphFault}
+use Rattle.builder.specs.declared.graph.GraphFault.TheVariants as graph_fault
+use Rattle.builder.specs.declared.report.Missing.{Missing}
+use Rattle.builder.specs.declared.report.Report.{Report}
+use Rattle.builder.specs.declared.report.Report.TheVariants.{Success, Failed, Refused, Fault}
+use Rattle.builder.specs.declared.report.Refusal.TheVariants as refusal
+use Rattle.builder.specs.Answers.{IsSeen, ungraphed, Uncut}
+use Rattle.builder.specs.Build.{no_logs, asked_of, task_for, missing_answer, Builds}
+use Rattle.builder.specs.Ended.{Looked, IsDefaultCone, IsNoCone, HasRun}
+use Rattle.builder.specs.Linked.{path_at, IsFaultOf}
+use Rattle.builder.specs.Missing.{IsFound, StaysAt}
+use Rattle.builder.proofs.ConesOf.{no_cycle, suc_has}
+use Rattle.builder.proofs.Stage.{no_empty_output, some_output, no_depfile, names_no_other}
+
+nothing_told : (own : OwnFiles) (files : View) → no_records ≡ store_in no_logs own files
+nothing_told own files = by_logs (files own.build_log) (files own.deps_log)
+  where
+    none_read : {A : Type 0} (held : Option (List ℕ)) → read_log {A = A} (λ text. None) held ≡ []
+    none_read None = refl
+    none_read (Some content) = refl
+
+    by_logs : (build deps : Option (List ℕ)) → no_records ≡ record { records = read_log no_logs.records build; deps = read_log no_logs.deps deps }
+    by_logs None None = refl
+    by_logs None (Some d) = refl
+    by_logs (Some b) None = refl
+    by_logs (Some b) (Some d) = refl
+
+module _ (tells : Bool) (B : Behaviour) (own : OwnFiles) (graph : BuildGraph) (stage : IsFirstStage graph) (entry now : World) (idle : IsIdle entry.events) where
+  -- a build that has only looked
+  pub built_looking : OnlyLooks tells entry now → (answer : Answer) → (IsSuccess answer → ⊥) → IsAnswer tells own (asked_of graph) no_records [] entry now answer → SingleBuild tells B no_logs own (asked_of graph) entry now answer
+  built_looking looks answer failed is = record {
+    store = no_records;
+    logs = λ tell edits. nothing_told own (view_of entry.history);
+    steps = [];
+    schedule = scheduled_run tells own (asked_of graph) no_records [] entry now answer run;
+    judged = λ tell kept. judged_of_nothing tells own (asked_of graph) [] entry now idle (rest_begins tells own (task_for graph) entry [] now run) B tell refl (some_output graph stage) (λ i h. no_depfile graph stage i);
+    answers = is;
+    frame = λ tell. frame_of_looks tells own graph.edges entry now idle looks tell;
+    from_nothing = λ tell success. absurd (failed success);
+  }
+    where
+      run : IsRun tells own (task_for graph) [] entry now
+      run = run_looks tells own (task_for graph) entry [] entry now (run_begins tells own (task_for graph) entry) looks
+
+  -- a build that has run commands
+  pub built_running : (steps : List Done) (rest : IsRunOrRest tells own (task_for graph) steps entry now) → clean_in steps ≡ [] → IsMadeOnce graph.edges → (answer : Answer)
+      → IsScheduled (asked_of graph) no_records steps entry now answer → IsAnswer tells own (asked_of graph) no_records steps entry now answer
+      → (IsSuccess answer → (i : ℕ) → InCone (asked_of graph) no_records i → IsSettled graph.edges (done_in steps) i)
+      → SingleBuild tells B no_logs own (asked_of graph) entry now answer
+  built_running steps rest stale once answer schedule is settled = record {
+    store = no_records;
+    logs = λ tell edits. nothing_told own (view_of entry.history);
+    steps = steps;
+    schedule = schedule;
+    judged = λ tell kept. judged_of_nothing tells own (asked_of graph) steps entry now idle rest B tell stale (some_output graph stage) (λ i h. no_depfile graph stage i);
+    answers = is;
+    frame = λ tell. frame_of_run tells own (asked_of graph) no_records steps entry now tell idle rest once (no_empty_output graph stage);
+    from_nothing = λ tell success nothing premises. clean_at_success tells own (asked_of graph) no_records steps entry now tell idle rest once (no_empty_output graph stage) stale (settled success) B premises;
+  }
+
+  -- ---- refusals and faults before the first judgement
+
+  pub builds_fault : OnlyLooks tells entry now → (fault : SiteFault) → IsSeen entry now fault → Builds tells B own graph entry now (Fault fault)
+  builds_fault looks Device seen = record { answer = answer.Fault Device; said = refl; build = built_looking looks (answer.Fault Device) (λ h. h) seen }
+  builds_fault looks Stopped seen = record { answer = answer.Fault Stopped; said = refl; build = built_looking looks (answer.Fault Stopped) (λ h. h) seen }
+  builds_fault looks Memory seen = record { answer = answer.Fault Memory; said = refl; build = built_looking looks (answer.Fault Memory) (λ h. h) tt }
+
+  pub builds_ungraphed : OnlyLooks tells entry now → (fault : GraphFault) → IsFaultOf graph.edges fault → Builds tells B own graph entry now (ungraphed fault)
+  builds_ungraphed looks graph_fault.Memory is = builds_fault looks Memory tt
+  builds_ungraphed looks (graph_fault.MadeTwice path) is =
+      record { answer = answer.MadeTwice path; said = refl; build = built_looking looks (answer.MadeTwice path) (λ h. h) ((λ none. looks), is.0) }
+
+  pub builds_cycle : OnlyLooks tells entry now → (paths : List (List ℕ)) → IsShownCycle (asked_of graph) no_records paths → Builds tells B own graph entry now (Refused (refusal.Cycle paths))
+  builds_cycle looks paths cycle =
+      record { answer = answer.Cyclic paths; said = refl; build = built_looking looks (answer.Cyclic paths) (λ h. h) ((λ none. looks), tt, cycle) }
+
+  pub builds_uncut : OnlyLooks tells entry now → (paths : List (List ℕ)) (fault : ConeFault) (report : Report) → IsNoCone graph paths fault → Uncut paths fault report → Builds tells B own graph entry now report
+  builds_uncut looks paths cone_fault.Memory report none is = subst (λ (r : Report). Builds tells B own graph entry now r) (sym {A = Report} is) (builds_fault looks Memory tt)
+  builds_uncut looks paths (cone_fault.Cycle numbers) report none (inl is) =
+      subst (λ (r : Report). Builds tells B own graph entry now r) (sym {A = Report} is) (builds_cycle looks (map (path_at paths) numbers) none)
+  builds_uncut looks paths (cone_fault.Cycle numbers) report none (inr is) = subst (λ (r : Report). Builds tells B own graph entry now r) (sym {A = Report} is) (builds_fault looks Memory tt)
+
+  module _ (the_cone : Cone) (is_cone : IsDefaultCone graph the_cone) where
+    cycles_not : answer.HasNoCycle (asked_of graph) no_records
+    cycles_not i within cycle = no_cycle graph.edges (task_for graph).recorded (task_for graph).targets the_cone.order.items the_cone.marks.items is_cone i within cycle
+
+    -- a source is missing
+    pub builds_missing : OnlyLooks tells entry now → (missing : Missing) → (IsTrue tells → NothingIsEdited entry.history now.history → IsFound graph.edges (targets_of graph []) entry.history (Some missing))
+        → Builds tells B own graph entry now (Refused (refusal.Missing missing))
+    builds_missing looks missing found = record { answer = missing_answer missing.path missing.needed_by; said = refl; build = by_needed missing.needed_by refl }
+      where
+        differ : (output : List ℕ) → None ≡ Some output → ⊥
+        differ output is = cc
+
+        same : (a b : List ℕ) → Some a ≡ Some b → a ≡ b
+        same a b is = cc
+
+        by_needed : (needed : Option (List ℕ)) → missing.needed_by ≡ needed → SingleBuild tells B no_logs own (asked_of graph) entry now (missing_answer missing.path needed)
+        by_needed None is =
+            built_looking looks (answer.MissingTarget missing.path) (λ h. h)
+            ((λ none. looks), tt, cycles_not, λ tell kept. let so = found tell kept.edits in absurd (differ (first_output (edge_at graph.edges so.0)) (sym {A = Option (List ℕ)} is ∙ so.1)))
+        by_needed (Some output) is =
+            built_looking looks (answer.MissingInput missing.path output) (λ h. h)
+            ((λ none. looks), tt, cycles_not, λ tell kept. let so = found tell kept.edits in (so.0, same output (first_output (edge_at graph.edges so.0)) (sym {A = Option (List ℕ)} is ∙ so.1), so.2))
+
+    -- ---- a build that has run commands
+
+    module _ (once : IsMadeOnce graph.edges) (sources : IsTrue tells → FilesAreKept own graph.edges entry.history now.history → NothingIsMissing graph.edges no_records entry.history (targets_of graph [])) where
+      in_order : IsInOrder tells own (asked_of graph) no_records entry now
+      in_order = record { made_once = once; dyndep = names_no_other graph stage; named = tt; no_cycle = cycles_not; sources = sources }
+
+      in_cone : (i : ℕ) (n : ℕ) → suc n ≡ i → InCone (asked_of graph) no_records (suc n) → InCone (asked_of graph) no_records i
+      in_cone i n is h = subst (λ (k : ℕ). InCone (asked_of graph) no_records k) is h
+
+      all_settled : (steps : List Done) → IsRun tells own (task_for graph) steps entry now → HasEnded (asked_of graph) no_records steps now → running_in steps ≡ [] → failed_in steps ≡ []
+          → (i : ℕ) → InCone (asked_of graph) no_records i → IsSettled graph.edges (done_in steps) i
+      all_settled steps run ended none fine i within =
+          settled_at_end (task_for graph) steps run.lawful ended.judged ended.started none fine (map suc the_cone.order.items) is_cone.ordered
+          (λ k listed. let place = suc_has the_cone.order.items k listed in in_cone k place.0 place.1 (is_cone.within place.0 place.2))
+          i (is_cone.all i within)
+
+      all_well : (steps : List Done) → IsRun tells own (task_for graph) steps entry now → running_in steps ≡ [] → failed_in steps ≡ [] → length (started_in steps) ≡ length (well_in steps)
+      all_well steps run none fine =
+          let a = started_length (task_for graph) steps run.lawful in
+          let b = ended_length steps in
+          let c = ap length none in
+          let d = ap length fine in
+          omega (arith, a, b, c, d)
+
+      pub builds_run : (report : Report) → HasRun tells own (task_for graph) entry now report → Builds tells B own graph entry now report
+      builds_run (Success started) ran =
+          let run = ran.ends.0 in
+          let over = ran.ends.1 in
+          let ended = has_ended tells own (asked_of graph) no_records ran.steps entry now idle run over.2 over.0 over.1 in
+          let settled = all_settled ran.steps run ended over.2 over.3 in
+          record {
+            answer = answer.Success started;
+            said = refl;
+            build = built_running ran.steps ran.rest ran.stale once (answer.Success started) (scheduled_run tells own (asked_of graph) no_records ran.steps entry now (answer.Success started) run)
+                (in_order, ended, settled, over.3, all_well ran.steps run over.2 over.3 ∙ sym ran.ends.2) (λ success. settled);
+          }
+      builds_run (Failed outputs) ran =
+          let run = ran.ends.0 in
+          let over = ran.ends.1 in
+          let ended = has_ended tells own (asked_of graph) no_records ran.steps entry now idle run over.2 over.0 over.1 in
+          record {
+            answer = answer.Failed outputs;
+            said = refl;
+            build = built_running ran.steps ran.rest ran.stale once (answer.Failed outputs) (scheduled_run tells own (asked_of graph) no_records ran.steps entry now (answer.Failed outputs) run)
+                (in_order, ended, sym ran.ends.2, over.3) (λ success. absurd success);
+          }
+      builds_run (Refused r) ran = absurd ran.ends
+      builds_run (Fault fault) ran = by_fault fault ran.ends
+        where
+          by_fault : (fault : SiteFault) → IsSeen entry now fault → Builds tells B own graph entry now (Fault fault)
+          by_fault Device seen = record {
+            answer = answer.Fault Device;
+            said = refl;
+            build = built_running ran.steps ran.rest ran.stale once (answer.Fault Device) (scheduled tells own (asked_of graph) no_records ran.steps entry now (answer.Fault Device) ran.rest (λ on. absurd on)) seen (λ success. absurd success);
+          }
+          by_fault Stopped seen = record {
+            answer = answer.Fault Stopped;
+            said = refl;
+            build = built_running ran.steps ran.rest ran.stale once (answer.Fault Stopped) (scheduled tells own (asked_of graph) no_records ran.steps entry now (answer.Fault Stopped) ran.rest (λ on. absurd on)) seen (λ success. absurd success);
+          }
+          by_fault Memory seen = record {
+            answer = answer.Fault Memory;
+            said = refl;
+            build = built_running ran.steps ran.rest ran.stale once (answer.Fault Memory) (scheduled tells own (asked_of graph) no_records ran.steps entry now (answer.Fault Memory) ran.rest (λ on. absurd on)) tt (λ success. absurd success);
+          }
+
+-- what a run that only looked first has added to the history
+pub run_grows : (tells : Bool) (own : OwnFiles) (task : Task) (entry now : World) (report : Report) → HasRun tells own task entry now report → IsTrue tells → (later : List Moment) × (now.history ≡ entry.history ++ later)
+run_grows tells own task entry now report ran tell = let told = ran.rest.history tell in (told.more, told.grows)
+
+-- ---- calls that only looked
+
+pub looked_nothing : (tells : Bool) (w : World) → Looked tells w w
+looked_nothing tells w = record { looks = looks_nothing tells w; failures = omega arith }
+
+pub looked_more : (tells : Bool) (entry old new : World) → Looked tells entry old → OnlyLooks tells old new → old.failures ≤ new.failures → Looked tells entry new
+looked_more tells entry old new looked looks le = record { looks = looks_then tells entry old new looked.looks looks; failures = omega (arith, looked.failures, le) }
+
+-- after such calls the files are those of the entry, if nobody edits: `exit` is the end of the build
+pub stays_at_entry : (tells : Bool) (entry old new : World) (exit later : List Moment) → IsIdle entry.events → Looked tells entry old → OnlyLooks tells old new → exit ≡ new.history ++ later
+    → IsTrue tells → NothingIsEdited entry.history exit → StaysAt entry.history old new
+stays_at_entry tells entry old new exit later idle looked looks grows tell edits = record {
+  before = let call = looks.history tell in looks_keep tells entry old idle looked.looks tell (edits_before entry.history old.history new.history call.more call.grows edits_new);
+  after = looks_keep tells entry new idle (looks_then tells entry old new looked.looks looks) tell edits_new;
+}
+  where
+    edits_new : NothingIsEdited entry.history new.history
+    edits_new = edits_before entry.history new.history exit later grows edits
+
+-- ---- the file that was read
+
+-- what was so at some moment of a call was so at some moment of a longer one
+pub reads_more : (name : List ℕ) (old mid new later : List Moment) (result : Result BuildGraph ReadError) → new ≡ mid ++ later → ReadsFile name old mid result → ReadsFile name old new result
+reads_more name old mid new later result grows reads = record {
+  content = reads.content;
+  seen = record {
+    earlier = reads.seen.earlier;
+    later = reads.seen.later ++ later;
+    grows = grows ∙ (ap (λ (l : List Moment). l ++ later) reads.seen.grows
+        ∙ (append_assoc old (reads.seen.earlier ++ reads.seen.later) later ∙ ap (λ (l : List Moment). old ++ l) (append_assoc reads.seen.earlier reads.seen.later later)));
+    is = reads.seen.is;
+  };
+  answer = reads.answer;
+}
+
+-- the program's own files may be any
+abbrev pub any_own : OwnFiles
+any_own = record { build_log = []; deps_log = []; files = λ p. true; set = λ p. true }
+
+pub builds_grow : (tells : Bool) (B : Behaviour) (own : OwnFiles) (graph : BuildGraph) (old new : World) (report : Report) → Builds tells B own graph old new report → IsTrue tells
+    → (later : List Moment) × (new.history ≡ old.history ++ later)
+builds_grow tells B own graph old new report builds tell = let frame = builds.build.frame tell in (frame.more, frame.grows)

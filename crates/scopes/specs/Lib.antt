@@ -1,0 +1,13 @@
+pub mod Faults
+pub mod Texts
+pub mod Block
+pub mod Rule
+pub mod Maps
+pub mod Moves
+pub mod Scopes
+pub mod Place
+pub mod Use
+pub mod Walk
+pub mod Steps
+pub mod Known
+pub mod Large

@@ -1,0 +1,161 @@
+//! Rule variables, expanded where their rule is used (manual: "Rules", "Evaluation and scoping").
+
+ghost use Rattle.std.specs.Prelude.{◌≡◌, ◌++◌, ◌<◌, ◌≤◌, ℕ, None, Some, List, OnOk, IfOk, IsErrOf, length, string_bytes, vec_len};
+ghost use Rattle.indexmap.specs.IndexMap.{get_by_text};
+ghost use Rattle.scopes.specs.Texts.{expansion, part_text, largest_value};
+ghost use Rattle.scopes.specs.Moves.{Move};
+ghost use Rattle.scopes.specs.Scopes.{IsScopesOf};
+ghost use Rattle.scopes.specs.Use.{opened, fixed, paths_for, HasCircle, IsValueAtUse};
+ghost use Rattle.scopes.specs.Large.{IsTooLargeAtUse};
+ghost use Rattle.scopes.specs.Known.{known_value, other_value, text_of, Learns};
+ghost use Rattle.scopes.specs.declared.template.Template.{Template};
+ghost use Rattle.scopes.specs.declared.fault.ExpandFault.TheVariants.{TooLarge as Larger};
+ghost use Rattle.scopes.specs.declared.fault.UseFault.TheVariants.{Circle, TooLarge};
+
+use crate::all_scopes::Scopes;
+use crate::buffer::{append, append_joined};
+use crate::fault::{ExpandFault, UseFault};
+use crate::order::order_of;
+use crate::template::Part;
+use crate::usage::{Paths, Use};
+use indexmap::IndexMap;
+use std::alloc::Global;
+use text::Text;
+
+/// The value of a name where a rule is used, with the scope of the build statement as it stands by now: to be called when
+/// all files are read.
+///
+/// Each text of the rule is expanded once, however often it is named, and no text on the way is kept that is too large.
+///
+/// # Errors
+/// `Circle` where texts of the rule name each other in a circle on the way, else `TooLarge` where the value has more than
+/// 16 MiB.
+pub fn expand_use(
+    alloc: Global,
+    scopes: &Scopes,
+    at: &Use<'_>,
+    asked: &str,
+) -> Result<Text, UseFault>
+    requires { at.now.scope < vec_len scopes.now.scopes }
+    ensures value { IfOk result (λ text. (past : List Move) → IsScopesOf scopes.now past → IsValueAtUse (opened at.now) (fixed at.now asked.now past) asked.now text) }
+    ensures size { IfOk result (λ text. length text ≤ largest_value) }
+    ensures circle { IsErrOf result Circle → HasCircle (opened at.now) asked.now }
+    ensures large { IsErrOf result TooLarge → (past : List Move) → IsScopesOf scopes.now past → IsTooLargeAtUse (opened at.now) (fixed at.now asked.now past) asked.now }
+{
+    let order = order_of(alloc, at, asked)?;
+    let mut known = Known::new(alloc, scopes, at, asked);
+    for name in order.as_slice() {
+        known.learn(alloc, name.as_str())?;
+    }
+    let mut text = String::new(alloc);
+    known.append_name(&mut text, asked)?;
+    Ok(Text::from_string(text))
+}
+
+/// The values of the rule's texts that are known so far.
+#[derive(Drop)]
+struct Known<'a> {
+    scopes: &'a Scopes,
+    at: &'a Use<'a>,
+    /// What `$in` and `$out` stand for.
+    paths: Paths<'a>,
+    values: IndexMap<String, Text>,
+}
+
+impl<'a> Known<'a> {
+    fn new(alloc: Global, scopes: &'a Scopes, at: &'a Use<'a>, asked: &str) -> Known<'a>
+        ensures scopes { result.scopes.now ≡ scopes.now }
+        ensures at { result.at.now ≡ at.now }
+        ensures paths { result.paths ≡ paths_for at.now asked.now }
+        ensures none { (name : List ℕ) → get_by_text result.values name ≡ None }
+    {
+        Known {
+            scopes,
+            at,
+            paths: at.paths_for(asked),
+            values: IndexMap::new(alloc),
+        }
+    }
+
+    /// Expands the text of the rule that this name stands for, and keeps its value.
+    fn learn(&mut self, alloc: Global, name: &str) -> Result<(), UseFault>
+        requires { self.old.at.now.scope < vec_len self.old.scopes.now.scopes }
+        ensures scopes { self.new.scopes ≡ self.old.scopes }
+        ensures at { self.new.at ≡ self.old.at }
+        ensures paths { self.new.paths ≡ self.old.paths }
+        ensures value { OnOk result ((template : Template) → opened self.old.at.now name.now ≡ Some template → (value : List ℕ) × Learns self.old self.new name.now value × ((past : List Move) → IsScopesOf self.old.scopes.now past → value ≡ text_of self.old past template)) }
+        ensures large { IsErrOf result TooLarge → (template : Template) → opened self.old.at.now name.now ≡ Some template → (past : List Move) → IsScopesOf self.old.scopes.now past → largest_value < length (text_of self.old past template) }
+        ensures no_circle { IsErrOf result Circle → ⊥ }
+    {
+        let value = self.expand(alloc, name)?;
+        self.values.insert(String::from_str(alloc, name)?, value)?;
+        Ok(())
+    }
+
+    /// The text of the rule that this name stands for, expanded.
+    fn expand(&self, alloc: Global, name: &str) -> Result<Text, ExpandFault>
+        requires { self.now.at.now.scope < vec_len self.now.scopes.now.scopes }
+        ensures value { IfOk result (λ text. (template : Template) → opened self.now.at.now name.now ≡ Some template → (past : List Move) → IsScopesOf self.now.scopes.now past → text ≡ text_of self.now past template) }
+        ensures large { IsErrOf result Larger → (template : Template) → opened self.now.at.now name.now ≡ Some template → (past : List Move) → IsScopesOf self.now.scopes.now past → largest_value < length (text_of self.now past template) }
+    {
+        let mut text = String::new(alloc);
+        if let Some(template) = self.at.template(name) {
+            self.append_parts(&mut text, template.parts.as_slice())?;
+        }
+        Ok(Text::from_string(text))
+    }
+
+    fn append_parts(&self, text: &mut String, parts: &[Part]) -> Result<(), ExpandFault>
+        requires { self.now.at.now.scope < vec_len self.now.scopes.now.scopes }
+        ensures value { OnOk result ((past : List Move) → IsScopesOf self.now.scopes.now past → string_bytes text.new ≡ string_bytes text.old ++ expansion (known_value self.now past) parts.now) }
+        ensures large { IsErrOf result Larger → (past : List Move) → IsScopesOf self.now.scopes.now past → largest_value < length (string_bytes text.old ++ expansion (known_value self.now past) parts.now) }
+    {
+        for part in parts {
+            self.append_part(text, part)?;
+        }
+        Ok(())
+    }
+
+    fn append_part(&self, text: &mut String, part: &Part) -> Result<(), ExpandFault>
+        requires { self.now.at.now.scope < vec_len self.now.scopes.now.scopes }
+        ensures value { OnOk result ((past : List Move) → IsScopesOf self.now.scopes.now past → string_bytes text.new ≡ string_bytes text.old ++ part_text (known_value self.now past) part.now) }
+        ensures large { IsErrOf result Larger → (past : List Move) → IsScopesOf self.now.scopes.now past → largest_value < length (string_bytes text.old ++ part_text (known_value self.now past) part.now) }
+    {
+        match part {
+            Part::Text(characters) => append(text, characters.as_str()),
+            Part::Name(name) => self.append_name(text, name.as_str()),
+        }
+    }
+
+    /// Puts what a name stands for at the end.
+    fn append_name(&self, text: &mut String, name: &str) -> Result<(), ExpandFault>
+        requires { self.now.at.now.scope < vec_len self.now.scopes.now.scopes }
+        ensures value { OnOk result ((past : List Move) → IsScopesOf self.now.scopes.now past → string_bytes text.new ≡ string_bytes text.old ++ known_value self.now past name.now) }
+        ensures size { length (string_bytes text.old) ≤ largest_value → length (string_bytes text.new) ≤ largest_value }
+        ensures large { IsErrOf result Larger → (past : List Move) → IsScopesOf self.now.scopes.now past → largest_value < length (string_bytes text.old ++ known_value self.now past name.now) }
+    {
+        match name {
+            "in" => append_joined(text, " ", self.paths.inputs),
+            "out" => append_joined(text, " ", self.paths.outputs),
+            "in_newline" => append_joined(text, "\n", self.paths.inputs),
+            _ => append(text, self.value(name)),
+        }
+    }
+
+    /// What a name stands for that stands for no paths.
+    fn value(&self, name: &str) -> &str
+        requires { self.now.at.now.scope < vec_len self.now.scopes.now.scopes }
+        ensures { (past : List Move) → IsScopesOf self.now.scopes.now past → result.now ≡ other_value self.now past name.now }
+    {
+        if let Some(value) = self.at.block.get(name) {
+            return value.as_str();
+        }
+        if let Some(value) = self.values.get(name) {
+            return value.as_str();
+        }
+        match self.scopes.lookup_in(self.at.scope, name) {
+            Some(value) => value,
+            None => "",
+        }
+    }
+}

@@ -1,0 +1,24 @@
+//! The value of a name at a place (manual: "Evaluation and scoping").
+#![tactic(auto)]
+
+mod all_scopes;
+mod at_use;
+mod block;
+mod buffer;
+mod fault;
+mod laws;
+mod order;
+mod place;
+mod scope;
+mod template;
+mod usage;
+
+pub use all_scopes::Scopes;
+pub use at_use::expand_use;
+pub use block::Block;
+pub use fault::{DeclareFault, ExpandFault, UseFault};
+pub use laws::values_are_unique;
+pub use place::expand;
+pub use scope::Scope;
+pub use template::{Part, Rule, Template};
+pub use usage::{Paths, Use};

@@ -1,0 +1,66 @@
+//! Values and paths as they expand where they stand.
+
+ghost use Rattle.std.specs.Prelude.{◌≡◌, ◌++◌, ◌<◌, ◌≤◌, List, OnOk, IfOk, IsErrOf, length, string_bytes};
+ghost use Rattle.scopes.specs.Texts.{piece_text, expansion_of_pieces, largest_value};
+ghost use Rattle.scopes.specs.Moves.{Move};
+ghost use Rattle.scopes.specs.Scopes.{IsScopesOf};
+ghost use Rattle.scopes.specs.Place.{value_of_name};
+ghost use Rattle.scopes.specs.declared.fault.ExpandFault.TheVariants.{TooLarge};
+
+use crate::all_scopes::Scopes;
+use crate::block::Block;
+use crate::buffer::append;
+use crate::fault::ExpandFault;
+use lexer::{Piece, Value};
+use std::alloc::Global;
+use text::Text;
+
+/// The value at this place; a name stands for what the block binds, failing that for its value in the open scope,
+/// failing that for nothing (manual: "Evaluation and scoping").
+///
+/// A path on a build line sees the block of that line; a binding and any other path see an empty block.
+///
+/// # Errors
+/// `TooLarge` where it has more than 16 MiB.
+pub fn expand(
+    alloc: Global,
+    scopes: &Scopes,
+    block: &Block,
+    value: &Value<'_>,
+) -> Result<Text, ExpandFault>
+    ensures value { IfOk result (λ text. (past : List Move) → IsScopesOf scopes.now past → text ≡ expansion_of_pieces (value_of_name block.now past) value.now.pieces) }
+    ensures size { IfOk result (λ text. length text ≤ largest_value) }
+    ensures large { IsErrOf result TooLarge → (past : List Move) → IsScopesOf scopes.now past → largest_value < length (expansion_of_pieces (value_of_name block.now past) value.now.pieces) }
+{
+    let mut text = String::new(alloc);
+    for piece in value.pieces.as_slice() {
+        append_piece(&mut text, scopes, block, piece)?;
+    }
+    Ok(Text::from_string(text))
+}
+
+fn append_piece(
+    text: &mut String,
+    scopes: &Scopes,
+    block: &Block,
+    piece: &Piece<'_>,
+) -> Result<(), ExpandFault>
+    ensures value { OnOk result ((past : List Move) → IsScopesOf scopes.now past → string_bytes text.new ≡ string_bytes text.old ++ piece_text (value_of_name block.now past) piece.now) }
+    ensures size { length (string_bytes text.old) ≤ largest_value → length (string_bytes text.new) ≤ largest_value }
+    ensures large { IsErrOf result TooLarge → (past : List Move) → IsScopesOf scopes.now past → largest_value < length (string_bytes text.old ++ piece_text (value_of_name block.now past) piece.now) }
+{
+    match *piece {
+        Piece::Text(characters) => append(text, characters),
+        Piece::Name(name) => append(text, value_here(scopes, block, name)),
+    }
+}
+
+/// What a name stands for at this place.
+fn value_here<'a>(scopes: &'a Scopes, block: &'a Block, name: &str) -> &'a str
+    ensures { (past : List Move) → IsScopesOf scopes.now past → result.now ≡ value_of_name block.now past name.now }
+{
+    if let Some(value) = block.get(name) {
+        return value.as_str();
+    }
+    scopes.lookup(name).unwrap_or("")
+}

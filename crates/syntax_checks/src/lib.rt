@@ -1,0 +1,9 @@
+//! Tests of reading and of scopes: each beginning and each other byte of some texts, and values where they are used.
+#![tactic(auto)]
+
+#[cfg(test)]
+mod reader;
+#[cfg(test)]
+mod sweeps;
+#[cfg(test)]
+mod values;
