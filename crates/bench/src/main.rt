@@ -6,9 +6,8 @@ use anyhow::{Result, bail};
 use build_log::{Log, Tail};
 use lexer::{Statement, statements};
 use std::alloc::Global;
-use std::env;
 use std::io::{Print, Read};
-use std::str;
+use std::{env, str};
 
 fn main(rt: HostRuntime) -> Result<()> {
     let what = env::args(&rt)?.nth(1);
@@ -48,7 +47,10 @@ fn count_lines(rt: &impl Print, alloc: Global, bytes: &[u8]) -> Result<()> {
         .count();
     let all = lines.len();
     match found.fault {
-        Some(fault) => println!(rt; "{all} statements, {builds} of them build, then a fault in line {}", fault.line)?,
+        Some(fault) => println!(rt;
+            "{all} statements, {builds} of them build, then a fault in line {}",
+            fault.line
+        )?,
         None => println!(rt; "{all} statements, {builds} of them build")?,
     }
     Ok(())
