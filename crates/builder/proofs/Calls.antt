@@ -1,8 +1,7 @@
 -- What calls of a site leave, one after another.
-use Rattle.std.proofs.Common.{◌≡◌, inl, inr, ℕ, ◌≤◌, Bool, false, List, [], ◌∷◌, ◌++◌, Result, Ok, Err, IfErr, OnOk, OnErr, refl, sym, ◌∙◌, ap, subst, arith, append_assoc}
+use Rattle.std.proofs.Common.{◌≡◌, inl, inr, ℕ, ◌≤◌, Bool, List, [], ◌∷◌, ◌++◌, Result, Ok, Err, IfErr, OnOk, OnErr, refl, sym, ◌∙◌, ap, subst, arith, append_assoc}
 use Rattle.std.specs.List.{AllByRecursion}
 use Rattle.std.proofs.lemmas.List.{append-nil}
-use Rattle.std.proofs.lemmas.Bool.{false≢true}
 use Rattle.model.specs.declared.act.Act.{Act}
 use Rattle.model.specs.declared.fault.SiteFault.{SiteFault}
 use Rattle.model.specs.declared.fault.SiteFault.TheVariants.{Device, Stopped, Memory}
@@ -10,7 +9,7 @@ use Rattle.model.specs.declared.event.Event.{Event}
 use Rattle.model.specs.declared.event.Moment.{Moment}
 use Rattle.model.specs.World.{World, IsRunning}
 use Rattle.model.specs.Calls.{IsByOthers, OthersWrote, OnlyLooks, HasCause, TicksOrNot, Starts, StartsOrNot}
-use Rattle.builder.specs.Answers.{IsSeen, Causes, is_stop}
+use Rattle.builder.specs.Answers.{IsSeen, Causes}
 
 all_append : (P : Moment → Type 0) (xs ys : List Moment) → AllByRecursion P xs → AllByRecursion P ys → AllByRecursion P (xs ++ ys)
 all_append P [] ys a b = b
@@ -71,9 +70,3 @@ start_shown (Err e) tells job act old new ok err = err
 pub causes_memory : {T : Type 0} (a b : World) (r : Result T SiteFault) → a.failures ≤ b.failures → IfErr r (λ fault. fault ≡ Memory) → Causes a b r
 causes_memory a b (Ok x) le h = record { grows = le; seen = tt }
 causes_memory a b (Err fault) le h = record { grows = le; seen = subst (IsSeen a b) (sym {A = SiteFault} h) tt }
-
--- the cause of a fault other than a stop is not forgotten
-pub seen_on : (a b c : World) (fault : SiteFault) → is_stop fault ≡ false → b.failures ≤ c.failures → IsSeen a b fault → IsSeen a c fault
-seen_on a b c Device other le h = omega (arith, le, h)
-seen_on a b c Stopped other le h = absurd (false≢true (sym other))
-seen_on a b c Memory other le h = tt

@@ -3,6 +3,7 @@ pub mod Calls
 pub mod ConesOf
 pub mod Counts
 pub mod Courses
+pub mod Cutting
 pub mod Defaults
 pub mod Endings
 pub mod GraphDefaults

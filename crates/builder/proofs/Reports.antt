@@ -25,6 +25,7 @@ use Rattle.builder.specs.declared.report.Report.TheVariants.{Success, Failed, Re
 use Rattle.builder.specs.Plan.{standing_at, first_standing, is_running, is_failed, is_well, EndsSo, IsFresh}
 use Rattle.builder.specs.Run.{NotStarted, course_by, standing_of, is_started, IsAt, IsNoted}
 use Rattle.builder.specs.Answers.{Ran, Ended, Answers, Reports, unread, ungraphed, Uncut}
+use Rattle.builder.specs.Build.{IsIdleButAtFault}
 use Rattle.builder.proofs.Calls.{looks_none, looks_then, seen_of, seen_before}
 use Rattle.builder.proofs.Standings.{idle_at_end}
 
@@ -176,3 +177,10 @@ pub answers_uncut : (tells : Bool) (edges : List Edge) (now : World) (paths : Li
 answers_uncut tells edges now paths cone.Memory report is = of_memory tells edges now report is
 answers_uncut tells edges now paths (cone.Cycle numbers) report (inl is) = subst (λ (r : Report). Answers tells edges now now r) (sym {A = Report} is) (looks_none tells now)
 answers_uncut tells edges now paths (cone.Cycle numbers) report (inr is) = of_memory tells edges now report is
+
+-- a build without a fault has left no command running
+pub idle_of_answers : (tells : Bool) (edges : List Edge) (old now : World) (report : Report) → IsIdle old.events → Answers tells edges old now report → IsIdleButAtFault now report
+idle_of_answers tells edges old now (Success started) idle ended = ended.idle
+idle_of_answers tells edges old now (Failed outputs) idle answers = answers.1.1.idle
+idle_of_answers tells edges old now (Refused refusal) idle looks = idle_after tells old now looks idle
+idle_of_answers tells edges old now (Fault fault) idle answers = tt

@@ -1,5 +1,5 @@
 -- What a build answers, and what it did by then.
-use Rattle.std.specs.Prelude.{◌≡◌, ◌⊎◌, map, ℕ, ◌≤◌, ◌<◌, Bool, true, false, List, [], ◌++◌, length, count_by, Result, IfErr}
+use Rattle.std.specs.Prelude.{◌≡◌, ◌⊎◌, map, ℕ, ◌≤◌, ◌<◌, Bool, true, List, [], ◌++◌, length, count_by, Result, IfErr}
 use Rattle.model.specs.declared.graph.Edge.{Edge}
 use Rattle.model.specs.declared.event.Event.{Event}
 use Rattle.model.specs.declared.fault.SiteFault.{SiteFault}
@@ -79,8 +79,3 @@ ungraphed (graph.MadeTwice path) = Refused (refusal.MadeTwice path)
 abbrev pub Uncut : List (List ℕ) → ConeFault → Report → Type 0
 Uncut paths cone.Memory report = report ≡ Fault Memory
 Uncut paths (cone.Cycle numbers) report = (report ≡ Refused (refusal.Cycle (map (path_at paths) numbers))) ⊎ (report ≡ Fault Memory)
-
-abbrev pub is_stop : SiteFault → Bool
-is_stop Device = false
-is_stop Stopped = true
-is_stop Memory = false

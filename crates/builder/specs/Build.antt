@@ -3,7 +3,7 @@ use Rattle.std.specs.Prelude.{◌≡◌, ◌⊎◌, ℕ, true, Bool, IsTrue, Lis
 use Rattle.model.specs.declared.act.Act.{Act}
 use Rattle.model.specs.declared.graph.BuildGraph.{BuildGraph}
 use Rattle.model.specs.declared.outcome.Outcome.{Outcome}
-use Rattle.model.specs.World.{World, View}
+use Rattle.model.specs.World.{World, View, IsIdle}
 use Rattle.model.specs.Calls.{OnlyLooks, HasCause}
 use Rattle.model.specs.Outcome.{Behaviour}
 use Rattle.model.specs.Records.{LogFormat, OwnFiles}
@@ -59,6 +59,13 @@ pub record Builds (tells : Bool) (B : Behaviour) (own : OwnFiles) (graph : Build
   pub answer : Answer
   pub said : answer_of report ≡ Some answer
   pub build : SingleBuild tells B no_logs own (asked_of graph) old new answer
+
+-- commands run at the exit only under a fault
+abbrev pub IsIdleButAtFault : World → Report → Type 0
+IsIdleButAtFault new (Success started) = IsIdle new.events
+IsIdleButAtFault new (Failed outputs) = IsIdle new.events
+IsIdleButAtFault new (Refused refusal) = IsIdle new.events
+IsIdleButAtFault new (Fault fault) = Unit {0}
 
 -- the files were not read: the site was only looked at, and the report is of the reader's error
 pub record IsUnread (tells : Bool) (name : List ℕ) (old new : World) (report : Report) : Type 0 where

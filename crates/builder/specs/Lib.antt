@@ -2,6 +2,7 @@ pub mod Answers
 pub mod Build
 pub mod Cone
 pub mod ConeOf
+pub mod Cut
 pub mod Ended
 pub mod Linked
 pub mod Missing

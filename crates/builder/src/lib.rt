@@ -2,6 +2,7 @@
 #![tactic(auto)]
 
 mod cone;
+mod cut;
 mod graph;
 mod missing;
 mod one_build;

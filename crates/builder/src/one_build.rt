@@ -12,11 +12,13 @@ ghost use Rattle.builder.specs.Plan.{IsFresh};
 ghost use Rattle.builder.specs.PlanOf.{IsPlanOf};
 ghost use Rattle.builder.specs.Linked.{paths_of};
 ghost use Rattle.builder.specs.Run.{IsAt, IsNoted, Suits, IsCut};
-ghost use Rattle.builder.specs.Answers.{Answers, Causes, Reports, unread, ungraphed, Uncut};
-ghost use Rattle.builder.specs.Build.{tick_file, task_for, Builds, IsBuild};
+ghost use Rattle.builder.specs.Answers.{Answers, Reports, unread, ungraphed, Uncut};
+ghost use Rattle.builder.specs.Cut.{Cuts, IsLeft, report_of};
+ghost use Rattle.builder.specs.Build.{tick_file, task_for, Builds, IsBuild, IsIdleButAtFault};
 ghost use Rattle.builder.specs.Ended.{Looked, IsGraphFor, IsDefaultCone, IsNoCone, ReportsSteps, HasRun};
 
 use crate::cone::{Cone, ConeFault};
+use crate::cut::Cut;
 use crate::graph::{Graph, GraphFault};
 use crate::missing::{first_missing, first_outputs};
 use crate::plan::{End, Plan};
@@ -35,6 +37,7 @@ const TICK: &str = ".nj_tick";
 pub fn build<S: Site>(alloc: Global, site: &mut S, options: &Options, _targets: &[Text]) -> Report
     requires { IsIdle (S.world site.old).events }
     ensures answers { (edges : List Edge) × Answers S.tells edges (S.world site.old) (S.world site.new) result }
+    ensures idle { IsIdleButAtFault (S.world site.new) result }
     ensures build { IsBuild S.tells S.outcome options.now.file (S.world site.old) (S.world site.new) result }
 {
     match manifest::read(alloc, site, options.file.as_str()) {
@@ -154,8 +157,18 @@ fn run_cone<S: Site>(
 {
     let edges = manifest.edges.as_slice();
     match set_up(alloc, manifest, graph, cone) {
-        Ok((tick, mut plan)) => run_plan(alloc, site, edges, tick.as_str(), &mut plan),
+        Ok((tick, mut plan)) => report_of(run_plan(alloc, site, edges, tick.as_str(), &mut plan)),
         Err(_) => Report::Fault(SiteFault::Memory),
+    }
+}
+
+/// The report of a run, which may have been cut off.
+fn report_of(ended: Result<Report, Cut>) -> Report
+    ensures { result ≡ report_of ended }
+{
+    match ended {
+        Ok(report) => report,
+        Err(cut) => Report::Fault(cut.fault()),
     }
 }
 
@@ -177,23 +190,24 @@ fn set_up<'a>(
     Ok((tick, plan))
 }
 
-/// Runs the commands of a plan in which nothing is judged yet.
+/// Runs the commands of a plan in which nothing is judged yet, and after a fault takes in what runs.
 fn run_plan<S: Site>(
     alloc: Global,
     site: &mut S,
     edges: &[Edge],
     tick: &str,
     plan: &mut Plan<'_>,
-) -> Report
+) -> Result<Report, Cut>
     requires idle { IsIdle (S.world site.old).events }
     requires fits { length plan.old.standings.items ≡ length edges.now }
     requires fresh { IsFresh plan.old.standings.items }
-    ensures answers { Answers S.tells edges.now (S.world site.old) (S.world site.new) result }
-    ensures ran { (own : OwnFiles) (task : Task) (entry : World) → Suits own task tick.now edges.now → IsPlanOf task plan.old [] → IsIdle entry.events → Looked S.tells entry (S.world site.old) → HasRun S.tells own task entry (S.world site.new) result }
+    ensures answers { Answers S.tells edges.now (S.world site.old) (S.world site.new) (report_of result) }
+    ensures left { IfErr result (IsLeft (S.world site.new)) }
+    ensures ran { (own : OwnFiles) (task : Task) (entry : World) → Suits own task tick.now edges.now → IsPlanOf task plan.old [] → IsIdle entry.events → Looked S.tells entry (S.world site.old) → HasRun S.tells own task entry (S.world site.new) (report_of result) }
 {
     match try_run(alloc, site, edges, tick, plan) {
-        Ok(report) => report,
-        Err(fault) => Report::Fault(end_after_fault(site, plan, fault)),
+        Ok(report) => Ok(report),
+        Err(cut) => Err(end_after_fault(site, plan, cut)),
     }
 }
 
@@ -204,12 +218,12 @@ fn try_run<S: Site>(
     edges: &[Edge],
     tick: &str,
     plan: &mut Plan<'_>,
-) -> Result<Report, SiteFault>
+) -> Result<Report, Cut>
     requires idle { IsIdle (S.world site.old).events }
     requires fits { length plan.old.standings.items ≡ length edges.now }
     requires fresh { IsFresh plan.old.standings.items }
     ensures at { IsAt edges.now plan.new.standings.items (S.world site.old) (S.world site.new) }
-    ensures cause { Causes (S.world site.old) (S.world site.new) result }
+    ensures cause { Cuts plan.new.standings.items (S.world site.old) (S.world site.new) result }
     ensures answers { IfOk result (Answers S.tells edges.now (S.world site.old) (S.world site.new)) }
     ensures ran { IfOk result (λ report. (own : OwnFiles) (task : Task) (entry : World) → Suits own task tick.now edges.now → IsPlanOf task plan.old [] → IsIdle entry.events → Looked S.tells entry (S.world site.old) → HasRun S.tells own task entry (S.world site.new) report) }
     ensures cut { OnErr result ((own : OwnFiles) (task : Task) (entry : World) → Suits own task tick.now edges.now → IsPlanOf task plan.old [] → IsIdle entry.events → Looked S.tells entry (S.world site.old) → IsCut S.tells own task entry (S.world site.new)) }

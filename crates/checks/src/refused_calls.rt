@@ -101,12 +101,9 @@ fn refuse_each_call(rt: &impl Abort, alloc: Global, build_file: &[u8]) -> Result
             "{place:?}: {report:?}"
         );
         assert_eq!(rt; host.calls.late_starts, 0, "{place:?}");
-        // Only where the call that takes a command in was refused may it run still.
-        let running = running(host.events());
-        assert!(rt;
-            running == 0 || (place == Call::WaitAny && running == 1),
-            "{place:?}: {running}"
-        );
+        // A refused wait ends the build with its command running; after any other fault it is taken in.
+        let left = if place == Call::WaitAny { 1 } else { 0 };
+        assert_eq!(rt; running(host.events()), left, "{place:?}");
         places.push(place)?;
     }
     panic!(rt; "a build of two commands makes {MANY} calls")

@@ -2,7 +2,7 @@ use Rattle.std.proofs.Common.{ℕ, List, [], None, Ok, Err, OnOk, IsTrue, inl, i
 use Rattle.manifest.specs.Answer.{ReadsFile, site_part}
 use Rattle.builder.specs.declared.report.Report.{Report}
 use Rattle.builder.specs.Answers.{Answers}
-use Rattle.builder.proofs.Reports.{answers_after, answers_unread, idle_after}
+use Rattle.builder.proofs.Reports.{answers_after, answers_unread, idle_after, idle_of_answers}
 use Rattle.builder.proofs.Builds.{looked_nothing, any_own, builds_grow, reads_more}
 use Rattle.builder.proofs.one_build.build.Goals as goal
 
@@ -12,6 +12,11 @@ returns-in-Ok-clause-answers g c = (
   answers_after g.S.Texts.tells c.in-Ok.manifest.edges (g.S.Texts.world c.args.site.now) (g.S.Texts.world c.read.new.texts) (g.S.Texts.world c.build_manifest.new.site) c.build_manifest.result
       c.read.ensures.looks c.read.ensures.cause.grows c.build_manifest.ensures.answers,
 )
+
+pub returns-in-Ok-clause-idle : goal.returns-in-Ok-clause-idle
+returns-in-Ok-clause-idle g c =
+    idle_of_answers g.S.Texts.tells c.in-Ok.manifest.edges (g.S.Texts.world c.read.new.texts) (g.S.Texts.world c.build_manifest.new.site) c.build_manifest.result
+    (idle_after g.S.Texts.tells (g.S.Texts.world c.args.site.now) (g.S.Texts.world c.read.new.texts) c.read.ensures.looks c.requires) c.build_manifest.ensures.answers
 
 pub returns-in-Ok-clause-build : goal.returns-in-Ok-clause-build
 returns-in-Ok-clause-build g c = inr record {
@@ -36,6 +41,12 @@ returns-in-Err-clause-answers g c = (
   subst (λ (r : Report). Answers g.S.Texts.tells [] (g.S.Texts.world c.args.site.now) (g.S.Texts.world c.read.new.texts) r) (sym {A = Report} c.not_read.ensures)
       (answers_unread g.S.Texts.tells [] (g.S.Texts.world c.args.site.now) (g.S.Texts.world c.read.new.texts) c.in-Err.error c.in-Err.ensures.looks c.in-Err.ensures.cause),
 )
+
+pub returns-in-Err-clause-idle : goal.returns-in-Err-clause-idle
+returns-in-Err-clause-idle g c =
+    idle_of_answers g.S.Texts.tells [] (g.S.Texts.world c.args.site.now) (g.S.Texts.world c.read.new.texts) c.not_read.result c.requires
+    (subst (λ (r : Report). Answers g.S.Texts.tells [] (g.S.Texts.world c.args.site.now) (g.S.Texts.world c.read.new.texts) r) (sym {A = Report} c.not_read.ensures)
+    (answers_unread g.S.Texts.tells [] (g.S.Texts.world c.args.site.now) (g.S.Texts.world c.read.new.texts) c.in-Err.error c.in-Err.ensures.looks c.in-Err.ensures.cause))
 
 pub returns-in-Err-clause-build : goal.returns-in-Err-clause-build
 returns-in-Err-clause-build g c = inl record {

@@ -11,22 +11,22 @@ returns-in-Judge-clause-kept g c entry idle at =
     subst (λ (ss : List Standing). IsAt c.args.edges.now ss entry (g.S.Texts.world c.args.site.now)) (sym {A = List Standing} c.judged.ensures.standings)
     (at_judged c.args.edges.now c.args.plan.now.standings.items entry (g.S.Texts.world c.args.site.now) c.in-Judge.number OutOfDate at c.in-Judge.ensures.next.within (judged_course c.args.plan.now.links.now c.args.plan.now.standings.items c.in-Judge.number c.in-Judge.ensures.next.passes) refl)
 
-pub returns-in_ok-start_edge-in-Start-clause-noted : goal.returns-in_ok-start_edge-in-Start-clause-noted
-returns-in_ok-start_edge-in-Start-clause-noted g c =
-    noted_at_start c.args.plan.now.standings.items c.start_edge.new.plan.standings.items c.args.failed.now.items c.in-Start.number c.requires.noted c.in-Start.ensures.next.2 c.in_ok-start_edge-in-Start.ensures.standings
+pub returns-in-Ok-clause-noted : goal.returns-in-Ok-clause-noted
+returns-in-Ok-clause-noted g c =
+    noted_at_start c.args.plan.now.standings.items c.start_edge.new.plan.standings.items c.args.failed.now.items c.in-Start.number c.requires.noted c.in-Start.ensures.next.2 c.in-Ok.ensures.standings
 
 pub returns-in-Judge-clause-on : goal.returns-in-Judge-clause-on
 returns-in-Judge-clause-on g c own task entry suits idle on =
     on_judged g.S.Texts.tells own task c.args.failed.now.items entry c.args.plan.now c.judged.new.self (g.S.Texts.world c.args.site.now) c.in-Judge.number on
     (c.in-Judge.ensures.lawful task on.steps on.planned on.run.lawful true) (c.judged.ensures.planned task)
 
-pub returns-in_err-start_edge-in-Start-clause-cut : goal.returns-in_err-start_edge-in-Start-clause-cut
-returns-in_err-start_edge-in-Start-clause-cut g c = on_err c.from_residual.result (λ own task entry suits idle on.
+pub returns-in-Err-clause-cut : goal.returns-in-Err-clause-cut
+returns-in-Err-clause-cut g c own task entry suits idle on =
     cut_on g.S.Texts.tells own task entry c.start_edge.new.plan c.args.failed.now.items (g.S.Texts.world c.start_edge.new.site)
-    (c.start_edge.ensures.on own task c.args.failed.now.items entry suits on (c.in-Start.ensures.lawful task on.steps on.planned on.run.lawful)))
+    (c.start_edge.ensures.on own task c.args.failed.now.items entry suits on (c.in-Start.ensures.lawful task on.steps on.planned on.run.lawful))
 
 pub returns-in_err-take_in-in-Wait-clause-cut : goal.returns-in_err-take_in-in-Wait-clause-cut
-returns-in_err-take_in-in-Wait-clause-cut g c = on_err c.from_residual-in_err-take_in-in-Wait.result (λ own task entry suits idle on.
+returns-in_err-take_in-in-Wait-clause-cut g c = on_err c.from_residual.result (λ own task entry suits idle on.
     c.take_in.ensures.cut own task entry (cut_on g.S.Texts.tells own task entry c.args.plan.now c.args.failed.now.items (g.S.Texts.world c.args.site.now) on))
 
 pub returns-in_ok-take_in-in-Wait-clause-on : goal.returns-in_ok-take_in-in-Wait-clause-on

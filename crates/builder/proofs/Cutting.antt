@@ -1,0 +1,39 @@
+-- Faults that cut a run off, and what is left then.
+use Rattle.std.proofs.Common.{◌≡◌, ℕ, ◌≤◌, true, false, sym, arith}
+use Rattle.std.proofs.lemmas.Bool.{false≢true}
+use Rattle.model.specs.declared.fault.SiteFault.TheVariants.{Device, Stopped, Memory}
+use Rattle.model.specs.World.{World, runs, IsIdle}
+use Rattle.builder.specs.declared.cut.Cut.{Cut}
+use Rattle.builder.specs.declared.cut.Cut.TheVariants.{Waiting, Other}
+use Rattle.builder.specs.Answers.{IsSeen}
+use Rattle.builder.specs.Cut.{fault_of, is_final, IfWaiting, IsLeft}
+
+-- where no command runs, a fault that is not final has left none
+pub left_idle : (now : World) (cut : Cut) → is_final cut ≡ false → IsIdle now.events → IsLeft now cut
+left_idle now (Waiting fault) more idle = absurd (false≢true (sym more))
+left_idle now (Other Device) more idle = idle
+left_idle now (Other Stopped) more idle = tt
+left_idle now (Other Memory) more idle = idle
+
+-- a final fault has left what runs
+pub left_running : (now : World) (cut : Cut) → is_final cut ≡ true → IfWaiting cut ((job : ℕ) × (runs job now.events ≡ true)) → IsLeft now cut
+left_running now (Waiting fault) final some = some
+left_running now (Other Device) final some = absurd (false≢true final)
+left_running now (Other Stopped) final some = tt
+left_running now (Other Memory) final some = absurd (false≢true final)
+
+pub if_waiting : {P Q : Type 0} (cut : Cut) → IfWaiting cut P → (P → Q) → IfWaiting cut Q
+if_waiting (Waiting fault) p f = f p
+if_waiting (Other fault) p f = tt
+
+-- a fault that is not final is not that of a wait
+pub not_waiting : (P : Type 0) (cut : Cut) → is_final cut ≡ false → IfWaiting cut P
+not_waiting P (Waiting fault) more = absurd (false≢true (sym more))
+not_waiting P (Other fault) more = tt
+
+-- the cause of a fault that is not final is not forgotten
+pub seen_on : (a b c : World) (cut : Cut) → is_final cut ≡ false → b.failures ≤ c.failures → IsSeen a b (fault_of cut) → IsSeen a c (fault_of cut)
+seen_on a b c (Waiting fault) more le h = absurd (false≢true (sym more))
+seen_on a b c (Other Device) more le h = omega (arith, le, h)
+seen_on a b c (Other Stopped) more le h = absurd (false≢true (sym more))
+seen_on a b c (Other Memory) more le h = tt
