@@ -3,8 +3,6 @@
 
 mod facts;
 mod table;
-#[cfg(test)]
-mod tests;
 
 pub use facts::{Facts, InputFacts, OutputFacts};
 pub use model::Reason;

@@ -23,6 +23,3 @@ pub use lines::{one_reading, statements};
 pub use path::canonical;
 pub use shell::{quote, quoted_is_one_word};
 pub use statement::{BuildLine, Line, Piece, Statement, Statements, Value};
-
-#[cfg(test)]
-mod tests;

@@ -1,8 +1,10 @@
-//! Tests of logs: examples, each beginning, each other byte.
+//! Tests of logs: examples, each beginning, each other byte; and worked judgements.
 #![tactic(auto)]
 
 #[cfg(test)]
 mod examples;
+#[cfg(test)]
+mod judgements;
 #[cfg(test)]
 mod sweeps;
 #[cfg(test)]

@@ -1,32 +1,11 @@
-use crate::cursor::LIMIT;
-use crate::{
-    BuildLine, Fault, FaultKind, Piece, ReadFault, Statement, Value, canonical, quote, statements,
-};
+//! What texts say, and their first faults.
+
+use lexer::{BuildLine, Fault, FaultKind, Piece, Statement, Value, statements};
 use std::alloc::{AllocError, Global};
 use std::test::Fail;
 
-#[test]
-fn canonical_paths(rt: HostRuntime) -> Result<(), Fail> {
-    let rows = [
-        ("a/./b//../c", "a/c"),
-        ("../x/..", ".."),
-        ("/../a", "/a"),
-        ("x/..", "."),
-        ("a/b/", "a/b"),
-        ("../../x/..", "../.."),
-        ("/a/../..", "/"),
-        ("/", "/"),
-        ("./", "."),
-        ("a..b/...", "a..b/..."),
-        ("é/../ü", "ü"),
-    ];
-    for (given, wanted) in rows {
-        let found = canonical(rt.alloc(), given)?;
-        assert_eq!(rt; found.as_str(), wanted);
-    }
-    assert!(rt; canonical(rt.alloc(), "") == Err(ReadFault::EmptyPath));
-    Ok(())
-}
+/// The most bytes of a text that is read.
+const LIMIT: usize = 64 * 1024 * 1024;
 
 /// Texts without a fault, and what they say.
 #[test]
@@ -272,31 +251,6 @@ fn push_value(out: &mut String, value: &Value<'_>) -> Result<(), AllocError> {
         out.push(open)?;
         out.push_str(inside)?;
         out.push(close)?;
-    }
-    Ok(())
-}
-
-#[test]
-fn quoted_paths(rt: HostRuntime) -> Result<(), Fail> {
-    let rows = [
-        ("a/b-c+D_9.o", "a/b-c+D_9.o"),
-        ("azAZ09_+-./", "azAZ09_+-./"),
-        ("", "''"),
-        ("a b'c", r"'a b'\''c'"),
-        (" ", "' '"),
-        ("'", r"''\'''"),
-        ("''a''", r"''\'''\''a'\'''\'''"),
-        ("é/ü", "'é/ü'"),
-        ("a\nb", "'a\nb'"),
-        (r"a\b", r"'a\b'"),
-        ("~/*", "'~/*'"),
-        ("$x`y`\"z\"", "'$x`y`\"z\"'"),
-        ("@[`{:", "'@[`{:'"),
-        ("a=b,c", "'a=b,c'"),
-    ];
-    for (path, wanted) in rows {
-        let word = quote(rt.alloc(), path)?;
-        assert_eq!(rt; word.as_str(), wanted);
     }
     Ok(())
 }
