@@ -10,8 +10,6 @@ mod plan;
 mod report;
 mod run;
 mod start;
-#[cfg(test)]
-mod tests;
 
 pub use one_build::build;
 pub use report::{Missing, Options, Refusal, Report};

@@ -2,6 +2,12 @@
 #![tactic(auto)]
 
 #[cfg(test)]
+mod build_files;
+#[cfg(test)]
+mod builds;
+#[cfg(test)]
+mod clean_builds;
+#[cfg(test)]
 mod host;
 #[cfg(test)]
 mod refused_calls;

@@ -5,8 +5,6 @@ mod clean;
 mod depfiles;
 mod laws;
 mod made;
-#[cfg(test)]
-mod tests;
 
 pub use clean::clean_build;
 pub use depfiles::{Depfiles, NoDepfiles};

@@ -15,6 +15,3 @@ pub use fault::{FaultKind, FileFault, ReadError};
 pub use model::{Act, BuildGraph as Manifest, Edge, SiteFault};
 pub use reader::read;
 pub use texts::Texts;
-
-#[cfg(test)]
-mod tests;

@@ -1,6 +1,6 @@
 //! Worked rows, with the contents that the rows name.
 
-use crate::{NoDepfiles, clean_build};
+use clean::{NoDepfiles, clean_build};
 use model::{Act, BuildGraph, Deps, Edge, Writer};
 use site::{History, Toy};
 use std::alloc::Global;

@@ -1,7 +1,6 @@
 //! Builds on a site in memory.
 
-use crate::build;
-use crate::report::{Options, Refusal, Report};
+use builder::{Options, Refusal, Report, build};
 use site::{Sim, Toy};
 use std::alloc::{AllocError, Global};
 use std::test::Fail;

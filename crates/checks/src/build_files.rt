@@ -1,6 +1,6 @@
 //! What `read` answers for whole texts: what no clause says, as which fault comes first and how it prints.
 
-use crate::{Manifest, ReadError, SiteFault, Texts, read};
+use manifest::{Manifest, ReadError, SiteFault, Texts, read};
 use std::alloc::{AllocError, Global};
 use std::process::Abort;
 use std::test::Fail;
