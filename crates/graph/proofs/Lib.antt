@@ -1,0 +1,12 @@
+pub mod ConesOf
+pub mod Counts
+pub mod GraphDefaults
+pub mod GraphLinks
+pub mod GraphMakers
+pub mod GraphNumbers
+pub mod GraphPaths
+pub mod GraphTargets
+pub mod ReadsMet
+pub mod ReadsOf
+pub mod Rounds
+pub mod Walking

@@ -1,0 +1,13 @@
+//! The whole build graph in numbers: who makes what, what is needed and in which order, what an edge reads.
+#![tactic(auto)]
+
+mod cone;
+mod graph;
+mod reading;
+#[cfg(test)]
+mod tests;
+mod walk;
+
+pub use cone::{Cone, ConeFault, Mark};
+pub use graph::{Graph, GraphFault, Links};
+pub use reading::Read;
