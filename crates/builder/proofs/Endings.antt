@@ -8,8 +8,8 @@ use Rattle.model.specs.Calls.{OnlyLooks}
 use Rattle.model.specs.Graph.{edge_at, first_output}
 use Rattle.model.specs.Records.{OwnFiles}
 use Rattle.model.specs.Schedule.{Task, Step as Done, IsLawful, failed_in}
-use Rattle.manifest.specs.FirstStage.{IsFirstStage}
 use Rattle.laws.specs.Run.{IsRun}
+use Rattle.laws.proofs.Nothing.{recorded_nothing}
 use Rattle.laws.proofs.Runs.{run_begins, run_looks, rest_begins}
 use Rattle.builder.specs.declared.plan.Plan.{Plan}
 use Rattle.builder.specs.declared.plan.Standing.{Standing}
@@ -23,7 +23,8 @@ use Rattle.builder.specs.Ended.{ReportsSteps, HasRun}
 use Rattle.builder.specs.PlanOf.{IsPlanOf}
 use Rattle.builder.specs.Planned.{IsPlain}
 use Rattle.builder.specs.Run.{IsOn, IsOver, IsCut}
-use Rattle.builder.proofs.Stage.{commands, no_pool}
+use Rattle.builder.specs.Taken.{IsTaken}
+use Rattle.builder.proofs.Formed.{no_pool}
 
 map_suc : {B : Type 0} (f : ℕ → B) (xs : List ℕ) → map (λ e. f (suc e)) xs ≡ map f (map suc xs)
 map_suc f [] = refl
@@ -72,5 +73,5 @@ module _ (tells : Bool) (own : OwnFiles) (task : Task) (entry now : World) where
   ran_over plan failed standings ending.Failed (Refused refusal) over reports says = absurd reports
   ran_over plan failed standings ending.Failed (Fault fault) over reports says = absurd reports
 
-pub plain_task : (graph : BuildGraph) → IsFirstStage graph → IsPlain (task_for graph)
-plain_task graph stage = record { commands = commands graph stage; pools = no_pool graph stage }
+pub plain_task : (graph : BuildGraph) (targets : List (List ℕ)) → IsTaken graph.edges → IsPlain (task_for graph targets)
+plain_task graph targets taken = record { pools = no_pool graph.edges taken; aliases = λ i phony. recorded_nothing graph.edges i }

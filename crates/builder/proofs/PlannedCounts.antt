@@ -11,7 +11,7 @@ use Rattle.laws.proofs.Steps.{kept_lawful, lawful_push, running_parts, started-a
 use Rattle.builder.specs.declared.plan.Standing.{Standing}
 use Rattle.builder.specs.declared.plan.Standing.TheVariants.{Outside}
 use Rattle.builder.specs.Plan.{standing_at}
-use Rattle.builder.proofs.Counts.{count_loses}
+use Rattle.graph.proofs.Counts.{count_loses}
 
 -- ---- lists with each number once
 

@@ -1,7 +1,7 @@
 -- What has become of an edge, by what was judged, started and ended.
-use Rattle.std.proofs.Common.{◌≡◌, ℕ, ◌==◌, ◌&&◌, ◌||◌, not, cond, Bool, true, false, List, [], ◌∷◌, ◌++◌, refl, sym, ◌∙◌, ap, arith}
-use Rattle.std.proofs.lemmas.Bool.{false≢true, false_from_ne_true, eqb-true}
-use Rattle.model.specs.Graph.{has_number}
+use Rattle.std.proofs.Common.{◌≡◌, ◌⊎◌, ℕ, ◌==◌, ◌&&◌, ◌||◌, not, cond, Bool, true, false, List, [], ◌∷◌, ◌++◌, refl, sym, ◌∙◌, ap, arith}
+use Rattle.std.proofs.lemmas.Bool.{false≢true, false_from_ne_true, eqb-true, or_cases, or_left, or_right}
+use Rattle.model.specs.Graph.{has_number, IsCommand}
 use Rattle.model.specs.Reading.{IsInCone}
 use Rattle.model.specs.Schedule.{Task, Step, Judged, Started, Ended, judged_in, clean_in, out_of_date_in, started_in, ended_in, well_in, failed_in, running_in, done_in, MayBeJudged, MayStart, IsLawful}
 use Rattle.laws.proofs.Lists.{has_number-append, has_number-one}
@@ -9,7 +9,7 @@ use Rattle.laws.proofs.Makers.{command_within}
 use Rattle.laws.proofs.Steps.{IsKept, kept_lawful, Appends, in_push, in_right, running_is, running_parts, clean-append, out_of_date-append, started-append, well-append, failed-append}
 use Rattle.builder.specs.declared.plan.Standing.{Standing}
 use Rattle.builder.specs.declared.plan.Standing.TheVariants.{Outside, Unjudged, Clean, OutOfDate, Running, Well, Failed}
-use Rattle.builder.specs.Plan.{is_unjudged, is_out_of_date, is_running, is_failed, is_well, is_settled}
+use Rattle.builder.specs.Plan.{is_unjudged, is_out_of_date, is_running, is_failed, is_well}
 use Rattle.builder.specs.Planned.{standing_in}
 
 -- ---- an edge that ended well, failed, was started, was judged out of date, was judged clean, or not
@@ -48,15 +48,6 @@ out_of_date_flags false false true o c h = absurd (false≢true h)
 out_of_date_flags false false false true c h = (refl, refl)
 out_of_date_flags false false false false true h = absurd (false≢true h)
 out_of_date_flags false false false false false h = absurd (false≢true h)
-
-settled_flags : (w f s o c : Bool) → is_settled (stands w f s o c) ≡ true → (c || w) ≡ true
-settled_flags true f s o true h = refl
-settled_flags true f s o false h = refl
-settled_flags false true s o c h = absurd (false≢true h)
-settled_flags false false true o c h = absurd (false≢true h)
-settled_flags false false false true c h = absurd (false≢true h)
-settled_flags false false false false true h = refl
-settled_flags false false false false false h = absurd (false≢true h)
 
 running_flags : (w f s o c : Bool) → is_running (stands w f s o c) ≡ (s && not (w || f))
 running_flags true f true o c = refl
@@ -141,11 +132,6 @@ unjudged_fresh steps i h =
 pub stale_and_new : (steps : List Step) (i : ℕ) → is_out_of_date (standing_in steps i) ≡ true → (has_number (out_of_date_in steps) i ≡ true) × (has_number (started_in steps) i ≡ false)
 stale_and_new steps i h = out_of_date_flags (has_number (well_in steps) i) (has_number (failed_in steps) i) (has_number (started_in steps) i) (has_number (out_of_date_in steps) i) (has_number (clean_in steps) i) h
 
-pub settled_is_done : (steps : List Step) (i : ℕ) → is_settled (standing_in steps i) ≡ true → has_number (done_in steps) i ≡ true
-settled_is_done steps i h =
-    has_number-append (clean_in steps) (well_in steps) i
-    ∙ settled_flags (has_number (well_in steps) i) (has_number (failed_in steps) i) (has_number (started_in steps) i) (has_number (out_of_date_in steps) i) (has_number (clean_in steps) i) h
-
 pub running_stands : (steps : List Step) (i : ℕ) → is_running (standing_in steps i) ≡ has_number (running_in steps) i
 running_stands steps i =
     running_flags (has_number (well_in steps) i) (has_number (failed_in steps) i) (has_number (started_in steps) i) (has_number (out_of_date_in steps) i) (has_number (clean_in steps) i)
@@ -189,18 +175,6 @@ module _ (task : Task) (steps : List Step) (lawful : IsLawful task steps) where
   pub new_out_of_date : (i : ℕ) → has_number (out_of_date_in steps) i ≡ true → has_number (started_in steps) i ≡ false → standing_in steps i ≡ OutOfDate
   new_out_of_date i stale new = same_stands {c = has_number (clean_in steps) i} (not_well i (not_ended i new)) (not_failed i (not_ended i new)) new stale refl
 
-  pub done_is_settled : (i : ℕ) → has_number (done_in steps) i ≡ true → is_settled (standing_in steps i) ≡ true
-  done_is_settled i h =
-      by_flags (has_number (well_in steps) i) (has_number (clean_in steps) i) refl refl (sym (has_number-append (clean_in steps) (well_in steps) i) ∙ h)
-    where
-      by_flags : (w c : Bool) → has_number (well_in steps) i ≡ w → has_number (clean_in steps) i ≡ c → (c || w) ≡ true → is_settled (standing_in steps i) ≡ true
-      by_flags true c well clean some = ap is_settled (same_stands {f = has_number (failed_in steps) i} {s = has_number (started_in steps) i} {o = has_number (out_of_date_in steps) i} {c = has_number (clean_in steps) i} well refl refl refl refl)
-      by_flags false true well clean some =
-          let fine : has_number (out_of_date_in steps) i ≡ false = false_from_ne_true (has_number (out_of_date_in steps) i) (kept.apart i clean) in
-          let new = not_started i fine in
-          ap is_settled (same_stands (not_well i (not_ended i new)) (not_failed i (not_ended i new)) new fine clean)
-      by_flags false false well clean some = absurd (false≢true some)
-
   -- edges are in the cone, and have commands
   pub stale_in_cone : (i : ℕ) → has_number (out_of_date_in steps) i ≡ true → IsInCone task.graph.edges task.recorded task.targets i
   stale_in_cone i h = (kept.judged i (kept.out_of_date i h)).0
@@ -216,6 +190,21 @@ module _ (task : Task) (steps : List Step) (lawful : IsLawful task steps) where
 
   pub well_in_cone : (i : ℕ) → has_number (well_in steps) i ≡ true → IsInCone task.graph.edges task.recorded task.targets i
   well_in_cone i h = started_in_cone i (kept.ended i (kept.well i h))
+
+  pub stale_command : (i : ℕ) → has_number (out_of_date_in steps) i ≡ true → IsCommand task.graph.edges i
+  stale_command i h = (kept.judged i (kept.out_of_date i h)).1
+
+  pub started_command : (i : ℕ) → has_number (started_in steps) i ≡ true → IsCommand task.graph.edges i
+  started_command i h = stale_command i (kept.started i h)
+
+  pub running_command : (i : ℕ) → has_number (running_in steps) i ≡ true → IsCommand task.graph.edges i
+  running_command i h = started_command i (running_parts steps i h).0
+
+  pub failed_command : (i : ℕ) → has_number (failed_in steps) i ≡ true → IsCommand task.graph.edges i
+  failed_command i h = started_command i (kept.ended i (kept.failed i h))
+
+  pub well_command : (i : ℕ) → has_number (well_in steps) i ≡ true → IsCommand task.graph.edges i
+  well_command i h = started_command i (kept.ended i (kept.well i h))
 
   pub never_started : has_number (started_in steps) 0 ≡ false
   never_started = false_from_ne_true (has_number (started_in steps) 0) (λ h. omega (arith, (command_within task.graph.edges 0 (kept.judged 0 (kept.out_of_date 0 (kept.started 0 h))).1).0))
@@ -276,6 +265,35 @@ other_failed (Judged i b) j other = refl
 other_failed (Started i) j other = refl
 other_failed (Ended i true) j other = refl
 other_failed (Ended i false) j other = other_one i j other
+
+-- what is done after one more step was done before, or by that step
+module _ (steps : List Step) (step : Step) (j : ℕ) where
+  done_is : (xs : List Step) → has_number (done_in xs) j ≡ (has_number (clean_in xs) j || has_number (well_in xs) j)
+  done_is xs = has_number-append (clean_in xs) (well_in xs) j
+
+  done_push : has_number (done_in (steps ++ step ∷ [])) j ≡ (has_number (done_in steps) j || has_number (done_in (step ∷ [])) j)
+  done_push =
+      done_is (steps ++ step ∷ [])
+      ∙ (ap (λ (b : Bool). b || has_number (well_in (steps ++ step ∷ [])) j) (in_push clean_in clean-append steps step j)
+      ∙ (ap (λ (b : Bool). (has_number (clean_in steps) j || has_number (clean_in (step ∷ [])) j) || b) (in_push well_in well-append steps step j)
+      ∙ (turn (has_number (clean_in steps) j) (has_number (clean_in (step ∷ [])) j) (has_number (well_in steps) j) (has_number (well_in (step ∷ [])) j)
+      ∙ (ap (λ (b : Bool). b || (has_number (clean_in (step ∷ [])) j || has_number (well_in (step ∷ [])) j)) (sym (done_is steps))
+      ∙ ap (λ (b : Bool). has_number (done_in steps) j || b) (sym (done_is (step ∷ [])))))))
+    where
+      turn : (a b c d : Bool) → ((a || b) || (c || d)) ≡ ((a || c) || (b || d))
+      turn true b c d = refl
+      turn false true true d = refl
+      turn false true false d = refl
+      turn false false c d = refl
+
+  pub done_cases : has_number (done_in (steps ++ step ∷ [])) j ≡ true → (has_number (done_in steps) j ≡ true) ⊎ (has_number (done_in (step ∷ [])) j ≡ true)
+  done_cases h = or_cases (has_number (done_in steps) j) (has_number (done_in (step ∷ [])) j) (sym done_push ∙ h)
+
+  pub done_more : has_number (done_in steps) j ≡ true → has_number (done_in (steps ++ step ∷ [])) j ≡ true
+  done_more h = done_push ∙ or_left (has_number (done_in steps) j) (has_number (done_in (step ∷ [])) j) h
+
+  pub done_new : has_number (done_in (step ∷ [])) j ≡ true → has_number (done_in (steps ++ step ∷ [])) j ≡ true
+  done_new h = done_push ∙ or_right (has_number (done_in steps) j) (has_number (done_in (step ∷ [])) j) h
 
 module _ (steps : List Step) (step : Step) (j : ℕ) where
   unchanged : (f : List Step → List ℕ) → Appends f → has_number (f (step ∷ [])) j ≡ false → has_number (f (steps ++ step ∷ [])) j ≡ has_number (f steps) j

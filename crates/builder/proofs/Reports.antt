@@ -1,5 +1,5 @@
 -- What a run that has ended reports.
-use Rattle.std.proofs.Common.{◌≡◌, inl, inr, ℕ, zero, suc, ◌+◌, ◌≤◌, cond, Bool, List, [], ◌∷◌, ◌++◌, length, map, count_by, Err, refl, sym, ◌∙◌, ap, subst, arith}
+use Rattle.std.proofs.Common.{◌≡◌, ◌⊎◌, inl, inr, ℕ, zero, suc, ◌+◌, ◌≤◌, cond, Bool, List, [], ◌∷◌, ◌++◌, length, map, count_by, Err, refl, sym, ◌∙◌, ap, subst, arith}
 use Rattle.std.proofs.lemmas.List.{append-nil}
 use Rattle.std.proofs.lemmas.List.Sums.{sum_by-cons}
 use Rattle.model.specs.declared.graph.Edge.{Edge}
@@ -9,23 +9,25 @@ use Rattle.model.specs.Calls.{OnlyLooks, HasCause}
 use Rattle.manifest.specs.Answer.{site_part}
 use Rattle.manifest.specs.declared.fault.ReadError.{ReadError}
 use Rattle.manifest.specs.declared.fault.ReadError.TheVariants as read
-use Rattle.builder.specs.declared.graph.GraphFault.{GraphFault}
-use Rattle.builder.specs.declared.graph.GraphFault.TheVariants as graph
-use Rattle.builder.specs.declared.cone.ConeFault.{ConeFault}
-use Rattle.builder.specs.declared.cone.ConeFault.TheVariants as cone
+use Rattle.graph.specs.declared.graph.GraphFault.{GraphFault}
+use Rattle.graph.specs.declared.graph.GraphFault.TheVariants as graph
+use Rattle.graph.specs.declared.cone.ConeFault.{ConeFault}
+use Rattle.graph.specs.declared.cone.ConeFault.TheVariants as cone
 use Rattle.model.specs.declared.fault.SiteFault.TheVariants.{Memory}
-use Rattle.builder.specs.declared.cone.Mark.{Mark}
-use Rattle.builder.specs.declared.cone.Mark.TheVariants.{Unseen, Open, Listed}
 use Rattle.builder.specs.declared.plan.Standing.{Standing}
 use Rattle.builder.specs.declared.plan.Standing.TheVariants as standing
 use Rattle.builder.specs.declared.plan.End.{End}
 use Rattle.builder.specs.declared.plan.End.TheVariants as ending
+use Rattle.builder.specs.declared.report.Refusal.{Refusal}
+use Rattle.builder.specs.declared.report.Refusal.TheVariants as refusal
 use Rattle.builder.specs.declared.report.Report.{Report}
 use Rattle.builder.specs.declared.report.Report.TheVariants.{Success, Failed, Refused, Fault}
-use Rattle.builder.specs.Plan.{standing_at, first_standing, is_running, is_failed, is_well, EndsSo, IsFresh}
-use Rattle.builder.specs.Run.{NotStarted, course_by, standing_of, is_started, IsAt, IsNoted}
+use Rattle.builder.specs.Plan.{is_running, is_failed, is_well, EndsSo, IsFresh}
+use Rattle.builder.specs.Run.{is_started, IsAt, IsNoted}
+use Rattle.graph.specs.Linked.{path_at}
 use Rattle.builder.specs.Answers.{Ran, Ended, Answers, Reports, unread, ungraphed, Uncut}
 use Rattle.builder.specs.Build.{IsIdleButAtFault}
+use Rattle.builder.proofs.Fresh.{fresh_course, fresh_started, fresh_failed}
 use Rattle.builder.proofs.Calls.{looks_none, looks_then, seen_of, seen_before}
 use Rattle.builder.proofs.Standings.{idle_at_end}
 
@@ -51,54 +53,20 @@ started_count (s ∷ ss) =
     let d = sum_by-cons (λ (x : Standing). one_if (is_failed x)) s ss in
     omega (arith, a, b, c, d, one_started s, started_count ss)
 
-fresh_course : (marks : List Mark) (e : ℕ) → course_by (standing_at (map first_standing marks) e) ≡ NotStarted
-fresh_course [] e = refl
-fresh_course (Unseen ∷ marks) zero = refl
-fresh_course (Open ∷ marks) zero = refl
-fresh_course (Listed ∷ marks) zero = refl
-fresh_course (m ∷ marks) (suc e) = fresh_course marks e
-
-fresh_started : (m : Mark) → one_if (is_started (first_standing m)) ≡ 0
-fresh_started Unseen = refl
-fresh_started Open = refl
-fresh_started Listed = refl
-
-fresh_failed : (m : Mark) → one_if (is_failed (first_standing m)) ≡ 0
-fresh_failed Unseen = refl
-fresh_failed Open = refl
-fresh_failed Listed = refl
-
-none_started : (marks : List Mark) → count_by is_started (map first_standing marks) ≡ 0
-none_started [] = refl
-none_started (m ∷ marks) =
-    let a = sum_by-cons (λ (x : Standing). one_if (is_started x)) (first_standing m) (map first_standing marks) in
-    omega (arith, a, fresh_started m, none_started marks)
-
-none_failed : (marks : List Mark) → count_by is_failed (map first_standing marks) ≡ 0
-none_failed [] = refl
-none_failed (m ∷ marks) =
-    let a = sum_by-cons (λ (x : Standing). one_if (is_failed x)) (first_standing m) (map first_standing marks) in
-    omega (arith, a, fresh_failed m, none_failed marks)
-
 pub at_entry : (edges : List Edge) (ss : List Standing) (w : World) → length ss ≡ length edges → IsFresh ss → IsAt edges ss w w
-at_entry edges ss w fits fresh =
-    subst (λ (l : List Standing). IsAt edges l w w) (sym {A = List Standing} fresh.is) record {
-      events = [];
-      grows = sym (append-nil w.events);
-      lawful = tt;
-      fits = ap length (sym {A = List Standing} fresh.is) ∙ fits;
-      courses = courses;
-      starts = none_started fresh.marks;
-      failures = none_failed fresh.marks;
-    }
-  where
-    courses : (j : ℕ) → course_by (standing_of (map first_standing fresh.marks) j) ≡ NotStarted
-    courses zero = refl
-    courses (suc e) = fresh_course fresh.marks e
+at_entry edges ss w fits fresh = record {
+  events = [];
+  grows = sym (append-nil w.events);
+  lawful = tt;
+  fits = fits;
+  courses = λ j. fresh_course ss fresh j;
+  starts = fresh_started ss fresh;
+  failures = fresh_failed ss fresh;
+}
 
 pub noted_entry : (ss : List Standing) → IsFresh ss → IsNoted ss []
 noted_entry ss fresh = record {
-  count = sym (ap (count_by is_failed) fresh.is ∙ none_failed fresh.marks);
+  count = sym (fresh_failed ss fresh);
   within = λ k lt. absurd (omega (arith, lt));
 }
 
@@ -171,12 +139,18 @@ answers_unread tells edges old now (read.Refused fault) looks cause = looks
 pub answers_ungraphed : (tells : Bool) (edges : List Edge) (now : World) (fault : GraphFault) → Answers tells edges now now (ungraphed fault)
 answers_ungraphed tells edges now graph.Memory = (ran_none tells edges now now (looks_none tells now), tt)
 answers_ungraphed tells edges now (graph.MadeTwice path) = looks_none tells now
+answers_ungraphed tells edges now (graph.NoDyndepInput path) = looks_none tells now
+
+-- what a build answers that was refused, or found no memory for that
+pub answers_either : (tells : Bool) (edges : List Edge) (now : World) (refusal : Refusal) (report : Report) → (report ≡ Refused refusal) ⊎ (report ≡ Fault Memory) → Answers tells edges now now report
+answers_either tells edges now refusal report (inl is) = subst (λ (r : Report). Answers tells edges now now r) (sym {A = Report} is) (looks_none tells now)
+answers_either tells edges now refusal report (inr is) = of_memory tells edges now report is
 
 -- what a build answers without a cone
-pub answers_uncut : (tells : Bool) (edges : List Edge) (now : World) (paths : List (List ℕ)) (fault : ConeFault) (report : Report) → Uncut paths fault report → Answers tells edges now now report
-answers_uncut tells edges now paths cone.Memory report is = of_memory tells edges now report is
-answers_uncut tells edges now paths (cone.Cycle numbers) report (inl is) = subst (λ (r : Report). Answers tells edges now now r) (sym {A = Report} is) (looks_none tells now)
-answers_uncut tells edges now paths (cone.Cycle numbers) report (inr is) = of_memory tells edges now report is
+pub answers_uncut : (tells : Bool) (edges : List Edge) (now : World) (given paths : List (List ℕ)) (fault : ConeFault) (report : Report) → Uncut given paths fault report → Answers tells edges now now report
+answers_uncut tells edges now given paths cone.Memory report is = of_memory tells edges now report is
+answers_uncut tells edges now given paths (cone.Unknown place) report is = answers_either tells edges now (refusal.UnknownTarget (path_at given place)) report is
+answers_uncut tells edges now given paths (cone.Cycle numbers) report is = answers_either tells edges now (refusal.Cycle (map (path_at paths) numbers)) report is
 
 -- a build without a fault has left no command running
 pub idle_of_answers : (tells : Bool) (edges : List Edge) (old now : World) (report : Report) → IsIdle old.events → Answers tells edges old now report → IsIdleButAtFault now report

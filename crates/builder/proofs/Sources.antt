@@ -10,55 +10,16 @@ use Rattle.model.specs.declared.graph.Edge.{Edge}
 use Rattle.model.specs.World.{World, File, file_at, stamp_of}
 use Rattle.model.specs.Calls.{OnlyLooks, Sees}
 use Rattle.model.specs.Graph.{has, edge_at, maker, later_number, outputs, inputs, first_output, IsCommand}
-use Rattle.model.specs.Records.{recorded_inputs}
-use Rattle.model.specs.Reading.{IsInCone, Wanted, Needed, Validating}
 use Rattle.model.specs.OutOfDate.{IsMissing, NoneIsMissing}
-use Rattle.laws.specs.Order.{no_records}
-use Rattle.laws.proofs.Builds.{due_of_nothing}
-use Rattle.laws.proofs.Lists.{same_rest, all_from_has}
-use Rattle.laws.proofs.Looks.{sees_so}
-use Rattle.laws.proofs.Makers.{maker_has}
-use Rattle.builder.specs.declared.graph.Graph.{Graph}
-use Rattle.builder.specs.declared.cone.Mark.{Mark}
-use Rattle.builder.specs.declared.cone.Mark.TheVariants.{Unseen}
+use Rattle.graph.specs.declared.graph.Graph.{Graph}
 use Rattle.builder.specs.declared.report.Missing.{Missing}
-use Rattle.builder.specs.Cone.{inputs_at, mark_at, is_listed}
-use Rattle.builder.specs.Linked.{path_at, paths_of, IsGraphOf, IsConeOf}
-use Rattle.builder.specs.Missing.{IsFound, NoneBelow, IsFirstOfMarked, IsFoundOfMarked, StaysAt, IsAbsent, NoneAbsent, IsClearOf, AreThere, IsFirstAbsent, IsToAsk}
-use Rattle.builder.proofs.ConesOf.{suc_has}
-use Rattle.builder.proofs.Walking.{same_or_other}
-
--- ---- calls
-
-nothing_left : (xs ys : List Moment) → xs ++ ys ≡ [] → xs ≡ []
-nothing_left [] ys is = refl
-nothing_left (x ∷ xs) ys is = cc
-
--- what stays through two calls stays through each
-pub stays_parts : (tells : Bool) (files : List Moment) (a b c : World) → OnlyLooks tells a b → OnlyLooks tells b c → IsTrue tells → StaysAt files a c → StaysAt files a b × StaysAt files b c
-stays_parts tells files a b c first second told stays = (record { before = stays.before; after = middle }, record { before = middle; after = stays.after })
-  where
-    one : List Moment
-    one = (first.history told).more
-
-    two : List Moment
-    two = (second.history told).more
-
-    whole : a.history ++ (one ++ two) ≡ a.history ++ []
-    whole = sym (append_assoc a.history one two) ∙ (ap (λ (l : List Moment). l ++ two) (sym (first.history told).grows) ∙ (sym (second.history told).grows ∙ (stays.after ∙ (sym stays.before ∙ sym (append-nil a.history)))))
-
-    none : one ≡ []
-    none = nothing_left one two (same_rest a.history (one ++ two) [] whole)
-
-    middle : b.history ≡ files
-    middle = (first.history told).grows ∙ (ap (λ (l : List Moment). a.history ++ l) none ∙ (append-nil a.history ∙ stays.before))
+use Rattle.graph.specs.Cone.{inputs_at}
+use Rattle.graph.specs.Linked.{path_at, paths_of, IsGraphOf}
+use Rattle.builder.specs.Missing.{NoneBelow, IsFirstOfDue, due_at, StaysAt, IsAbsent, NoneAbsent, IsClearOf, AreThere, IsFirstAbsent, IsToAsk}
+use Rattle.builder.proofs.Slices.{same_or_other}
+use Rattle.builder.proofs.Stays.{stays_parts, seen_stamp}
 
 -- ---- one path
-
-seen_stamp : (path : List ℕ) (files : List Moment) (old new : World) (stamp : Option ℕ) → StaysAt files old new → Sees (λ history. stamp_of (file_at history path)) stamp old.history new.history → stamp ≡ stamp_of (file_at files path)
-seen_stamp path files old new stamp stays sees =
-    sees_so (λ history. stamp_of (file_at history path)) stamp old.history new.history (stays.after ∙ sym stays.before) sees
-    ∙ ap (λ (history : List Moment). stamp_of (file_at history path)) stays.before
 
 pub seen_there : (path : List ℕ) (files : List Moment) (old new : World) (stamp : Option ℕ) (n : ℕ) → StaysAt files old new → Sees (λ history. stamp_of (file_at history path)) stamp old.history new.history → stamp ≡ Some n → file_at files path ≢ None
 seen_there path files old new stamp n stays sees is absent =
@@ -120,34 +81,34 @@ module _ (tells : Bool) (graph : Graph) (inputs : List ℕ) (first asked new : L
         record { place = k; within = within; earlier = before.1; absent = now.0; is = sym (ap (λ (r : Bor (List ℕ)). r.now) same) ∙ now.1 }
 
 -- what was found of a marked edge's inputs
-pub of_marked : (graph : Graph) (files : List Moment) (marks : List Mark) (e : ℕ) (numbers : List ℕ) (asked : List Bool) → numbers ≡ inputs_at graph.links e → is_listed (mark_at marks e) ≡ true → (found : Option (Bor (List ℕ)))
+pub of_due : (graph : Graph) (files : List Moment) (due : List Bool) (e : ℕ) (numbers : List ℕ) (asked : List Bool) → numbers ≡ inputs_at graph.links e → due_at due e ≡ true → (found : Option (Bor (List ℕ)))
     → MatchOption found (AreThere graph files asked × NoneAbsent graph files numbers (length numbers)) (λ t. IsFirstAbsent graph files numbers t.now)
-    → MatchOption found (AreThere graph files asked × IsClearOf graph files marks e) (λ t. (is_listed (mark_at marks e) ≡ true) × IsFirstAbsent graph files (inputs_at graph.links e) t.now)
-of_marked graph files marks e numbers asked same marked None seen = (seen.0, λ listed. subst (λ (l : List ℕ). NoneAbsent graph files l (length l)) same seen.1)
-of_marked graph files marks e numbers asked same marked (Some t) seen = (marked, subst (λ (l : List ℕ). IsFirstAbsent graph files l t.now) same seen)
+    → MatchOption found (AreThere graph files asked × IsClearOf graph files due e) (λ t. (due_at due e ≡ true) × IsFirstAbsent graph files (inputs_at graph.links e) t.now)
+of_due graph files due e numbers asked same marked None seen = (seen.0, λ is. subst (λ (l : List ℕ). NoneAbsent graph files l (length l)) same seen.1)
+of_due graph files due e numbers asked same marked (Some t) seen = (marked, subst (λ (l : List ℕ). IsFirstAbsent graph files l t.now) same seen)
 
 -- what was found of one more edge
-module _ (tells : Bool) (graph : Graph) (marks : List Mark) (asked old new : List Bool) (n : ℕ) (a b c : World) (looks : OnlyLooks tells a b) (look : OnlyLooks tells b c) (same : old ≡ asked)
-    (so_far : IsTrue tells → (files : List Moment) → StaysAt files a b → AreThere graph files asked × ((e : ℕ) → e < n → IsClearOf graph files marks e))
+module _ (tells : Bool) (graph : Graph) (due : List Bool) (asked old new : List Bool) (n : ℕ) (a b c : World) (looks : OnlyLooks tells a b) (look : OnlyLooks tells b c) (same : old ≡ asked)
+    (so_far : IsTrue tells → (files : List Moment) → StaysAt files a b → AreThere graph files asked × ((e : ℕ) → e < n → IsClearOf graph files due e))
   where
     there_still : (files : List Moment) → AreThere graph files asked → AreThere graph files old
     there_still files there = subst (AreThere graph files) (sym {A = List Bool} same) there
 
     pub one_edge : (found : Option (Bor (List ℕ))) → found ≡ None
         → (IsTrue tells → (files : List Moment) → StaysAt files b c → AreThere graph files old
-        → MatchOption found (AreThere graph files new × IsClearOf graph files marks n) (λ t. (is_listed (mark_at marks n) ≡ true) × IsFirstAbsent graph files (inputs_at graph.links n) t.now))
-        → IsTrue tells → (files : List Moment) → StaysAt files a c → AreThere graph files new × ((e : ℕ) → e < n + 1 → IsClearOf graph files marks e)
+        → MatchOption found (AreThere graph files new × IsClearOf graph files due n) (λ t. (due_at due n ≡ true) × IsFirstAbsent graph files (inputs_at graph.links n) t.now))
+        → IsTrue tells → (files : List Moment) → StaysAt files a c → AreThere graph files new × ((e : ℕ) → e < n + 1 → IsClearOf graph files due e)
     one_edge None none seen told files stays =
         let parts = stays_parts tells files a b c looks look told stays in
         let before = so_far told files parts.0 in
         let now = seen told files parts.1 (there_still files before.0) in
-        (now.0, below_more (IsClearOf graph files marks) n before.1 now.1)
+        (now.0, below_more (IsClearOf graph files due) n before.1 now.1)
     one_edge (Some t) none seen told files stays = cc
 
     pub first_edge : (found : Option (Bor (List ℕ))) (text : Bor (List ℕ)) → found ≡ Some text
         → (IsTrue tells → (files : List Moment) → StaysAt files b c → AreThere graph files old
-        → MatchOption found (AreThere graph files new × IsClearOf graph files marks n) (λ t. (is_listed (mark_at marks n) ≡ true) × IsFirstAbsent graph files (inputs_at graph.links n) t.now))
-        → IsTrue tells → (files : List Moment) → StaysAt files a c → ((e : ℕ) → e < n → IsClearOf graph files marks e) × (is_listed (mark_at marks n) ≡ true) × IsFirstAbsent graph files (inputs_at graph.links n) text.now
+        → MatchOption found (AreThere graph files new × IsClearOf graph files due n) (λ t. (due_at due n ≡ true) × IsFirstAbsent graph files (inputs_at graph.links n) t.now))
+        → IsTrue tells → (files : List Moment) → StaysAt files a c → ((e : ℕ) → e < n → IsClearOf graph files due e) × (due_at due n ≡ true) × IsFirstAbsent graph files (inputs_at graph.links n) text.now
     first_edge None text some seen told files stays = cc
     first_edge (Some t) text some seen told files stays =
         let parts = stays_parts tells files a b c looks look told stays in
@@ -179,7 +140,7 @@ no_number : (o : Option ℕ) → later_number o ≡ None → o ≡ None
 no_number None is = refl
 no_number (Some i) is = cc
 
-module _ (edges : List Edge) (graph : Graph) (marks : List Mark) (files : List Moment) (stands : IsGraphOf edges (paths_of graph) graph.links) where
+module _ (edges : List Edge) (graph : Graph) (due : List Bool) (files : List Moment) (stands : IsGraphOf edges (paths_of graph) graph.links) where
   absent_number : (n : ℕ) → n < length (paths_of graph) → IsMissing edges files (path_at (paths_of graph) n) → IsAbsent graph files n
   absent_number n lt missing = record { source = no_number (slice_get graph.links.makers.items n) (sym (stands.makers n lt) ∙ missing.source); absent = missing.absent }
 
@@ -193,14 +154,14 @@ module _ (edges : List Edge) (graph : Graph) (marks : List Mark) (files : List M
       (λ k lt missing. none k lt (absent_number (slice_index (inputs_at graph.links e) k) (stands.numbered e k lt) missing)))
 
   -- the edges of which so many were looked at
-  pub none_below : (count : ℕ) → ((e : ℕ) → e < count → IsClearOf graph files marks e) → NoneBelow edges marks files count
+  pub none_below : (count : ℕ) → ((e : ℕ) → e < count → IsClearOf graph files due e) → NoneBelow edges due files count
   none_below count clear e lt marked = none_missing e (clear e lt marked)
 
-  pub first_of_marked : (e : ℕ) (text : List ℕ) (missing : Missing) → ((d : ℕ) → d < e → IsClearOf graph files marks d) → is_listed (mark_at marks e) ≡ true → IsFirstAbsent graph files (inputs_at graph.links e) text
-      → missing.path ≡ text → missing.needed_by ≡ Some (first_output (edge_at edges (suc e))) → IsFirstOfMarked edges marks files missing
-  first_of_marked e text missing clear marked found path needed_by = record {
+  pub first_of_due : (e : ℕ) (text : List ℕ) (missing : Missing) → ((d : ℕ) → d < e → IsClearOf graph files due d) → due_at due e ≡ true → IsFirstAbsent graph files (inputs_at graph.links e) text
+      → missing.path ≡ text → missing.needed_by ≡ Some (first_output (edge_at edges (suc e))) → IsFirstOfDue edges due files missing
+  first_of_due e text missing clear is_due found path needed_by = record {
     edge = e;
-    marked = marked;
+    is_due = is_due;
     lowest = none_below e clear;
     first = record {
       before = split.0;
@@ -215,63 +176,3 @@ module _ (edges : List Edge) (graph : Graph) (marks : List Mark) (files : List M
       split : (before : List (List ℕ)) × (after : List (List ℕ)) × (map (path_at (paths_of graph)) (inputs_at graph.links e) ≡ before ++ path_at (paths_of graph) (slice_index (inputs_at graph.links e) found.place) ∷ after) × NoneIsMissing edges files before
       split = split_texts (λ p. IsMissing edges files p → ⊥) (path_at (paths_of graph)) (inputs_at graph.links e) found.place found.within
           (λ j less gone. found.earlier j less (absent_number (slice_index (inputs_at graph.links e) j) (stands.numbered e j (omega (arith, less, found.within))) gone))
-
--- ---- a build without records
-
-listed_within : (marks : List Mark) (e : ℕ) → is_listed (mark_at marks e) ≡ true → e < length marks
-listed_within marks e listed = by_place (λ past. false≢true (sym (ap is_listed (get_or_past marks e Unseen past)) ∙ listed))
-  where
-    by_place : (length marks ≤ e → ⊥) → e < length marks
-    by_place not = omega (arith, not)
-
-made_in_cone : (edges : List Edge) (recorded : ℕ → List (List ℕ)) (targets : List (List ℕ)) (i : ℕ) → IsInCone edges recorded targets i → (p : List ℕ) × (maker edges p ≡ Some i)
-made_in_cone edges recorded targets i (Wanted _ p target is) = (p, is)
-made_in_cone edges recorded targets i (Needed _ j p within need is) = (p, is)
-made_in_cone edges recorded targets i (Validating _ j p within validation is) = (p, is)
-
--- What is found of the edges of the cone is what is told before anything runs: without records each of its commands is due.
-pub found_of : (edges : List Edge) (targets : List (List ℕ)) (order : List ℕ) (marks : List Mark) (files : List Moment) → IsConeOf edges (recorded_inputs no_records edges) targets order marks
-    → ((i : ℕ) → IsInCone edges (recorded_inputs no_records edges) targets i → IsCommand edges i) → ((p : List ℕ) → has targets p ≡ true → (i : ℕ) × (maker edges p ≡ Some i))
-    → (found : Option Missing) → IsFoundOfMarked edges marks files found → IsFound edges targets files found
-found_of edges targets order marks files cone commands made found is = by_case found is
-  where
-    of_targets : NoneIsMissing edges files targets
-    of_targets = all_from_has (λ p. IsMissing edges files p → ⊥) targets (λ p h missing. no_maker p (made p h) missing.source)
-      where
-        no_maker : (p : List ℕ) → (i : ℕ) × (maker edges p ≡ Some i) → maker edges p ≡ None → ⊥
-        no_maker p some none = let both : Some some.0 ≡ None = sym some.1 ∙ none in cc
-
-    -- an edge of the cone is a marked one
-    marked_edge : (i : ℕ) → IsInCone edges (recorded_inputs no_records edges) targets i → (e : ℕ) × (suc e ≡ i) × (is_listed (mark_at marks e) ≡ true) × (e < length edges)
-    marked_edge i within =
-        let place = suc_has order i (cone.all i within) in
-        let listed : is_listed (mark_at marks place.0) ≡ true = cone.marked place.0 ∙ place.2 in
-        (place.0, place.1, listed, omega (arith, listed_within marks place.0 listed, cone.fits))
-
-    some_output : (i : ℕ) → IsInCone edges (recorded_inputs no_records edges) targets i → outputs (edge_at edges i) ≢ []
-    some_output i within none =
-        let path = made_in_cone edges (recorded_inputs no_records edges) targets i within in
-        false≢true (subst (λ (ps : List (List ℕ)). has ps path.0 ≡ true) none (maker_has edges path.0 i path.1))
-
-    by_case : (found : Option Missing) → IsFoundOfMarked edges marks files found → IsFound edges targets files found
-    by_case None none = record {
-      of_targets = of_targets;
-      of_edges = λ i asked.
-          let marked = marked_edge i asked.within in
-          subst (λ (n : ℕ). NoneIsMissing edges files (inputs (edge_at edges n))) marked.1 (none marked.0 marked.3 marked.2);
-    }
-    by_case (Some missing) first = (
-      suc first.edge,
-      first.needed_by,
-      record {
-        asked = record { within = within; due = due_of_nothing edges files (map suc order) cone.ordered (suc first.edge) (cone.all (suc first.edge) within) (commands (suc first.edge) within) (some_output (suc first.edge) within) };
-        of_targets = of_targets;
-        lowest = λ k less asked.
-            let marked = marked_edge k asked.within in
-            subst (λ (n : ℕ). NoneIsMissing edges files (inputs (edge_at edges n))) marked.1 (first.lowest marked.0 (omega (arith, less, marked.1)) marked.2);
-        first = first.first;
-      },
-    )
-      where
-        within : IsInCone edges (recorded_inputs no_records edges) targets (suc first.edge)
-        within = cone.within first.edge (sym (cone.marked first.edge) ∙ first.marked)

@@ -1,5 +1,5 @@
 -- Where a run stands after one more judgement, start or finish.
-use Rattle.std.proofs.Common.{◌≡◌, inl, inr, ℕ, zero, suc, ◌+◌, ◌-◌, ◌<◌, ◌==◌, cond, Bool, true, false, List, [], ◌∷◌, ◌++◌, Some, length, get_or, slice_index, slice_index_or, count_by, refl, sym, ◌∙◌, ap, subst, arith, append_assoc}
+use Rattle.std.proofs.Common.{◌≡◌, inl, inr, ℕ, zero, suc, ◌+◌, ◌-◌, ◌<◌, ◌==◌, cond, Bool, true, false, List, [], ◌∷◌, ◌++◌, Some, length, get_or, slice_index, count_by, refl, sym, ◌∙◌, ap, subst, arith, append_assoc}
 use Rattle.std.proofs.Math.ListN.{set}
 use Rattle.std.proofs.lemmas.List.{get_or-set_same, get_or-set_other, length-set}
 use Rattle.std.proofs.lemmas.Bool.{cases_Bool, eqb-true, eq-eqb, false≢true, cond-true, cond-false, and_parts}
@@ -10,12 +10,11 @@ use Rattle.model.specs.declared.event.Event.TheVariants.{Start, Finish}
 use Rattle.model.specs.World.{World, runs, IsIdle}
 use Rattle.builder.specs.declared.plan.Standing.{Standing}
 use Rattle.builder.specs.declared.plan.Standing.TheVariants.{Outside, Unjudged, Clean, OutOfDate, Running, Well, Failed}
-use Rattle.std.specs.List.{list_all}
-use Rattle.builder.specs.declared.graph.Links.{Links}
-use Rattle.builder.specs.Plan.{standing_at, is_unjudged, is_out_of_date, is_failed, is_running, standing_after, path_settled, may_judge, may_start, IsFirst}
+use Rattle.graph.specs.declared.graph.Links.{Links}
+use Rattle.builder.specs.Plan.{standing_at, is_unjudged, is_out_of_date, is_failed, is_running, standing_after, inputs_settled, may_judge, may_start, IsFirst}
 use Rattle.builder.specs.Run.{Course, NotStarted, Runs, EndedWell, EndedBadly, course_after, course_of, failures_in, act_of, standing_of, course_by, is_started, IsAt, IsNoted}
 use Rattle.builder.proofs.Courses.{is_runs, course_push, runs_since, starts_start, starts_finish, failures_start, failures_well, failures_bad, lawful_push}
-use Rattle.builder.proofs.Counts.{count_gains, count_keeps, count_none, count_some}
+use Rattle.graph.proofs.Counts.{count_gains, count_keeps, count_none, count_some}
 
 pub course_set : (ss : List Standing) (e : ℕ) (v : Standing) (j : ℕ) → e < length ss → course_by (standing_of (set ss e v) j) ≡ cond (e + 1 == j) (course_by v) (course_by (standing_of ss j))
 course_set ss e v zero lt = sym (cond-false (e + 1 == 0) (course_by v) NotStarted (never (e + 1 == 0) (λ h. eqb-true (e + 1) 0 h)))
@@ -219,8 +218,8 @@ unjudged_course Well h = absurd (false≢true h)
 unjudged_course Failed h = absurd (false≢true h)
 
 -- what may be judged was not started
-pub judged_course : (links : Links) (ss : List Standing) (e : ℕ) → may_judge links ss e ≡ true → course_by (standing_at ss e) ≡ NotStarted
-judged_course links ss e may = unjudged_course (standing_at ss e) (and_parts (is_unjudged (standing_at ss e)) (list_all (path_settled links ss) (slice_index_or links.inputs.items e [])) may).0
+pub judged_course : (links : Links) (settled : List Bool) (ss : List Standing) (e : ℕ) → may_judge links settled ss e ≡ true → course_by (standing_at ss e) ≡ NotStarted
+judged_course links settled ss e may = unjudged_course (standing_at ss e) (and_parts (is_unjudged (standing_at ss e)) (inputs_settled links settled e) may).0
 
 pub noted_started : (ss : List Standing) (failed : List ℕ) (e : ℕ) → IsNoted ss failed → e < length ss → is_failed (standing_at ss e) ≡ false → IsNoted (set ss e Running) failed
 noted_started ss failed e noted lt was =

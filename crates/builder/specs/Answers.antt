@@ -8,11 +8,11 @@ use Rattle.model.specs.World.{World, IsIdle}
 use Rattle.model.specs.Calls.{OnlyLooks}
 use Rattle.manifest.specs.declared.fault.ReadError.{ReadError}
 use Rattle.manifest.specs.declared.fault.ReadError.TheVariants as read
-use Rattle.builder.specs.declared.graph.GraphFault.{GraphFault}
-use Rattle.builder.specs.declared.graph.GraphFault.TheVariants as graph
-use Rattle.builder.specs.declared.cone.ConeFault.{ConeFault}
-use Rattle.builder.specs.declared.cone.ConeFault.TheVariants as cone
-use Rattle.builder.specs.Linked.{path_at}
+use Rattle.graph.specs.declared.graph.GraphFault.{GraphFault}
+use Rattle.graph.specs.declared.graph.GraphFault.TheVariants as graph
+use Rattle.graph.specs.declared.cone.ConeFault.{ConeFault}
+use Rattle.graph.specs.declared.cone.ConeFault.TheVariants as cone
+use Rattle.graph.specs.Linked.{path_at}
 use Rattle.builder.specs.declared.report.Refusal.TheVariants as refusal
 use Rattle.builder.specs.declared.report.Report.{Report}
 use Rattle.builder.specs.declared.report.Report.TheVariants.{Success, Failed, Refused, Fault}
@@ -32,6 +32,11 @@ IsSeen old new Memory = Unit {0}
 pub record Causes {T : Type 0} (old new : World) (result : Result T SiteFault) : Type 0 where
   pub grows : old.failures ≤ new.failures
   pub seen : IfErr result (IsSeen old new)
+
+-- calls that only looked since the entry, and forgot no failure
+pub record Looked (tells : Bool) (old now : World) : Type 0 where
+  pub looks : OnlyLooks tells old now
+  pub failures : old.failures ≤ now.failures
 
 -- what was started and taken in since the entry
 pub record Ran (edges : List Edge) (old new : World) : Type 0 where
@@ -74,8 +79,11 @@ unread (read.Refused fault) = Refused (refusal.File fault)
 abbrev pub ungraphed : GraphFault → Report
 ungraphed graph.Memory = Fault Memory
 ungraphed (graph.MadeTwice path) = Refused (refusal.MadeTwice path)
+ungraphed (graph.NoDyndepInput path) = Refused (refusal.NoDyndepInput path)
 
--- the report of a build without a cone: want of memory, or the paths round a cycle, if there is memory for them
-abbrev pub Uncut : List (List ℕ) → ConeFault → Report → Type 0
-Uncut paths cone.Memory report = report ≡ Fault Memory
-Uncut paths (cone.Cycle numbers) report = (report ≡ Refused (refusal.Cycle (map (path_at paths) numbers))) ⊎ (report ≡ Fault Memory)
+-- the report of a build without a cone: want of memory, the target as it was given, or the paths round a cycle, if there is
+-- memory for them
+abbrev pub Uncut : List (List ℕ) → List (List ℕ) → ConeFault → Report → Type 0
+Uncut given paths cone.Memory report = report ≡ Fault Memory
+Uncut given paths (cone.Unknown place) report = (report ≡ Refused (refusal.UnknownTarget (path_at given place))) ⊎ (report ≡ Fault Memory)
+Uncut given paths (cone.Cycle numbers) report = (report ≡ Refused (refusal.Cycle (map (path_at paths) numbers))) ⊎ (report ≡ Fault Memory)

@@ -1,7 +1,9 @@
 -- What `build` promises: what it read, and the build of the graph that it read.
 use Rattle.std.specs.Prelude.{◌≡◌, ◌⊎◌, ℕ, true, Bool, IsTrue, List, [], ◌∷◌, ◌++◌, Option, Some, None, Ok, Err, OnOk}
 use Rattle.model.specs.declared.act.Act.{Act}
+use Rattle.model.specs.declared.fault.SiteFault.TheVariants.{Memory}
 use Rattle.model.specs.declared.graph.BuildGraph.{BuildGraph}
+use Rattle.model.specs.declared.graph.Edge.{Edge}
 use Rattle.model.specs.declared.outcome.Outcome.{Outcome}
 use Rattle.model.specs.World.{World, View, IsIdle}
 use Rattle.model.specs.Calls.{OnlyLooks, HasCause}
@@ -11,13 +13,17 @@ use Rattle.model.specs.Schedule.{Task}
 use Rattle.model.specs.SingleBuild.{Asked, Answer, SingleBuild, task_of}
 use Rattle.model.specs.SingleBuild as answer
 use Rattle.manifest.specs.Answer.{ReadsFile, site_part}
-use Rattle.manifest.specs.FirstStage.{IsFirstStage}
 use Rattle.manifest.specs.declared.fault.ReadError.{ReadError}
 use Rattle.laws.specs.Order.{no_records}
-use Rattle.builder.specs.declared.report.Refusal.TheVariants.{File, MadeTwice, UnknownTarget, Cycle, Missing}
+use Rattle.builder.specs.declared.report.Refusal.TheVariants.{File, MadeTwice, NoDyndepInput, NotTaken, UnknownTarget, Cycle, Missing}
 use Rattle.builder.specs.declared.report.Report.{Report}
 use Rattle.builder.specs.declared.report.Report.TheVariants.{Success, Failed, Refused, Fault}
-use Rattle.builder.specs.Answers.{unread}
+use Rattle.builder.specs.Answers.{Looked, unread}
+use Rattle.builder.specs.Asked.{AreTargets}
+use Rattle.graph.specs.Linked.{path_at}
+use Rattle.builder.specs.Taken.{IsTaken, IsFirstNotTaken}
+use Rattle.graph.specs.Targets.{IsFirstUnknown}
+use Rattle.builder.specs.WellFormed.{IsGraph}
 
 -- the name .nj_tick
 abbrev pub tick_name : List ℕ
@@ -32,33 +38,58 @@ tick_file (c ∷ folder) = (c ∷ folder) ++ 47 ∷ tick_name
 abbrev pub no_logs : LogFormat
 no_logs = record { records = λ text. None; deps = λ text. None }
 
--- the default targets are built, one command at a time, and nothing is started after a failed one
-abbrev pub asked_of : BuildGraph → Asked
-asked_of graph = record { graph = graph; declared = graph.edges; targets = []; jobs = 1; keep = 1 }
+-- these canonical targets are built, one command at a time, and nothing is started after a failed one
+abbrev pub asked_of : BuildGraph → List (List ℕ) → Asked
+asked_of graph targets = record { graph = graph; declared = graph.edges; targets = targets; jobs = 1; keep = 1 }
 
-abbrev pub task_for : BuildGraph → Task
-task_for graph = task_of (asked_of graph) no_records
+abbrev pub task_for : BuildGraph → List (List ℕ) → Task
+task_for graph targets = task_of (asked_of graph targets) no_records
 
 abbrev pub missing_answer : List ℕ → Option (List ℕ) → Answer
 missing_answer path None = answer.MissingTarget path
 missing_answer path (Some output) = answer.MissingInput path output
 
--- the answer that a report gives; none where the build files have a fault
-abbrev pub answer_of : Report → Option Answer
-answer_of (Success started) = Some (answer.Success started)
-answer_of (Failed outputs) = Some (answer.Failed outputs)
-answer_of (Refused (File fault)) = None
-answer_of (Refused (MadeTwice path)) = Some (answer.MadeTwice path)
-answer_of (Refused (UnknownTarget target)) = Some (answer.Unknown target)
-answer_of (Refused (Cycle paths)) = Some (answer.Cyclic paths)
-answer_of (Refused (Missing missing)) = Some (missing_answer missing.path missing.needed_by)
-answer_of (Fault fault) = Some (answer.Fault fault)
+-- a target as it was given, and its canonical path, which is the first that no build line names
+pub record IsUnknown (edges : List Edge) (given targets : List (List ℕ)) (text path : List ℕ) : Type 0 where
+  pub place : ℕ
+  pub first : IsFirstUnknown edges targets place
+  pub text_is : text ≡ path_at given place
+  pub path_is : path ≡ path_at targets place
+
+-- the report gives this answer, where targets were given so and have these canonical paths; none where the build files have a
+-- fault
+abbrev pub Says : List Edge → List (List ℕ) → List (List ℕ) → Report → Answer → Type 0
+Says edges given targets (Success started) said = said ≡ answer.Success started
+Says edges given targets (Failed outputs) said = said ≡ answer.Failed outputs
+Says edges given targets (Refused (File fault)) said = ⊥
+Says edges given targets (Refused (MadeTwice path)) said = said ≡ answer.MadeTwice path
+Says edges given targets (Refused (NoDyndepInput path)) said = said ≡ answer.NoDyndepInput path
+Says edges given targets (Refused (NotTaken path)) said = (said ≡ answer.Refused) × IsFirstNotTaken edges path
+Says edges given targets (Refused (UnknownTarget target)) said = (path : List ℕ) × (said ≡ answer.Unknown path) × IsUnknown edges given targets target path
+Says edges given targets (Refused (Cycle paths)) said = said ≡ answer.Cyclic paths
+Says edges given targets (Refused (Missing missing)) said = said ≡ missing_answer missing.path missing.needed_by
+Says edges given targets (Fault fault) said = said ≡ answer.Fault fault
+
+-- something in the graph is not taken yet: the site was only looked at, and the report is that, or want of memory
+pub record IsNotTaken (tells : Bool) (edges : List Edge) (old new : World) (report : Report) : Type 0 where
+  pub path : List ℕ
+  pub first : IsFirstNotTaken edges path
+  pub says : (report ≡ Refused (NotTaken path)) ⊎ (report ≡ Fault Memory)
+  pub looks : OnlyLooks tells old new
 
 -- the graph was built, and the report says how
-pub record Builds (tells : Bool) (B : Behaviour) (own : OwnFiles) (graph : BuildGraph) (old new : World) (report : Report) : Type 0 where
+pub record Builds (tells : Bool) (B : Behaviour) (own : OwnFiles) (graph : BuildGraph) (given targets : List (List ℕ)) (old new : World) (report : Report) : Type 0 where
+  pub taken : IsTaken graph.edges ⊎ IsNotTaken tells graph.edges old new report
   pub answer : Answer
-  pub said : answer_of report ≡ Some answer
-  pub build : SingleBuild tells B no_logs own (asked_of graph) old new answer
+  pub said : Says graph.edges given targets report answer
+  pub build : SingleBuild tells B no_logs own (asked_of graph targets) old new answer
+
+-- it was built from an entry on, since which there was only looked, for any own files of the program that the file of the
+-- ticks belongs to
+abbrev pub BuildsFor : Bool → BuildGraph → List (List ℕ) → List (List ℕ) → World → World → Report → Type 0
+BuildsFor tells graph given targets old new report =
+    (B : Behaviour) (own : OwnFiles) (entry : World) → own.files (tick_file graph.builddir) ≡ true → IsIdle entry.events → Looked tells entry old
+    → Builds tells B own graph given targets entry new report
 
 -- commands run at the exit only under a fault
 abbrev pub IsIdleButAtFault : World → Report → Type 0
@@ -67,7 +98,8 @@ IsIdleButAtFault new (Failed outputs) = IsIdle new.events
 IsIdleButAtFault new (Refused refusal) = IsIdle new.events
 IsIdleButAtFault new (Fault fault) = Unit {0}
 
--- the files were not read: the site was only looked at, and the report is of the reader's error
+-- the files were not read, or there was no memory for what was asked: the site was only looked at, and the report is of the
+-- reader's error, or of such a one
 pub record IsUnread (tells : Bool) (name : List ℕ) (old new : World) (report : Report) : Type 0 where
   pub error : ReadError
   pub is : report ≡ unread error
@@ -77,12 +109,15 @@ pub record IsUnread (tells : Bool) (name : List ℕ) (old new : World) (report :
 
 -- The file of this name was read, and the graph that it declares was built: for any own files of the program that the file
 -- of the ticks belongs to, whatever depfiles say, as no edge has one.
-pub record IsBuilt (tells : Bool) (outcome : Act → View → Outcome) (name : List ℕ) (old new : World) (report : Report) : Type 0 where
+pub record IsBuilt (tells : Bool) (outcome : Act → View → Outcome) (name : List ℕ) (given : List (List ℕ)) (old new : World) (report : Report) : Type 0 where
   pub graph : BuildGraph
-  pub stage : IsFirstStage graph
+  pub formed : IsGraph graph
   pub file : IsTrue tells → ReadsFile name old.history new.history (Ok graph)
+  -- the canonical paths of the targets
+  pub targets : List (List ℕ)
+  pub canonical : AreTargets given targets
   pub builds : (own : OwnFiles) (depfile : List ℕ → Option (List (List ℕ))) → own.files (tick_file graph.builddir) ≡ true
-      → Builds tells (record { outcome = outcome; depfile = depfile }) own graph old new report
+      → Builds tells (record { outcome = outcome; depfile = depfile }) own graph given targets old new report
 
-abbrev pub IsBuild : Bool → (Act → View → Outcome) → List ℕ → World → World → Report → Type 0
-IsBuild tells outcome name old new report = IsUnread tells name old new report ⊎ IsBuilt tells outcome name old new report
+abbrev pub IsBuild : Bool → (Act → View → Outcome) → List ℕ → List (List ℕ) → World → World → Report → Type 0
+IsBuild tells outcome name given old new report = IsUnread tells name old new report ⊎ IsBuilt tells outcome name given old new report

@@ -1,13 +1,12 @@
 pub mod Answers
+pub mod Asked
 pub mod Build
-pub mod Cone
-pub mod ConeOf
 pub mod Cut
 pub mod Ended
-pub mod Linked
 pub mod Missing
-pub mod Numbers
 pub mod Plan
 pub mod PlanOf
 pub mod Planned
 pub mod Run
+pub mod Taken
+pub mod WellFormed

@@ -1,7 +1,7 @@
--- What a plan says next, by the standing of each edge.
-use Rattle.std.specs.Prelude.{◌≡◌, ℕ, ◌<◌, ◌==◌, nat_lt, ◌&&◌, ◌||◌, Bool, true, false, List, [], Option, Some, None, length, slice_get, slice_index_or, count_by, map}
+-- What a plan says next, by the standing of each command and what is settled.
+use Rattle.std.specs.Prelude.{◌≡◌, ℕ, ◌<◌, ◌==◌, nat_lt, ◌&&◌, ◌||◌, Bool, true, false, List, [], ◌∷◌, Option, Some, None, length, slice_get, slice_index_or, slice_set, count_by, filter}
 use Rattle.std.specs.List.{list_all}
-use Rattle.builder.specs.declared.graph.Links.{Links}
+use Rattle.graph.specs.declared.graph.Links.{Links}
 use Rattle.builder.specs.declared.plan.Standing.{Standing}
 use Rattle.builder.specs.declared.plan.Standing.TheVariants.{Outside, Unjudged, Clean, OutOfDate, Running, Well, Failed}
 use Rattle.builder.specs.declared.plan.Verdict.{Verdict}
@@ -10,8 +10,9 @@ use Rattle.builder.specs.declared.plan.End.{End}
 use Rattle.builder.specs.declared.plan.End.TheVariants as ending
 use Rattle.builder.specs.declared.plan.Step.{Step}
 use Rattle.builder.specs.declared.plan.Step.TheVariants.{Judge, Start, Wait, Ended}
-use Rattle.builder.specs.declared.cone.Mark.{Mark}
-use Rattle.builder.specs.declared.cone.Mark.TheVariants.{Unseen, Open, Listed}
+use Rattle.graph.specs.declared.cone.Mark.{Mark}
+use Rattle.graph.specs.declared.cone.Mark.TheVariants.{Unseen, Open, Listed}
+use Rattle.graph.specs.Cone.{mark_at}
 
 -- an edge past the end is not in the cone
 abbrev pub standing_at : List Standing → ℕ → Standing
@@ -62,27 +63,42 @@ is_well Running = false
 is_well Well = true
 is_well Failed = false
 
--- what the edge makes is there: it was judged clean, or its command ended well
-abbrev pub is_settled : Standing → Bool
-is_settled Outside = false
-is_settled Unjudged = false
-is_settled Clean = true
-is_settled OutOfDate = false
-is_settled Running = false
-is_settled Well = true
-is_settled Failed = false
+-- ---- what is settled
 
-abbrev pub maker_settled : List Standing → Option ℕ → Bool
-maker_settled standings None = true
-maker_settled standings (Some e) = is_settled (standing_at standings e)
+-- whether what the edge makes is there
+abbrev pub settled_at : List Bool → ℕ → Bool
+settled_at settled e = slice_index_or settled e false
+
+abbrev pub maker_settled : List Bool → Option ℕ → Bool
+maker_settled settled None = true
+maker_settled settled (Some e) = settled_at settled e
 
 -- no edge makes the path, or its maker is settled
-abbrev pub path_settled : Links → List Standing → ℕ → Bool
-path_settled links standings p = maker_settled standings (slice_get links.makers.items p)
+abbrev pub path_settled : Links → List Bool → ℕ → Bool
+path_settled links settled p = maker_settled settled (slice_get links.makers.items p)
 
--- the edge is not judged, and all that it needs is settled
-abbrev pub may_judge : Links → List Standing → ℕ → Bool
-may_judge links standings e = is_unjudged (standing_at standings e) && list_all (path_settled links standings) (slice_index_or links.inputs.items e [])
+-- all that the edge waits for is settled
+abbrev pub inputs_settled : Links → List Bool → ℕ → Bool
+inputs_settled links settled e = list_all (path_settled links settled) (slice_index_or links.inputs.items e [])
+
+-- an alias of the graph: an edge with no command
+abbrev pub is_alias : Links → ℕ → Bool
+is_alias links e = slice_index_or links.phony.items e false
+
+-- the aliases among these edges
+abbrev pub aliases_in : Links → List ℕ → List ℕ
+aliases_in links edges = filter (is_alias links) edges
+
+-- each alias in turn is settled where all that it waits for is
+abbrev pub with_aliases : Links → List ℕ → List Bool → List Bool
+with_aliases links [] settled = settled
+with_aliases links (e ∷ es) settled = with_aliases links es (slice_set settled e (settled_at settled e || inputs_settled links settled e))
+
+-- ---- what is next
+
+-- the edge is not judged, and all that it waits for is settled
+abbrev pub may_judge : Links → List Bool → List Standing → ℕ → Bool
+may_judge links settled standings e = is_unjudged (standing_at standings e) && inputs_settled links settled e
 
 -- fewer commands run than may, and fewer have failed; 0 is no limit
 abbrev pub has_room : ℕ → ℕ → List Standing → Bool
@@ -97,8 +113,8 @@ pub record IsFirst (test : ℕ → Bool) (count e : ℕ) : Type 0 where
 abbrev pub NonePasses : (ℕ → Bool) → ℕ → Type 0
 NonePasses test count = (k : ℕ) → k < count → test k ≡ false
 
-abbrev pub NoneToJudge : Links → List Standing → Type 0
-NoneToJudge links standings = NonePasses (may_judge links standings) (length standings)
+abbrev pub NoneToJudge : Links → List Bool → List Standing → Type 0
+NoneToJudge links settled standings = NonePasses (may_judge links settled standings) (length standings)
 
 abbrev pub may_start : List Standing → ℕ → Bool
 may_start standings e = is_out_of_date (standing_at standings e)
@@ -112,11 +128,11 @@ EndsSo standings ending.Failed = 0 < count_by is_failed standings
 
 -- A judgement goes before a start, and the lowest edge before others; nothing is waited for, and nothing ends, where
 -- something may be judged or started.
-abbrev pub IsNext : Links → ℕ → ℕ → List Standing → Step → Type 0
-IsNext links jobs keep standings (Judge e) = IsFirst (may_judge links standings) (length standings) e
-IsNext links jobs keep standings (Start e) = NoneToJudge links standings × (has_room jobs keep standings ≡ true) × IsFirst (may_start standings) (length standings) e
-IsNext links jobs keep standings Wait = NoneToJudge links standings × NoneToStart jobs keep standings × (0 < count_by is_running standings)
-IsNext links jobs keep standings (Ended end) = NoneToJudge links standings × NoneToStart jobs keep standings × (count_by is_running standings ≡ 0) × EndsSo standings end
+abbrev pub IsNext : Links → List Bool → ℕ → ℕ → List Standing → Step → Type 0
+IsNext links settled jobs keep standings (Judge e) = IsFirst (may_judge links settled standings) (length standings) e
+IsNext links settled jobs keep standings (Start e) = NoneToJudge links settled standings × (has_room jobs keep standings ≡ true) × IsFirst (may_start standings) (length standings) e
+IsNext links settled jobs keep standings Wait = NoneToJudge links settled standings × NoneToStart jobs keep standings × (0 < count_by is_running standings)
+IsNext links settled jobs keep standings (Ended end) = NoneToJudge links settled standings × NoneToStart jobs keep standings × (count_by is_running standings ≡ 0) × EndsSo standings end
 
 abbrev pub standing_by : Verdict → Standing
 standing_by verdict.Clean = Clean
@@ -126,13 +142,27 @@ abbrev pub standing_after : Bool → Standing
 standing_after true = Well
 standing_after false = Failed
 
--- where an edge stands before the first judgement
-abbrev pub first_standing : Mark → Standing
-first_standing Unseen = Outside
-first_standing Open = Outside
-first_standing Listed = Unjudged
+-- where an edge stands before the first judgement; one without a command is never judged
+abbrev pub first_standing : Mark → Bool → Standing
+first_standing Unseen phony = Outside
+first_standing Open phony = Outside
+first_standing Listed true = Outside
+first_standing Listed false = Unjudged
+
+-- each edge stands as it does before the first judgement
+pub record AreFirst (marks : List Mark) (phony : List Bool) (standings : List Standing) : Type 0 where
+  pub fits : length standings ≡ length marks
+  pub stands : (e : ℕ) → standing_at standings e ≡ first_standing (mark_at marks e) (slice_index_or phony e true)
+
+abbrev pub is_fresh : Standing → Bool
+is_fresh Outside = true
+is_fresh Unjudged = true
+is_fresh Clean = false
+is_fresh OutOfDate = false
+is_fresh Running = false
+is_fresh Well = false
+is_fresh Failed = false
 
 -- no edge was judged yet
-pub record IsFresh (standings : List Standing) : Type 0 where
-  pub marks : List Mark
-  pub is : standings ≡ map first_standing marks
+abbrev pub IsFresh : List Standing → Type 0
+IsFresh standings = (e : ℕ) → is_fresh (standing_at standings e) ≡ true

@@ -6,4 +6,4 @@ use Rattle.builder.specs.Planned.{IsPlanned}
 
 -- the plan is that of the task after these steps
 abbrev pub IsPlanOf : Task → Plan → List Done → Type 0
-IsPlanOf task plan steps = IsPlanned task plan.links.now plan.jobs plan.keep plan.standings.items steps
+IsPlanOf task plan steps = IsPlanned task plan.links.now plan.aliases.items plan.jobs plan.keep plan.standings.items plan.settled.items steps

@@ -16,7 +16,6 @@ pub enum Cut {
 }
 
 impl Cut {
-    /// The fault itself.
     pub fn fault(self) -> SiteFault
         ensures { result ≡ fault_of self }
     {

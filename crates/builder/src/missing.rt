@@ -1,26 +1,96 @@
 //! Whether a path is absent that no edge makes.
 
-ghost use Rattle.std.specs.Prelude.{◌≡◌, ◌≢◌, suc, ◌<◌, true, List, Some, None, map, IfOk, IsTrue, length, vec_len, slice_index, EachIndex, MatchOption};
-ghost use Rattle.model.specs.declared.event.Moment.{Moment};
+ghost use Rattle.std.specs.Prelude.{◌≡◌, ◌≢◌, ◌↔◌, ℕ, Bool, suc, ◌<◌, true, List, Some, None, map, IfOk, length, vec_len, slice_index, EachIndex, MatchOption};
+ghost use Rattle.model.specs.declared.graph.BuildGraph.{BuildGraph};
 ghost use Rattle.model.specs.Calls.{OnlyLooks};
 ghost use Rattle.model.specs.World.{file_at};
-ghost use Rattle.model.specs.Graph.{edge_at, first_output};
+ghost use Rattle.model.specs.Graph.{edge_at, first_output, targets_of};
+ghost use Rattle.model.specs.OutOfDate.{IsMissing};
+ghost use Rattle.model.specs.Records.{recorded_inputs};
+ghost use Rattle.laws.specs.Order.{no_records};
 ghost use Rattle.builder.specs.Answers.{Causes};
-ghost use Rattle.builder.specs.Cone.{inputs_at, is_listed, mark_at};
-ghost use Rattle.builder.specs.Linked.{IsGraphOf, path_at, paths_of};
-ghost use Rattle.builder.specs.Missing.{AreThere, IsClearOf, IsFirstAbsent, IsAbsent, IsFoundOfMarked, IsPassedBy, IsToAsk, NoneAbsent, StaysAt};
+ghost use Rattle.graph.specs.Cone.{inputs_at};
+ghost use Rattle.graph.specs.Linked.{IsGraphOf, IsGraphFor, IsConeOf, path_at, paths_of};
+ghost use Rattle.graph.specs.Targets.{IsConeFor};
+ghost use Rattle.builder.specs.Missing.{AreDue, AreRequested, AreThere, HaveOutputs, IfStays, IsClearOf, IsFirstAbsent, IsAbsent, IsFound, IsFoundOfDue, IsMissingOf, IsPassedBy, IsToAsk, NoneAbsent, due_at};
 
-use crate::cone::Cone;
-use crate::graph::Graph;
+use crate::due::{due_edges, is_absent};
 use crate::report::Missing;
-use model::{Edge, SiteFault};
+use graph::{Cone, Graph};
+use model::{BuildGraph, Edge, SiteFault};
 use site::Site;
 use std::alloc::{AllocError, Global};
 use text::{Items, Path};
 
-/// The first source of an edge of the cone that is absent, in the order of edges and of their inputs. Each source is
-/// asked for once; a path that only edges outside the cone need is not asked for.
+/// The first requested path that is missing, else the first missing input of the lowest due edge of the cone, in the order
+/// of its lists. A path that only other edges need is not asked for.
 pub fn first_missing<S: Site>(
+    alloc: Global,
+    site: &mut S,
+    whole: &BuildGraph,
+    graph: &Graph<'_>,
+    cone: &Cone,
+    targets: &[Path],
+) -> Result<Option<Missing>, SiteFault>
+    requires graph { IsGraphFor whole.now graph.now }
+    requires cone { IsConeFor whole.now (recorded_inputs no_records whole.now.edges) targets.now cone.now }
+    requires outputs { HaveOutputs whole.now.edges }
+    ensures looks { OnlyLooks S.tells (S.world site.old) (S.world site.new) }
+    ensures cause { Causes (S.world site.old) (S.world site.new) result }
+    ensures found { IfOk result (λ found. IfStays S.tells (S.world site.old) (S.world site.new) (λ files. IsFound whole.now.edges (targets_of whole.now targets.now) files found)) }
+{
+    match missing_target(site, graph, requested(whole, targets))? {
+        Some(target) => Ok(Some(Missing {
+            path: target.clone()?,
+            needed_by: None,
+        })),
+        None => missing_of_cone(alloc, site, whole.edges.as_slice(), graph, cone),
+    }
+}
+
+/// The targets, or else the declared defaults. What is built where there are none is made by edges.
+fn requested<'a>(whole: &'a BuildGraph, targets: &'a [Path]) -> &'a [Path]
+    ensures { AreRequested whole.now targets.now result.now }
+{
+    if targets.is_empty() {
+        whole.defaults.as_slice()
+    } else {
+        targets
+    }
+}
+
+/// The first of these paths that is missing.
+fn missing_target<'a, S: Site>(
+    site: &mut S,
+    graph: &Graph<'_>,
+    targets: &'a [Path],
+) -> Result<Option<&'a Path>, SiteFault>
+    ensures looks { OnlyLooks S.tells (S.world site.old) (S.world site.new) }
+    ensures cause { Causes (S.world site.old) (S.world site.new) result }
+    ensures found { IfOk result (λ found. (whole : BuildGraph) → IsGraphFor whole graph.now → IfStays S.tells (S.world site.old) (S.world site.new) (λ files. IsMissingOf whole.edges files targets.now found)) }
+{
+    for target in targets {
+        if is_missing(site, graph, target.as_str())? {
+            return Ok(Some(target));
+        }
+    }
+    Ok(None)
+}
+
+/// Whether the path is absent and no edge makes it.
+fn is_missing<S: Site>(site: &mut S, graph: &Graph<'_>, path: &str) -> Result<bool, SiteFault>
+    ensures looks { OnlyLooks S.tells (S.world site.old) (S.world site.new) }
+    ensures cause { Causes (S.world site.old) (S.world site.new) result }
+    ensures missing { IfOk result (λ is. (whole : BuildGraph) → IsGraphFor whole graph.now → IfStays S.tells (S.world site.old) (S.world site.new) (λ files. (is ≡ true) ↔ IsMissing whole.edges files path.now)) }
+{
+    match graph.maker_of(path) {
+        Some(_) => Ok(false),
+        None => is_absent(site, path),
+    }
+}
+
+/// The first missing input of the lowest due edge of the cone that has one. Each source is asked for once.
+fn missing_of_cone<S: Site>(
     alloc: Global,
     site: &mut S,
     edges: &[Edge],
@@ -28,39 +98,58 @@ pub fn first_missing<S: Site>(
     cone: &Cone,
 ) -> Result<Option<Missing>, SiteFault>
     requires graph { IsGraphOf edges.now (paths_of graph.now) graph.now.links }
-    requires marks { vec_len cone.now.marks ≡ length edges.now }
+    requires cone { (targets : List (List ℕ)) × IsConeOf edges.now (recorded_inputs no_records edges.now) targets cone.now.order.items cone.now.marks.items }
+    requires outputs { HaveOutputs edges.now }
     ensures looks { OnlyLooks S.tells (S.world site.old) (S.world site.new) }
     ensures cause { Causes (S.world site.old) (S.world site.new) result }
-    ensures found { IfOk result (λ found. IsTrue S.tells → (files : List Moment) → StaysAt files (S.world site.old) (S.world site.new) → IsFoundOfMarked edges.now cone.now.marks.items files found) }
+    ensures found { IfOk result (λ found. IfStays S.tells (S.world site.old) (S.world site.new) (λ files. (due : List Bool) × AreDue edges.now files cone.now.order.items due × IsFoundOfDue edges.now due files found)) }
+{
+    let due = due_edges(alloc, site, edges, graph, cone)?;
+    missing_of_due(alloc, site, edges, graph, &due)
+}
+
+/// The first missing input of the lowest of these edges that has one.
+fn missing_of_due<S: Site>(
+    alloc: Global,
+    site: &mut S,
+    edges: &[Edge],
+    graph: &Graph<'_>,
+    due: &[bool],
+) -> Result<Option<Missing>, SiteFault>
+    requires graph { IsGraphOf edges.now (paths_of graph.now) graph.now.links }
+    requires fits { length due.now ≡ length edges.now }
+    ensures looks { OnlyLooks S.tells (S.world site.old) (S.world site.new) }
+    ensures cause { Causes (S.world site.old) (S.world site.new) result }
+    ensures found { IfOk result (λ found. IfStays S.tells (S.world site.old) (S.world site.new) (λ files. IsFoundOfDue edges.now due.now files found)) }
 {
     let mut asked = vec![in alloc; false; graph.paths.len()]?;
     for (number, edge) in edges.iter().enumerate() {
-        if let Some(path) = missing_of_edge(site, graph, cone, number, &mut asked)? {
+        if let Some(path) = missing_of_edge(site, graph, due, number, &mut asked)? {
             return Ok(Some(missing(alloc, path, edge)?));
         }
     }
     Ok(None)
 }
 
-/// The first absent source of an edge that was not asked for yet, where the edge is in the cone.
+/// The first absent source of an edge that was not asked for yet, where the edge is due.
 fn missing_of_edge<'a, S: Site>(
     site: &mut S,
     graph: &Graph<'a>,
-    cone: &Cone,
+    due: &[bool],
     edge: usize,
     asked: &mut [bool],
 ) -> Result<Option<&'a str>, SiteFault>
     requires edges { edge < vec_len graph.now.links.inputs }
-    requires marks { edge < vec_len cone.now.marks }
+    requires fits { edge < length due.now }
     requires numbered { EachIndex (inputs_at graph.now.links edge) (λ k. slice_index (inputs_at graph.now.links edge) k < length (paths_of graph.now)) }
     requires places { length asked.old ≡ length (paths_of graph.now) }
     ensures looks { OnlyLooks S.tells (S.world site.old) (S.world site.new) }
     ensures cause { Causes (S.world site.old) (S.world site.new) result }
     ensures places { length asked.new ≡ length asked.old }
-    ensures found { IfOk result (λ found. IsTrue S.tells → (files : List Moment) → StaysAt files (S.world site.old) (S.world site.new) → AreThere graph.now files asked.old →
-        MatchOption found (AreThere graph.now files asked.new × IsClearOf graph.now files cone.now.marks.items edge) (λ text. (is_listed (mark_at cone.now.marks.items edge) ≡ true) × IsFirstAbsent graph.now files (inputs_at graph.now.links edge) text.now)) }
+    ensures found { IfOk result (λ found. IfStays S.tells (S.world site.old) (S.world site.new) (λ files. AreThere graph.now files asked.old →
+        MatchOption found (AreThere graph.now files asked.new × IsClearOf graph.now files due.now edge) (λ text. (due_at due.now edge ≡ true) × IsFirstAbsent graph.now files (inputs_at graph.now.links edge) text.now))) }
 {
-    if cone.has(edge) {
+    if due[edge] {
         missing_input(site, graph, graph.links.inputs[edge].as_slice(), asked)
     } else {
         Ok(None)
@@ -79,8 +168,8 @@ fn missing_input<'a, S: Site>(
     ensures looks { OnlyLooks S.tells (S.world site.old) (S.world site.new) }
     ensures cause { Causes (S.world site.old) (S.world site.new) result }
     ensures places { length asked.new ≡ length asked.old }
-    ensures found { IfOk result (λ found. IsTrue S.tells → (files : List Moment) → StaysAt files (S.world site.old) (S.world site.new) → AreThere graph.now files asked.old →
-        MatchOption found (AreThere graph.now files asked.new × NoneAbsent graph.now files inputs.now (length inputs.now)) (λ text. IsFirstAbsent graph.now files inputs.now text.now)) }
+    ensures found { IfOk result (λ found. IfStays S.tells (S.world site.old) (S.world site.new) (λ files. AreThere graph.now files asked.old →
+        MatchOption found (AreThere graph.now files asked.new × NoneAbsent graph.now files inputs.now (length inputs.now)) (λ text. IsFirstAbsent graph.now files inputs.now text.now))) }
 {
     for path in inputs {
         if let Some(text) = ask(site, graph, *path, asked)? {
@@ -102,8 +191,8 @@ fn ask<'a, S: Site>(
     ensures looks { OnlyLooks S.tells (S.world site.old) (S.world site.new) }
     ensures cause { Causes (S.world site.old) (S.world site.new) result }
     ensures places { length asked.new ≡ length asked.old }
-    ensures found { IfOk result (λ found. IsTrue S.tells → (files : List Moment) → StaysAt files (S.world site.old) (S.world site.new) → AreThere graph.now files asked.old →
-        MatchOption found (AreThere graph.now files asked.new × (IsAbsent graph.now files path → ⊥)) (λ text. IsAbsent graph.now files path × (text.now ≡ path_at (paths_of graph.now) path))) }
+    ensures found { IfOk result (λ found. IfStays S.tells (S.world site.old) (S.world site.new) (λ files. AreThere graph.now files asked.old →
+        MatchOption found (AreThere graph.now files asked.new × (IsAbsent graph.now files path → ⊥)) (λ text. IsAbsent graph.now files path × (text.now ≡ path_at (paths_of graph.now) path)))) }
 {
     match text_to_ask(graph, path, asked) {
         Some(text) => missing_text(site, text),
@@ -115,8 +204,8 @@ fn ask<'a, S: Site>(
 fn missing_text<'a, S: Site>(site: &mut S, path: &'a str) -> Result<Option<&'a str>, SiteFault>
     ensures looks { OnlyLooks S.tells (S.world site.old) (S.world site.new) }
     ensures cause { Causes (S.world site.old) (S.world site.new) result }
-    ensures found { IfOk result (λ found. IsTrue S.tells → (files : List Moment) → StaysAt files (S.world site.old) (S.world site.new) →
-        MatchOption found (file_at files path.now ≢ None) (λ text. (file_at files path.now ≡ None) × (text.now ≡ path.now))) }
+    ensures found { IfOk result (λ found. IfStays S.tells (S.world site.old) (S.world site.new) (λ files.
+        MatchOption found (file_at files path.now ≢ None) (λ text. (file_at files path.now ≡ None) × (text.now ≡ path.now)))) }
 {
     match site.stat(path)? {
         Some(_) => Ok(None),

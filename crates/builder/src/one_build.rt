@@ -1,29 +1,32 @@
 //! One build.
 
-ghost use Rattle.std.specs.Prelude.{◌≡◌, true, List, IfOk, IfErr, OnErr, [], string_bytes, length, vec_len, map, suc};
+ghost use Rattle.std.specs.Prelude.{◌≡◌, ◌⊎◌, ℕ, true, List, IfOk, IfErr, OnErr, [], string_bytes, length, map, suc};
 ghost use Rattle.model.specs.declared.graph.Edge.{Edge};
-ghost use Rattle.model.specs.declared.graph.BuildGraph.{BuildGraph};
 ghost use Rattle.model.specs.World.{World, IsIdle};
-ghost use Rattle.model.specs.Outcome.{Behaviour};
-ghost use Rattle.model.specs.Records.{OwnFiles};
+ghost use Rattle.model.specs.Graph.{first_output};
+ghost use Rattle.model.specs.Records.{OwnFiles, recorded_inputs};
 ghost use Rattle.model.specs.Schedule.{Task, Step as Done, IsLawful, failed_in};
-ghost use Rattle.manifest.specs.FirstStage.{IsFirstStage};
+ghost use Rattle.laws.specs.Order.{no_records};
 ghost use Rattle.builder.specs.Plan.{IsFresh};
 ghost use Rattle.builder.specs.PlanOf.{IsPlanOf};
-ghost use Rattle.builder.specs.Linked.{paths_of};
+ghost use Rattle.graph.specs.Linked.{path_at, paths_of, IsGraphFor};
+ghost use Rattle.graph.specs.Targets.{IsConeFor};
 ghost use Rattle.builder.specs.Run.{IsAt, IsNoted, Suits, IsCut};
-ghost use Rattle.builder.specs.Answers.{Answers, Reports, unread, ungraphed, Uncut};
+ghost use Rattle.builder.specs.Answers.{Answers, Looked, Reports, unread, ungraphed, Uncut};
 ghost use Rattle.builder.specs.Cut.{Cuts, IsLeft, report_of};
-ghost use Rattle.builder.specs.Build.{tick_file, task_for, Builds, IsBuild, IsIdleButAtFault};
-ghost use Rattle.builder.specs.Ended.{Looked, IsGraphFor, IsDefaultCone, IsNoCone, ReportsSteps, HasRun};
+ghost use Rattle.builder.specs.Build.{tick_file, task_for, BuildsFor, IsBuild, IsIdleButAtFault};
+ghost use Rattle.builder.specs.Ended.{ReportsSteps, HasRun};
+ghost use Rattle.builder.specs.Taken.{IsTaken};
+ghost use Rattle.builder.specs.WellFormed.{IsGraph};
 
-use crate::cone::{Cone, ConeFault};
 use crate::cut::Cut;
-use crate::graph::{Graph, GraphFault};
-use crate::missing::{first_missing, first_outputs};
+use crate::missing::{first_missing, first_output, first_outputs};
 use crate::plan::{End, Plan};
 use crate::report::{Options, Refusal, Report};
 use crate::run::{end_after_fault, run};
+use crate::taken::first_not_taken;
+use crate::targets::Targets;
+use graph::{Cone, ConeFault, Graph, GraphFault};
 use manifest::{Manifest, ReadError};
 use model::{Edge, SiteFault};
 use site::Site;
@@ -33,15 +36,20 @@ use text::Text;
 /// The file that gets a new stamp before each start.
 const TICK: &str = ".nj_tick";
 
-/// Builds the targets, or the default ones where none is given.
-pub fn build<S: Site>(alloc: Global, site: &mut S, options: &Options, _targets: &[Text]) -> Report
+/// Builds the targets, or the default ones where none is given (manual: "Default target statements").
+///
+/// A refusal has started and written nothing. `NotTaken` goes before every other refusal of the graph.
+pub fn build<S: Site>(alloc: Global, site: &mut S, options: &Options, targets: &[Text]) -> Report
     requires { IsIdle (S.world site.old).events }
     ensures answers { (edges : List Edge) × Answers S.tells edges (S.world site.old) (S.world site.new) result }
     ensures idle { IsIdleButAtFault (S.world site.new) result }
-    ensures build { IsBuild S.tells S.outcome options.now.file (S.world site.old) (S.world site.new) result }
+    ensures build { IsBuild S.tells S.outcome options.now.file targets.now (S.world site.old) (S.world site.new) result }
 {
     match manifest::read(alloc, site, options.file.as_str()) {
-        Ok(manifest) => build_manifest(alloc, site, &manifest),
+        Ok(manifest) => match Targets::new(alloc, targets) {
+            Ok(targets) => build_manifest(alloc, site, &manifest, &targets),
+            Err(_) => Report::Fault(SiteFault::Memory),
+        },
         Err(error) => not_read(error),
     }
 }
@@ -57,14 +65,49 @@ fn not_read(error: ReadError) -> Report
     }
 }
 
-/// Builds what a manifest declares.
-fn build_manifest<S: Site>(alloc: Global, site: &mut S, manifest: &Manifest) -> Report
-    requires { IsIdle (S.world site.old).events }
+/// Builds what a manifest declares, where all of that is taken.
+fn build_manifest<S: Site>(
+    alloc: Global,
+    site: &mut S,
+    manifest: &Manifest,
+    targets: &Targets<'_>,
+) -> Report
+    requires idle { IsIdle (S.world site.old).events }
+    requires formed { IsGraph manifest.now }
     ensures answers { Answers S.tells manifest.now.edges (S.world site.old) (S.world site.new) result }
-    ensures builds { (B : Behaviour) (own : OwnFiles) (entry : World) → IsFirstStage manifest.now → own.files (tick_file manifest.now.builddir) ≡ true → IsIdle entry.events → Looked S.tells entry (S.world site.old) → Builds S.tells B own manifest.now entry (S.world site.new) result }
+    ensures builds { BuildsFor S.tells manifest.now targets.now.given.now targets.now.paths (S.world site.old) (S.world site.new) result }
 {
-    match Graph::build(alloc, manifest.edges.as_slice()) {
-        Ok(graph) => build_graph(alloc, site, manifest, &graph),
+    match first_not_taken(manifest.edges.as_slice()) {
+        Some(edge) => not_taken(alloc, edge),
+        None => build_taken(alloc, site, manifest, targets),
+    }
+}
+
+/// The report of an edge that has something which is not taken yet.
+fn not_taken(alloc: Global, edge: &Edge) -> Report
+    ensures { (result ≡ Report.Refused (Refusal.NotTaken (first_output edge.now))) ⊎ (result ≡ Report.Fault SiteFault.Memory) }
+{
+    match first_output(alloc, edge) {
+        Ok(path) => Report::Refused(Refusal::NotTaken(path)),
+        Err(_) => Report::Fault(SiteFault::Memory),
+    }
+}
+
+/// Builds a graph that is taken.
+fn build_taken<S: Site>(
+    alloc: Global,
+    site: &mut S,
+    manifest: &Manifest,
+    targets: &Targets<'_>,
+) -> Report
+    requires idle { IsIdle (S.world site.old).events }
+    requires formed { IsGraph manifest.now }
+    requires taken { IsTaken manifest.now.edges }
+    ensures answers { Answers S.tells manifest.now.edges (S.world site.old) (S.world site.new) result }
+    ensures builds { BuildsFor S.tells manifest.now targets.now.given.now targets.now.paths (S.world site.old) (S.world site.new) result }
+{
+    match Graph::build(alloc, manifest) {
+        Ok(graph) => build_graph(alloc, site, manifest, &graph, targets),
         Err(fault) => no_graph(fault),
     }
 }
@@ -76,47 +119,61 @@ fn no_graph(fault: GraphFault) -> Report
     match fault {
         GraphFault::Memory => Report::Fault(SiteFault::Memory),
         GraphFault::MadeTwice(path) => Report::Refused(Refusal::MadeTwice(path)),
+        GraphFault::NoDyndepInput(path) => Report::Refused(Refusal::NoDyndepInput(path)),
     }
 }
 
-/// Builds the default targets of a graph.
+/// Builds the targets of a graph.
 fn build_graph<S: Site>(
     alloc: Global,
     site: &mut S,
     manifest: &Manifest,
     graph: &Graph<'_>,
+    targets: &Targets<'_>,
 ) -> Report
     requires idle { IsIdle (S.world site.old).events }
-    requires graph { IsGraphFor manifest.now.edges graph.now }
+    requires formed { IsGraph manifest.now }
+    requires taken { IsTaken manifest.now.edges }
+    requires graph { IsGraphFor manifest.now graph.now }
     ensures answers { Answers S.tells manifest.now.edges (S.world site.old) (S.world site.new) result }
-    ensures builds { (B : Behaviour) (own : OwnFiles) (entry : World) → IsFirstStage manifest.now → own.files (tick_file manifest.now.builddir) ≡ true → IsIdle entry.events → Looked S.tells entry (S.world site.old) → Builds S.tells B own manifest.now entry (S.world site.new) result }
+    ensures builds { BuildsFor S.tells manifest.now targets.now.given.now targets.now.paths (S.world site.old) (S.world site.new) result }
 {
-    match default_cone(alloc, graph) {
-        Ok(cone) => build_cone(alloc, site, manifest, graph, &cone),
-        Err(fault) => no_cone(alloc, graph, fault),
+    match graph.cone(alloc, targets.paths.as_slice()) {
+        Ok(cone) => build_cone(alloc, site, manifest, graph, &cone, targets),
+        Err(fault) => no_cone(alloc, graph, targets.given, fault),
     }
 }
 
-/// The edges that the default targets need.
-fn default_cone(alloc: Global, graph: &Graph<'_>) -> Result<Cone, ConeFault>
-    ensures marks { IfOk result (λ cone. vec_len cone.marks ≡ vec_len graph.now.links.inputs) }
-    ensures cone { IfOk result (λ cone. (whole : BuildGraph) → IsFirstStage whole → IsGraphFor whole.edges graph.now → IsDefaultCone whole cone) }
-    ensures fault { IfErr result (λ fault. (whole : BuildGraph) → IsFirstStage whole → IsGraphFor whole.edges graph.now → IsNoCone whole (paths_of graph.now) fault) }
-{
-    let requested = graph.links.default_edges(alloc)?;
-    Cone::of(alloc, &graph.links, &requested)
-}
-
-/// The report of a graph whose default targets have no cone.
-fn no_cone(alloc: Global, graph: &Graph<'_>, fault: ConeFault) -> Report
-    ensures { Uncut (paths_of graph.now) fault result }
+/// The report of a graph in which the targets have no cone.
+fn no_cone(alloc: Global, graph: &Graph<'_>, given: &[Text], fault: ConeFault) -> Report
+    ensures { Uncut given.now (paths_of graph.now) fault result }
 {
     match fault {
         ConeFault::Memory => Report::Fault(SiteFault::Memory),
+        ConeFault::Unknown(place) => unknown_target(alloc, given, place),
         ConeFault::Cycle(numbers) => match graph.paths_at(alloc, numbers.as_slice()) {
             Ok(paths) => Report::Refused(Refusal::Cycle(paths)),
             Err(_) => Report::Fault(SiteFault::Memory),
         },
+    }
+}
+
+/// The report of the target at this place, which no build line names.
+fn unknown_target(alloc: Global, given: &[Text], place: usize) -> Report
+    ensures { (result ≡ Report.Refused (Refusal.UnknownTarget (path_at given.now place))) ⊎ (result ≡ Report.Fault SiteFault.Memory) }
+{
+    match target_at(alloc, given, place) {
+        Ok(target) => Report::Refused(Refusal::UnknownTarget(target)),
+        Err(_) => Report::Fault(SiteFault::Memory),
+    }
+}
+
+fn target_at(alloc: Global, given: &[Text], place: usize) -> Result<Text, AllocError>
+    ensures { IfOk result (λ target. target ≡ path_at given.now place) }
+{
+    match given.get(place) {
+        Some(target) => target.clone(),
+        None => Ok(Text::new(alloc)),
     }
 }
 
@@ -127,14 +184,17 @@ fn build_cone<S: Site>(
     manifest: &Manifest,
     graph: &Graph<'_>,
     cone: &Cone,
+    targets: &Targets<'_>,
 ) -> Report
     requires idle { IsIdle (S.world site.old).events }
-    requires graph { IsGraphFor manifest.now.edges graph.now }
-    requires marks { vec_len cone.now.marks ≡ length manifest.now.edges }
+    requires formed { IsGraph manifest.now }
+    requires taken { IsTaken manifest.now.edges }
+    requires graph { IsGraphFor manifest.now graph.now }
+    requires cone { IsConeFor manifest.now (recorded_inputs no_records manifest.now.edges) targets.now.paths cone.now }
     ensures answers { Answers S.tells manifest.now.edges (S.world site.old) (S.world site.new) result }
-    ensures builds { (B : Behaviour) (own : OwnFiles) (entry : World) → IsFirstStage manifest.now → own.files (tick_file manifest.now.builddir) ≡ true → IsDefaultCone manifest.now cone.now → IsIdle entry.events → Looked S.tells entry (S.world site.old) → Builds S.tells B own manifest.now entry (S.world site.new) result }
+    ensures builds { BuildsFor S.tells manifest.now targets.now.given.now targets.now.paths (S.world site.old) (S.world site.new) result }
 {
-    match first_missing(alloc, site, manifest.edges.as_slice(), graph, cone) {
+    match first_missing(alloc, site, manifest, graph, cone, targets.paths.as_slice()) {
         Ok(None) => run_cone(alloc, site, manifest, graph, cone),
         Ok(Some(missing)) => Report::Refused(Refusal::Missing(missing)),
         Err(fault) => Report::Fault(fault),
@@ -150,10 +210,11 @@ fn run_cone<S: Site>(
     cone: &Cone,
 ) -> Report
     requires idle { IsIdle (S.world site.old).events }
-    requires graph { IsGraphFor manifest.now.edges graph.now }
-    requires marks { vec_len cone.now.marks ≡ length manifest.now.edges }
+    requires taken { IsTaken manifest.now.edges }
+    requires graph { IsGraphFor manifest.now graph.now }
+    requires cone { (targets : List (List ℕ)) × IsConeFor manifest.now (recorded_inputs no_records manifest.now.edges) targets cone.now }
     ensures answers { Answers S.tells manifest.now.edges (S.world site.old) (S.world site.new) result }
-    ensures ran { (own : OwnFiles) (entry : World) → IsFirstStage manifest.now → own.files (tick_file manifest.now.builddir) ≡ true → IsDefaultCone manifest.now cone.now → IsIdle entry.events → Looked S.tells entry (S.world site.old) → HasRun S.tells own (task_for manifest.now) entry (S.world site.new) result }
+    ensures ran { (targets : List (List ℕ)) (own : OwnFiles) (entry : World) → IsConeFor manifest.now (recorded_inputs no_records manifest.now.edges) targets cone.now → own.files (tick_file manifest.now.builddir) ≡ true → IsIdle entry.events → Looked S.tells entry (S.world site.old) → HasRun S.tells own (task_for manifest.now targets) entry (S.world site.new) result }
 {
     let edges = manifest.edges.as_slice();
     match set_up(alloc, manifest, graph, cone) {
@@ -179,11 +240,13 @@ fn set_up<'a>(
     graph: &'a Graph<'_>,
     cone: &Cone,
 ) -> Result<(String, Plan<'a>), AllocError>
-    requires { vec_len cone.now.marks ≡ vec_len graph.now.links.inputs }
-    ensures fits { IfOk result (λ found. length found.1.standings.items ≡ vec_len cone.now.marks) }
+    requires taken { IsTaken manifest.now.edges }
+    requires graph { IsGraphFor manifest.now graph.now }
+    requires cone { (targets : List (List ℕ)) × IsConeFor manifest.now (recorded_inputs no_records manifest.now.edges) targets cone.now }
+    ensures fits { IfOk result (λ found. length found.1.standings.items ≡ length manifest.now.edges) }
     ensures fresh { IfOk result (λ found. IsFresh found.1.standings.items) }
     ensures tick { IfOk result (λ found. string_bytes found.0 ≡ tick_file manifest.now.builddir) }
-    ensures planned { IfOk result (λ found. IsFirstStage manifest.now → IsGraphFor manifest.now.edges graph.now → IsDefaultCone manifest.now cone.now → IsPlanOf (task_for manifest.now) found.1 []) }
+    ensures planned { IfOk result (λ found. (targets : List (List ℕ)) → IsConeFor manifest.now (recorded_inputs no_records manifest.now.edges) targets cone.now → IsPlanOf (task_for manifest.now targets) found.1 []) }
 {
     let tick = tick_path(alloc, &manifest.builddir)?;
     let plan = Plan::new(alloc, &graph.links, cone, 1, 1)?;

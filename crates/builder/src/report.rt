@@ -24,7 +24,12 @@ pub enum Refusal {
     File(FileFault),
     /// A path is an output of two edges, or twice one of the same edge.
     MadeTwice(Path),
-    /// No build statement names the target.
+    /// A dyndep file is none of the inputs of an edge that names it.
+    NoDyndepInput(Path),
+    /// The edge with this first output has something that is not taken yet: a response file, a pool, a depfile, `restat`
+    /// or a dyndep file.
+    NotTaken(Path),
+    /// No build statement names the target; it stands here as it was given.
     UnknownTarget(Text),
     /// Edges need one another in a circle. The paths lead round it.
     Cycle(Items<Path>),
@@ -40,11 +45,24 @@ impl fmt::Display for Refusal {
                 write!(f, "N{number}: {fault}")
             }
             Refusal::MadeTwice(path) => write!(f, "N17: '{path}' is made twice"),
+            Refusal::NoDyndepInput(path) => write!(f, "N53: dyndep '{path}' is not an input"),
+            Refusal::NotTaken(path) => write!(f, "N70: '{path}' is not taken yet"),
             Refusal::UnknownTarget(target) => write!(f, "N30: unknown target '{target}'"),
-            Refusal::Cycle(_) => write!(f, "N31: dependency cycle"),
+            Refusal::Cycle(paths) => write_cycle(f, paths.as_slice()),
             Refusal::Missing(missing) => write!(f, "N32: {missing}"),
         }
     }
+}
+
+/// Writes the paths round a cycle, as `a -> b -> a`.
+fn write_cycle<W: fmt::Write>(f: &mut fmt::Formatter<W>, paths: &[Path]) -> fmt::Result {
+    write!(f, "N31: dependency cycle")?;
+    let mut mark = ": ";
+    for path in paths {
+        write!(f, "{mark}{path}")?;
+        mark = " -> ";
+    }
+    Ok(())
 }
 
 impl Error for Refusal {}

@@ -8,11 +8,21 @@ use text::Text;
 
 const RULES: &str = "rule cat\n  command = cat $out $in\nrule fail\n  command = fail $out $in\n";
 
-/// The report of one build of these edges, and the site as it left it.
+/// The report of one build of what these edges make by default, and the site as it left it.
 fn build_once(
     alloc: Global,
     edges: &str,
     source: Option<&str>,
+) -> Result<(Report, Sim<Toy>), AllocError> {
+    build_targets(alloc, edges, source, &[])
+}
+
+/// The report of one build of these targets, and the site as it left it.
+fn build_targets(
+    alloc: Global,
+    edges: &str,
+    source: Option<&str>,
+    targets: &[&str],
 ) -> Result<(Report, Sim<Toy>), AllocError> {
     let file = format!(in alloc; "{RULES}{edges}")?;
     let mut site = Sim::new(alloc, Toy);
@@ -25,8 +35,25 @@ fn build_once(
         jobs: 4,
         keep: 1,
     };
-    let report = build(alloc, &mut site, &options, &[]);
+    let mut given = Vec::new(alloc);
+    for target in targets {
+        given.push(Text::from_str(alloc, target)?)?;
+    }
+    let report = build(alloc, &mut site, &options, &given);
     Ok((report, site))
+}
+
+/// The text of the refusal of a build of these targets.
+fn refusal(
+    alloc: Global,
+    edges: &str,
+    source: Option<&str>,
+    targets: &[&str],
+) -> Result<String, AllocError> {
+    match build_targets(alloc, edges, source, targets)?.0 {
+        Report::Refused(refusal) => format!(in alloc; "{refusal}"),
+        other => format!(in alloc; "{other:?}"),
+    }
 }
 
 #[test]
@@ -78,11 +105,8 @@ fn an_absent_source_is_named(rt: HostRuntime) -> Result<(), Fail> {
 
 #[test]
 fn a_cycle_and_a_second_maker_are_refused(rt: HostRuntime) -> Result<(), Fail> {
-    let (report, _) = build_once(rt.alloc(), "build a: cat b\nbuild b: cat a\n", None)?;
-    assert!(rt;
-        matches!(report, Report::Refused(Refusal::Cycle(_))),
-        "{report:?}"
-    );
+    let text = refusal(rt.alloc(), "build a: cat b\nbuild b: cat a\n", None, &[])?;
+    assert_eq!(rt; text.as_str(), "N31: dependency cycle: a -> b -> a");
     let (report, _) = build_once(rt.alloc(), "build b: cat a\nbuild c b: cat a\n", Some("a"))?;
     match report {
         Report::Refused(Refusal::MadeTwice(path)) => assert_eq!(rt; path.as_str(), "b"),
@@ -98,6 +122,53 @@ fn a_cycle_outside_the_cone_is_no_refusal(rt: HostRuntime) -> Result<(), Fail> {
         "build p: cat q\nbuild q: cat p\nbuild b: cat a\n",
         Some("a"),
     )?;
+    assert!(rt;
+        matches!(report, Report::Success { started: 1 }),
+        "{report:?}"
+    );
+    Ok(())
+}
+
+#[test]
+fn only_what_the_targets_need_is_built(rt: HostRuntime) -> Result<(), Fail> {
+    let edges = "build b: cat a\nbuild c: cat b\nbuild d: cat a\n";
+    let (report, site) = build_targets(rt.alloc(), edges, Some("a"), &["x/../b", "a"])?;
+    assert!(rt;
+        matches!(report, Report::Success { started: 1 }),
+        "{report:?}"
+    );
+    assert!(rt; site.content("b").is_some());
+    assert!(rt; site.content("d").is_none());
+    Ok(())
+}
+
+#[test]
+fn a_target_that_no_build_line_names_is_shown_as_given(rt: HostRuntime) -> Result<(), Fail> {
+    let edges = "build b: cat a\n";
+    let text = refusal(rt.alloc(), edges, Some("a"), &["b", "./z", "y"])?;
+    assert_eq!(rt; text.as_str(), "N30: unknown target './z'");
+    let text = refusal(rt.alloc(), edges, Some("a"), &[""])?;
+    assert_eq!(rt; text.as_str(), "N30: unknown target ''");
+    Ok(())
+}
+
+#[test]
+fn an_absent_target_goes_before_an_absent_input(rt: HostRuntime) -> Result<(), Fail> {
+    let edges = "build b: cat a\nbuild c: cat d\n";
+    let text = refusal(rt.alloc(), edges, None, &["b", "d"])?;
+    assert_eq!(rt; text.as_str(), "N32: 'd' is missing and no rule makes it");
+    let text = refusal(rt.alloc(), edges, None, &["c", "b"])?;
+    assert_eq!(rt;
+        text.as_str(),
+        "N32: 'a', needed by 'b', is missing and no rule makes it"
+    );
+    Ok(())
+}
+
+#[test]
+fn a_missing_source_outside_the_cone_is_no_refusal(rt: HostRuntime) -> Result<(), Fail> {
+    let edges = "build b: cat a\nbuild c: cat d\n";
+    let (report, _) = build_targets(rt.alloc(), edges, Some("a"), &["b"])?;
     assert!(rt;
         matches!(report, Report::Success { started: 1 }),
         "{report:?}"

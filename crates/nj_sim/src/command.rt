@@ -25,8 +25,14 @@ pub enum Command<'a> {
     Delete {
         path: &'a str,
     },
-    /// `build`: what the build file asks for by default is built.
-    Build,
+    /// `build TARGET..`: the targets are built, each one word as it stands, or what the build file asks for by default.
+    Build {
+        targets: Option<&'a str>,
+    },
+    /// `-j N`: from now on so many commands may run at once; 0 is no limit.
+    Jobs(u32),
+    /// `-k N`: from now on nothing is started after so many failed commands; 0 is no limit.
+    Keep(u32),
     /// `show PATH`: what the file holds is printed.
     Show {
         path: &'a str,
@@ -47,7 +53,12 @@ impl<'a> Command<'a> {
     fn parse(line: &'a [u8]) -> Option<Command<'a>> {
         let (word, rest) = first_word(line);
         match (str::from_utf8(word).ok()?, rest) {
-            ("build", None) => Some(Command::Build),
+            ("build", None) => Some(Command::Build { targets: None }),
+            ("build", Some(rest)) => Some(Command::Build {
+                targets: Some(words(rest)?),
+            }),
+            ("-j", Some(rest)) => Some(Command::Jobs(number(rest)?)),
+            ("-k", Some(rest)) => Some(Command::Keep(number(rest)?)),
             ("file", Some(rest)) => Some(Command::File {
                 path: lone_path(rest)?,
             }),
@@ -81,6 +92,22 @@ fn lone_path(word: &[u8]) -> Option<&str> {
         return None;
     }
     str::from_utf8(word).ok()
+}
+
+/// Words with one space between them.
+fn words(rest: &[u8]) -> Option<&str> {
+    if rest.split(|byte| *byte == b' ').any(|word| word.is_empty()) {
+        return None;
+    }
+    str::from_utf8(rest).ok()
+}
+
+/// A number of decimal digits alone.
+fn number(word: &[u8]) -> Option<u32> {
+    if !word.iter().all(|byte| byte.is_ascii_digit()) {
+        return None;
+    }
+    str::from_utf8(word).ok()?.parse::<u32>().ok()
 }
 
 /// The bytes that a text stands for: `\n` is a newline and `\\` a backslash. Before anything else a backslash stands.

@@ -104,7 +104,9 @@ impl Run {
             Command::File { path } => self.begin_file(path)?,
             Command::Write { path, text } => self.write(path, text)?,
             Command::Delete { path } => self.site.erase(path)?,
-            Command::Build => self.build(writer)?,
+            Command::Build { targets } => self.build(writer, targets)?,
+            Command::Jobs(jobs) => self.options.jobs = jobs,
+            Command::Keep(keep) => self.options.keep = keep,
             Command::Show { path } => print_file(writer, path, self.site.content(path)).map_err(
                 ScriptFault::of_writer,
             )?,
@@ -151,14 +153,30 @@ impl Run {
     /// Builds, and prints what happened in this build and how it ended.
     ///
     /// A command whose end found no memory in an earlier build runs still. No build begins then.
-    fn build<W: Write>(&mut self, writer: &mut W) -> Result<(), ScriptFault> {
+    fn build<W: Write>(
+        &mut self,
+        writer: &mut W,
+        targets: Option<&str>,
+    ) -> Result<(), ScriptFault> {
         if !is_idle(self.alloc, self.site.events())? {
             return Err(ScriptFault::Memory);
         }
+        let targets = words(self.alloc, targets)?;
         let before = self.site.events().len();
-        let report = build(self.alloc, &mut self.site, &self.options, &[]);
+        let report = build(self.alloc, &mut self.site, &self.options, &targets);
         let events = self.site.events().get(before..).unwrap_or_default();
         print_events(self.alloc, writer, events).map_err(ScriptFault::of_writer)?;
         print_report(writer, &report).map_err(ScriptFault::of_writer)
     }
+}
+
+/// The words of the targets; none where none are given.
+fn words(alloc: Global, targets: Option<&str>) -> Result<Vec<Text>, AllocError> {
+    let mut words = Vec::new(alloc);
+    if let Some(targets) = targets {
+        for word in targets.split(' ') {
+            words.push(Text::from_str(alloc, word)?)?;
+        }
+    }
+    Ok(words)
 }

@@ -45,30 +45,67 @@ build
 
 const FAILING_COMMAND_PRINTED: &str = "start fail b a\nfail fail b a\nfailed b\n";
 
+const TARGETS: &str = "file build.ninja
+|rule cat
+|  command = cat $out $in
+|build b: cat a
+|build c: cat b a
+write a x
+-j 2
+-k 0
+build a
+build ./b
+build c z
+";
+
+const TARGETS_PRINTED: &str =
+    "success 0\nstart cat b a\nend cat b a\nsuccess 1\nrefused N30: unknown target 'z'\n";
+
+const CYCLE: &str = "file build.ninja
+|rule cat
+|  command = cat $out $in
+|build b: cat a
+|build h: cat o
+|build o: cat h b
+write a x
+build b
+build
+";
+
+const CYCLE_PRINTED: &str = "start cat b a\nend cat b a\nsuccess 1\n\
+refused N31: dependency cycle: h -> o -> h\n";
+
 /// Scripts with what they print. Each ends with status 0.
-const ROWS: [(&str, &str); 5] = [
+const ROWS: [(&str, &str); 7] = [
     ("", ""),
     ("file build.ninja\nbuild\n", "success 0\n"),
     (TWO_COMMANDS, TWO_COMMANDS_PRINTED),
     (ABSENT_SOURCE, ABSENT_SOURCE_PRINTED),
     (FAILING_COMMAND, FAILING_COMMAND_PRINTED),
+    (TARGETS, TARGETS_PRINTED),
+    (CYCLE, CYCLE_PRINTED),
 ];
 
 /// Lines that are no command.
-const BAD_LINES: [&[u8]; 13] = [
+const BAD_LINES: [&[u8]; 18] = [
     b"",
     b" ",
     b"|x",
-    b"build x",
     b"build ",
-    b"-j 1",
+    b"build a  b",
+    b"build a ",
+    b"-j",
+    b"-j ",
+    b"-j +1",
+    b"-j 4294967296",
+    b"-k one",
     b"show",
     b"show ",
     b"show a b",
     b"write",
     b"write ",
     b"delete \xff",
-    b"file a\r\n|x\nbuild \r",
+    b"file a\r\n|x\nbuild\r",
 ];
 
 #[test]

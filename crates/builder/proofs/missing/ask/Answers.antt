@@ -2,7 +2,7 @@ use Rattle.std.proofs.Common.{◌≡◌, ◌≢◌, List, IsTrue, None, MatchOpt
 use Rattle.std.proofs.lemmas.Result.{IfOk-weaker}
 use Rattle.model.specs.declared.event.Moment.{Moment}
 use Rattle.model.specs.World.{file_at}
-use Rattle.builder.specs.Linked.{paths_of, path_at}
+use Rattle.graph.specs.Linked.{paths_of, path_at}
 use Rattle.builder.specs.Missing.{AreThere, IsAbsent, StaysAt}
 use Rattle.builder.proofs.Sources.{asked_text}
 use Rattle.builder.proofs.missing.ask.Goals as goal

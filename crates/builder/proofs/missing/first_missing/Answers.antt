@@ -1,48 +1,34 @@
-use Rattle.std.proofs.Common.{◌≡◌, Bool, List, Some, length, ◌∙◌, ap, sym, subst, arith}
-use Rattle.std.proofs.lemmas.List.{get_or_read}
+use Rattle.std.proofs.Common.{◌≡◌, List, ℕ, Option, None, Some, sym, ◌∙◌, subst}
+use Rattle.std.specs.Borrow.{Bor}
 use Rattle.model.specs.declared.graph.Edge.{Edge}
-use Rattle.model.specs.Graph.{first_output, no_edge}
-use Rattle.builder.specs.Missing.{AreThere}
+use Rattle.model.specs.Graph.{targets_of}
+use Rattle.model.specs.OutOfDate.{IsFirstMissing}
+use Rattle.builder.specs.Missing.{AreDue, IsFoundOfDue, IsMissingOf}
 use Rattle.builder.proofs.Calls.{looks_then}
-use Rattle.builder.proofs.Sources.{written_back, one_edge, first_edge, none_below, first_of_marked}
+use Rattle.builder.proofs.Slices.{if_ok_then}
+use Rattle.builder.proofs.Stays.{stays_parts}
+use Rattle.builder.proofs.Wanted.{first_of_targets, none_of_targets, found_of}
 use Rattle.builder.proofs.missing.first_missing.Goals as goal
 
-pub returns-in_err-path-clause-looks : goal.returns-in_err-path-clause-looks
-returns-in_err-path-clause-looks g c = looks_then g.S.Texts.tells (g.S.Texts.world c.args.site.now) (g.S.Texts.world c.loop-number.site) (g.S.Texts.world c.missing_of_edge.new.site) c.loop-number.invariant.looks c.missing_of_edge.ensures.looks
+pub returns-in_ok-clone-in-Some-clause-found : goal.returns-in_ok-clone-in-Some-clause-found
+returns-in_ok-clone-in-Some-clause-found g c told files stays =
+    let whole = c.args.whole.now in
+    first_of_targets whole c.args.targets.now c.requested.result.now files c.in_ok-clone-in-Some.field-0 c.requested.ensures
+    (subst (IsFirstMissing whole.edges files c.requested.result.now) (sym {A = List ℕ} c.in_ok-clone-in-Some.ensures.cases)
+    (subst (IsMissingOf whole.edges files c.requested.result.now) c.in-Some.is (c.in_ok-target.ensures.found whole c.requires.graph told files stays)))
 
-pub returns-in-Some-clause-looks : goal.returns-in-Some-clause-looks
-returns-in-Some-clause-looks g c = looks_then g.S.Texts.tells (g.S.Texts.world c.args.site.now) (g.S.Texts.world c.loop-number.site) (g.S.Texts.world c.missing_of_edge.new.site) c.loop-number.invariant.looks c.missing_of_edge.ensures.looks
+pub returns-in-None-clause-looks : goal.returns-in-None-clause-looks
+returns-in-None-clause-looks g c = looks_then g.S.Texts.tells (g.S.Texts.world c.args.site.now) (g.S.Texts.world c.missing_target.new.site) (g.S.Texts.world c.missing_of_cone.new.site) c.in_ok-target.ensures.looks c.missing_of_cone.ensures.looks
 
-pub loop-number-preserved : goal.loop-number-preserved
-loop-number-preserved g c =
-    let whole : length c.missing_of_edge.new.asked ≡ length c.loop-number.asked.items = c.missing_of_edge.ensures.places ∙ ap length c.deref_mut.ensures.value in
-    let written = written_back c.loop-number.asked.items c.missing_of_edge.new.asked c.loop-number.asked.len (omega (arith, c.loop-number.asked.ok.0)) whole in
-    record {
-      looks = looks_then g.S.Texts.tells (g.S.Texts.world c.args.site.now) (g.S.Texts.world c.loop-number.site) (g.S.Texts.world c.missing_of_edge.new.site) c.loop-number.invariant.looks c.missing_of_edge.ensures.looks;
-      failures = omega arith;
-      places = ap length written ∙ (whole ∙ c.loop-number.invariant.places);
-      found = λ told files stays.
-          let now = one_edge g.S.Texts.tells c.args.graph.now c.args.cone.now.marks.items c.loop-number.asked.items c.deref_mut.result.now c.missing_of_edge.new.asked c.loop-number.number
-          (g.S.Texts.world c.args.site.now) (g.S.Texts.world c.loop-number.site) (g.S.Texts.world c.missing_of_edge.new.site) c.loop-number.invariant.looks c.missing_of_edge.ensures.looks c.deref_mut.ensures.value c.loop-number.invariant.found
-          c.in_ok-path.field-0 (cc) c.in_ok-path.ensures.found told files stays in
-          (subst (AreThere c.args.graph.now files) (sym {A = List Bool} written) now.0, now.1);
-    }
-
-pub returns-in_err-missing-clause-looks : goal.returns-in_err-missing-clause-looks
-returns-in_err-missing-clause-looks g c = looks_then g.S.Texts.tells (g.S.Texts.world c.args.site.now) (g.S.Texts.world c.loop-number.site) (g.S.Texts.world c.missing_of_edge.new.site) c.loop-number.invariant.looks c.missing_of_edge.ensures.looks
-
-pub missing_of_edge-requires-clause-places : goal.missing_of_edge-requires-clause-places
-missing_of_edge-requires-clause-places g c = ap length c.deref_mut.ensures.value ∙ c.loop-number.invariant.places
-
-pub returns-in-Some-clause-found : goal.returns-in-Some-clause-found
-returns-in-Some-clause-found g c told files stays =
-    let found = first_edge g.S.Texts.tells c.args.graph.now c.args.cone.now.marks.items c.loop-number.asked.items c.deref_mut.result.now c.missing_of_edge.new.asked c.loop-number.number
-    (g.S.Texts.world c.args.site.now) (g.S.Texts.world c.loop-number.site) (g.S.Texts.world c.missing_of_edge.new.site) c.loop-number.invariant.looks c.missing_of_edge.ensures.looks c.deref_mut.ensures.value c.loop-number.invariant.found
-    c.in_ok-path.field-0 c.in-Some.path (cc) c.in_ok-path.ensures.found told files stays in
-    first_of_marked c.args.edges.now c.args.graph.now c.args.cone.now.marks.items files c.requires.graph c.loop-number.number c.in-Some.path.now c.in_ok-missing.field-0 found.0 found.1 found.2 c.in_ok-missing.ensures.path
-    (c.in_ok-missing.ensures.needed_by ∙ ap (λ (e : Edge). Some (first_output e)) (get_or_read c.args.edges.now c.loop-number.number c.index-edges-number.result (omega arith) c.index-edges-number.is no_edge))
-
-pub returns-clause-found : goal.returns-clause-found
-returns-clause-found g c told files stays =
-    none_below c.args.edges.now c.args.graph.now c.args.cone.now.marks.items files c.requires.graph (length c.args.edges.now)
-    (λ e lt. (c.loop-number.invariant.found told files stays).1 e (omega (arith, lt)))
+pub returns-in-None-clause-found : goal.returns-in-None-clause-found
+returns-in-None-clause-found g c =
+    let whole = c.args.whole.now in
+    let targets = c.args.targets.now in
+    let cone = c.args.cone.now in
+    if_ok_then c.missing_of_cone.result c.missing_of_cone.ensures.found (λ found seen told files stays.
+    let parts = stays_parts g.S.Texts.tells files (g.S.Texts.world c.args.site.now) (g.S.Texts.world c.missing_target.new.site) (g.S.Texts.world c.missing_of_cone.new.site) c.in_ok-target.ensures.looks c.missing_of_cone.ensures.looks told stays in
+    let due = seen told files parts.1 in
+    found_of whole.edges (targets_of whole targets) cone.order.items cone.marks.items files c.requires.cone.listed
+    (none_of_targets whole targets c.requested.result.now files c.requested.ensures
+    (subst (IsMissingOf whole.edges files c.requested.result.now) c.in-None.is (c.in_ok-target.ensures.found whole c.requires.graph told files parts.0)))
+    due.0 (subst (λ (l : List Edge). AreDue l files cone.order.items due.0) c.as_slice.ensures due.1) found (subst (λ (l : List Edge). IsFoundOfDue l due.0 files found) c.as_slice.ensures due.2))

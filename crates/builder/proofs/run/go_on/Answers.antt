@@ -9,7 +9,7 @@ use Rattle.builder.proofs.run.go_on.Goals as goal
 pub returns-in-Judge-clause-kept : goal.returns-in-Judge-clause-kept
 returns-in-Judge-clause-kept g c entry idle at =
     subst (λ (ss : List Standing). IsAt c.args.edges.now ss entry (g.S.Texts.world c.args.site.now)) (sym {A = List Standing} c.judged.ensures.standings)
-    (at_judged c.args.edges.now c.args.plan.now.standings.items entry (g.S.Texts.world c.args.site.now) c.in-Judge.number OutOfDate at c.in-Judge.ensures.next.within (judged_course c.args.plan.now.links.now c.args.plan.now.standings.items c.in-Judge.number c.in-Judge.ensures.next.passes) refl)
+    (at_judged c.args.edges.now c.args.plan.now.standings.items entry (g.S.Texts.world c.args.site.now) c.in-Judge.number OutOfDate at c.in-Judge.ensures.next.within (judged_course c.args.plan.now.links.now c.args.plan.now.settled.items c.args.plan.now.standings.items c.in-Judge.number c.in-Judge.ensures.next.passes) refl)
 
 pub returns-in-Ok-clause-noted : goal.returns-in-Ok-clause-noted
 returns-in-Ok-clause-noted g c =

@@ -1,0 +1,27 @@
+-- Which graphs are taken so far: those without response files, pools, depfiles, `restat` and dyndep files.
+use Rattle.std.specs.Prelude.{◌≡◌, ℕ, false, List, [], ◌∷◌, ◌++◌, None}
+use Rattle.std.specs.List.{AllByRecursion}
+use Rattle.model.specs.declared.graph.Edge.{Edge}
+use Rattle.model.specs.Graph.{first_output}
+
+-- the edge has nothing that is not taken yet
+pub record IsTakenEdge (edge : Edge) : Type 0 where
+  pub depfile : edge.act.depfile ≡ []
+  pub response_path : edge.act.response_path ≡ []
+  pub response_content : edge.act.response_content ≡ []
+  pub pool : edge.pool ≡ None
+  pub dyndep : edge.dyndep ≡ None
+  pub restat : edge.restat ≡ false
+
+abbrev pub IsTaken : List Edge → Type 0
+IsTaken edges = AllByRecursion IsTakenEdge edges
+
+-- the first output of the lowest edge that has something which is not taken yet
+pub record IsFirstNotTaken (edges : List Edge) (path : List ℕ) : Type 0 where
+  pub before : List Edge
+  pub edge : Edge
+  pub after : List Edge
+  pub splits : edges ≡ before ++ edge ∷ after
+  pub earlier : IsTaken before
+  pub not_taken : IsTakenEdge edge → ⊥
+  pub is : path ≡ first_output edge
