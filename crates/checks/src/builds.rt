@@ -50,7 +50,8 @@ fn refusal(
     source: Option<&str>,
     targets: &[&str],
 ) -> Result<String, AllocError> {
-    match build_targets(alloc, edges, source, targets)?.0 {
+    let (report, _) = build_targets(alloc, edges, source, targets)?;
+    match report {
         Report::Refused(refusal) => format!(in alloc; "{refusal}"),
         other => format!(in alloc; "{other:?}"),
     }
