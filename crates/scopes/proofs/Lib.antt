@@ -2,6 +2,6 @@ mod Growth
 mod Lists
 mod Back
 mod Keeping
-pub mod Walking
-pub mod Valuing
+mod Walking
+mod Valuing
 mod Knowing

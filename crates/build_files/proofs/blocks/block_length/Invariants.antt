@@ -1,7 +1,0 @@
-use Rattle.std.proofs.Common.{◌≡◌, ◌+◌, map, drop}
-use Rattle.lexer.specs.Said.{said_of}
-use Rattle.build_files.specs.Blocks.{lines_in_front}
-use Rattle.build_files.proofs.blocks.block_length.Given as goal
-
-abbrev pub invariant-loop-count : goal.invariant-loop-count
-invariant-loop-count l = lines_in_front (map said_of l.lines) ≡ l.count + lines_in_front (map said_of (drop l.count l.lines))

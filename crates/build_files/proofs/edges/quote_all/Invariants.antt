@@ -1,6 +1,0 @@
-use Rattle.std.proofs.Common.{◌≡◌, map, take}
-use Rattle.lexer.specs.Quote.{quoted}
-use Rattle.build_files.proofs.edges.quote_all.Given as goal
-
-abbrev pub invariant-loop-path : goal.invariant-loop-path
-invariant-loop-path l = l.words ≡ map quoted (take l.path-index l.paths)
