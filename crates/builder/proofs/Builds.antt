@@ -1,5 +1,5 @@
 -- What one build has come to, in the words of its contract.
-use Rattle.std.proofs.Common.{◌≡◌, ◌⊎◌, inl, inr, ℕ, zero, suc, ◌≤◌, ◌<◌, Bool, true, false, bytes_eq, ◌∷◌, IsTrue, List, [], ◌++◌, Option, Some, None, map, length, Result, Err, append_assoc, refl, sym, ◌∙◌, ap, subst, arith}
+use Rattle.std.proofs.Common.{◌≡◌, ◌⊎◌, inl, inr, ℕ, zero, suc, ◌≤◌, ◌<◌, Bool, true, false, bytes_eq, ◌∷◌, IsTrue, List, [], ◌++◌, Option, Some, None, map, length, Result, Err, refl, sym, ◌∙◌, ap, subst, arith}
 use Rattle.model.specs.declared.graph.BuildGraph.{BuildGraph}
 use Rattle.model.specs.declared.event.Event.{Event}
 use Rattle.model.specs.declared.event.Moment.{Moment}
@@ -15,9 +15,6 @@ use Rattle.model.specs.Records.{OwnFiles, store_in, read_log, recorded_inputs}
 use Rattle.model.specs.Schedule.{Task, Step as Done, Judged, IsSettled, clean_in, started_in, well_in, failed_in, running_in, done_in}
 use Rattle.model.specs.SingleBuild as answer
 use Rattle.model.specs.SingleBuild.{Asked, Answer, IsSuccess, WentOn, InCone, IsScheduled, IsShownCycle, IsInOrder, HasEnded, IsAnswer, SingleBuild}
-use Rattle.manifest.specs.Answer.{ReadsFile, IsAnswerOf}
-use Rattle.manifest.specs.declared.fault.ReadError.{ReadError}
-use Rattle.manifest.specs.declared.fault.ReadError.TheVariants as read
 use Rattle.std.proofs.lemmas.Bool.{false≢true, or_left}
 use Rattle.laws.specs.Order.{no_records}
 use Rattle.laws.proofs.Lists.{has-left, has-right, bytes_same}
@@ -43,7 +40,7 @@ use Rattle.graph.specs.Linked.{path_at, IsFaultOf}
 use Rattle.graph.specs.Targets.{IsFirstUnknown, IsConeFor, IsNoCone}
 use Rattle.builder.specs.Missing.{IsFound, IsMissingFor, StaysAt}
 use Rattle.builder.specs.Taken.{IsTaken, IsFirstNotTaken}
-use Rattle.builder.specs.WellFormed.{IsGraph}
+use Rattle.manifest.specs.Answer.{IsGraph}
 use Rattle.builder.proofs.Formed.{no_empty_output, have_outputs, no_depfile, names_no_other}
 use Rattle.builder.proofs.Slices.{suc_has}
 
@@ -264,30 +261,6 @@ stays_at_entry tells entry old new exit later idle looked looks grows tell edits
   where
     edits_new : NothingIsEdited entry.history new.history
     edits_new = edits_before entry.history new.history exit later grows edits
-
--- ---- the file that was read
-
--- what was so at some moment of a call was so at some moment of a longer one
-pub reads_more : (name : List ℕ) (old mid new later : List Moment) (result : Result BuildGraph ReadError) → new ≡ mid ++ later → ReadsFile name old mid result → ReadsFile name old new result
-reads_more name old mid new later result grows reads = record {
-  content = reads.content;
-  seen = record {
-    earlier = reads.seen.earlier;
-    later = reads.seen.later ++ later;
-    grows = grows ∙ (ap (λ (l : List Moment). l ++ later) reads.seen.grows
-        ∙ (append_assoc old (reads.seen.earlier ++ reads.seen.later) later ∙ ap (λ (l : List Moment). old ++ l) (append_assoc reads.seen.earlier reads.seen.later later)));
-    is = reads.seen.is;
-  };
-  answer = reads.answer;
-}
-
--- the files were read, and then memory was refused
-pub reads_nothing : (name : List ℕ) (old new : List Moment) (result : Result BuildGraph ReadError) → ReadsFile name old new result → ReadsFile name old new (Err read.Memory)
-reads_nothing name old new result reads = record { content = reads.content; seen = reads.seen; answer = by_content reads.content }
-  where
-    by_content : (content : Option (List ℕ)) → IsAnswerOf name content (Err read.Memory)
-    by_content None = tt
-    by_content (Some bytes) = tt
 
 -- the program's own files may be any
 abbrev pub any_own : OwnFiles

@@ -1,43 +1,20 @@
 -- What the edges of build files have.
-use Rattle.std.proofs.Common.{◌≡◌, ◌≢◌, ℕ, false, true, List, [], ◌∷◌, ◌++◌, Some, None, inl, inr, refl, sym, ◌∙◌, ap, subst}
+use Rattle.std.proofs.Common.{◌≡◌, ◌≢◌, ℕ, false, true, List, [], ◌∷◌, ◌++◌, Some, None, inl, inr, refl, sym, ◌∙◌}
 use Rattle.std.specs.List.{AllByRecursion}
-use Rattle.std.proofs.lemmas.List.{append-nil}
 use Rattle.std.proofs.lemmas.Bool.{false≢true, false_from_ne_true}
 use Rattle.model.specs.declared.graph.Edge.{Edge}
 use Rattle.model.specs.declared.graph.BuildGraph.{BuildGraph}
 use Rattle.model.specs.Graph.{has, edge_at, no_edge, outputs, IsCommand}
 use Rattle.model.specs.SingleBuild.{NamesOther}
-use Rattle.manifest.specs.FirstStage as first
 use Rattle.laws.specs.Run.{HasNoEmptyOutput}
 use Rattle.laws.proofs.Lists.{all_weaker, all_append, all_has}
 use Rattle.laws.proofs.Makers.{each_edge}
 use Rattle.builder.specs.Missing.{HaveOutputs}
 use Rattle.builder.specs.Taken.{IsTakenEdge, IsTaken, IsFirstNotTaken}
-use Rattle.builder.specs.WellFormed.{IsPath, IsWellFormed, IsGraph}
+use Rattle.manifest.specs.Answer.{IsPath, IsWellFormed, IsGraph}
 
 none_empty : (ps : List (List ℕ)) → AllByRecursion IsPath ps → has ps [] ≡ false
 none_empty ps all = false_from_ne_true (has ps []) (λ h. (all_has IsPath ps [] all h).some refl)
-
--- ---- the forms that are read so far
-
-path_of : (p : List ℕ) → first.IsPath p → IsPath p
-path_of p is = record { text = is.text; canonical = is.canonical; some = is.some }
-
-well_formed : (e : Edge) → first.IsPlainEdge e → IsWellFormed e
-well_formed e plain = record {
-  made = λ none. plain.made (sym (ap (λ (l : List (List ℕ)). e.explicit_outputs ++ l) plain.implicit_outputs ∙ append-nil e.explicit_outputs) ∙ none);
-  explicit_outputs = all_weaker first.IsPath IsPath path_of e.explicit_outputs plain.outputs;
-  implicit_outputs = subst (AllByRecursion IsPath) (sym plain.implicit_outputs) tt;
-  explicit_inputs = all_weaker first.IsPath IsPath path_of e.explicit_inputs plain.inputs;
-  implicit_inputs = subst (AllByRecursion IsPath) (sym plain.implicit_inputs) tt;
-  order_only_inputs = subst (AllByRecursion IsPath) (sym plain.order_only_inputs) tt;
-  validations = subst (AllByRecursion IsPath) (sym plain.validations) tt;
-}
-
-pub formed_so_far : (graph : BuildGraph) → first.IsFirstStage graph → IsGraph graph
-formed_so_far graph stage = all_weaker first.IsPlainEdge IsWellFormed well_formed graph.edges stage.edges
-
--- ---- every graph
 
 module _ (graph : BuildGraph) (formed : IsGraph graph) where
   of_each : (P : Edge → Type 0) → P no_edge → ((e : Edge) → IsWellFormed e → P e) → (i : ℕ) → P (edge_at graph.edges i)

@@ -4,6 +4,7 @@ use Rattle.std.proofs.lemmas.List.{append-nil}
 use Rattle.std.proofs.lemmas.List.Sums.{sum_by-cons}
 use Rattle.model.specs.declared.graph.Edge.{Edge}
 use Rattle.model.specs.declared.event.Event.{Event}
+use Rattle.model.specs.declared.graph.BuildGraph.{BuildGraph}
 use Rattle.model.specs.World.{World, IsIdle}
 use Rattle.model.specs.Calls.{OnlyLooks, HasCause}
 use Rattle.manifest.specs.Answer.{site_part}
@@ -130,7 +131,7 @@ pub idle_after : (tells : Bool) (old new : World) → OnlyLooks tells old new �
 idle_after tells old new looks idle = subst IsIdle (sym {A = List Event} looks.events) idle
 
 -- what a build answers whose files were not read
-pub answers_unread : (tells : Bool) (edges : List Edge) (old now : World) (error : ReadError) → OnlyLooks tells old now → HasCause old now (site_part (Err error)) → Answers tells edges old now (unread error)
+pub answers_unread : (tells : Bool) (edges : List Edge) (old now : World) (error : ReadError) → OnlyLooks tells old now → HasCause old now (site_part {T = BuildGraph} (Err error)) → Answers tells edges old now (unread error)
 answers_unread tells edges old now read.Memory looks cause = (ran_none tells edges old now looks, tt)
 answers_unread tells edges old now (read.Site fault) looks cause = (ran_none tells edges old now looks, seen_of old now (Err fault) cause)
 answers_unread tells edges old now (read.Refused fault) looks cause = looks

@@ -23,7 +23,7 @@ use Rattle.builder.specs.Asked.{AreTargets}
 use Rattle.graph.specs.Linked.{path_at}
 use Rattle.builder.specs.Taken.{IsTaken, IsFirstNotTaken}
 use Rattle.graph.specs.Targets.{IsFirstUnknown}
-use Rattle.builder.specs.WellFormed.{IsGraph}
+use Rattle.manifest.specs.Answer.{IsGraph}
 
 -- the name .nj_tick
 abbrev pub tick_name : List ℕ
@@ -104,8 +104,8 @@ pub record IsUnread (tells : Bool) (name : List ℕ) (old new : World) (report :
   pub error : ReadError
   pub is : report ≡ unread error
   pub looks : OnlyLooks tells old new
-  pub cause : HasCause old new (site_part (Err error))
-  pub file : IsTrue tells → OnOk (site_part (Err error)) (ReadsFile name old.history new.history (Err error))
+  pub cause : HasCause old new (site_part {T = BuildGraph} (Err error))
+  pub file : IsTrue tells → OnOk (site_part {T = BuildGraph} (Err error)) (ReadsFile name old.history new.history (Err error))
 
 -- The file of this name was read, and the graph that it declares was built: for any own files of the program that the file
 -- of the ticks belongs to, whatever depfiles say, as no edge has one.

@@ -9,4 +9,3 @@ pub mod PlanOf
 pub mod Planned
 pub mod Run
 pub mod Taken
-pub mod WellFormed

@@ -8,7 +8,6 @@ use Rattle.model.specs.Graph.{first_output}
 pub record IsTakenEdge (edge : Edge) : Type 0 where
   pub depfile : edge.act.depfile ≡ []
   pub response_path : edge.act.response_path ≡ []
-  pub response_content : edge.act.response_content ≡ []
   pub pool : edge.pool ≡ None
   pub dyndep : edge.dyndep ≡ None
   pub restat : edge.restat ≡ false

@@ -17,7 +17,7 @@ ghost use Rattle.builder.specs.Cut.{Cuts, IsLeft, report_of};
 ghost use Rattle.builder.specs.Build.{tick_file, task_for, BuildsFor, IsBuild, IsIdleButAtFault};
 ghost use Rattle.builder.specs.Ended.{ReportsSteps, HasRun};
 ghost use Rattle.builder.specs.Taken.{IsTaken};
-ghost use Rattle.builder.specs.WellFormed.{IsGraph};
+ghost use Rattle.manifest.specs.Answer.{IsGraph};
 
 use crate::cut::Cut;
 use crate::missing::{first_missing, first_output, first_outputs};

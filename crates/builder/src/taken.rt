@@ -24,7 +24,6 @@ fn is_taken(edge: &Edge) -> bool
 {
     edge.act.depfile.is_empty()
         && edge.act.response_path.is_empty()
-        && edge.act.response_content.is_empty()
         && edge.pool.is_none()
         && edge.dyndep.is_none()
         && !edge.restat

@@ -4,8 +4,6 @@
 mod cone;
 mod graph;
 mod reading;
-#[cfg(test)]
-mod tests;
 mod walk;
 
 pub use cone::{Cone, ConeFault, Mark};

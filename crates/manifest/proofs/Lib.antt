@@ -1,5 +1,36 @@
-mod Growth
-mod Lists
-mod PathLemmas
-mod ReadLemmas
-mod DeclareLemmas
+pub mod BindingLemmas
+pub mod Binds
+pub mod BlockLemmas
+pub mod BuildBlocks
+pub mod BuildKeys
+pub mod BuildReads
+pub mod CheckLemmas
+pub mod Declaring
+pub mod DefaultLemmas
+pub mod DefaultsAll
+pub mod DepthLemmas
+pub mod EdgeAll
+pub mod EdgeChecks
+pub mod EdgeCircles
+pub mod EdgeFormed
+pub mod EdgeKeys
+pub mod EdgeLists
+pub mod EdgePathLemmas
+pub mod EdgeUses
+pub mod FlagLemmas
+pub mod GraphMade
+pub mod Grouping
+pub mod Including
+pub mod Looking
+pub mod Moments
+pub mod NumberLemmas
+pub mod Outputs
+pub mod PathForms
+pub mod PoolKeys
+pub mod PoolLemmas
+pub mod ReadMain
+pub mod ReadTo
+pub mod ReaderLemmas
+pub mod RuleLemmas
+pub mod TextLemmas
+pub mod VersionLemmas

@@ -1,88 +1,73 @@
--- What the answer of a read says of the site and of the main file.
-use Rattle.std.specs.Prelude.{◌≡◌, ℕ, ◌*◌, ◌<◌, ◌≤◌, List, Option, Some, None, Result, Ok, Err, IsErrOf, IfErr, IfOk, length, IsUtf8}
+-- What the answer of a read says of the site and of the build files.
+use Rattle.std.specs.Prelude.{◌≡◌, ◌≢◌, ℕ, List, [], ◌∷◌, ◌++◌, Option, Some, None, Result, Ok, Err, IfOk}
+use Rattle.std.specs.List.{AllByRecursion}
+use Rattle.lexer.specs.Path.{IsCanonical}
 use Rattle.model.specs.declared.graph.BuildGraph.{BuildGraph}
+use Rattle.model.specs.declared.graph.Edge.{Edge}
 use Rattle.model.specs.declared.fault.SiteFault.{SiteFault}
 use Rattle.model.specs.declared.event.Moment.{Moment}
 use Rattle.model.specs.World.{file_at, content_of}
 use Rattle.model.specs.Calls.{Sees}
-use Rattle.lexer.specs.Places.{IsLineOf}
-use Rattle.lexer.specs.declared.fault.FaultKind.TheVariants.{TooLarge}
-use Rattle.manifest.specs.Declares.{Declares}
-use Rattle.manifest.specs.declared.fault.FaultKind.{FaultKind}
-use Rattle.manifest.specs.declared.fault.FaultKind.TheVariants.{NotUtf8, Line, NotFound}
+use Rattle.manifest.specs.declared.fault.FileFault.{FileFault}
 use Rattle.manifest.specs.declared.fault.ReadError.{ReadError}
 use Rattle.manifest.specs.declared.fault.ReadError.TheVariants.{Memory, Site, Refused}
-use Rattle.manifest.specs.declared.stop.Stop.{Stop}
-use Rattle.manifest.specs.declared.stop.Stop.TheVariants.{Memory as StopMemory, Fault}
+use Rattle.manifest.specs.Readings.{Outcome}
+use Rattle.manifest.specs.Readings.Outcome.{Reached, Broken}
+use Rattle.manifest.specs.Files.{Holds}
+use Rattle.manifest.specs.Graphs.{Declares}
 
 -- the answer as far as the site has part in it: its fault, where it gave one
-abbrev pub site_part : Result BuildGraph ReadError → Result (Unit {0}) SiteFault
-site_part (Ok graph) = Ok tt
+abbrev pub site_part : {T : Type 0} → Result T ReadError → Result (Unit {0}) SiteFault
+site_part (Ok value) = Ok tt
 site_part (Err Memory) = Ok tt
 site_part (Err (Site fault)) = Err fault
 site_part (Err (Refused fault)) = Ok tt
 
--- a fault stands in the file of this name
-abbrev pub NamesFile : List ℕ → ReadError → Type 0
-NamesFile name Memory = Unit {0}
-NamesFile name (Site fault) = Unit {0}
-NamesFile name (Refused fault) = fault.file ≡ name
+-- the fault is the reading's, unless memory was refused; the site is not asked
+abbrev pub IsFaultOf : {X : Type 0} → (Outcome X → Type 0) → ReadError → Type 0
+IsFaultOf reading Memory = Unit {0}
+IsFaultOf reading (Site fault) = ⊥
+IsFaultOf reading (Refused fault) = reading (Broken fault)
 
-abbrev pub refused : List ℕ → ℕ → FaultKind → ReadError
-refused name line kind = Refused (record { file = name; line = line; kind = kind })
+-- the same where the site is asked, which may give a fault
+abbrev pub IsFaultSeen : {X : Type 0} → (Outcome X → Type 0) → ReadError → Type 0
+IsFaultSeen reading Memory = Unit {0}
+IsFaultSeen reading (Site fault) = Unit {0}
+IsFaultSeen reading (Refused fault) = reading (Broken fault)
 
--- the answer for a reading that stopped so
-abbrev pub IsStopIn : List ℕ → Stop → ReadError → Type 0
-IsStopIn name StopMemory error = error ≡ Memory
-IsStopIn name (Fault line kind) Memory = Unit {0}
-IsStopIn name (Fault line kind) (Site fault) = ⊥
-IsStopIn name (Fault line kind) (Refused fault) = fault ≡ record { file = name; line = line; kind = kind }
+-- the answer is that of the reading
+abbrev pub IsAnswerOf : {X : Type 0} → (Outcome X → Type 0) → Result X ReadError → Type 0
+IsAnswerOf reading (Ok value) = reading (Reached value)
+IsAnswerOf reading (Err error) = IsFaultOf reading error
 
--- a build file has at most 64 MiB
-abbrev pub largest_file : ℕ
-largest_file = 64 * 1024 * 1024
+-- what a file held at some moment between the two
+abbrev pub held : List Moment → List Moment → Holds
+held old new name content = Sees (λ history. content_of (file_at history name)) content old new
 
--- what may be wrong with these bytes
-abbrev pub IsKindOf : List ℕ → FaultKind → Type 0
-IsKindOf bytes NotUtf8 = ¬ IsUtf8 bytes
-IsKindOf bytes (NotFound name) = ⊥
-IsKindOf bytes _ = Unit {0}
+-- the answer is what the build files declared that stood there during the call
+abbrev pub ReadsFile : List ℕ → List Moment → List Moment → Result BuildGraph ReadError → Type 0
+ReadsFile name old new (Ok graph) = Declares (held old new) name (Reached graph)
+ReadsFile name old new (Err error) = IsFaultSeen (Declares (held old new) name) error
 
--- the same before the name of the file is known
-abbrev pub IsStopOf : List ℕ → Stop → Type 0
-IsStopOf bytes StopMemory = Unit {0}
-IsStopOf bytes (Fault line kind) = IsLineOf bytes line × IsKindOf bytes kind
+-- ---- what every graph has that was read
 
--- a fault of a file that holds these bytes stands in one of its lines
-abbrev pub IsFaultOf : List ℕ → ReadError → Type 0
-IsFaultOf bytes Memory = Unit {0}
-IsFaultOf bytes (Site fault) = ⊥
-IsFaultOf bytes (Refused fault) = IsLineOf bytes fault.line × IsKindOf bytes fault.kind
+-- the canonical form of some text
+pub record IsPath (path : List ℕ) : Type 0 where
+  pub text : List ℕ
+  pub canonical : IsCanonical text path
+  pub some : path ≢ []
 
--- what a reading of these bytes gives at the least
-pub record IsAnswerOfBytes (name : List ℕ) (bytes : List ℕ) (result : Result BuildGraph ReadError) : Type 0 where
-  pub too_large : largest_file < length bytes → IsErrOf result (refused name 1 (Line TooLarge))
-  pub not_utf8 : length bytes ≤ largest_file → ¬ IsUtf8 bytes → IsErrOf result (refused name 1 NotUtf8)
-  pub faults : IfErr result (IsFaultOf bytes)
-  pub declared : IfOk result (Declares bytes)
+abbrev pub ArePathsOnly : List (List ℕ) → Type 0
+ArePathsOnly paths = AllByRecursion IsPath paths
 
--- memory may be refused at any time; else the fact holds
-abbrev pub UnlessMemory : Result BuildGraph ReadError → Type 0 → Type 0
-UnlessMemory (Ok graph) P = P
-UnlessMemory (Err Memory) P = Unit {0}
-UnlessMemory (Err (Site fault)) P = P
-UnlessMemory (Err (Refused fault)) P = P
+pub record IsWellFormed (edge : Edge) : Type 0 where
+  pub made : edge.explicit_outputs ++ edge.implicit_outputs ≢ []
+  pub explicit_outputs : ArePathsOnly edge.explicit_outputs
+  pub implicit_outputs : ArePathsOnly edge.implicit_outputs
+  pub explicit_inputs : ArePathsOnly edge.explicit_inputs
+  pub implicit_inputs : ArePathsOnly edge.implicit_inputs
+  pub order_only_inputs : ArePathsOnly edge.order_only_inputs
+  pub validations : ArePathsOnly edge.validations
 
-abbrev pub IsMemoryOr : ReadError → ReadError → Type 0
-IsMemoryOr error other = UnlessMemory (Err error) (error ≡ other)
-
--- the answer where the main file holds this, or is absent
-abbrev pub IsAnswerOf : List ℕ → Option (List ℕ) → Result BuildGraph ReadError → Type 0
-IsAnswerOf name None result = UnlessMemory result (IsErrOf result (refused name 0 (NotFound name)))
-IsAnswerOf name (Some bytes) result = UnlessMemory result (IsAnswerOfBytes name bytes result)
-
--- the answer is that of what the main file held at some moment of the call
-pub record ReadsFile (name : List ℕ) (old new : List Moment) (result : Result BuildGraph ReadError) : Type 0 where
-  pub content : Option (List ℕ)
-  pub seen : Sees (λ history. content_of (file_at history name)) content old new
-  pub answer : IsAnswerOf name content result
+abbrev pub IsGraph : BuildGraph → Type 0
+IsGraph graph = AllByRecursion IsWellFormed graph.edges

@@ -1,15 +1,24 @@
-//! What the build files declare.
+//! What build files declare: all that the language has (manual: "Ninja file reference").
 #![tactic(auto)]
 
-mod build_line;
-mod edge;
+mod bindings;
+mod blocks;
+mod builds;
+mod declaration;
+mod defaults;
+mod edges;
 mod fault;
+mod graph;
+mod kept;
+mod made;
+mod numbers;
+mod paths;
+mod place;
+mod pools;
 mod reader;
-mod scopes;
-mod statements;
-mod stop;
-mod template;
+mod rules;
 mod texts;
+mod values;
 
 pub use fault::{FaultKind, FileFault, ReadError};
 pub use model::{Act, BuildGraph as Manifest, Edge, SiteFault};

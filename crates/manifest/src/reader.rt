@@ -1,128 +1,280 @@
-//! Reading build files.
+//! Reading build files (manual: "Evaluation and scoping").
 
-ghost use Rattle.std.specs.Prelude.{ℕ, List, ◌≡◌, ◌<◌, ◌≤◌, Some, None, Ok, OnOk, IfOk, IfErr, IsTrue, IsErrOf, length, IsUtf8};
-ghost use Rattle.std.specs.List.{AllZip};
+ghost use Rattle.std.specs.Prelude.{◌≡◌, ◌<◌, IfOk, OnOk, IsTrue, map};
+ghost use Rattle.lexer.specs.Said.{said_of, fragments_of, form_of};
 ghost use Rattle.model.specs.Calls.{OnlyLooks, HasCause};
-ghost use Rattle.lexer.specs.declared.fault.FaultKind.TheVariants.{TooLarge};
-ghost use Rattle.manifest.specs.FirstStage.{IsFirstStage};
-ghost use Rattle.manifest.specs.Answer.{site_part, refused, NamesFile, IsMemoryOr, UnlessMemory, IsAnswerOf, IsAnswerOfBytes, IsStopOf, ReadsFile};
-ghost use Rattle.manifest.specs.Declares.{Declares, IsReadOf, build_lines};
-ghost use Rattle.manifest.specs.Edges.{IsReadIn, AreLinesOf};
-ghost use Rattle.manifest.specs.Stops.{StopsIn};
-ghost use Rattle.manifest.specs.declared.stop.Stop.TheVariants.{Fault};
+ghost use Rattle.model.specs.World.{World};
+ghost use Rattle.manifest.specs.Answer.{site_part, ReadsFile, IsGraph, IsAnswerOf};
+ghost use Rattle.manifest.specs.Files.{Reads, OfFile, OpenOf, NameOf, InScope, too_deep_at, inner_at};
+ghost use Rattle.manifest.specs.Held.{IsStateOf, KeepsScopes, IsFormed};
+ghost use Rattle.manifest.specs.Seen.{Covers, seen, IsCaused, FindsFile, SaysSeen, IsStated, GroupSays, LinesSay, if_no_line};
+ghost use Rattle.manifest.specs.Made.{HaveOutputs, FormHasOutput};
+ghost use Rattle.manifest.specs.Places.{place_of, IsFaultAt};
+ghost use Rattle.manifest.specs.States.{State};
 
-use crate::Manifest;
+use crate::blocks::{Group, split_block};
 use crate::fault::{FaultKind, ReadError};
-use crate::statements::Declared;
-use crate::stop::Stop;
+use crate::kept::Declared;
+use crate::place::Place;
 use crate::texts::Texts;
-use lexer::{Line, Statements};
+use lexer::{Fault, Line, ReadFault, Statement, Statements, Value, canonical};
+use model::BuildGraph as Manifest;
 use std::alloc::Global;
+use std::rc::Rc;
+use std::str;
 use text::{Bytes, Text};
 
 /// The most bytes that a build file may have.
 const LARGEST_FILE: usize = 64 * 1024 * 1024;
+
+/// How many levels of files may stand below the main one.
+const DEEPEST: usize = 63;
+
+/// A file that was found.
+#[derive(Drop)]
+pub struct Opened {
+    pub file: Rc<Text>,
+    pub bytes: Bytes,
+}
 
 /// What the build files declare, beginning with the file of this name.
 ///
 /// # Errors
 ///
 /// A `Site` fault is the one that the site gave, and is answered wherever it gave one. A `Refused` fault is the first of
-/// the build files in reading order. Nothing is written on the site, whatever the answer.
+/// the build files: in reading order, and behind these what is seen when all is read. Nothing is written on the site,
+/// whatever the answer.
 pub fn read<R: Texts>(alloc: Global, texts: &mut R, name: &str) -> Result<Manifest, ReadError>
     ensures looks { OnlyLooks R.tells (R.world texts.old) (R.world texts.new) }
     ensures cause { HasCause (R.world texts.old) (R.world texts.new) (site_part result) }
-    ensures file { IsTrue R.tells → OnOk (site_part result) (ReadsFile name.now (R.world texts.old).history (R.world texts.new).history result) }
-    ensures named { IfErr result (NamesFile name.now) }
-    ensures stage { IfOk result IsFirstStage }
+    ensures file { IsTrue R.tells → ReadsFile name.now (R.world texts.old).history (R.world texts.new).history result }
+    ensures graph { IfOk result IsGraph }
 {
     let content = texts.read(name)?;
-    answer(alloc, name, content)
+    let file = Rc::new(alloc, Text::from_str(alloc, name)?)?;
+    let Some(bytes) = content else {
+        return Err(absent(alloc, &file, name));
+    };
+    let mut declared = Declared::new(alloc)?;
+    read_bytes(
+        alloc,
+        texts,
+        &mut declared,
+        &file,
+        bytes.as_slice(),
+        DEEPEST,
+    )?;
+    declared.finish(alloc)
 }
 
-/// The answer for what the main file holds.
-fn answer(alloc: Global, name: &str, content: Option<Bytes>) -> Result<Manifest, ReadError>
-    ensures given { site_part result ≡ Ok tt }
-    ensures answer { IsAnswerOf name.now content result }
-    ensures named { IfErr result (NamesFile name.now) }
-    ensures stage { IfOk result IsFirstStage }
+/// The refusal of a main file that is not there.
+fn absent(alloc: Global, file: &Rc<Text>, name: &str) -> ReadError
+    ensures { IsFaultAt (record { file = file.now.value; line = 0 }) (FaultKind.NotFound name.now) result }
 {
-    match content {
-        Some(bytes) => read_file(alloc, name, bytes.as_slice()),
-        None => Err(absent(alloc, name)),
-    }
-}
-
-/// The fault of a main file that is not there.
-fn absent(alloc: Global, name: &str) -> ReadError
-    ensures { IsMemoryOr result (refused name.now 0 (FaultKind.NotFound name.now)) }
-{
+    let place = Place { file, line: 0 };
     match Text::from_str(alloc, name) {
-        Ok(missing) => {
-            let kind = FaultKind::NotFound(missing);
-            Stop::Fault { line: 0, kind }.in_file(alloc, name)
-        }
+        Ok(name) => place.fault(alloc, FaultKind::NotFound(name)),
         Err(_) => ReadError::Memory,
     }
 }
 
-/// What a file of this name declares that holds these bytes.
-fn read_file(alloc: Global, name: &str, bytes: &[u8]) -> Result<Manifest, ReadError>
-    ensures given { site_part result ≡ Ok tt }
-    ensures answer { UnlessMemory result (IsAnswerOfBytes name.now bytes.now result) }
-    ensures named { IfErr result (NamesFile name.now) }
-    ensures stage { IfOk result IsFirstStage }
+/// Reads a file that holds these bytes, below which files may stand so many levels deep.
+#[cycle(files)]
+fn read_bytes<R: Texts>(
+    alloc: Global,
+    texts: &mut R,
+    declared: &mut Declared,
+    file: &Rc<Text>,
+    bytes: &[u8],
+    levels: usize,
+) -> Result<(), ReadError>
+    ensures looks { OnlyLooks R.tells (R.world texts.old) (R.world texts.new) }
+    ensures cause { IsStated declared.old → IsCaused (R.world texts.old) (R.world texts.new) (site_part result) }
+    ensures said { IsTrue R.tells → (entry exit : World) → Covers entry exit (R.world texts.old) (R.world texts.new) → (state : State) → IsStateOf declared.old state → SaysSeen result declared.new (Reads (seen entry exit) levels file.now.value bytes.now state) }
+    ensures scopes { OnOk result (KeepsScopes declared.old declared.new) }
+    ensures stated { OnOk result (IsStated declared.old → IsStated declared.new) }
+    ensures formed { OnOk result (IsFormed declared.old → IsFormed declared.new) }
 {
-    match read_bytes(alloc, bytes) {
-        Ok(manifest) => Ok(manifest),
-        Err(stop) => Err(stop.in_file(alloc, name)),
+    let place = Place { file, line: 1 };
+    if bytes.len() > LARGEST_FILE {
+        return Err(place.too_large(alloc));
+    }
+    let Ok(text) = str::from_utf8(bytes) else {
+        return Err(place.fault(alloc, FaultKind::NotUtf8));
+    };
+    let Statements { lines, fault } = lexer::statements(alloc, text)?;
+    read_lines(
+        alloc,
+        texts,
+        declared,
+        file,
+        lines.as_slice(),
+        fault,
+        levels,
+    )
+}
+
+/// Reads the statements of a file, and then the fault at which its text stops.
+#[cycle(files)]
+fn read_lines<R: Texts>(
+    alloc: Global,
+    texts: &mut R,
+    declared: &mut Declared,
+    file: &Rc<Text>,
+    lines: &[Line<'_>],
+    fault: Option<Fault>,
+    levels: usize,
+) -> Result<(), ReadError>
+    ensures looks { OnlyLooks R.tells (R.world texts.old) (R.world texts.new) }
+    ensures cause { IsStated declared.old → IsCaused (R.world texts.old) (R.world texts.new) (site_part result) }
+    ensures said { IsTrue R.tells → (entry exit : World) → Covers entry exit (R.world texts.old) (R.world texts.new) → (state : State) → IsStateOf declared.old state → SaysSeen result declared.new (LinesSay (seen entry exit) levels file.now.value fault lines.now state) }
+    ensures scopes { OnOk result (KeepsScopes declared.old declared.new) }
+    ensures stated { OnOk result (IsStated declared.old → IsStated declared.new) }
+    ensures formed { OnOk result (HaveOutputs (map said_of lines.now) → IsFormed declared.old → IsFormed declared.new) }
+{
+    let (_, mut rest) = split_block(lines);
+    while let Some((line, following)) = rest.split_first() {
+        let (block, next) = split_block(following);
+        let group = Group {
+            place: Place {
+                file,
+                line: line.number,
+            },
+            statement: &line.statement,
+            block,
+            behind: if_last(next, fault),
+        };
+        read_group(alloc, texts, declared, &group, levels)?;
+        rest = next;
+    }
+    let place = Place { file, line: 0 };
+    place.stop_at(alloc, fault)
+}
+
+/// The fault, where nothing stands before it.
+fn if_last(next: &[Line<'_>], fault: Option<Fault>) -> Option<Fault>
+    ensures { result ≡ if_no_line next.now fault }
+{
+    if next.is_empty() { fault } else { None }
+}
+
+/// Reads a statement with its block.
+#[cycle(files)]
+fn read_group<R: Texts>(
+    alloc: Global,
+    texts: &mut R,
+    declared: &mut Declared,
+    group: &Group<'_, '_, '_>,
+    levels: usize,
+) -> Result<(), ReadError>
+    ensures looks { OnlyLooks R.tells (R.world texts.old) (R.world texts.new) }
+    ensures cause { IsStated declared.old → IsCaused (R.world texts.old) (R.world texts.new) (site_part result) }
+    ensures said { IsTrue R.tells → (entry exit : World) → Covers entry exit (R.world texts.old) (R.world texts.new) → (state : State) → IsStateOf declared.old state → SaysSeen result declared.new (GroupSays (seen entry exit) levels group.now state) }
+    ensures scopes { OnOk result (KeepsScopes declared.old declared.new) }
+    ensures stated { OnOk result (IsStated declared.old → IsStated declared.new) }
+    ensures formed { OnOk result (FormHasOutput (form_of group.now.statement.now) → IsFormed declared.old → IsFormed declared.new) }
+{
+    let Group {
+        place,
+        statement,
+        block,
+        behind,
+    } = *group;
+    match statement {
+        Statement::Include { path } => read_file(alloc, texts, declared, &place, path, levels),
+        Statement::Subninja { path } => read_scope(alloc, texts, declared, &place, path, levels),
+        _ => declared.read_declaration(alloc, &place, statement, block, behind),
     }
 }
 
-fn read_bytes(alloc: Global, bytes: &[u8]) -> Result<Manifest, Stop>
-    ensures too_large { LARGEST_FILE < length bytes.now → IsErrOf result (Fault 1 (FaultKind.Line TooLarge)) }
-    ensures not_utf8 { length bytes.now ≤ LARGEST_FILE → ¬ IsUtf8 bytes.now → IsErrOf result (Fault 1 FaultKind.NotUtf8) }
-    ensures faults { IfErr result (IsStopOf bytes.now) }
-    ensures declared { IfOk result (Declares bytes.now) }
-    ensures stage { IfOk result IsFirstStage }
+/// Reads a file in the scope that is open.
+#[cycle(files)]
+fn read_file<R: Texts>(
+    alloc: Global,
+    texts: &mut R,
+    declared: &mut Declared,
+    place: &Place<'_>,
+    path: &Value<'_>,
+    levels: usize,
+) -> Result<(), ReadError>
+    ensures looks { OnlyLooks R.tells (R.world texts.old) (R.world texts.new) }
+    ensures cause { IsStated declared.old → IsCaused (R.world texts.old) (R.world texts.new) (site_part result) }
+    ensures said { IsTrue R.tells → (entry exit : World) → Covers entry exit (R.world texts.old) (R.world texts.new) → (state : State) → IsStateOf declared.old state → SaysSeen result declared.new (OfFile (place_of place.now) (seen entry exit) (too_deep_at levels) (inner_at (seen entry exit) levels) (fragments_of path.now) state) }
+    ensures scopes { OnOk result (KeepsScopes declared.old declared.new) }
+    ensures stated { OnOk result (IsStated declared.old → IsStated declared.new) }
+    ensures formed { OnOk result (IsFormed declared.old → IsFormed declared.new) }
 {
-    if bytes.len() > LARGEST_FILE {
-        return Err(Stop::in_line(1, lexer::FaultKind::TooLarge));
-    }
-    match str::from_utf8(bytes) {
-        Ok(text) => read_text(alloc, text),
-        Err(_) => Err(Stop::Fault {
-            line: 1,
-            kind: FaultKind::NotUtf8,
+    let Opened { file, bytes } = open(alloc, texts, declared, place, path, levels)?;
+    read_bytes(alloc, texts, declared, &file, bytes.as_slice(), levels - 1)
+}
+
+/// Reads a file in a scope of its own.
+#[cycle(files)]
+fn read_scope<R: Texts>(
+    alloc: Global,
+    texts: &mut R,
+    declared: &mut Declared,
+    place: &Place<'_>,
+    path: &Value<'_>,
+    levels: usize,
+) -> Result<(), ReadError>
+    ensures looks { OnlyLooks R.tells (R.world texts.old) (R.world texts.new) }
+    ensures cause { IsStated declared.old → IsCaused (R.world texts.old) (R.world texts.new) (site_part result) }
+    ensures said { IsTrue R.tells → (entry exit : World) → Covers entry exit (R.world texts.old) (R.world texts.new) → (state : State) → IsStateOf declared.old state → SaysSeen result declared.new (OfFile (place_of place.now) (seen entry exit) (too_deep_at levels) (InScope (inner_at (seen entry exit) levels)) (fragments_of path.now) state) }
+    ensures scopes { OnOk result (KeepsScopes declared.old declared.new) }
+    ensures stated { OnOk result (IsStated declared.old → IsStated declared.new) }
+    ensures formed { OnOk result (IsFormed declared.old → IsFormed declared.new) }
+{
+    let Opened { file, bytes } = open(alloc, texts, declared, place, path, levels)?;
+    declared.scopes.enter(alloc)?;
+    read_bytes(alloc, texts, declared, &file, bytes.as_slice(), levels - 1)?;
+    declared.scopes.leave();
+    Ok(())
+}
+
+/// The file that an `include` or a `subninja` names. Its path is taken from the working folder.
+fn open<R: Texts>(
+    alloc: Global,
+    texts: &mut R,
+    declared: &Declared,
+    place: &Place<'_>,
+    path: &Value<'_>,
+    levels: usize,
+) -> Result<Opened, ReadError>
+    ensures looks { OnlyLooks R.tells (R.world texts.old) (R.world texts.new) }
+    ensures cause { IsStated declared.now → IsCaused (R.world texts.old) (R.world texts.new) (site_part result) }
+    ensures opened { IsTrue R.tells → (entry exit : World) → Covers entry exit (R.world texts.old) (R.world texts.new) → (state : State) → IsStateOf declared.now state → FindsFile (OpenOf (place_of place.now) (seen entry exit) (too_deep_at levels) (fragments_of path.now) state) result }
+    ensures levels { OnOk result (0 < levels) }
+{
+    let name = declared.file_name(alloc, place, path)?;
+    match texts.read(name.as_str())? {
+        None => Err(place.fault(alloc, FaultKind::NotFound(name))),
+        Some(_) if levels == 0 => Err(place.fault(alloc, FaultKind::TooDeep)),
+        Some(bytes) => Ok(Opened {
+            file: Rc::new(alloc, name)?,
+            bytes,
         }),
     }
 }
 
-fn read_text(alloc: Global, text: &str) -> Result<Manifest, Stop>
-    requires { length text.now ≤ LARGEST_FILE }
-    ensures declared { IfOk result (Declares text.now) }
-    ensures stage { IfOk result IsFirstStage }
-    ensures stop { IfErr result (StopsIn text.now) }
-{
-    let Statements { lines, fault } = lexer::statements(alloc, text)?;
-    let declared = read_lines(alloc, lines.into_vec())?;
-    match fault {
-        Some(fault) => Err(Stop::in_line(fault.line, fault.kind)),
-        None => {
-            let manifest = declared.finish(alloc)?;
-            Ok(manifest)
+impl Declared {
+    /// The canonical path of a file at this place.
+    fn file_name(
+        &self,
+        alloc: Global,
+        place: &Place<'_>,
+        path: &Value<'_>,
+    ) -> Result<Text, ReadError>
+        ensures { (state : State) → IsStateOf self.now state → IsAnswerOf (NameOf (place_of place.now) (fragments_of path.now) state) result }
+    {
+        let text = self.expand(alloc, place, path)?;
+        match canonical(alloc, text.as_str()) {
+            Ok(name) => Ok(Text::from_string(name)),
+            Err(ReadFault::Memory) => Err(ReadError::Memory),
+            Err(ReadFault::EmptyPath) => {
+                let kind = FaultKind::Line(lexer::FaultKind::EmptyPath);
+                Err(place.fault(alloc, kind))
+            }
         }
     }
-}
-
-fn read_lines<'a>(alloc: Global, lines: Vec<Line<'a>>) -> Result<Declared<'a>, Stop>
-    ensures edges { IfOk result (λ declared. AllZip IsReadOf (build_lines lines.entry.items) declared.edges.items) }
-    ensures lines { IfOk result (λ declared. (text : List ℕ) → AreLinesOf text lines.entry.items → IsReadIn text declared) }
-    ensures stop { IfErr result (λ stop. (text : List ℕ) → AreLinesOf text lines.entry.items → StopsIn text stop) }
-{
-    let mut declared = Declared::new(alloc);
-    for line in lines {
-        declared.read_line(alloc, line)?;
-    }
-    Ok(declared)
 }

@@ -4,7 +4,13 @@
 mod command;
 mod fault;
 mod idle;
+#[cfg(test)]
+mod language;
 mod print;
+#[cfg(test)]
+mod refusals;
+#[cfg(test)]
+mod rows;
 mod run;
 #[cfg(test)]
 mod tests;

@@ -1,6 +1,11 @@
 use crate::fault::ScriptFault;
+use crate::language::{BUILD_FILE, SCOPES};
+use crate::refusals::{FAULTS, GRAPHS};
+use crate::rows::{COMMANDS, PHONY, RULES, TARGETS, VALIDATIONS};
 use crate::run::script;
+use std::alloc::Global;
 use std::io::{self, ErrorKind, Read};
+use std::process::Abort;
 use std::test::Fail;
 
 const TWO_COMMANDS: &str = "file build.ninja
@@ -21,69 +26,11 @@ success 2
 c=xx
 ";
 
-const ABSENT_SOURCE: &str = "file build.ninja
-|rule cat
-|  command = cat $out $in
-|build b: cat a
-|build c: cat b a
-build
-";
-
-const ABSENT_SOURCE_PRINTED: &str =
-    "refused N32: 'a', needed by 'b', is missing and no rule makes it\n";
-
-const FAILING_COMMAND: &str = "file build.ninja
-|rule cat
-|  command = cat $out $in
-|rule fail
-|  command = fail $out $in
-|build b: fail a
-|build c: cat b
-write a x
-build
-";
-
-const FAILING_COMMAND_PRINTED: &str = "start fail b a\nfail fail b a\nfailed b\n";
-
-const TARGETS: &str = "file build.ninja
-|rule cat
-|  command = cat $out $in
-|build b: cat a
-|build c: cat b a
-write a x
--j 2
--k 0
-build a
-build ./b
-build c z
-";
-
-const TARGETS_PRINTED: &str =
-    "success 0\nstart cat b a\nend cat b a\nsuccess 1\nrefused N30: unknown target 'z'\n";
-
-const CYCLE: &str = "file build.ninja
-|rule cat
-|  command = cat $out $in
-|build b: cat a
-|build h: cat o
-|build o: cat h b
-write a x
-build b
-build
-";
-
-const CYCLE_PRINTED: &str = "start cat b a\nend cat b a\nsuccess 1\n\
-refused N31: dependency cycle: h -> o -> h\n";
-
 /// Scripts with what they print. Each ends with status 0.
-const ROWS: [(&str, &str); 7] = [
+const ROWS: [(&str, &str); 3] = [
     ("", ""),
     ("file build.ninja\nbuild\n", "success 0\n"),
     (TWO_COMMANDS, TWO_COMMANDS_PRINTED),
-    (ABSENT_SOURCE, ABSENT_SOURCE_PRINTED),
-    (FAILING_COMMAND, FAILING_COMMAND_PRINTED),
-    (TARGETS, TARGETS_PRINTED),
-    (CYCLE, CYCLE_PRINTED),
 ];
 
 /// Lines that are no command.
@@ -108,15 +55,41 @@ const BAD_LINES: [&[u8]; 18] = [
     b"file a\r\n|x\nbuild\r",
 ];
 
-#[test]
-fn rows_print_what_is_expected(rt: HostRuntime) -> Result<(), Fail> {
-    for (row, expected) in ROWS {
-        let mut printed = Vec::new(rt.alloc());
-        let status = script(rt.alloc(), &mut row.as_bytes(), &mut printed)?;
+/// Runs each script behind what all of them begin with, and compares all that it prints.
+fn check(
+    rt: &impl Abort,
+    alloc: Global,
+    beginning: &str,
+    rows: &[(&str, &str)],
+) -> Result<(), Fail> {
+    for (row, expected) in rows {
+        let mut printed = Vec::new(alloc);
+        let mut reader = beginning.as_bytes().chain(row.as_bytes());
+        let status = script(alloc, &mut reader, &mut printed)?;
         assert_eq!(rt; status, 0, "{row}");
-        assert_eq!(rt; str::from_utf8(&printed)?, expected, "{row}");
+        assert_eq!(rt; str::from_utf8(&printed)?, *expected, "{row}");
     }
     Ok(())
+}
+
+#[test]
+fn rows_print_what_is_expected(rt: HostRuntime) -> Result<(), Fail> {
+    check(&rt, rt.alloc(), "", &ROWS)
+}
+
+#[test]
+fn build_files_are_read(rt: HostRuntime) -> Result<(), Fail> {
+    check(&rt, rt.alloc(), BUILD_FILE, &SCOPES)?;
+    check(&rt, rt.alloc(), BUILD_FILE, &FAULTS)
+}
+
+#[test]
+fn graphs_are_built(rt: HostRuntime) -> Result<(), Fail> {
+    check(&rt, rt.alloc(), RULES, &COMMANDS)?;
+    check(&rt, rt.alloc(), RULES, &TARGETS)?;
+    check(&rt, rt.alloc(), RULES, &VALIDATIONS)?;
+    check(&rt, rt.alloc(), RULES, &PHONY)?;
+    check(&rt, rt.alloc(), RULES, &GRAPHS)
 }
 
 #[test]

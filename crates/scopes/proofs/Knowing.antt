@@ -128,6 +128,11 @@ module _ (scopes : Scopes) (at : Use) (asked : List ℕ) (known : Known) (items 
       (knows_more scopes at asked known (take i items) knows name placed.0 new learnt.0 (ap (λ x. x.now) s ∙ knows.scopes_are) (ap (λ x. x.now) a ∙ knows.at_is) (p ∙ knows.paths_are) learnt.1
       (λ past is. learnt.2 past (scopes_now past is)))
 
+  pub knows_here : (value : List ℕ) → ((template : Template) → opened known.at.now name ≡ Some template → (past : List Move) → IsScopesOf known.scopes.now past → value ≡ text_of known past template)
+      → (past : List Move) → IsScopesOf scopes past → IsValueAtUse (opened at) (fixed at asked past) name value
+  knows_here value text past is =
+      subst (IsValueAtUse (opened at) (fixed at asked past) name) (sym (text placed.0.template opens_now past (scopes_now past is))) (knows_text scopes at asked known (take i items) knows past is name placed.0)
+
   pub knows_large : ((template : Template) → opened known.at.now name ≡ Some template → (past : List Move) → IsScopesOf known.scopes.now past → largest_value < length (text_of known past template))
       → (past : List Move) → IsScopesOf scopes past → IsTooLargeAtUse (opened at) (fixed at asked past) asked
   knows_large large past is =

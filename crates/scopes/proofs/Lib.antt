@@ -2,6 +2,6 @@ mod Growth
 mod Lists
 mod Back
 mod Keeping
-mod Walking
-mod Valuing
+pub mod Walking
+pub mod Valuing
 mod Knowing

@@ -24,7 +24,7 @@ pub struct Scopes {
 }
 
 impl Scopes {
-    ghost use Rattle.std.specs.Prelude.{◌≡◌, ◌≢◌, ◌++◌, ◌∷◌, [], List, None, codes, IfOk, IfErr, OnOk, OnErr, IsErrOf, IsSome, IsTrue, false, ◌⊎◌};
+    ghost use Rattle.std.specs.Prelude.{◌≡◌, ◌≢◌, ◌++◌, ◌∷◌, [], List, None, codes, IfOk, IfErr, OnOk, OnErr, IsErrOf, IsSome, is_some, IsTrue, false, ◌⊎◌};
     ghost use Rattle.std.specs.Option.{option_copied, option_map};
     ghost use Rattle.scopes.specs.Moves.{Move, Bind, DeclareRule, Enter, Leave, value_at, rule_at, value_at_end, rule_at_end, last_in, rule_named};
     ghost use Rattle.scopes.specs.Scopes.{IsScopesOf, rule_in};
@@ -80,6 +80,22 @@ impl Scopes {
         let rule = Rc::new(alloc, rule)?;
         self.scopes[self.present].rules.insert(name, rule)?;
         Ok(())
+    }
+
+    /// Whether the open scope may declare no rule of this name: it has one itself, or the name is `phony`.
+    pub fn is_taken(&self, name: &str) -> bool
+        ensures taken { IsTrue result → (name.now ≡ codes "phony") ⊎ ((past : List Move) → IsScopesOf self.now past → IsSome (last_in (rule_named name.now) past self.now.present)) }
+        ensures no_phony { result ≡ false → name.now ≢ codes "phony" }
+        ensures once { result ≡ false → (past : List Move) → IsScopesOf self.now past → last_in (rule_named name.now) past self.now.present ≡ None }
+    {
+        name == "phony" || self.has_rule(name)
+    }
+
+    /// Whether the open scope itself has a rule of this name.
+    fn has_rule(&self, name: &str) -> bool
+        ensures { result ≡ is_some (rule_in self.now.scopes.items self.now.present name.now) }
+    {
+        self.scopes[self.present].rules.contains_key(name)
     }
 
     /// Opens a scope that sees what the open one says and changes none of it. Where memory is refused, nothing is changed.
@@ -164,17 +180,5 @@ impl Scopes {
             scopes = &before[..inner.around.min(before.len())];
         }
         None
-    }
-
-    /// Whether the open scope may declare no rule of this name.
-    fn is_taken(&self, name: &str) -> bool
-        ensures taken { IsTrue result → (name.now ≡ codes "phony") ⊎ IsSome (rule_in self.now.scopes.items self.now.present name.now) }
-        ensures no_phony { result ≡ false → name.now ≢ codes "phony" }
-        ensures once { result ≡ false → rule_in self.now.scopes.items self.now.present name.now ≡ None }
-    {
-        if name == "phony" {
-            return true;
-        }
-        self.scopes[self.present].rules.contains_key(name)
     }
 }

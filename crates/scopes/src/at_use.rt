@@ -45,7 +45,11 @@ pub fn expand_use(
     let order = order_of(alloc, at, asked)?;
     let mut known = Known::new(alloc, scopes, at, asked);
     for name in order.as_slice() {
-        known.learn(alloc, name.as_str())?;
+        let name = name.as_str();
+        if name == asked {
+            return Ok(known.expand(alloc, asked)?);
+        }
+        known.learn(alloc, name)?;
     }
     let mut text = String::new(alloc);
     known.append_name(&mut text, asked)?;
@@ -96,6 +100,7 @@ impl<'a> Known<'a> {
     fn expand(&self, alloc: Global, name: &str) -> Result<Text, ExpandFault>
         requires { self.now.at.now.scope < vec_len self.now.scopes.now.scopes }
         ensures value { IfOk result (λ text. (template : Template) → opened self.now.at.now name.now ≡ Some template → (past : List Move) → IsScopesOf self.now.scopes.now past → text ≡ text_of self.now past template) }
+        ensures size { IfOk result (λ text. length text ≤ largest_value) }
         ensures large { IsErrOf result Larger → (template : Template) → opened self.now.at.now name.now ≡ Some template → (past : List Move) → IsScopesOf self.now.scopes.now past → largest_value < length (text_of self.now past template) }
     {
         let mut text = String::new(alloc);
@@ -108,6 +113,7 @@ impl<'a> Known<'a> {
     fn append_parts(&self, text: &mut String, parts: &[Part]) -> Result<(), ExpandFault>
         requires { self.now.at.now.scope < vec_len self.now.scopes.now.scopes }
         ensures value { OnOk result ((past : List Move) → IsScopesOf self.now.scopes.now past → string_bytes text.new ≡ string_bytes text.old ++ expansion (known_value self.now past) parts.now) }
+        ensures size { length (string_bytes text.old) ≤ largest_value → length (string_bytes text.new) ≤ largest_value }
         ensures large { IsErrOf result Larger → (past : List Move) → IsScopesOf self.now.scopes.now past → largest_value < length (string_bytes text.old ++ expansion (known_value self.now past) parts.now) }
     {
         for part in parts {
@@ -119,6 +125,7 @@ impl<'a> Known<'a> {
     fn append_part(&self, text: &mut String, part: &Part) -> Result<(), ExpandFault>
         requires { self.now.at.now.scope < vec_len self.now.scopes.now.scopes }
         ensures value { OnOk result ((past : List Move) → IsScopesOf self.now.scopes.now past → string_bytes text.new ≡ string_bytes text.old ++ part_text (known_value self.now past) part.now) }
+        ensures size { length (string_bytes text.old) ≤ largest_value → length (string_bytes text.new) ≤ largest_value }
         ensures large { IsErrOf result Larger → (past : List Move) → IsScopesOf self.now.scopes.now past → largest_value < length (string_bytes text.old ++ part_text (known_value self.now past) part.now) }
     {
         match part {

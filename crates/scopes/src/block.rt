@@ -29,6 +29,9 @@ impl Block {
     pub fn get(&self, name: &str) -> Option<&Text>
         ensures { option_copied result ≡ block_value self.now name.now }
     {
+        if self.values.is_empty() {
+            return None;
+        }
         self.values.get(name)
     }
 

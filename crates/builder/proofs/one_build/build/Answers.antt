@@ -5,13 +5,13 @@ use Rattle.builder.specs.declared.report.Report.{Report}
 use Rattle.builder.specs.Answers.{Answers}
 use Rattle.builder.specs.Asked.{AreTargets}
 use Rattle.builder.specs.Build.{Builds}
-use Rattle.builder.proofs.Formed.{formed_so_far}
+use Rattle.manifest.proofs.Moments.{reads_longer}
 use Rattle.builder.proofs.Reports.{answers_after, answers_unread, idle_after, idle_of_answers}
-use Rattle.builder.proofs.Builds.{looked_nothing, any_own, builds_grow, reads_more, reads_nothing}
+use Rattle.builder.proofs.Builds.{looked_nothing, any_own, builds_grow}
 use Rattle.builder.proofs.one_build.build.Goals as goal
 
 pub build_manifest-requires-clause-formed : goal.build_manifest-requires-clause-formed
-build_manifest-requires-clause-formed g c = formed_so_far c.in-Ok.manifest c.in-Ok.ensures.stage
+build_manifest-requires-clause-formed g c = c.in-Ok.ensures.graph
 
 pub returns-in-Ok-new-clause-answers : goal.returns-in-Ok-new-clause-answers
 returns-in-Ok-new-clause-answers g c = (
@@ -28,7 +28,7 @@ returns-in-Ok-new-clause-idle g c =
 pub returns-in-Ok-new-clause-build : goal.returns-in-Ok-new-clause-build
 returns-in-Ok-new-clause-build g c = inr record {
   graph = c.in-Ok.manifest;
-  formed = formed_so_far c.in-Ok.manifest c.in-Ok.ensures.stage;
+  formed = c.in-Ok.ensures.graph;
   file = λ tell.
       let later = builds_grow g.S.Texts.tells (record { outcome = g.S.Site.outcome; depfile = λ text. None }) any_own c.in-Ok.manifest c.in-Ok-new.targets.given.now c.in-Ok-new.targets.paths
       (g.S.Texts.world c.read.new.texts) (g.S.Texts.world c.build_manifest.new.site) c.build_manifest.result
@@ -36,7 +36,7 @@ returns-in-Ok-new-clause-build g c = inr record {
       (idle_after g.S.Texts.tells (g.S.Texts.world c.args.site.now) (g.S.Texts.world c.read.new.texts) c.read.ensures.looks c.requires)
       (looked_nothing g.S.Texts.tells (g.S.Texts.world c.read.new.texts))) tell in
       subst (λ (n : List ℕ). ReadsFile n (g.S.Texts.world c.args.site.now).history (g.S.Texts.world c.build_manifest.new.site).history (Ok c.in-Ok.manifest)) c.as_str.ensures
-      (reads_more c.as_str.result.now (g.S.Texts.world c.args.site.now).history (g.S.Texts.world c.read.new.texts).history (g.S.Texts.world c.build_manifest.new.site).history later.0 (Ok c.in-Ok.manifest) later.1
+      (reads_longer c.as_str.result.now (g.S.Texts.world c.args.site.now).history (g.S.Texts.world c.read.new.texts).history (g.S.Texts.world c.build_manifest.new.site).history later.0 (Ok c.in-Ok.manifest) later.1
       (c.in-Ok.ensures.file tell));
   targets = c.in-Ok-new.targets.paths;
   canonical = c.in-Ok-new.ensures.paths;

@@ -3,7 +3,7 @@ use Rattle.scopes.specs.declared.fault.UseFault.TheVariants.{TooLarge}
 use Rattle.scopes.specs.declared.fault.ExpandFault.TheVariants.{TooLarge as Larger}
 use Rattle.scopes.specs.Use.{opened, fixed, IsOrderFrom, IsValueAtUse}
 use Rattle.scopes.specs.Known.{known_value}
-use Rattle.scopes.proofs.Knowing.{knows_none, knows_learnt, knows_large, knows_asked, knows_all_scopes}
+use Rattle.scopes.proofs.Knowing.{knows_none, knows_learnt, knows_here, knows_large, knows_asked, knows_all_scopes}
 use Rattle.scopes.proofs.at_use.expand_use.Goals as goal
 
 pub loop-name-init : goal.loop-name-init
@@ -15,21 +15,44 @@ learn-requires c = rw (c.loop-name.invariant.at_is, c.loop-name.invariant.scopes
 pub loop-name-preserved : goal.loop-name-preserved
 loop-name-preserved c =
     let order = subst (IsOrderFrom (opened c.args.at.now) c.args.asked.now) (sym c.as_slice-name-items.ensures.value) c.in_ok-order.ensures.order in
-    let is_name : c.as_str.result.now ≡ get_or c.as_slice-name-items.result.now c.loop-name.name-index c.as_str.result.now =
-    subst (λ (n : List ℕ). n ≡ get_or c.as_slice-name-items.result.now c.loop-name.name-index n) (sym c.as_str.ensures) c.name-item.is in
+    let is_name : c.as_str-name.result.now ≡ get_or c.as_slice-name-items.result.now c.loop-name.name-index c.as_str-name.result.now =
+    subst (λ (n : List ℕ). n ≡ get_or c.as_slice-name-items.result.now c.loop-name.name-index n) (sym c.as_str-name.ensures) c.name-item.is in
     let low : c.loop-name.name-index < length c.as_slice-name-items.result.now = search rules in
-    knows_learnt c.args.scopes.now c.args.at.now c.args.asked.now c.loop-name.known c.as_slice-name-items.result.now c.loop-name.name-index c.as_str.result.now c.loop-name.invariant order low is_name
+    knows_learnt c.args.scopes.now c.args.at.now c.args.asked.now c.loop-name.known c.as_slice-name-items.result.now c.loop-name.name-index c.as_str-name.result.now c.loop-name.invariant order low is_name
     c.learn.new.self c.learn.ensures.scopes c.learn.ensures.at c.learn.ensures.paths c.in_ok-learn.ensures.value
 
 pub returns-in_err-learn-clause-large : goal.returns-in_err-learn-clause-large
 returns-in_err-learn-clause-large c = λ same past is.
     let order = subst (IsOrderFrom (opened c.args.at.now) c.args.asked.now) (sym c.as_slice-name-items.ensures.value) c.in_ok-order.ensures.order in
-    let is_name : c.as_str.result.now ≡ get_or c.as_slice-name-items.result.now c.loop-name.name-index c.as_str.result.now =
-    subst (λ (n : List ℕ). n ≡ get_or c.as_slice-name-items.result.now c.loop-name.name-index n) (sym c.as_str.ensures) c.name-item.is in
+    let is_name : c.as_str-name.result.now ≡ get_or c.as_slice-name-items.result.now c.loop-name.name-index c.as_str-name.result.now =
+    subst (λ (n : List ℕ). n ≡ get_or c.as_slice-name-items.result.now c.loop-name.name-index n) (sym c.as_str-name.ensures) c.name-item.is in
     let low : c.loop-name.name-index < length c.as_slice-name-items.result.now = search rules in
     let failed : c.learn.result ≡ Err TooLarge = search rules in
-    knows_large c.args.scopes.now c.args.at.now c.args.asked.now c.loop-name.known c.as_slice-name-items.result.now c.loop-name.name-index c.as_str.result.now c.loop-name.invariant order low is_name
+    knows_large c.args.scopes.now c.args.at.now c.args.asked.now c.loop-name.known c.as_slice-name-items.result.now c.loop-name.name-index c.as_str-name.result.now c.loop-name.invariant order low is_name
     (c.learn.ensures.large failed) past is
+
+pub returns-then-eq-clause-value : goal.returns-then-eq-clause-value
+returns-then-eq-clause-value c = λ past is.
+    let order = subst (IsOrderFrom (opened c.args.at.now) c.args.asked.now) (sym c.as_slice-name-items.ensures.value) c.in_ok-order.ensures.order in
+    let is_name : c.as_str-name.result.now ≡ get_or c.as_slice-name-items.result.now c.loop-name.name-index c.as_str-name.result.now =
+    subst (λ (n : List ℕ). n ≡ get_or c.as_slice-name-items.result.now c.loop-name.name-index n) (sym c.as_str-name.ensures) c.name-item.is in
+    let same : c.as_str-name.result.now ≡ c.args.asked.now = search rules in
+    let is_asked : c.args.asked.now ≡ get_or c.as_slice-name-items.result.now c.loop-name.name-index c.args.asked.now = subst (λ (n : List ℕ). n ≡ get_or c.as_slice-name-items.result.now c.loop-name.name-index n) same is_name in
+    let low : c.loop-name.name-index < length c.as_slice-name-items.result.now = search rules in
+    knows_here c.args.scopes.now c.args.at.now c.args.asked.now c.loop-name.known c.as_slice-name-items.result.now c.loop-name.name-index c.args.asked.now c.loop-name.invariant order low is_asked
+    c.in_ok-expand.field-0 c.in_ok-expand.ensures.value past is
+
+pub returns-in_err-expand-clause-large : goal.returns-in_err-expand-clause-large
+returns-in_err-expand-clause-large c = λ same past is.
+    let order = subst (IsOrderFrom (opened c.args.at.now) c.args.asked.now) (sym c.as_slice-name-items.ensures.value) c.in_ok-order.ensures.order in
+    let is_name : c.as_str-name.result.now ≡ get_or c.as_slice-name-items.result.now c.loop-name.name-index c.as_str-name.result.now =
+    subst (λ (n : List ℕ). n ≡ get_or c.as_slice-name-items.result.now c.loop-name.name-index n) (sym c.as_str-name.ensures) c.name-item.is in
+    let equal : c.as_str-name.result.now ≡ c.args.asked.now = search rules in
+    let is_asked : c.args.asked.now ≡ get_or c.as_slice-name-items.result.now c.loop-name.name-index c.args.asked.now = subst (λ (n : List ℕ). n ≡ get_or c.as_slice-name-items.result.now c.loop-name.name-index n) equal is_name in
+    let low : c.loop-name.name-index < length c.as_slice-name-items.result.now = search rules in
+    let failed : c.expand.result ≡ Err Larger = search rules in
+    knows_large c.args.scopes.now c.args.at.now c.args.asked.now c.loop-name.known c.as_slice-name-items.result.now c.loop-name.name-index c.args.asked.now c.loop-name.invariant order low is_asked
+    (c.expand.ensures.large failed) past is
 
 pub append_name-requires : goal.append_name-requires
 append_name-requires c = rw (c.loop-name.invariant.at_is, c.loop-name.invariant.scopes_are) c.requires

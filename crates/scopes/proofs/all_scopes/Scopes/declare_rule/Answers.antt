@@ -35,4 +35,4 @@ returns-clause-ok c = λ past at.
     (λ q. refl)
 
 pub returns-clause-once : goal.returns-clause-once
-returns-clause-once c = λ past at. sym (at.rules c.args.self.now.present c.args.name.now) ∙ c.is_taken.ensures.once (search rules)
+returns-clause-once c = c.is_taken.ensures.once (search rules)

@@ -1,9 +1,11 @@
-use Rattle.std.proofs.Common.{◌≡◌, ◌++◌, List, string_bytes, take}
-use Rattle.scopes.specs.Texts.{expansion}
+use Rattle.std.proofs.Common.{◌≡◌, ◌++◌, ◌≤◌, List, length, string_bytes, take}
+use Rattle.scopes.specs.Texts.{expansion, largest_value}
 use Rattle.scopes.specs.Moves.{Move}
 use Rattle.scopes.specs.Scopes.{IsScopesOf}
 use Rattle.scopes.specs.Known.{known_value}
 use Rattle.scopes.proofs.at_use.Known.append_parts.Given as goal
 
 abbrev pub invariant-loop-part : goal.invariant-loop-part
-invariant-loop-part l = (past : List Move) → IsScopesOf l.self.scopes.now past → string_bytes l.text ≡ string_bytes l.initial.text ++ expansion (known_value l.self past) (take l.part-index l.parts)
+invariant-loop-part l =
+    ((past : List Move) → IsScopesOf l.self.scopes.now past → string_bytes l.text ≡ string_bytes l.initial.text ++ expansion (known_value l.self past) (take l.part-index l.parts))
+    × (length (string_bytes l.initial.text) ≤ largest_value → length (string_bytes l.text) ≤ largest_value)

@@ -1,0 +1,107 @@
+-- The main file, and what is seen when all is read.
+use Rattle.std.proofs.Common.{◌≡◌, ℕ, ◌≤◌, ◌<◌, Bool, IsTrue, true, false, List, [], ◌∷◌, ◌++◌, Option, None, Some, Result, Ok, Err, OnOk, IfOk, IsErrAnd, refl, sym, ◌∙◌, ap, subst, arith}
+use Rattle.std.specs.List.{AllZip, AllByRecursion}
+use Rattle.model.specs.declared.fault.SiteFault.{SiteFault}
+use Rattle.model.specs.declared.fault.SiteFault.TheVariants.{Stopped}
+use Rattle.model.specs.declared.graph.BuildGraph.{BuildGraph}
+use Rattle.model.specs.World.{World}
+use Rattle.model.specs.Calls.{OnlyLooks, HasCause}
+use Rattle.manifest.specs.declared.fault.FaultKind.TheVariants.{NotFound}
+use Rattle.manifest.specs.declared.fault.FileFault.{FileFault}
+use Rattle.manifest.specs.declared.fault.ReadError.{ReadError}
+use Rattle.manifest.specs.declared.fault.ReadError.TheVariants.{Memory, Site, Refused}
+use Rattle.manifest.specs.declared.kept.Declared.{Declared}
+use Rattle.manifest.specs.declared.kept.ReadEdge.{ReadEdge}
+use Rattle.manifest.specs.Readings.{Outcome, Place, fault_at, Refuse, Then}
+use Rattle.manifest.specs.Readings.Outcome.{Reached, Broken}
+use Rattle.manifest.specs.Readings.Then.{goes_on, stops}
+use Rattle.manifest.specs.Readings.Where.{with_value}
+use Rattle.manifest.specs.States.{State, Build, nothing}
+use Rattle.manifest.specs.Files.{Holds, Reads, deepest}
+use Rattle.manifest.specs.Graphs.{Declares, OfMain, AtEnd}
+use Rattle.manifest.specs.Answer.{held, site_part, ReadsFile, IsFaultOf, IsFaultSeen, IsAnswerOf}
+use Rattle.manifest.specs.Held.{IsStateOf, IsFormed, IsBuildOf, ArePathsFormed, IsInScope}
+use Rattle.manifest.specs.Places.{IsFaultAt}
+use Rattle.manifest.specs.Seen.{IsCaused, Covers, IsStated}
+use Rattle.manifest.proofs.Binds.{refuse_at}
+use Rattle.manifest.proofs.Looking.{fine, failed, caused_none, caused_then, covers_after}
+use Rattle.manifest.proofs.ReadTo.{seen_fault, seen_fault_wider}
+
+-- ---- causes
+
+not_both : {T : Type 0} (first : Result T SiteFault) (content : T) (fault : SiteFault) → first ≡ Ok content → first ≡ Err fault → ⊥
+not_both first content fault one other = cc
+
+-- the main file was given, so the site had not stopped
+pub main_cause : {T U : Type 0} (old mid new : World) (first : Result T SiteFault) (content : T) (r : Result U ReadError)
+    → HasCause old mid first → first ≡ Ok content → IsCaused mid new (site_part r) → HasCause old new (site_part r)
+main_cause old mid new first content r cause given rest =
+    record {
+      grows = omega (arith, cause.grows, rest.grows);
+      device = λ is. omega (arith, cause.grows, rest.device is);
+      stopped = rest.stopped;
+      after_stop = λ stopped. absurd (not_both first content Stopped given (cause.after_stop stopped).0);
+    }
+
+-- no fault of the site
+pub fault_cause : {T X : Type 0} (old new : World) (R : Outcome X → Type 0) (error : ReadError) (r : Result T ReadError) → old.failures ≤ new.failures
+    → IsFaultOf R error → IsErrAnd r (λ (e : ReadError). e ≡ error) → IsCaused old new (site_part r)
+fault_cause old new R error (Ok value) le is passed = absurd passed
+fault_cause old new R error (Err Memory) le is passed = caused_none old new le
+fault_cause old new R error (Err (Refused fault)) le is passed = caused_none old new le
+fault_cause old new R error (Err (Site fault)) le is passed = absurd (subst (IsFaultOf R) (sym passed) is)
+
+pub answer_cause : {X : Type 0} (old new : World) (R : Outcome X → Type 0) (r : Result X ReadError) → old.failures ≤ new.failures → IsAnswerOf R r → IsCaused old new (site_part r)
+answer_cause old new R (Ok value) le is = caused_none old new le
+answer_cause old new R (Err Memory) le is = caused_none old new le
+answer_cause old new R (Err (Site fault)) le is = absurd is
+answer_cause old new R (Err (Refused fault)) le is = caused_none old new le
+
+-- a refusal at a place is none of the site's
+pub place_cause : (place : Place) (old new : World) (r : ReadError) → old.failures ≤ new.failures → IsFaultAt place (NotFound place.file) r → IsCaused old new (site_part (failed r))
+place_cause place old new Memory le is = caused_none old new le
+place_cause place old new (Site fault) le is = absurd is
+place_cause place old new (Refused fault) le is = caused_none old new le
+
+pub memory_cause : (old new : World) → old.failures ≤ new.failures → IsCaused old new (site_part (failed Memory))
+memory_cause old new le = caused_none old new le
+
+-- ---- nothing is read yet
+
+no_edges : (P : ReadEdge → Type 0) (edges : List ReadEdge) → AllZip IsBuildOf edges [] → AllByRecursion P edges
+no_edges P [] all = tt
+no_edges P (edge ∷ edges) all = absurd all
+
+pub formed_new : (declared : Declared) → IsStateOf declared nothing → IsFormed declared
+formed_new declared is = record { past = []; scopes = is.scopes; edges = no_edges _ declared.edges.items is.edges }
+
+-- ---- readings
+
+module _ (old new : World) (name kept : List ℕ) (same : kept ≡ name) (answer : Option (List ℕ)) (sees : held old.history new.history name answer) where
+  pub read_absent : (error : ReadError) → answer ≡ None → IsFaultAt (record { file = kept; line = 0 }) (NotFound name) error → IsFaultSeen (Declares (held old.history new.history) name) error
+  read_absent error none is =
+      seen_fault_wider (Refuse {X = BuildGraph} (fault_at (record { file = kept; line = 0 }) (NotFound name))) (Declares (held old.history new.history) name) error
+      (λ fault reading. record { reading = with_value sees (subst (λ (a : Option (List ℕ)). OfMain (held old.history new.history) name a (Broken fault)) (sym none)
+      (subst (λ (n : List ℕ). Refuse {X = BuildGraph} (fault_at (record { file = n; line = 0 }) (NotFound name)) (Broken fault)) same reading)) })
+      (seen_fault (Refuse {X = BuildGraph} (fault_at (record { file = kept; line = 0 }) (NotFound name))) error (refuse_at BuildGraph (record { file = kept; line = 0 }) (NotFound name) error is))
+
+  module _ (bytes slice : List ℕ) (some : answer ≡ Some bytes) (all : slice ≡ bytes) where
+    of_main : (outcome : Outcome BuildGraph) → Then (Reads (held old.history new.history) deepest kept slice nothing) AtEnd outcome → Declares (held old.history new.history) name outcome
+    of_main outcome is = record { reading =
+        with_value sees (subst (λ (a : Option (List ℕ)). OfMain (held old.history new.history) name a outcome) (sym some)
+        (subst (λ (n : List ℕ). Then (Reads (held old.history new.history) deepest n bytes nothing) AtEnd outcome) same
+        (subst (λ (b : List ℕ). Then (Reads (held old.history new.history) deepest kept b nothing) AtEnd outcome) all is))) }
+
+    pub read_broken : (error : ReadError) (r : Result BuildGraph ReadError) → IsErrAnd r (λ (e : ReadError). e ≡ error)
+        → IsFaultSeen (Reads (held old.history new.history) deepest kept slice nothing) error → ReadsFile name old.history new.history r
+    read_broken error (Ok graph) passed is = absurd passed
+    read_broken error (Err other) passed is =
+        subst (IsFaultSeen (Declares (held old.history new.history) name)) (sym passed)
+        (seen_fault_wider (Reads (held old.history new.history) deepest kept slice nothing) (Declares (held old.history new.history) name) error
+        (λ fault reading. of_main (Broken fault) (stops reading)) is)
+
+    pub read_done : (state : State) (r : Result BuildGraph ReadError) → Reads (held old.history new.history) deepest kept slice nothing (Reached state) → IsAnswerOf (AtEnd state) r → ReadsFile name old.history new.history r
+    read_done state (Ok graph) reading is = of_main (Reached graph) (goes_on reading is)
+    read_done state (Err error) reading is =
+        seen_fault_wider (AtEnd state) (Declares (held old.history new.history) name) error
+        (λ fault at_end. of_main (Broken fault) (goes_on reading at_end)) (seen_fault (AtEnd state) error is)

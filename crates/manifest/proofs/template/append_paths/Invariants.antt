@@ -1,8 +1,0 @@
-use Rattle.std.proofs.Common.{ℕ, List, ◌≡◌, ◌≤◌, ◌∷◌, ◌++◌, length, string_bytes, take}
-use Rattle.std.specs.List.{flat_map}
-use Rattle.manifest.specs.Template.{largest_value}
-use Rattle.manifest.proofs.template.append_paths.Given as goal
-
-abbrev pub invariant-loop-path : goal.invariant-loop-path
-invariant-loop-path l = (string_bytes l.text ≡ string_bytes l.initial.text ++ flat_map (λ (next : List ℕ). 32 ∷ next) (take l.path-index l.rest))
-    × (length (string_bytes l.initial.text) ≤ largest_value → length (string_bytes l.text) ≤ largest_value)

@@ -1,0 +1,64 @@
+-- What the reading of files says of the site and of the files that it reads.
+use Rattle.std.specs.Prelude.{◌≡◌, ℕ, ◌<◌, ◌≤◌, true, false, List, [], ◌∷◌, map, Option, None, Some, Result, Ok, Err, IsErrOf}
+use Rattle.std.specs.Option.{option_map}
+use Rattle.lexer.specs.declared.fault.Fault.{Fault}
+use Rattle.lexer.specs.declared.statement.Line.{Line}
+use Rattle.lexer.specs.Said.{form_of, said_of}
+use Rattle.model.specs.declared.fault.SiteFault.{SiteFault}
+use Rattle.model.specs.declared.fault.SiteFault.TheVariants.{Device, Stopped}
+use Rattle.model.specs.World.{World}
+use Rattle.manifest.specs.declared.blocks.Group.{Group as KeptGroup}
+use Rattle.manifest.specs.declared.fault.FileFault.{FileFault}
+use Rattle.manifest.specs.declared.kept.Declared.{Declared}
+use Rattle.manifest.specs.declared.reader.Opened.{Opened}
+use Rattle.manifest.specs.Readings.{Outcome, Reading, Place}
+use Rattle.manifest.specs.Readings.Outcome.{Reached}
+use Rattle.manifest.specs.States.{State}
+use Rattle.manifest.specs.Blocks.{block_lines, groups_of}
+use Rattle.manifest.specs.Files.{Holds, Found, OfForm, OfGroups, fault_in, too_deep_at, inner_at}
+use Rattle.manifest.specs.declared.fault.ReadError.{ReadError}
+use Rattle.manifest.specs.Answer.{held, IsFaultSeen}
+use Rattle.manifest.specs.Places.{place_of}
+use Rattle.manifest.specs.Held.{IsStateOf}
+
+-- what was seen from one world to another, when all of this lies between an entry and an exit
+abbrev pub Covers : World → World → World → World → Type 0
+Covers entry exit old new =
+    (name : List ℕ) (content : Option (List ℕ)) → held old.history new.history name content → held entry.history exit.history name content
+
+abbrev pub seen : World → World → Holds
+seen entry exit = held entry.history exit.history
+
+-- a fault of the site has its cause; a site that has stopped before is not asked here
+pub record IsCaused {T : Type 0} (old new : World) (result : Result T SiteFault) : Type 0 where
+  pub grows : old.failures ≤ new.failures
+  pub device : IsErrOf result Device → old.failures < new.failures
+  pub stopped : IsErrOf result Stopped → new.stopped ≡ true
+
+-- the file that was found, or why none was, is that of the reading
+abbrev pub FindsFile : (Outcome Found → Type 0) → Result Opened ReadError → Type 0
+FindsFile reading (Ok opened) = reading (Reached (record { name = opened.file.value; bytes = opened.bytes }))
+FindsFile reading (Err error) = IsFaultSeen reading error
+
+-- the call's answer, and what is kept after it, are those of the reading; the site may give a fault
+abbrev pub SaysSeen : Result (Unit {0}) ReadError → Declared → (Outcome State → Type 0) → Type 0
+SaysSeen (Ok value) after reading = (state : State) × IsStateOf after state × reading (Reached state)
+SaysSeen (Err error) after reading = IsFaultSeen reading error
+
+-- what is kept is what some build files say
+abbrev pub IsStated : Declared → Type 0
+IsStated declared = (state : State) × IsStateOf declared state
+
+-- what a statement says, and what statements say
+abbrev pub GroupSays : Holds → ℕ → KeptGroup → State → Reading State
+GroupSays holds levels group =
+    OfForm holds (too_deep_at levels) (inner_at holds levels) (place_of group.place) (form_of group.statement.now)
+    (block_lines (map said_of group.block.now)) (option_map (fault_in group.place.file.now.value) group.behind)
+
+abbrev pub LinesSay : Holds → ℕ → List ℕ → Option Fault → List Line → State → Reading State
+LinesSay holds levels file fault lines =
+    OfGroups holds (too_deep_at levels) (inner_at holds levels) file (option_map (fault_in file) fault) (groups_of (map said_of lines))
+
+abbrev pub if_no_line : List Line → Option Fault → Option Fault
+if_no_line [] fault = fault
+if_no_line (line ∷ lines) fault = None

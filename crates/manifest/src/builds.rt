@@ -1,0 +1,169 @@
+//! Build statements (manual: "Build statements").
+
+ghost use Rattle.std.specs.Prelude.{ℕ, List, [], ◌++◌, ◌∷◌, map, string_bytes, IfOk, OnOk};
+ghost use Rattle.lexer.specs.Said.{said_of, build_of};
+ghost use Rattle.scopes.specs.Moves.{Move};
+ghost use Rattle.scopes.specs.Scopes.{IsScopesOf};
+ghost use Rattle.manifest.specs.Blocks.{block_lines, build_block};
+ghost use Rattle.manifest.specs.Declarations.{OfBuild, RuleHere};
+ghost use Rattle.manifest.specs.Held.{IsStateOf, Says, KeepsScopes, IsFormed, HasOutput, AreKeys};
+ghost use Rattle.manifest.specs.Keeping.{IsBlockRead, IsLineRead, FindsRule};
+ghost use Rattle.manifest.specs.Places.{place_of};
+ghost use Rattle.manifest.specs.States.{State, all_of};
+
+use crate::blocks::block_line;
+use crate::fault::{FaultKind, ReadError};
+use crate::kept::{Declared, ReadEdge};
+use crate::paths::{EdgePaths, PathReader};
+use crate::place::Place;
+use indexmap::IndexSet;
+use lexer::{BuildLine, Line};
+use scopes::{Block, ExpandFault, Rule, Scopes, expand};
+use std::alloc::{AllocError, Global};
+use std::rc::Rc;
+use text::{Path, Text};
+
+/// The most build statements.
+const MOST_EDGES: usize = 4_000_000;
+
+/// The most different paths on build lines.
+const MOST_PATHS: usize = 4_000_000;
+
+/// What the block of a build statement binds.
+#[derive(Drop)]
+pub struct BlockRead {
+    pub block: Block,
+    /// The line of the first value that is too large. No line behind it was looked at.
+    pub stop: Option<usize>,
+}
+
+impl Declared {
+    /// Reads `build OUTPUTS: RULE INPUTS` with its block.
+    pub fn read_build(
+        &mut self,
+        alloc: Global,
+        place: &Place<'_>,
+        build: &BuildLine<'_>,
+        block: &[Line<'_>],
+    ) -> Result<(), ReadError>
+        ensures said { (state : State) → IsStateOf self.old state → Says result self.new (OfBuild (place_of place.now) (build_of build.now) (block_lines (map said_of block.now)) state) }
+        ensures scopes { OnOk result (KeepsScopes self.old self.new) }
+        ensures formed { OnOk result (IsFormed self.old → HasOutput (build_of build.now) → IsFormed self.new) }
+    {
+        let BlockRead { block, stop } = read_block(alloc, &self.scopes, block)?;
+        let rule = self.rule(alloc, place, build.rule)?;
+        let paths = PathReader::new(&self.scopes, &block).edge_paths(alloc, place, build)?;
+        add_paths(alloc, &mut self.paths, &paths)?;
+        if self.edges.len() >= MOST_EDGES || self.paths.len() > MOST_PATHS {
+            return Err(place.too_large(alloc));
+        }
+        if let Some(line) = stop {
+            return Err(place.at_line(line).too_large(alloc));
+        }
+        self.edges.push(ReadEdge {
+            file: place.file.clone()?,
+            line: place.line,
+            scope: self.scopes.present(),
+            rule_name: Text::from_str(alloc, build.rule)?,
+            rule,
+            block,
+            paths,
+        })?;
+        Ok(())
+    }
+
+    /// The rule of this name at this place; none for `phony`.
+    fn rule(
+        &self,
+        alloc: Global,
+        place: &Place<'_>,
+        name: &str,
+    ) -> Result<Option<Rc<Rule>>, ReadError>
+        ensures { (state : State) → IsStateOf self.now state → FindsRule (RuleHere (place_of place.now) state name.now) result }
+    {
+        if name == "phony" {
+            return Ok(None);
+        }
+        match self.scopes.rule(name) {
+            Some(rule) => Ok(Some(rule.clone()?)),
+            None => {
+                let kind = FaultKind::UnknownRule(Text::from_str(alloc, name)?);
+                Err(place.fault(alloc, kind))
+            }
+        }
+    }
+}
+
+/// The values that the block binds, up to the first that is too large.
+fn read_block(alloc: Global, scopes: &Scopes, lines: &[Line<'_>]) -> Result<BlockRead, AllocError>
+    ensures { IfOk result (λ read. (past : List Move) → IsScopesOf scopes.now past → (file : List ℕ) → IsBlockRead read file (build_block file past (block_lines (map said_of lines.now)) [])) }
+{
+    let mut block = Block::new(alloc);
+    for line in lines {
+        if let Some(stop) = read_line(alloc, scopes, &mut block, line)? {
+            return Ok(BlockRead {
+                block,
+                stop: Some(stop),
+            });
+        }
+    }
+    Ok(BlockRead { block, stop: None })
+}
+
+/// Binds what the line says, or answers its number where its value is too large.
+fn read_line(
+    alloc: Global,
+    scopes: &Scopes,
+    block: &mut Block,
+    line: &Line<'_>,
+) -> Result<Option<usize>, AllocError>
+    ensures { IfOk result (λ stop. (past : List Move) → IsScopesOf scopes.now past → IsLineRead past (said_of line.now) block.old block.new stop) }
+{
+    let Some(line) = block_line(line) else {
+        return Ok(None);
+    };
+    match expand(alloc, scopes, &Block::new(alloc), line.value) {
+        Ok(text) => {
+            block.bind(alloc, line.name, text)?;
+            Ok(None)
+        }
+        Err(ExpandFault::TooLarge) => Ok(Some(line.line)),
+        Err(ExpandFault::Memory) => Err(AllocError),
+    }
+}
+
+/// Notes the paths of a build line.
+fn add_paths(
+    alloc: Global,
+    known: &mut IndexSet<String>,
+    paths: &EdgePaths,
+) -> Result<(), AllocError>
+    ensures { OnOk result ((before : List (List ℕ)) → AreKeys (map string_bytes known.old.keys) before → AreKeys (map string_bytes known.new.keys) (before ++ all_of paths.now)) }
+{
+    add_all(alloc, known, paths.explicit_outputs.as_slice())?;
+    add_all(alloc, known, paths.implicit_outputs.as_slice())?;
+    add_all(alloc, known, paths.explicit_inputs.as_slice())?;
+    add_all(alloc, known, paths.implicit_inputs.as_slice())?;
+    add_all(alloc, known, paths.order_only_inputs.as_slice())?;
+    add_all(alloc, known, paths.validations.as_slice())
+}
+
+fn add_all(alloc: Global, known: &mut IndexSet<String>, paths: &[Path]) -> Result<(), AllocError>
+    ensures { OnOk result ((before : List (List ℕ)) → AreKeys (map string_bytes known.old.keys) before → AreKeys (map string_bytes known.new.keys) (before ++ paths.now)) }
+{
+    for path in paths {
+        add_path(alloc, known, path)?;
+    }
+    Ok(())
+}
+
+/// Notes a path. One that is known takes no memory.
+fn add_path(alloc: Global, known: &mut IndexSet<String>, path: &Path) -> Result<(), AllocError>
+    ensures { OnOk result ((before : List (List ℕ)) → AreKeys (map string_bytes known.old.keys) before → AreKeys (map string_bytes known.new.keys) (before ++ path.now ∷ [])) }
+{
+    if known.contains(path.as_str()) {
+        return Ok(());
+    }
+    known.insert(String::from_str(alloc, path.as_str())?)?;
+    Ok(())
+}

@@ -1,0 +1,42 @@
+//! Statements that read no file.
+
+ghost use Rattle.std.specs.Prelude.{OnOk, map};
+ghost use Rattle.std.specs.Option.{option_map};
+ghost use Rattle.lexer.specs.Said.{said_of, form_of};
+ghost use Rattle.manifest.specs.Files.{OfDeclaration, fault_in};
+ghost use Rattle.manifest.specs.Blocks.{block_lines};
+ghost use Rattle.manifest.specs.Held.{IsStateOf, Says, KeepsScopes, IsFormed};
+ghost use Rattle.manifest.specs.Made.{FormHasOutput};
+ghost use Rattle.manifest.specs.Places.{place_of};
+ghost use Rattle.manifest.specs.States.{State};
+
+use crate::fault::ReadError;
+use crate::kept::Declared;
+use crate::place::Place;
+use lexer::{Fault, Line, Statement};
+use std::alloc::Global;
+
+impl Declared {
+    /// Reads a statement with its block, behind which the text may stop. `include` and `subninja` say nothing here.
+    pub fn read_declaration(
+        &mut self,
+        alloc: Global,
+        place: &Place<'_>,
+        statement: &Statement<'_>,
+        block: &[Line<'_>],
+        behind: Option<Fault>,
+    ) -> Result<(), ReadError>
+        ensures said { (state : State) → IsStateOf self.old state → Says result self.new (OfDeclaration (place_of place.now) (form_of statement.now) (block_lines (map said_of block.now)) (option_map (fault_in place.now.file.now.value) behind) state) }
+        ensures scopes { OnOk result (KeepsScopes self.old self.new) }
+        ensures formed { OnOk result (FormHasOutput (form_of statement.now) → IsFormed self.old → IsFormed self.new) }
+    {
+        match statement {
+            Statement::Binding { name, value } => self.read_binding(alloc, place, name, value),
+            Statement::Rule { name } => self.read_rule(alloc, place, name, block, behind),
+            Statement::Build(build) => self.read_build(alloc, place, build, block),
+            Statement::Pool { name } => self.read_pool(alloc, place, name, block, behind),
+            Statement::Default { paths } => self.read_default(alloc, place, paths.as_slice()),
+            _ => Ok(()),
+        }
+    }
+}

@@ -1,0 +1,63 @@
+//! What is kept of the statements read so far.
+
+use crate::paths::EdgePaths;
+use indexmap::{IndexMap, IndexSet};
+use scopes::{Block, Rule, Scopes};
+use std::alloc::{AllocError, Global};
+use std::rc::Rc;
+use text::{Path, Text};
+
+/// A build statement. Its rule is expanded when all build files are read.
+#[derive(Drop)]
+pub struct ReadEdge {
+    pub file: Rc<Text>,
+    /// The line of the statement.
+    pub line: usize,
+    /// The number of the scope in which it stands.
+    pub scope: usize,
+    pub rule_name: Text,
+    /// None for `phony`.
+    pub rule: Option<Rc<Rule>>,
+    pub block: Block,
+    pub paths: EdgePaths,
+}
+
+/// A path of a `default` statement.
+#[derive(Drop)]
+pub struct ReadDefault {
+    pub file: Rc<Text>,
+    /// The line of the statement.
+    pub line: usize,
+    pub path: Path,
+}
+
+/// What the statements so far declare.
+#[derive(Drop)]
+pub struct Declared {
+    pub scopes: Scopes,
+    pub edges: Vec<ReadEdge>,
+    /// How many commands of each pool may run at once.
+    pub pools: IndexMap<String, u32>,
+    pub defaults: Vec<ReadDefault>,
+    /// The paths of build lines, each once.
+    pub paths: IndexSet<String>,
+}
+
+impl Declared {
+    ghost use Rattle.std.specs.Prelude.{IfOk};
+    ghost use Rattle.manifest.specs.States.{nothing};
+    ghost use Rattle.manifest.specs.Held.{IsStateOf};
+
+    /// Nothing is read yet.
+    pub fn new(alloc: Global) -> Result<Declared, AllocError>
+        ensures { IfOk result (λ declared. IsStateOf declared nothing) }
+    {
+        Ok(Declared {
+            scopes: Scopes::new(alloc)?,
+            edges: Vec::new(alloc),
+            pools: IndexMap::new(alloc),
+            defaults: Vec::new(alloc),
+            paths: IndexSet::new(alloc),
+        })
+    }
+}

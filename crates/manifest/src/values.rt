@@ -1,0 +1,102 @@
+//! The values of rule variables of a build statement (manual: "Rule variables").
+
+ghost use Rattle.std.specs.Prelude.{◌<◌, vec_len, List, IfOk, IsErrOf, OnOk};
+ghost use Rattle.scopes.specs.Moves.{Move};
+ghost use Rattle.scopes.specs.Scopes.{IsScopesOf};
+ghost use Rattle.scopes.specs.Use.{opened, HasCircle};
+ghost use Rattle.scopes.specs.declared.fault.UseFault.TheVariants.{Circle, TooLarge};
+ghost use Rattle.manifest.specs.Values.{AreValuesAt, AreSmall, LeadsIntoCircleAt, HasLargeValueAt};
+
+use scopes::{Scopes, Use, UseFault, expand_use};
+use std::alloc::Global;
+use text::Text;
+
+/// The values of all variables that mean something to a build.
+#[derive(Debug, Drop)]
+pub struct Values {
+    pub command: Text,
+    pub depfile: Text,
+    pub deps: Text,
+    pub dyndep: Text,
+    pub description: Text,
+    pub pool: Text,
+    pub restat: Text,
+    pub rspfile: Text,
+    pub rspfile_content: Text,
+}
+
+impl Values {
+    /// The values for this use of a rule, when all is read.
+    ///
+    /// # Errors
+    /// `Circle` where texts of the rule that a variable needs name each other in a circle, else `TooLarge` where some
+    /// value has more than 16 MiB.
+    pub fn of(alloc: Global, scopes: &Scopes, at: &Use<'_>) -> Result<Values, UseFault>
+        requires { at.now.scope < vec_len scopes.now.scopes }
+        ensures values { IfOk result (λ values. (past : List Move) → IsScopesOf scopes.now past → AreValuesAt at.now past values) }
+        ensures size { IfOk result AreSmall }
+        ensures circle { IsErrOf result Circle → LeadsIntoCircleAt at.now }
+        ensures no_circle { IsErrOf result TooLarge → (past : List Move) → IsScopesOf scopes.now past → LeadsIntoCircleAt at.now → ⊥ }
+        ensures large { IsErrOf result TooLarge → (past : List Move) → IsScopesOf scopes.now past → HasLargeValueAt at.now past }
+    {
+        match expand_all(alloc, scopes, at) {
+            Err(UseFault::TooLarge) => {
+                check_circles(alloc, scopes, at)?;
+                Err(UseFault::TooLarge)
+            }
+            other => other,
+        }
+    }
+}
+
+fn expand_all(alloc: Global, scopes: &Scopes, at: &Use<'_>) -> Result<Values, UseFault>
+    requires { at.now.scope < vec_len scopes.now.scopes }
+    ensures values { IfOk result (λ values. (past : List Move) → IsScopesOf scopes.now past → AreValuesAt at.now past values) }
+    ensures size { IfOk result AreSmall }
+    ensures circle { IsErrOf result Circle → LeadsIntoCircleAt at.now }
+    ensures large { IsErrOf result TooLarge → (past : List Move) → IsScopesOf scopes.now past → HasLargeValueAt at.now past }
+{
+    Ok(Values {
+        command: expand_use(alloc, scopes, at, "command")?,
+        depfile: expand_use(alloc, scopes, at, "depfile")?,
+        deps: expand_use(alloc, scopes, at, "deps")?,
+        dyndep: expand_use(alloc, scopes, at, "dyndep")?,
+        description: expand_use(alloc, scopes, at, "description")?,
+        pool: expand_use(alloc, scopes, at, "pool")?,
+        restat: expand_use(alloc, scopes, at, "restat")?,
+        rspfile: expand_use(alloc, scopes, at, "rspfile")?,
+        rspfile_content: expand_use(alloc, scopes, at, "rspfile_content")?,
+    })
+}
+
+/// Refuses a circle that some variable leads into: it goes before a value that is too large.
+fn check_circles(alloc: Global, scopes: &Scopes, at: &Use<'_>) -> Result<(), UseFault>
+    requires { at.now.scope < vec_len scopes.now.scopes }
+    ensures none { OnOk result ((past : List Move) → IsScopesOf scopes.now past → LeadsIntoCircleAt at.now → ⊥) }
+    ensures circle { IsErrOf result Circle → LeadsIntoCircleAt at.now }
+    ensures not_large { IsErrOf result TooLarge → ⊥ }
+{
+    check_circle(alloc, scopes, at, "command")?;
+    check_circle(alloc, scopes, at, "depfile")?;
+    check_circle(alloc, scopes, at, "deps")?;
+    check_circle(alloc, scopes, at, "dyndep")?;
+    check_circle(alloc, scopes, at, "description")?;
+    check_circle(alloc, scopes, at, "pool")?;
+    check_circle(alloc, scopes, at, "restat")?;
+    check_circle(alloc, scopes, at, "rspfile")?;
+    check_circle(alloc, scopes, at, "rspfile_content")
+}
+
+/// Refuses a circle that this variable leads into.
+fn check_circle(alloc: Global, scopes: &Scopes, at: &Use<'_>, name: &str) -> Result<(), UseFault>
+    requires { at.now.scope < vec_len scopes.now.scopes }
+    ensures none { OnOk result ((past : List Move) → IsScopesOf scopes.now past → HasCircle (opened at.now) name.now → ⊥) }
+    ensures circle { IsErrOf result Circle → HasCircle (opened at.now) name.now }
+    ensures not_large { IsErrOf result TooLarge → ⊥ }
+{
+    match expand_use(alloc, scopes, at, name) {
+        Ok(_) => Ok(()),
+        Err(UseFault::TooLarge) => Ok(()),
+        Err(fault) => Err(fault),
+    }
+}
