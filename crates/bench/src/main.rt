@@ -1,10 +1,16 @@
 //! Reads standard input as the argument says and prints how much it found, for benchmarks: `bench log < FILE` a build
-//! log, `bench lines < FILE` the lines of a build file.
+//! log, `bench lines < FILE` the lines of a build file, `bench graph < FILE` what a whole build file declares, and
+//! `bench cone < FILE` also its graph in numbers and what a build with no targets needs of it.
 #![tactic(auto)]
 
+mod one_file;
+
+use crate::one_file::OneFile;
 use anyhow::{Result, bail};
 use build_log::{Log, Tail};
+use graph::Graph;
 use lexer::{Statement, statements};
+use manifest::{Manifest, Texts};
 use std::alloc::Global;
 use std::io::{Print, Read};
 use std::{env, str};
@@ -16,7 +22,9 @@ fn main(rt: HostRuntime) -> Result<()> {
     match what.as_deref() {
         Some("log") => count_log(&rt, rt.alloc(), bytes.as_slice()),
         Some("lines") => count_lines(&rt, rt.alloc(), bytes.as_slice()),
-        _ => bail!("usage: bench log|lines < FILE"),
+        Some("graph") => count_graph(&rt, rt.alloc(), bytes),
+        Some("cone") => count_cone(&rt, rt.alloc(), bytes),
+        _ => bail!("usage: bench log|lines|graph|cone < FILE"),
     }
 }
 
@@ -53,5 +61,41 @@ fn count_lines(rt: &impl Print, alloc: Global, bytes: &[u8]) -> Result<()> {
         )?,
         None => println!(rt; "{all} statements, {builds} of them build")?,
     }
+    Ok(())
+}
+
+/// Reads a whole build file.
+fn count_graph(rt: &impl Print, alloc: Global, bytes: Vec<u8>) -> Result<()> {
+    let manifest = read(alloc, &mut OneFile::new(bytes))?;
+    print_sizes(rt, &manifest)
+}
+
+/// Reads a whole build file, and finds what a build with no targets needs.
+fn count_cone(rt: &impl Print, alloc: Global, bytes: Vec<u8>) -> Result<()> {
+    let manifest = read(alloc, &mut OneFile::new(bytes))?;
+    print_sizes(rt, &manifest)?;
+    let graph = Graph::build(alloc, &manifest)?;
+    let paths = graph.paths.len();
+    let outputs = graph.links.makers.len();
+    println!(rt; "{paths} paths, {outputs} of them outputs")?;
+    let Ok(cone) = graph.cone(alloc, &[]) else {
+        bail!("the edges have no order");
+    };
+    let needed = cone.order.len();
+    println!(rt; "{needed} edges needed")?;
+    Ok(())
+}
+
+/// What the build file of this site declares.
+fn read<R: Texts>(alloc: Global, site: &mut R) -> Result<Manifest> {
+    Ok(manifest::read(alloc, site, "build.ninja")?)
+}
+
+/// Prints how many edges, pools and defaults there are.
+fn print_sizes(rt: &impl Print, manifest: &Manifest) -> Result<()> {
+    let edges = manifest.edges.len();
+    let pools = manifest.pools.len();
+    let defaults = manifest.defaults.len();
+    println!(rt; "{edges} edges, {pools} pools, {defaults} defaults")?;
     Ok(())
 }

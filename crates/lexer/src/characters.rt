@@ -21,6 +21,7 @@ pub enum Class {
     Comment,
 }
 
+#[inline(always)]
 pub fn is_of(class: Class, byte: u8) -> bool
     ensures { result ≡ is_of class byte }
 {

@@ -25,7 +25,8 @@ pub fn paths_at<'a>(
     ensures behind { IfOk result (λ found. IsBehind cursor.entry found.1) }
     ensures fault { IfErr result (Breaks Paths cursor.entry) }
 {
-    let mut paths = Items::new(alloc);
+    // most lists have one path
+    let mut paths = Items::from_vec(Vec::with_capacity(alloc, 1)?);
     let mut at = cursor.skip_blanks();
     'paths: while at.begins_path() {
         let (path, after) = path_and_blanks_at(alloc, at)?;

@@ -29,7 +29,8 @@ pub fn pieces_at<'a>(
     ensures shorter { ends class cursor.entry.rest.now ≡ false → IfOk result (λ found. length found.1.rest.now < length cursor.entry.rest.now) }
     ensures fault { IfErr result (Breaks (Pieces class) cursor.entry) }
 {
-    let mut pieces = Items::new(alloc);
+    // most have one piece
+    let mut pieces = Items::from_vec(Vec::with_capacity(alloc, 1)?);
     let mut at = cursor;
     'pieces: while !ends(at.rest, class) {
         let (found, after) = piece_at(at, class)?;

@@ -81,16 +81,20 @@ module _ (old new : World) (name kept : List ℕ) (same : kept ≡ name) (answer
   pub read_absent : (error : ReadError) → answer ≡ None → IsFaultAt (record { file = kept; line = 0 }) (NotFound name) error → IsFaultSeen (Declares (held old.history new.history) name) error
   read_absent error none is =
       seen_fault_wider (Refuse {X = BuildGraph} (fault_at (record { file = kept; line = 0 }) (NotFound name))) (Declares (held old.history new.history) name) error
-      (λ fault reading. record { reading = with_value sees (subst (λ (a : Option (List ℕ)). OfMain (held old.history new.history) name a (Broken fault)) (sym none)
-      (subst (λ (n : List ℕ). Refuse {X = BuildGraph} (fault_at (record { file = n; line = 0 }) (NotFound name)) (Broken fault)) same reading)) })
+      (λ fault reading. record {
+        reading = with_value sees (subst (λ (a : Option (List ℕ)). OfMain (held old.history new.history) name a (Broken fault)) (sym none)
+            (subst (λ (n : List ℕ). Refuse {X = BuildGraph} (fault_at (record { file = n; line = 0 }) (NotFound name)) (Broken fault)) same reading));
+      })
       (seen_fault (Refuse {X = BuildGraph} (fault_at (record { file = kept; line = 0 }) (NotFound name))) error (refuse_at BuildGraph (record { file = kept; line = 0 }) (NotFound name) error is))
 
   module _ (bytes slice : List ℕ) (some : answer ≡ Some bytes) (all : slice ≡ bytes) where
     of_main : (outcome : Outcome BuildGraph) → Then (Reads (held old.history new.history) deepest kept slice nothing) AtEnd outcome → Declares (held old.history new.history) name outcome
-    of_main outcome is = record { reading =
-        with_value sees (subst (λ (a : Option (List ℕ)). OfMain (held old.history new.history) name a outcome) (sym some)
-        (subst (λ (n : List ℕ). Then (Reads (held old.history new.history) deepest n bytes nothing) AtEnd outcome) same
-        (subst (λ (b : List ℕ). Then (Reads (held old.history new.history) deepest kept b nothing) AtEnd outcome) all is))) }
+    of_main outcome is = record {
+      reading =
+          with_value sees (subst (λ (a : Option (List ℕ)). OfMain (held old.history new.history) name a outcome) (sym some)
+          (subst (λ (n : List ℕ). Then (Reads (held old.history new.history) deepest n bytes nothing) AtEnd outcome) same
+          (subst (λ (b : List ℕ). Then (Reads (held old.history new.history) deepest kept b nothing) AtEnd outcome) all is)));
+    }
 
     pub read_broken : (error : ReadError) (r : Result BuildGraph ReadError) → IsErrAnd r (λ (e : ReadError). e ≡ error)
         → IsFaultSeen (Reads (held old.history new.history) deepest kept slice nothing) error → ReadsFile name old.history new.history r

@@ -156,7 +156,7 @@ impl ReadEdge {
 fn quote_all(alloc: Global, paths: &[Path]) -> Result<Items<Path>, AllocError>
     ensures { IfOk result (λ words. words ≡ map quoted paths.now) }
 {
-    let mut words = Items::new(alloc);
+    let mut words = Items::from_vec(Vec::with_capacity(alloc, paths.len())?);
     for path in paths {
         words.push(Path::from_string(quote(alloc, path.as_str())?))?;
     }

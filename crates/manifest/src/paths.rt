@@ -99,7 +99,7 @@ impl<'a> PathReader<'a> {
         ensures paths { IfOk result (λ paths. (past : List Move) → IsScopesOf self.old.scopes.now past → self.new.has_empty ≡ false → self.new.has_large ≡ false → ArePaths (value_of_name self.old.block.now past) (paths_of values.now) paths) }
         ensures memory { IfErr result (λ error. error ≡ ReadError.Memory) }
     {
-        let mut paths = Items::new(alloc);
+        let mut paths = Items::from_vec(Vec::with_capacity(alloc, values.len())?);
         for value in values {
             if let Some(path) = self.path(alloc, value)? {
                 paths.push(path)?;

@@ -22,6 +22,9 @@ use indexmap::IndexMap;
 use std::alloc::Global;
 use text::Text;
 
+/// The bytes for which a value takes memory at first. What is left is given back.
+const USUAL_ROOM: usize = 128;
+
 /// The value of a name where a rule is used, with the scope of the build statement as it stands by now: to be called when
 /// all files are read.
 ///
@@ -103,10 +106,11 @@ impl<'a> Known<'a> {
         ensures size { IfOk result (λ text. length text ≤ largest_value) }
         ensures large { IsErrOf result Larger → (template : Template) → opened self.now.at.now name.now ≡ Some template → (past : List Move) → IsScopesOf self.now.scopes.now past → largest_value < length (text_of self.now past template) }
     {
-        let mut text = String::new(alloc);
+        let mut text = String::with_capacity(alloc, USUAL_ROOM)?;
         if let Some(template) = self.at.template(name) {
             self.append_parts(&mut text, template.parts.as_slice())?;
         }
+        text.shrink_to_fit();
         Ok(Text::from_string(text))
     }
 

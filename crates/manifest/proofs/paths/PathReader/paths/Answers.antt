@@ -27,10 +27,10 @@ loop-value-preserved c =
           let found : IsPathFound (text_of (value_of_name c.args.self.now.block.now past) (fragments_of c.value-item.result)) c.in_ok-path.field-0 =
           found_kept c.loop-value.self c.args.self.now.scopes.now c.args.self.now.block.now (fragments_of c.value-item.result) _ past c.loop-value.invariant.scopes c.loop-value.invariant.block
           (λ now. c.in_ok-path.ensures.found past now empty large) at in
-          elim c.match-branch-2.branch [
+          elim c.match-branch-3.branch [
             | in-Some+in_ok-push w ↦
                 let is : c.in_ok-path.field-0 ≡ Some w.in-Some.path = w.in-Some.is in
-                let grown : c.match-branch-2.paths ≡ c.loop-value.paths ++ w.in-Some.path ∷ [] = w.paths-is ∙ w.in_ok-push.ensures.ok in
+                let grown : c.match-branch-3.paths ≡ c.loop-value.paths ++ w.in-Some.path ∷ [] = w.paths-is ∙ w.in_ok-push.ensures.ok in
                 rw (more, grown) (paths_found _ _ _ _ c.in_ok-path.field-0 w.in-Some.path is (c.loop-value.invariant.paths past at before.0 before.1) found)
             | in_default w ↦ absurd (subst (λ (option : Option (List ℕ)). IsPathFound (text_of (value_of_name c.args.self.now.block.now past) (fragments_of c.value-item.result)) option) w.in_default.is found)
           ];
