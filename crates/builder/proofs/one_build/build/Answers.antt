@@ -46,3 +46,12 @@ returns-in-Ok-new-clause-build g c = inr record {
       (c.build_manifest.ensures.builds (record { outcome = g.S.Site.outcome; depfile = depfile }) own (g.S.Texts.world c.args.site.now) owned c.requires
       (record { looks = c.read.ensures.looks; failures = c.read.ensures.cause.grows }));
 }
+
+pub returns-in-Ok-clause-build : goal.returns-in-Ok-clause-build
+returns-in-Ok-clause-build g c = inl record {
+  error = error.Memory;
+  is = refl;
+  looks = c.read.ensures.looks;
+  cause = c.in-Ok.ensures.cause;
+  file = λ tell. tt;
+}
