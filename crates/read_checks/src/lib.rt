@@ -13,7 +13,7 @@ mod order;
 #[cfg(test)]
 mod refusals;
 #[cfg(test)]
-mod scopes;
+mod scoping;
 #[cfg(test)]
 mod sweeps;
 #[cfg(test)]
