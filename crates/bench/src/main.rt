@@ -8,7 +8,7 @@ mod one_file;
 use crate::one_file::OneFile;
 use anyhow::{Result, bail};
 use build_log::{Log, Tail};
-use graph::Graph;
+use graph::{ConeFault, Graph};
 use lexer::{Statement, statements};
 use manifest::{Manifest, Texts};
 use std::alloc::Global;
@@ -78,10 +78,11 @@ fn count_cone(rt: &impl Print, alloc: Global, bytes: Vec<u8>) -> Result<()> {
     let paths = graph.paths.len();
     let outputs = graph.links.makers.len();
     println!(rt; "{paths} paths, {outputs} of them outputs")?;
-    let Ok(cone) = graph.cone(alloc, &[]) else {
-        bail!("the edges have no order");
+    let needed = match graph.cone(alloc, &[]) {
+        Ok(cone) => cone.order.len(),
+        Err(ConeFault::Memory) => bail!("out of memory"),
+        Err(_) => bail!("the edges have no order"),
     };
-    let needed = cone.order.len();
     println!(rt; "{needed} edges needed")?;
     Ok(())
 }

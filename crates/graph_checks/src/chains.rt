@@ -1,42 +1,19 @@
 //! A chain of a million edges, which no walk may follow by calling itself.
 
+use crate::lines::{edge, paths};
 use graph::{ConeFault, Graph};
-use model::{Act, BuildGraph, Deps, Edge};
+use model::{BuildGraph, Edge};
 use std::alloc::{AllocError, Global};
 use std::test::Fail;
-use text::{Items, Path, Text};
+use text::{Items, Text};
 
 const EDGES: usize = 1_000_000;
 
-/// The path at this place of the chain.
-fn one_path(alloc: Global, place: usize) -> Result<Items<Path>, AllocError> {
-    let mut paths = Items::new(alloc);
-    paths.push(Path::from_string(format!(in alloc; "p{place}")?))?;
-    Ok(paths)
-}
-
 /// The edge that makes the path at this place of the one behind it.
 fn link(alloc: Global, place: usize) -> Result<Edge, AllocError> {
-    Ok(Edge {
-        explicit_outputs: one_path(alloc, place)?,
-        implicit_outputs: Items::new(alloc),
-        explicit_inputs: one_path(alloc, place.saturating_add(1))?,
-        implicit_inputs: Items::new(alloc),
-        order_only_inputs: Items::new(alloc),
-        validations: Items::new(alloc),
-        act: Act {
-            command: Text::new(alloc),
-            depfile: Text::new(alloc),
-            response_path: Text::new(alloc),
-            response_content: Text::new(alloc),
-        },
-        description: Text::new(alloc),
-        deps: Deps::Unset,
-        restat: false,
-        pool: None,
-        dyndep: None,
-        phony: false,
-    })
+    let behind = place.saturating_add(1);
+    let line = format!(in alloc; "p{place}|p{behind}")?;
+    edge(alloc, line.as_str(), false)
 }
 
 fn chain(alloc: Global) -> Result<BuildGraph, AllocError> {
@@ -47,7 +24,7 @@ fn chain(alloc: Global) -> Result<BuildGraph, AllocError> {
     Ok(BuildGraph {
         edges,
         pools: Items::new(alloc),
-        defaults: one_path(alloc, 0)?,
+        defaults: paths(alloc, "p0")?,
         builddir: Text::new(alloc),
     })
 }

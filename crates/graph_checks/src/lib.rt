@@ -4,4 +4,6 @@
 #[cfg(test)]
 mod chains;
 #[cfg(test)]
+mod lines;
+#[cfg(test)]
 mod small_graphs;

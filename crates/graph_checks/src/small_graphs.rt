@@ -1,51 +1,13 @@
 //! Cones and reading sets of small graphs.
 
+use crate::lines::{edge, paths};
 use graph::{ConeFault, Graph};
-use model::{Act, BuildGraph, Deps, Edge};
+use model::BuildGraph;
 use std::alloc::{AllocError, Global};
 use std::test::Fail;
 use text::{Items, Path, Text};
 
-fn paths(alloc: Global, words: &str) -> Result<Items<Path>, AllocError> {
-    let mut paths = Items::new(alloc);
-    for word in words.split(' ') {
-        if !word.is_empty() {
-            paths.push(Path::from_str(alloc, word)?)?;
-        }
-    }
-    Ok(paths)
-}
-
-/// An edge of outputs, explicit, implicit and order-only inputs, and validations, with a `|` between them.
-fn edge(alloc: Global, line: &str, phony: bool) -> Result<Edge, AllocError> {
-    let mut parts = line.split('|');
-    Ok(Edge {
-        explicit_outputs: paths(alloc, parts.next().unwrap_or(""))?,
-        implicit_outputs: Items::new(alloc),
-        explicit_inputs: paths(alloc, parts.next().unwrap_or(""))?,
-        implicit_inputs: paths(alloc, parts.next().unwrap_or(""))?,
-        order_only_inputs: paths(alloc, parts.next().unwrap_or(""))?,
-        validations: paths(alloc, parts.next().unwrap_or(""))?,
-        act: no_act(alloc),
-        description: Text::new(alloc),
-        deps: Deps::Unset,
-        restat: false,
-        pool: None,
-        dyndep: None,
-        phony,
-    })
-}
-
-fn no_act(alloc: Global) -> Act {
-    Act {
-        command: Text::new(alloc),
-        depfile: Text::new(alloc),
-        response_path: Text::new(alloc),
-        response_content: Text::new(alloc),
-    }
-}
-
-/// A graph of such lines; those that begin with `!` are phony.
+/// A graph of lines; those that begin with `!` are phony.
 fn whole(alloc: Global, lines: &[&str], defaults: &str) -> Result<BuildGraph, AllocError> {
     let mut edges = Items::new(alloc);
     for line in lines {

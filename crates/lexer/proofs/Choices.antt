@@ -1,12 +1,12 @@
 -- Where one of two readings is taken.
-use Rattle.std.proofs.Common.{◌≡◌, ℕ, ◌+◌, Bool, true, false, List, [], ◌∷◌, ◌++◌, ap, sym, arith, refl, ◌∙◌, append_assoc, subst, Option, Some, None}
+use Rattle.std.proofs.Common.{◌≡◌, ℕ, Bool, true, false, List, [], ◌++◌, ap, sym, arith, refl, ◌∙◌, append_assoc, subst, Option, Some, None}
 use Rattle.lexer.specs.declared.cursor.Cursor.{Cursor}
 use Rattle.lexer.specs.declared.stop.Stop.{Stop}
 use Rattle.lexer.specs.declared.stop.Stop.TheVariants.{Memory, Found}
 use Rattle.lexer.specs.declared.tokens.Mark.{Mark}
 use Rattle.lexer.specs.Grammar.{Outcome, Is, Give, Either}
 use Rattle.lexer.specs.Grammar.Outcome.{Reached, Broken}
-use Rattle.lexer.specs.Places.{IsBehind, IsStuck, Breaks, line_feeds}
+use Rattle.lexer.specs.Places.{IsBehind, Breaks}
 use Rattle.lexer.specs.Said.{Fragments}
 use Rattle.lexer.specs.Tokens.{newline, begins_path, mark, is_mark}
 use Rattle.lexer.specs.Values.{OfPath, Paths}

@@ -1,18 +1,17 @@
 -- What a line says, by its kind.
-use Rattle.std.proofs.Common.{◌≡◌, ◌≢◌, ℕ, Bool, true, false, List, [], ◌∷◌, length, sym, refl, subst, Option, Some, None}
+use Rattle.std.proofs.Common.{◌≡◌, ◌≢◌, ℕ, Bool, true, false, List, [], ◌∷◌, length, refl, subst, Option, Some}
 use Rattle.std.specs.Prelude.{◌==◌}
 use Rattle.lexer.specs.declared.cursor.Cursor.{Cursor}
 use Rattle.lexer.specs.declared.stop.Stop.{Stop}
-use Rattle.lexer.specs.Grammar.{Outcome, Is, Give, Then, Either}
-use Rattle.lexer.specs.Grammar.Outcome.{Reached, Broken}
+use Rattle.lexer.specs.Grammar.{Outcome, Give}
+use Rattle.lexer.specs.Grammar.Outcome.{Reached}
 use Rattle.lexer.specs.Grammar.Then.{goes_on}
-use Rattle.lexer.specs.Places.{IsBehind, Breaks}
+use Rattle.lexer.specs.Places.{Breaks}
 use Rattle.lexer.specs.Said.{Form}
-use Rattle.lexer.specs.Tokens.{unexpected}
 use Rattle.lexer.specs.Values.{AreBlanks}
 use Rattle.lexer.specs.Statements.{OfStatement, OfBlock}
 use Rattle.lexer.specs.Lines.{begins_with_space, says_nothing, Nothing, Something, Content, OfLine}
-use Rattle.lexer.proofs.Choices.{breaks_from, breaks_as, either_first, either_second}
+use Rattle.lexer.proofs.Choices.{either_first, either_second}
 use Rattle.lexer.proofs.Reading.{breaks_first}
 
 pub content_nothing : (inside indented : Bool) (bytes : List ℕ) (outcome : Outcome (Option Form)) → says_nothing bytes ≡ true → Nothing bytes outcome → Content inside indented bytes outcome

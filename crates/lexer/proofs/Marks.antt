@@ -1,5 +1,5 @@
 -- The parts of a `build` line.
-use Rattle.std.proofs.Common.{◌≡◌, ◌≢◌, ℕ, Bool, true, false, List, [], ◌∷◌, ◌++◌, Option, Some, None, ap, sym, refl, ◌∙◌, append_assoc, subst, arith, ◌+◌}
+use Rattle.std.proofs.Common.{◌≡◌, ◌≢◌, ℕ, Bool, true, false, List, [], ◌∷◌, ◌++◌, Option, Some, ap, sym, refl, ◌∙◌, append_assoc, subst, arith}
 use Rattle.lexer.specs.declared.cursor.Cursor.{Cursor}
 use Rattle.lexer.specs.declared.statement.Value.{Value}
 use Rattle.lexer.specs.declared.stop.Stop.{Stop}
@@ -10,7 +10,7 @@ use Rattle.lexer.specs.Grammar.{Outcome, Grammar, Is, Give, Then, Either}
 use Rattle.lexer.specs.Grammar.Outcome.{Reached, Broken}
 use Rattle.lexer.specs.Places.{IsBehind, Breaks}
 use Rattle.lexer.specs.Said.{Fragments, BuildForm, paths_of}
-use Rattle.lexer.specs.Statements.{some_of, DefaultPaths, MarkedBy, Marked, Outputs, OfRule, InputsForm, Inputs, build_form}
+use Rattle.lexer.specs.Statements.{some_of, MarkedBy, Marked, Outputs, OfRule, InputsForm, Inputs, build_form}
 use Rattle.lexer.specs.Tokens.{unexpected, line_end, name, word_end, mark, is_mark}
 use Rattle.lexer.specs.Values.{Blanks, Paths}
 use Rattle.lexer.proofs.Places.{line_feeds-append}

@@ -1,11 +1,11 @@
 -- The numbers that are answered are those of lines of the text.
-use Rattle.std.proofs.Common.{◌≡◌, ℕ, ◌+◌, List, [], ◌∷◌, ◌++◌, map, Option, Some, None, option_map, ◌⊎◌, inl, inr, refl, sym, ap, ◌∙◌, append_assoc, subst, arith}
+use Rattle.std.proofs.Common.{◌≡◌, ℕ, ◌+◌, List, [], ◌∷◌, ◌++◌, map, Option, Some, None, option_map, inl, inr, refl, sym, ap, ◌∙◌, append_assoc, subst, arith}
 use Rattle.std.specs.List.{AllByRecursion, flat_map}
 use Rattle.std.specs.Option.{option_to_list}
 use Rattle.lexer.specs.declared.fault.Fault.{Fault}
 use Rattle.lexer.specs.declared.statement.Line.{Line}
 use Rattle.lexer.specs.Grammar.{AreInRow}
-use Rattle.lexer.specs.Lines.{Place, first_place, IsLine, IsFaulty, IsStop, AreLines, IsRead, too_large}
+use Rattle.lexer.specs.Lines.{Place, first_place, IsLine, IsFaulty, IsRead}
 use Rattle.lexer.specs.Places.{line_feeds, IsLineOf}
 use Rattle.lexer.specs.Said.{Form, Said, said_of}
 use Rattle.lexer.proofs.Places.{line_feeds-append}

@@ -1,8 +1,7 @@
 -- Pieces one behind another.
-use Rattle.std.proofs.Common.{◌≡◌, ℕ, Bool, true, false, not, List, [], ◌∷◌, ◌++◌, map, length, Option, Some, None, ap, sym, refl, ◌∙◌, append-nil, cond, ◌<◌, ◌⊎◌, inl, inr}
+use Rattle.std.proofs.Common.{◌≡◌, ℕ, Bool, true, false, not, List, [], ◌∷◌, ◌++◌, map, length, Option, Some, None, ap, sym, refl, ◌∙◌, append-nil, ◌<◌, ◌⊎◌, inl, inr}
 use Rattle.std.specs.Prelude.{◌==◌, ◌&&◌, option_map, is_none}
 use Rattle.std.specs.Option.{option_to_list}
-use Rattle.std.specs.List.{flat_map}
 use Rattle.std.proofs.lemmas.Grind.{flat_map-append}
 use Rattle.std.proofs.lemmas.List.{map-append}
 use Rattle.lexer.specs.declared.characters.Class.{Class}
@@ -11,7 +10,7 @@ use Rattle.lexer.specs.declared.statement.Piece.{Piece}
 use Rattle.lexer.specs.declared.statement.Value.{Value}
 use Rattle.lexer.specs.Characters.{run_of, behind_run}
 use Rattle.lexer.specs.Grammar.{Outcome, Is, AreInRow, IsItem}
-use Rattle.lexer.specs.Grammar.Outcome.{Reached, Broken}
+use Rattle.lexer.specs.Grammar.Outcome.{Reached}
 use Rattle.lexer.specs.Said.{Fragment, Fragments, fragment_of, fragments_of, paths_of}
 use Rattle.lexer.specs.Tokens.{behind, escape, unexpected, piece_of, piece, ends, begins_path, join}
 use Rattle.lexer.specs.Values.{joined, PathAndBlanks, ends_paths}

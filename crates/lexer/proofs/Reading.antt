@@ -1,6 +1,5 @@
 -- Faults of parts are faults of the whole, and grammars of which each part has at most one reading have one.
-use Rattle.std.proofs.Common.{◌≡◌, ℕ, ◌+◌, Bool, true, false, List, [], ◌∷◌, ◌++◌, ap, sym, arith, refl, ◌∙◌, append_assoc, subst}
-use Rattle.std.proofs.lemmas.List.Sums.{sum_by-append}
+use Rattle.std.proofs.Common.{◌≡◌, ℕ, Bool, true, false, List, [], ◌∷◌, ◌++◌, ap, sym, arith, refl, ◌∙◌, append_assoc, subst}
 use Rattle.lexer.specs.declared.cursor.Cursor.{Cursor}
 use Rattle.lexer.specs.declared.fault.FaultKind.{FaultKind}
 use Rattle.lexer.specs.declared.stop.Stop.{Stop}
@@ -8,7 +7,7 @@ use Rattle.lexer.specs.declared.stop.Stop.TheVariants.{Memory, Found}
 use Rattle.lexer.specs.Grammar.{Outcome, Is, Give, Then, Either, AreInRow, IsItem, Many, IsUnique}
 use Rattle.lexer.specs.Grammar.Outcome.{Reached, Broken}
 use Rattle.lexer.specs.Grammar.Then.{goes_on, is_stuck}
-use Rattle.lexer.specs.Places.{IsBehind, IsStuck, Breaks, line_feeds}
+use Rattle.lexer.specs.Places.{IsBehind, Breaks}
 use Rattle.lexer.specs.Tokens.{fault_at, unexpected}
 use Rattle.lexer.proofs.Places.{line_feeds-append}
 

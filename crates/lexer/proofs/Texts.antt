@@ -1,5 +1,5 @@
 -- The lines that were read so far.
-use Rattle.std.proofs.Common.{◌≡◌, ◌≢◌, ℕ, ◌+◌, List, [], ◌∷◌, ◌++◌, Bool, true, false, map, Option, Some, None, option_map, refl, sym, ap, ◌∙◌, append-nil}
+use Rattle.std.proofs.Common.{◌≡◌, ◌≢◌, ℕ, List, [], ◌∷◌, ◌++◌, Bool, false, map, Option, Some, None, option_map, refl, sym, ap, ◌∙◌, append-nil}
 use Rattle.std.specs.List.{flat_map}
 use Rattle.std.specs.Option.{option_to_list}
 use Rattle.std.proofs.lemmas.Grind.{flat_map-append}
@@ -9,10 +9,10 @@ use Rattle.lexer.specs.declared.statement.Line.{Line}
 use Rattle.lexer.specs.declared.statement.Statement.{Statement}
 use Rattle.lexer.specs.declared.stop.Stop.{Stop}
 use Rattle.lexer.specs.declared.stop.Stop.TheVariants.{Memory, Found}
-use Rattle.lexer.specs.Grammar.{Outcome, AreInRow}
-use Rattle.lexer.specs.Grammar.Outcome.{Reached, Broken}
+use Rattle.lexer.specs.Grammar.{AreInRow}
+use Rattle.lexer.specs.Grammar.Outcome.{Reached}
 use Rattle.lexer.specs.Places.{IsBehind, Breaks}
-use Rattle.lexer.specs.Said.{Form, Said, form_of, said_of}
+use Rattle.lexer.specs.Said.{Said, form_of, said_of}
 use Rattle.lexer.specs.Lines.{OfLine, inside_behind, Place, first_place, IsLine, AreLines, StopsReading}
 use Rattle.lexer.proofs.Reading.{row_more}
 

@@ -1,10 +1,10 @@
 -- Spaces, values and paths have at most one reading.
-use Rattle.std.proofs.Common.{◌≡◌, ℕ, Bool, true, false, List, [], ◌∷◌, ap, sym, refl, ◌∙◌, subst, Option, Some, None, ◌⊎◌, inl, inr}
+use Rattle.std.proofs.Common.{◌≡◌, ℕ, Bool, true, false, List, ap, sym, ◌∙◌, subst, Some, None, ◌⊎◌, inl, inr}
 use Rattle.lexer.specs.declared.fault.FaultKind.{FaultKind}
 use Rattle.lexer.specs.declared.characters.Class.{Class}
 use Rattle.lexer.specs.declared.characters.Class.TheVariants as class
 use Rattle.lexer.specs.Characters.{behind_run}
-use Rattle.lexer.specs.Grammar.{Outcome, Is, Give, Then, AreInRow, IsItem, Many, IsUnique}
+use Rattle.lexer.specs.Grammar.{Outcome, Is, Give, Then, IsItem, Many, IsUnique}
 use Rattle.lexer.specs.Grammar.Outcome.{Reached, Broken}
 use Rattle.lexer.specs.Tokens.{join, piece, ends}
 use Rattle.lexer.specs.Values.{AreBlanks, Blanks, joined, Pieces, OfValue, OfPath, PathAndBlanks, ends_paths, Paths}

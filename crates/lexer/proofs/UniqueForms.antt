@@ -1,15 +1,14 @@
 -- Statements have at most one reading.
-use Rattle.std.proofs.Common.{ℕ, List, [], ◌++◌, Bool, Option, Some, None}
+use Rattle.std.proofs.Common.{ℕ, List, [], ◌++◌, Option, Some, None}
 use Rattle.lexer.specs.declared.forms.Keyword.{Keyword}
 use Rattle.lexer.specs.declared.forms.Keyword.TheVariants as keyword
 use Rattle.lexer.specs.declared.tokens.Mark.{Mark}
 use Rattle.lexer.specs.declared.tokens.Mark.TheVariants.{Bar, DoubleBar, BarAt}
-use Rattle.lexer.specs.Grammar.{Outcome, Is, Give, Then, Either, IsUnique}
-use Rattle.lexer.specs.Said.{Fragments, Form, BuildForm}
+use Rattle.lexer.specs.Grammar.{Outcome, Is, Give, Then, IsUnique}
 use Rattle.lexer.specs.Said.Form.{binding, block_binding, rule, build, pool, defaults, includes, subninja}
 use Rattle.lexer.specs.Tokens.{newline, one, line_end, name, begins_path, word_end, mark, is_mark}
 use Rattle.lexer.specs.Values.{Blanks, OfValue, OfPath, Paths}
-use Rattle.lexer.specs.Statements.{LineRest, Bound, NameAlone, missing_path, SomePath, PathAlone, some_of, DefaultPaths, MarkedBy, Marked, Outputs, OfRule, InputsForm, Inputs, build_form, BuildPaths, keyword_of, BehindWord, OfStatement, OfBlock}
+use Rattle.lexer.specs.Statements.{LineRest, Bound, NameAlone, missing_path, SomePath, PathAlone, some_of, DefaultPaths, MarkedBy, Marked, Outputs, OfRule, Inputs, build_form, BuildPaths, keyword_of, BehindWord, OfStatement, OfBlock}
 use Rattle.lexer.proofs.Reading.{is_unique, give_unique, then_unique, either_unique}
 use Rattle.lexer.proofs.Unique.{blanks_unique, value_unique, path_unique, paths_unique}
 

@@ -1,18 +1,18 @@
 -- Lines and texts have at most one reading.
-use Rattle.std.proofs.Common.{◌≡◌, ◌≢◌, ℕ, ◌+◌, ◌<◌, ◌≤◌, List, [], ◌∷◌, ◌++◌, Bool, true, false, Option, Some, None, option_map, ◌⊎◌, inl, inr, refl, sym, ap, ◌∙◌, subst, arith, length}
+use Rattle.std.proofs.Common.{◌≡◌, ℕ, ◌+◌, List, ◌++◌, Bool, Option, Some, None, option_map, inl, inr, refl, sym, ap, ◌∙◌, subst, arith}
 use Rattle.std.proofs.lemmas.List.{append_cancel_right}
 use Rattle.std.specs.List.{flat_map}
 use Rattle.std.specs.Option.{option_to_list}
 use Rattle.lexer.specs.declared.fault.Fault.{Fault}
 use Rattle.lexer.specs.declared.fault.FaultKind.{FaultKind}
-use Rattle.lexer.specs.Grammar.{Outcome, Is, Give, Then, Either, IsUnique, AreInRow}
+use Rattle.lexer.specs.Grammar.{Outcome, Give, IsUnique}
 use Rattle.lexer.specs.Grammar.Outcome.{Reached, Broken}
 use Rattle.lexer.specs.Places.{line_feeds}
 use Rattle.lexer.specs.Said.{Form, Said}
 use Rattle.lexer.specs.Tokens.{line_end}
 use Rattle.lexer.specs.Values.{Blanks}
 use Rattle.lexer.specs.Statements.{OfStatement, OfBlock}
-use Rattle.lexer.specs.Lines.{outside, begins_with_space, says_nothing, comment, Nothing, Something, Content, OfLine, inside_behind, Place, IsLine, IsFaulty, IsStop, AreLines, IsRead, first_place, too_large}
+use Rattle.lexer.specs.Lines.{outside, begins_with_space, says_nothing, comment, Nothing, Something, Content, OfLine, inside_behind, Place, IsLine, IsStop, AreLines, IsRead, first_place}
 use Rattle.lexer.proofs.Reading.{is_unique, give_unique, then_unique, either_unique, row_unique}
 use Rattle.lexer.proofs.Unique.{blanks_unique}
 use Rattle.lexer.proofs.UniqueForms.{is_then, of_statement_unique, of_block_unique}

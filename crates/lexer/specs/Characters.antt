@@ -1,5 +1,5 @@
 -- Characters that stand together in a build file (manual: "Lexical syntax").
-use Rattle.std.specs.Prelude.{◌≡◌, ℕ, Bool, true, false, not, List, [], ◌∷◌, ◌==◌, ◌&&◌, ◌||◌, cond, nat_le}
+use Rattle.std.specs.Prelude.{ℕ, Bool, not, List, [], ◌∷◌, ◌==◌, ◌&&◌, ◌||◌, cond, nat_le}
 use Rattle.lexer.specs.declared.characters.Class.{Class}
 use Rattle.lexer.specs.declared.characters.Class.TheVariants.{Space, Name, BareName, Path, Value, Comment}
 

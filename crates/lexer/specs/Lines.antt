@@ -4,12 +4,11 @@ use Rattle.std.specs.List.{flat_map}
 use Rattle.std.specs.Option.{option_to_list}
 use Rattle.lexer.specs.declared.characters.Class.TheVariants as class
 use Rattle.lexer.specs.declared.fault.Fault.{Fault}
-use Rattle.lexer.specs.declared.fault.FaultKind.{FaultKind}
 use Rattle.lexer.specs.declared.fault.FaultKind.TheVariants.{TooLarge, Unexpected}
 use Rattle.lexer.specs.declared.cursor.TheConstants.{LIMIT}
 use Rattle.lexer.specs.declared.stop.Stop.{Stop}
 use Rattle.lexer.specs.declared.stop.Stop.TheVariants.{Memory, Found}
-use Rattle.lexer.specs.Characters.{run_of, behind_run}
+use Rattle.lexer.specs.Characters.{behind_run}
 use Rattle.lexer.specs.Grammar.{Outcome, Grammar, Is, Give, Then, Either, AreInRow}
 use Rattle.lexer.specs.Grammar.Outcome.{Reached, Broken}
 use Rattle.lexer.specs.Places.{line_feeds}

@@ -1,14 +1,11 @@
 -- What a statement's line says (manual: "Variables", "Rules", "Build statements", "Build outputs", "Build dependencies",
 -- "Validations", "Default target statements", "Pools", "Evaluation and scoping").
-use Rattle.std.specs.Prelude.{◌≡◌, ℕ, Bool, true, false, List, [], ◌∷◌, ◌++◌, Option, None, Some, is_some, codes, bytes_eq, cond, ◌||◌, ◌==◌}
-use Rattle.lexer.specs.declared.characters.Class.TheVariants as class
-use Rattle.lexer.specs.declared.fault.FaultKind.{FaultKind}
+use Rattle.std.specs.Prelude.{ℕ, List, [], ◌∷◌, ◌++◌, Option, None, Some, codes, bytes_eq, cond}
 use Rattle.lexer.specs.declared.fault.FaultKind.TheVariants.{EmptyPath}
 use Rattle.lexer.specs.declared.tokens.Mark.{Mark}
 use Rattle.lexer.specs.declared.tokens.Mark.TheVariants.{Bar, DoubleBar, BarAt}
 use Rattle.lexer.specs.declared.forms.Keyword.{Keyword}
 use Rattle.lexer.specs.declared.forms.Keyword.TheVariants as keyword
-use Rattle.lexer.specs.Characters.{run_of, behind_run}
 use Rattle.lexer.specs.Grammar.{Outcome, Grammar, Is, Give, Then, Either}
 use Rattle.lexer.specs.Grammar.Outcome.{Reached, Broken}
 use Rattle.lexer.specs.Said.{Fragments, Form, BuildForm}

@@ -1,5 +1,5 @@
 -- The smallest parts of a line, by cases on what stands next (manual: "Lexical syntax").
-use Rattle.std.specs.Prelude.{ℕ, Bool, true, false, not, List, [], ◌∷◌, ◌==◌, ◌&&◌, ◌||◌, cond, Option, None, Some, is_none, option_and_then, codes, bytes_eq}
+use Rattle.std.specs.Prelude.{ℕ, Bool, true, false, not, List, [], ◌∷◌, ◌==◌, ◌&&◌, ◌||◌, cond, Option, None, Some, is_none, option_and_then}
 use Rattle.std.specs.Option.{option_or}
 use Rattle.lexer.specs.declared.characters.Class.{Class}
 use Rattle.lexer.specs.declared.characters.Class.TheVariants as class

@@ -4,9 +4,8 @@ use Rattle.std.specs.List.{flat_map}
 use Rattle.std.specs.Option.{option_to_list}
 use Rattle.lexer.specs.declared.characters.Class.{Class}
 use Rattle.lexer.specs.declared.characters.Class.TheVariants as class
-use Rattle.lexer.specs.declared.fault.FaultKind.{FaultKind}
 use Rattle.lexer.specs.Characters.{behind_run}
-use Rattle.lexer.specs.Grammar.{Outcome, Grammar, Is, Give, Then, Many}
+use Rattle.lexer.specs.Grammar.{Grammar, Is, Give, Then, Many}
 use Rattle.lexer.specs.Grammar.Outcome.{Reached, Broken}
 use Rattle.lexer.specs.Said.{Fragment, Fragments}
 use Rattle.lexer.specs.Tokens.{join, piece, ends, begins_path}

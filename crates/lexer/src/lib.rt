@@ -21,5 +21,5 @@ mod values;
 pub use fault::{Fault, FaultKind, ReadFault};
 pub use lines::{one_reading, statements};
 pub use path::canonical;
-pub use shell::{quote, quoted_is_one_word};
+pub use shell::{is_bare_path, quote, quoted_is_one_word};
 pub use statement::{BuildLine, Line, Piece, Statement, Statements, Value};

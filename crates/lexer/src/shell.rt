@@ -22,8 +22,8 @@ pub fn quoted_is_one_word()
     ensures { QuotedIsOneWord }
 {}
 
-/// Whether the path may stand in a command as it is.
-fn is_bare_path(path: &str) -> bool
+/// Whether the path stands in a command as it is, without quotes.
+pub fn is_bare_path(path: &str) -> bool
     ensures { result ≡ is_bare_path path.now }
 {
     !path.is_empty() && path.bytes().all(is_bare)

@@ -1,9 +1,9 @@
 -- Where the lines of a block end.
-use Rattle.std.proofs.Common.{◌≡◌, ◌≤◌, ℕ, zero, suc, Bool, true, false, cond, List, [], ◌∷◌, ◌++◌, map, length, take, drop, refl, sym, ap, subst, ◌∙◌, arith}
+use Rattle.std.proofs.Common.{◌≡◌, ◌≤◌, ℕ, zero, suc, Bool, true, false, List, [], ◌∷◌, ◌++◌, map, length, take, drop, refl, sym, ap, ◌∙◌, arith}
 use Rattle.std.proofs.lemmas.List.{take-append-drop, map-append}
 use Rattle.lexer.specs.declared.statement.Line.{Line}
 use Rattle.lexer.specs.Said.{Said, said_of}
-use Rattle.manifest.specs.Blocks.{BlockLine, Grouped, is_of_block, block_line, block_lines, grouped, groups_of, lines_in_front, IsSplit}
+use Rattle.manifest.specs.Blocks.{BlockLine, is_of_block, block_line, block_lines, grouped, groups_of, lines_in_front, IsSplit}
 
 pub front_within : (all : List Said) → lines_in_front all ≤ length all
 front_within [] = omega arith

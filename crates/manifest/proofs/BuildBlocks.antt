@@ -1,7 +1,6 @@
 -- What the block of a build statement binds, line by line.
-use Rattle.std.proofs.Common.{◌≡◌, ℕ, ◌≤◌, ◌<◌, Bool, true, false, List, [], ◌∷◌, ◌++◌, ◌⊎◌, inl, inr, map, length, Option, None, Some, refl, sym, ap, ◌∙◌, subst, if◌then◌else◌, bytes_eq, ◌+◌, get_or, drop}
-use Rattle.lexer.specs.declared.fault.FaultKind.TheVariants.{TooLarge}
-use Rattle.lexer.specs.Said.{Form, Said, Fragments, fragments_of, said_of}
+use Rattle.std.proofs.Common.{◌≡◌, ℕ, ◌≤◌, ◌<◌, List, [], ◌∷◌, ◌++◌, ◌⊎◌, inl, inr, map, length, Option, None, Some, refl, sym, ap, ◌∙◌, subst, if◌then◌else◌, bytes_eq, ◌+◌, get_or, drop}
+use Rattle.lexer.specs.Said.{Form, fragments_of, said_of}
 use Rattle.lexer.specs.Said.Form.{binding, block_binding, rule, build, pool, defaults, includes, subninja}
 use Rattle.lexer.specs.declared.statement.Line.{Line}
 use Rattle.scopes.specs.declared.block.Block.{Block}
@@ -10,10 +9,9 @@ use Rattle.scopes.specs.Moves.{Move}
 use Rattle.scopes.specs.Place.{value_of_name}
 use Rattle.scopes.specs.Texts.{expansion_of_pieces, largest_value}
 use Rattle.manifest.specs.declared.blocks.BlockLine.{BlockLine as KeptLine}
-use Rattle.manifest.specs.declared.builds.BlockRead.{BlockRead}
 use Rattle.manifest.specs.Blocks.{BlockLine, IsBlockLineOf, block_line, block_lines, build_block}
 use Rattle.manifest.specs.Keeping.{IsBlockOf, IsBlockRead, IsBoundOrLarge, IsLineRead}
-use Rattle.manifest.specs.Expansion.{Bound, bound, text_at, is_large}
+use Rattle.manifest.specs.Expansion.{Bound, text_at, is_large}
 use Rattle.std.proofs.lemmas.List.{drop_all}
 use Rattle.manifest.proofs.BuildKeys.{drops_next}
 use Rattle.manifest.proofs.TextLemmas.{expanded_at, large_true, large_false}

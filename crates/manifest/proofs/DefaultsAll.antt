@@ -8,7 +8,7 @@ use Rattle.manifest.specs.Graphs.{OfDefault, OfDefaults}
 use Rattle.manifest.specs.Held.{IsDefaultOf}
 use Rattle.manifest.specs.Readings.{Outcome}
 use Rattle.manifest.specs.Readings.Outcome.{Reached, Broken}
-use Rattle.manifest.specs.Readings.Then.{goes_on, stops}
+use Rattle.manifest.specs.Readings.Then.{goes_on}
 use Rattle.manifest.specs.States.{Default}
 use Rattle.manifest.proofs.Binds.{then_fault, fault_in_wider}
 

@@ -18,7 +18,7 @@ use Rattle.manifest.specs.Edges.{OfEdge, OfEdges, ValuesOf, ValuesOfRule, IsEdge
 use Rattle.manifest.specs.Held.{IsBuildOf}
 use Rattle.manifest.specs.Readings.{Outcome}
 use Rattle.manifest.specs.Readings.Outcome.{Reached, Broken}
-use Rattle.manifest.specs.Readings.Then.{goes_on, stops}
+use Rattle.manifest.specs.Readings.Then.{goes_on}
 use Rattle.manifest.specs.Readings.Where.{with_value}
 use Rattle.manifest.specs.States.{Build}
 use Rattle.manifest.proofs.Binds.{then_fault, fault_in_wider}

@@ -1,5 +1,5 @@
 -- What is checked of the values of a build statement.
-use Rattle.std.proofs.Common.{◌≡◌, ℕ, Bool, true, false, List, [], ◌∷◌, length, map, string_bytes, refl, sym, ◌∙◌, ap, subst, arith, eqb-true, ◌==◌, Option, Some, None}
+use Rattle.std.proofs.Common.{◌≡◌, ℕ, Bool, true, false, List, [], ◌∷◌, length, map, string_bytes, refl, sym, ◌∙◌, ap, subst, arith, eqb-true, ◌==◌, Option, Some}
 use Rattle.std.specs.Prelude.{bytes_eq, ◌||◌, ◌&&◌, not, String, IsTrue, is_some, if◌then◌else◌}
 use Rattle.std.specs.Map.{lookup}
 use Rattle.std.specs.declared.alloc.Global.{Global}

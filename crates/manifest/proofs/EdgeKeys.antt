@@ -1,9 +1,8 @@
 -- Sets of texts that are kept as keys.
 use Rattle.std.proofs.Common.{◌≡◌, ℕ, Bool, true, false, List, [], ◌∷◌, ◌++◌, map, string_bytes, refl, sym, ◌∙◌, ap, subst, append_assoc}
-use Rattle.std.specs.Prelude.{bytes_eq, ◌||◌, not, filter, if◌then◌else◌, String}
+use Rattle.std.specs.Prelude.{bytes_eq, ◌||◌, not, if◌then◌else◌, String}
 use Rattle.std.specs.List.{list_any}
 use Rattle.std.specs.declared.alloc.Global.{Global}
-use Rattle.std.proofs.lemmas.Bool.{false≢true}
 use Rattle.std.proofs.lemmas.List.{map-append}
 use Rattle.std.proofs.lemmas.List.Elements.{filter-append}
 use Rattle.indexmap.specs.IndexSet.{insert_key}

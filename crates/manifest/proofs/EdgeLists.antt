@@ -1,9 +1,10 @@
 -- Lists that take over what an iterator yields, and faults that are told at one place.
-use Rattle.std.proofs.Common.{◌≡◌, ℕ, List, [], ◌∷◌, ◌++◌, map, sym, ◌∙◌, ap, append_assoc, append-nil}
+use Rattle.std.proofs.Common.{◌≡◌, ◌<◌, ◌+◌, ℕ, Bool, true, if◌then◌else◌, List, [], ◌∷◌, ◌++◌, length, take, get_or, map, sym, ◌∙◌, ap, append_assoc, append-nil}
+use Rattle.std.proofs.lemmas.List.{take_more, map_push}
+use Rattle.lexer.specs.Quote.{quoted, is_bare_path, in_quotes}
 use Rattle.manifest.specs.Readings.{Place, fault_at}
 use Rattle.manifest.specs.Places.{IsFaultAt}
 use Rattle.manifest.specs.declared.fault.FaultKind.{FaultKind}
-use Rattle.manifest.specs.declared.fault.FileFault.{FileFault}
 use Rattle.manifest.specs.declared.fault.ReadError.{ReadError}
 use Rattle.manifest.specs.declared.fault.ReadError.TheVariants.{Memory, Site, Refused}
 
@@ -32,3 +33,11 @@ pub at_place : (one other : Place) (kind same : FaultKind) (error : ReadError) �
 at_place one other kind same Memory file line is told = tt
 at_place one other kind same (Site fault) file line is told = told
 at_place one other kind same (Refused fault) file line is told = told ∙ same_fault one other kind same file line is
+
+-- one path more stands in a command as it is
+pub bare_more : (paths : List (List ℕ)) (i : ℕ) (path : List ℕ) → i < length paths → path ≡ get_or paths i path → is_bare_path path ≡ true
+    → map quoted (take i paths) ≡ take i paths → map quoted (take (i + 1) paths) ≡ take (i + 1) paths
+bare_more paths i path low is bare so_far =
+    let more : take (i + 1) paths ≡ take i paths ++ path ∷ [] = take_more paths i path low ∙ ap (λ (p : List ℕ). take i paths ++ p ∷ []) (sym is) in
+    let stays : quoted path ≡ path = ap (λ (b : Bool). if b then path else in_quotes path) bare in
+    ap (map quoted) more ∙ (map_push quoted (take i paths) path ∙ (ap (λ (l : List (List ℕ)). l ++ quoted path ∷ []) so_far ∙ (ap (λ (p : List ℕ). take i paths ++ p ∷ []) stays ∙ sym more)))

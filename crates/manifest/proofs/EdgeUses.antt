@@ -1,5 +1,5 @@
 -- What a use of a rule says is what the build statement says.
-use Rattle.std.proofs.Common.{◌≡◌, inl, inr, ◌<◌, ◌≤◌, ℕ, Bool, true, false, List, [], ◌∷◌, map, length, Option, None, Some, Result, Ok, Err, refl, sym, ◌∙◌, ap, subst, arith}
+use Rattle.std.proofs.Common.{◌≡◌, inl, inr, ◌≤◌, ℕ, Bool, true, false, List, [], ◌∷◌, map, length, Option, None, Some, Result, Ok, Err, refl, sym, ◌∙◌, ap, arith}
 use Rattle.std.specs.Prelude.{codes, bytes_eq, if◌then◌else◌, unwrap_or}
 use Rattle.lexer.specs.Quote.{quoted}
 use Rattle.lexer.specs.declared.fault.FaultKind.TheVariants.{TooLarge as LineTooLarge}
@@ -8,7 +8,6 @@ use Rattle.scopes.specs.declared.fault.UseFault.TheVariants.{Memory as UseMemory
 use Rattle.scopes.specs.declared.template.Rule.{Rule}
 use Rattle.scopes.specs.declared.template.Template.{Template}
 use Rattle.scopes.specs.declared.usage.Use.{Use}
-use Rattle.scopes.specs.declared.usage.Paths.{Paths}
 use Rattle.scopes.specs.Block.{block_value}
 use Rattle.scopes.specs.Large.{IsTooLargeAtUse}
 use Rattle.scopes.specs.Moves.{Move, or_else, value_at_end}
@@ -18,17 +17,15 @@ use Rattle.scopes.specs.Use.{is_special, is_unquoted, unless_bound, paths_for, s
 use Rattle.scopes.proofs.Valuing.{one_value, no_circle_on_the_way}
 use Rattle.manifest.specs.declared.fault.FaultKind.TheVariants.{Line, Circle}
 use Rattle.manifest.specs.declared.fault.ReadError.{ReadError}
-use Rattle.manifest.specs.declared.fault.ReadError.TheVariants.{Memory, Site, Refused}
 use Rattle.manifest.specs.declared.values.Values.{Values}
-use Rattle.manifest.specs.Answer.{IsAnswerOf, IsFaultOf}
+use Rattle.manifest.specs.Answer.{IsAnswerOf}
 use Rattle.manifest.specs.Edges.{ExpandedValues}
 use Rattle.manifest.specs.Held.{IsUseRefused, IsBuildOf}
 use Rattle.manifest.specs.declared.kept.ReadEdge.{ReadEdge}
 use Rattle.manifest.specs.declared.paths.EdgePaths.{EdgePaths}
 use Rattle.scopes.specs.declared.block.Block.{Block}
-use Rattle.manifest.specs.Readings.{Outcome}
-use Rattle.manifest.specs.Readings.Outcome.{Reached, Broken}
-use Rattle.manifest.specs.Readings.Unless.{refused, in_order}
+use Rattle.manifest.specs.Readings.Outcome.{Reached}
+use Rattle.manifest.specs.Readings.Unless.{in_order}
 use Rattle.manifest.specs.Readings.Where.{with_value}
 use Rattle.manifest.specs.States.{Build}
 use Rattle.manifest.specs.Expansion.{bound}

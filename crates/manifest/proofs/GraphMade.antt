@@ -1,13 +1,12 @@
 -- The graph that is made of what was kept.
-use Rattle.std.proofs.Common.{◌≡◌, ℕ, List, [], ◌∷◌, map, refl, ap}
+use Rattle.std.proofs.Common.{◌≡◌, ℕ, List, [], ◌∷◌, map, refl}
 use Rattle.std.specs.List.{AllZip}
-use Rattle.model.specs.declared.graph.BuildGraph.{BuildGraph}
 use Rattle.model.specs.declared.graph.Edge.{Edge}
 use Rattle.model.specs.declared.graph.Pool.{Pool}
 use Rattle.manifest.specs.declared.kept.ReadDefault.{ReadDefault}
 use Rattle.manifest.specs.Graphs.{graph_of, builddir_in}
 use Rattle.manifest.specs.Held.{IsDefaultOf}
-use Rattle.manifest.specs.Readings.{Outcome, Give}
+use Rattle.manifest.specs.Readings.{Give}
 use Rattle.manifest.specs.Readings.Outcome.{Reached}
 use Rattle.manifest.specs.States.{State, Default}
 

@@ -1,17 +1,15 @@
 -- Statements with their blocks, one after another.
-use Rattle.std.proofs.Common.{◌≡◌, ℕ, suc, ◌+◌, ◌≤◌, ◌<◌, Bool, true, false, if◌then◌else◌, List, [], ◌∷◌, ◌++◌, map, length, Option, None, Some, refl, sym, ◌∙◌, ap, subst, arith, append_assoc}
+use Rattle.std.proofs.Common.{◌≡◌, ℕ, suc, ◌≤◌, Bool, true, false, if◌then◌else◌, List, [], ◌∷◌, ◌++◌, map, length, Option, refl, sym, ◌∙◌, ap, subst, arith, append_assoc}
 use Rattle.std.specs.Option.{option_map}
 use Rattle.lexer.specs.declared.fault.Fault.{Fault}
 use Rattle.lexer.specs.declared.statement.Line.{Line}
 use Rattle.lexer.specs.Said.{Form, Said, said_of, form_of}
 use Rattle.lexer.specs.Said.Form.{binding, block_binding, rule, build, pool, defaults, includes, subninja}
 use Rattle.manifest.specs.declared.fault.FileFault.{FileFault}
-use Rattle.manifest.specs.Readings.{Outcome, Then, Place}
-use Rattle.manifest.specs.Readings.Outcome.{Reached, Broken}
-use Rattle.manifest.specs.Readings.Then.{goes_on, stops}
+use Rattle.manifest.specs.Readings.{Outcome, Then}
 use Rattle.manifest.specs.States.{State}
 use Rattle.manifest.specs.Blocks.{BlockLine, Group, Grouped, block_line, block_lines, is_of_block, add_line, grouped, groups_of, IsSplit}
-use Rattle.manifest.specs.Files.{Holds, Inner, OfForm, OfGroups, if_last, fault_in, too_deep_at, inner_at}
+use Rattle.manifest.specs.Files.{Holds, OfForm, OfGroups, if_last, fault_in, too_deep_at, inner_at}
 use Rattle.manifest.specs.Seen.{LinesSay, if_no_line}
 
 -- ---- lines of blocks, and others

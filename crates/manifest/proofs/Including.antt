@@ -1,7 +1,6 @@
 -- Files, and the files that they read.
-use Rattle.std.proofs.Common.{◌≡◌, ℕ, zero, suc, ◌+◌, ◌-◌, ◌*◌, ◌≤◌, ◌<◌, vec_len, Bool, IsTrue, true, false, List, [], ◌∷◌, ◌++◌, map, length, Option, None, Some, Result, Ok, Err, OnOk, IsErrAnd, IsUtf8, refl, sym, ◌∙◌, ap, subst, arith}
+use Rattle.std.proofs.Common.{◌≡◌, ℕ, zero, suc, ◌-◌, ◌≤◌, ◌<◌, vec_len, Bool, true, false, List, [], ◌∷◌, map, length, Option, None, Some, Result, Ok, Err, OnOk, IsErrAnd, IsUtf8, refl, sym, ◌∙◌, ap, subst, arith}
 use Rattle.std.specs.List.{AllByRecursion}
-use Rattle.std.specs.Option.{option_map}
 use Rattle.lexer.specs.declared.fault.Fault.{Fault}
 use Rattle.lexer.specs.declared.fault.FaultKind.TheVariants.{TooLarge, EmptyPath}
 use Rattle.lexer.specs.declared.statement.Line.{Line}
@@ -10,9 +9,9 @@ use Rattle.lexer.specs.declared.statement.Statement.TheVariants.{Binding, BlockB
 use Rattle.lexer.specs.declared.statement.Value.{Value}
 use Rattle.lexer.specs.Lines.{IsRead}
 use Rattle.lexer.specs.Path.{IsCanonical}
-use Rattle.lexer.specs.Said.{Fragments, Said, said_of, form_of}
+use Rattle.lexer.specs.Said.{Fragments, said_of, form_of}
 use Rattle.scopes.specs.declared.all_scopes.Scopes.{Scopes}
-use Rattle.scopes.specs.Moves.{Move, Enter, Leave, entered}
+use Rattle.scopes.specs.Moves.{Move, Enter, Leave}
 use Rattle.scopes.specs.Scopes.{IsScopesOf}
 use Rattle.manifest.specs.declared.fault.FaultKind.TheVariants.{Line as LineKind, NotUtf8, NotFound, TooDeep}
 use Rattle.manifest.specs.declared.fault.FileFault.{FileFault}
@@ -21,21 +20,21 @@ use Rattle.manifest.specs.declared.fault.ReadError.TheVariants.{Memory, Site, Re
 use Rattle.manifest.specs.declared.kept.Declared.{Declared}
 use Rattle.manifest.specs.declared.kept.ReadEdge.{ReadEdge}
 use Rattle.manifest.specs.declared.reader.Opened.{Opened}
-use Rattle.manifest.specs.Readings.{Outcome, Reading, Give, Refuse, Unless, Then, Where, Cut, Place, fault_at}
+use Rattle.manifest.specs.Readings.{Outcome, Give, Unless, Where, Place, fault_at}
 use Rattle.manifest.specs.Readings.Outcome.{Reached, Broken}
 use Rattle.manifest.specs.Readings.Unless.{refused, in_order}
 use Rattle.manifest.specs.Readings.Then.{goes_on, stops}
 use Rattle.manifest.specs.Readings.Where.{with_value}
 use Rattle.manifest.specs.States.{State, with_move}
 use Rattle.manifest.specs.Expansion.{text_at, is_large, is_empty}
-use Rattle.manifest.specs.Blocks.{BlockLine, block_lines, groups_of}
-use Rattle.manifest.specs.Files.{Holds, Inner, Found, FoundIn, NameOf, OpenOf, OfFile, InScope, OfForm, OfDeclaration, OfGroups, OfText, OfBytes, Reads, Lexed, first_line, largest_file, fault_in, too_deep_at, inner_at}
-use Rattle.manifest.specs.Answer.{IsFaultOf, IsFaultSeen, IsAnswerOf}
+use Rattle.manifest.specs.Blocks.{BlockLine}
+use Rattle.manifest.specs.Files.{Holds, Inner, Found, FoundIn, NameOf, OpenOf, OfFile, InScope, OfForm, OfDeclaration, OfText, OfBytes, Reads, first_line, largest_file, too_deep_at, inner_at}
+use Rattle.manifest.specs.Answer.{IsFaultOf, IsFaultSeen}
 use Rattle.manifest.specs.Held.{IsStateOf, Says, IsFormed, ArePathsFormed, IsInScope}
 use Rattle.manifest.specs.Made.{HaveOutputs}
 use Rattle.manifest.specs.Places.{IsFaultAt}
 use Rattle.manifest.specs.Seen.{SaysSeen, IsStated, LinesSay, FindsFile}
-use Rattle.manifest.proofs.Binds.{unless_at, unless_fault, then_fault, then_next_fault, where_fault, refuse_at}
+use Rattle.manifest.proofs.Binds.{unless_at, unless_fault, then_fault, refuse_at}
 use Rattle.manifest.proofs.Outputs.{have_outputs}
 use Rattle.manifest.proofs.ReadTo.{seen_fault, seen_fault_wider, seen_wider, seen_says, seen_on}
 

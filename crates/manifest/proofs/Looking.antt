@@ -6,9 +6,8 @@ use Rattle.model.specs.declared.fault.SiteFault.{SiteFault}
 use Rattle.model.specs.declared.event.Event.{Event}
 use Rattle.model.specs.declared.event.Moment.{Moment}
 use Rattle.model.specs.World.{World, IsRunning, content_of, file_at}
-use Rattle.model.specs.Calls.{IsByOthers, OthersWrote, OnlyLooks, HasCause, Sees}
+use Rattle.model.specs.Calls.{IsByOthers, OthersWrote, OnlyLooks}
 use Rattle.manifest.specs.declared.fault.ReadError.{ReadError}
-use Rattle.manifest.specs.declared.fault.ReadError.TheVariants.{Memory, Site, Refused}
 use Rattle.manifest.specs.Answer.{held, site_part}
 use Rattle.manifest.specs.Seen.{Covers, IsCaused}
 

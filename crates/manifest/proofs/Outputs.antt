@@ -1,5 +1,5 @@
 -- A build line that was read has an output.
-use Rattle.std.proofs.Common.{◌≡◌, ◌≢◌, ℕ, Bool, true, false, List, [], ◌∷◌, ◌++◌, inl, inr, Option, Some, None, refl, sym, subst}
+use Rattle.std.proofs.Common.{◌≡◌, ◌≢◌, ℕ, Bool, true, false, List, [], ◌∷◌, ◌++◌, inl, inr, Option, Some, None, sym, subst}
 use Rattle.std.specs.Prelude.{option_map}
 use Rattle.std.specs.List.{flat_map}
 use Rattle.std.specs.Option.{option_to_list}
@@ -8,12 +8,12 @@ use Rattle.lexer.specs.declared.forms.Keyword.{Keyword}
 use Rattle.lexer.specs.declared.forms.Keyword.TheVariants as keyword
 use Rattle.lexer.specs.declared.tokens.Mark.TheVariants.{Bar}
 use Rattle.lexer.specs.Grammar.{Outcome, Is, Give, Then, Either, AreInRow}
-use Rattle.lexer.specs.Grammar.Outcome.{Reached, Broken}
-use Rattle.lexer.specs.Grammar.Then.{goes_on, is_stuck}
+use Rattle.lexer.specs.Grammar.Outcome.{Reached}
+use Rattle.lexer.specs.Grammar.Then.{goes_on}
 use Rattle.lexer.specs.Lines.{Place, first_place, IsLine, IsRead, OfLine, Content, Nothing, Something, comment, outside, says_nothing, begins_with_space}
-use Rattle.lexer.specs.Said.{Fragments, Form, Said, BuildForm}
+use Rattle.lexer.specs.Said.{Fragments, Form, Said}
 use Rattle.lexer.specs.Said.Form.{build}
-use Rattle.lexer.specs.Statements.{Bound, NameAlone, PathAlone, DefaultPaths, Marked, Outputs, OfRule, Inputs, InputsForm, build_form, BuildPaths, BehindWord, OfStatement, OfBlock, some_of, keyword_of}
+use Rattle.lexer.specs.Statements.{Bound, NameAlone, PathAlone, DefaultPaths, Marked, Outputs, OfRule, Inputs, build_form, BuildPaths, BehindWord, OfStatement, OfBlock, some_of, keyword_of}
 use Rattle.lexer.specs.Tokens.{line_end, word_end, name}
 use Rattle.lexer.specs.Values.{Blanks, Paths}
 use Rattle.manifest.specs.Held.{HasOutput}

@@ -8,9 +8,9 @@ use Rattle.manifest.specs.declared.paths.EdgePaths.{EdgePaths}
 use Rattle.manifest.specs.Answer.{IsPath, ArePathsOnly}
 use Rattle.manifest.specs.Declarations.{ArePathsOf, PathsOf}
 use Rattle.manifest.specs.Held.{HasOutput, ArePathsFormed}
-use Rattle.manifest.specs.Readings.{Outcome, Place}
+use Rattle.manifest.specs.Readings.{Place}
 use Rattle.manifest.specs.Readings.Outcome.{Reached}
-use Rattle.manifest.specs.Readings.Unless.{refused, in_order}
+use Rattle.manifest.specs.Readings.Unless.{in_order}
 use Rattle.manifest.specs.Readings.Where.{with_value}
 use Rattle.manifest.specs.Expansion.{ArePaths}
 use Rattle.manifest.proofs.TextLemmas.{paths_append}

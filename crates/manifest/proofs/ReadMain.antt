@@ -1,13 +1,12 @@
 -- The main file, and what is seen when all is read.
-use Rattle.std.proofs.Common.{◌≡◌, ℕ, ◌≤◌, ◌<◌, Bool, IsTrue, true, false, List, [], ◌∷◌, ◌++◌, Option, None, Some, Result, Ok, Err, OnOk, IfOk, IsErrAnd, refl, sym, ◌∙◌, ap, subst, arith}
+use Rattle.std.proofs.Common.{◌≡◌, ℕ, ◌≤◌, List, [], ◌∷◌, Option, None, Some, Result, Ok, Err, IsErrAnd, sym, subst, arith}
 use Rattle.std.specs.List.{AllZip, AllByRecursion}
 use Rattle.model.specs.declared.fault.SiteFault.{SiteFault}
 use Rattle.model.specs.declared.fault.SiteFault.TheVariants.{Stopped}
 use Rattle.model.specs.declared.graph.BuildGraph.{BuildGraph}
 use Rattle.model.specs.World.{World}
-use Rattle.model.specs.Calls.{OnlyLooks, HasCause}
+use Rattle.model.specs.Calls.{HasCause}
 use Rattle.manifest.specs.declared.fault.FaultKind.TheVariants.{NotFound}
-use Rattle.manifest.specs.declared.fault.FileFault.{FileFault}
 use Rattle.manifest.specs.declared.fault.ReadError.{ReadError}
 use Rattle.manifest.specs.declared.fault.ReadError.TheVariants.{Memory, Site, Refused}
 use Rattle.manifest.specs.declared.kept.Declared.{Declared}
@@ -16,15 +15,15 @@ use Rattle.manifest.specs.Readings.{Outcome, Place, fault_at, Refuse, Then}
 use Rattle.manifest.specs.Readings.Outcome.{Reached, Broken}
 use Rattle.manifest.specs.Readings.Then.{goes_on, stops}
 use Rattle.manifest.specs.Readings.Where.{with_value}
-use Rattle.manifest.specs.States.{State, Build, nothing}
-use Rattle.manifest.specs.Files.{Holds, Reads, deepest}
+use Rattle.manifest.specs.States.{State, nothing}
+use Rattle.manifest.specs.Files.{Reads, deepest}
 use Rattle.manifest.specs.Graphs.{Declares, OfMain, AtEnd}
 use Rattle.manifest.specs.Answer.{held, site_part, ReadsFile, IsFaultOf, IsFaultSeen, IsAnswerOf}
-use Rattle.manifest.specs.Held.{IsStateOf, IsFormed, IsBuildOf, ArePathsFormed, IsInScope}
+use Rattle.manifest.specs.Held.{IsStateOf, IsFormed, IsBuildOf}
 use Rattle.manifest.specs.Places.{IsFaultAt}
-use Rattle.manifest.specs.Seen.{IsCaused, Covers, IsStated}
+use Rattle.manifest.specs.Seen.{IsCaused}
 use Rattle.manifest.proofs.Binds.{refuse_at}
-use Rattle.manifest.proofs.Looking.{fine, failed, caused_none, caused_then, covers_after}
+use Rattle.manifest.proofs.Looking.{failed, caused_none}
 use Rattle.manifest.proofs.ReadTo.{seen_fault, seen_fault_wider}
 
 -- ---- causes

@@ -1,5 +1,5 @@
 -- The statements of a file, read up to one of them.
-use Rattle.std.proofs.Common.{◌≡◌, ℕ, suc, ◌+◌, ◌≤◌, ◌<◌, Bool, IsTrue, true, false, List, [], ◌∷◌, ◌++◌, map, length, Option, None, Some, Result, Ok, Err, OnOk, IsErrAnd, refl, sym, ◌∙◌, ap, subst, arith}
+use Rattle.std.proofs.Common.{◌≡◌, ℕ, suc, ◌≤◌, ◌<◌, Bool, IsTrue, List, [], ◌∷◌, ◌++◌, map, length, Option, Result, Ok, Err, OnOk, IsErrAnd, refl, sym, ◌∙◌, ap, subst, arith}
 use Rattle.std.specs.Option.{option_map}
 use Rattle.lexer.specs.declared.fault.Fault.{Fault}
 use Rattle.lexer.specs.declared.statement.Line.{Line}
@@ -10,18 +10,18 @@ use Rattle.manifest.specs.declared.fault.FileFault.{FileFault}
 use Rattle.manifest.specs.declared.fault.ReadError.{ReadError}
 use Rattle.manifest.specs.declared.fault.ReadError.TheVariants.{Memory, Site, Refused}
 use Rattle.manifest.specs.declared.kept.Declared.{Declared}
-use Rattle.manifest.specs.Readings.{Outcome, Give, Then, Cut, Place}
+use Rattle.manifest.specs.Readings.{Outcome, Give, Cut}
 use Rattle.manifest.specs.Readings.Outcome.{Reached, Broken}
 use Rattle.manifest.specs.Readings.Then.{goes_on, stops}
 use Rattle.manifest.specs.States.{State}
-use Rattle.manifest.specs.Blocks.{block_lines, grouped, groups_of, IsSplit, Group}
-use Rattle.manifest.specs.Files.{Holds, Inner, OfForm, OfGroups, fault_in, too_deep_at, inner_at}
+use Rattle.manifest.specs.Blocks.{block_lines, grouped, IsSplit, Group}
+use Rattle.manifest.specs.Files.{OfForm, OfGroups, fault_in, too_deep_at, inner_at}
 use Rattle.manifest.specs.Answer.{site_part, IsFaultOf, IsFaultSeen, IsAnswerOf}
 use Rattle.manifest.specs.Held.{IsStateOf, Says, KeepsScopes, IsFormed}
 use Rattle.manifest.specs.Made.{HaveOutputs, FormHasOutput}
 use Rattle.manifest.specs.Seen.{Covers, seen, IsCaused, SaysSeen, IsStated, LinesSay, if_no_line}
 use Rattle.manifest.proofs.Binds.{cut_ok, cut_fault}
-use Rattle.manifest.proofs.Looking.{fine, failed, looks_then, looks_none, caused_then, caused_none, caused_on, covers_before, covers_after}
+use Rattle.manifest.proofs.Looking.{looks_then, looks_none, caused_none, covers_before, covers_after}
 use Rattle.manifest.proofs.Grouping.{at_statement, reads_first}
 
 -- ---- answers where the site is asked

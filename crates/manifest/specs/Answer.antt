@@ -1,5 +1,5 @@
 -- What the answer of a read says of the site and of the build files.
-use Rattle.std.specs.Prelude.{◌≡◌, ◌≢◌, ℕ, List, [], ◌∷◌, ◌++◌, Option, Some, None, Result, Ok, Err, IfOk}
+use Rattle.std.specs.Prelude.{◌≢◌, ℕ, List, [], ◌++◌, Result, Ok, Err}
 use Rattle.std.specs.List.{AllByRecursion}
 use Rattle.lexer.specs.Path.{IsCanonical}
 use Rattle.model.specs.declared.graph.BuildGraph.{BuildGraph}
@@ -8,7 +8,6 @@ use Rattle.model.specs.declared.fault.SiteFault.{SiteFault}
 use Rattle.model.specs.declared.event.Moment.{Moment}
 use Rattle.model.specs.World.{file_at, content_of}
 use Rattle.model.specs.Calls.{Sees}
-use Rattle.manifest.specs.declared.fault.FileFault.{FileFault}
 use Rattle.manifest.specs.declared.fault.ReadError.{ReadError}
 use Rattle.manifest.specs.declared.fault.ReadError.TheVariants.{Memory, Site, Refused}
 use Rattle.manifest.specs.Readings.{Outcome}

@@ -1,19 +1,16 @@
 -- What each statement says, where it stands (manual: "Ninja file reference").
 use Rattle.std.specs.Prelude.{◌≡◌, ℕ, ◌<◌, ◌||◌, not, Bool, true, false, if◌then◌else◌, List, [], ◌∷◌, ◌++◌, ◌⊎◌, length, map, is_some, Option, None, Some, IsSome, bytes_eq, codes}
-use Rattle.std.specs.Option.{option_map}
 use Rattle.lexer.specs.declared.fault.FaultKind.TheVariants.{TooLarge, EmptyPath}
 use Rattle.lexer.specs.Said.{Fragments, BuildForm}
-use Rattle.model.specs.declared.graph.Pool.{Pool}
 use Rattle.model.specs.Graph.{console}
 use Rattle.scopes.specs.declared.template.Rule.{Rule}
-use Rattle.scopes.specs.Moves.{Move, Bind, DeclareRule, rule_at, last_in, rule_named}
-use Rattle.manifest.specs.declared.fault.FaultKind.{FaultKind}
+use Rattle.scopes.specs.Moves.{Bind, DeclareRule, rule_at, last_in, rule_named}
 use Rattle.manifest.specs.declared.fault.FaultKind.TheVariants.{Line, UnknownRule, RepeatedRule, UnexpectedVariable, NoCommand, UnpairedResponse, RepeatedPool, BadDepth, NeedsVersion}
 use Rattle.manifest.specs.declared.fault.FileFault.{FileFault}
 use Rattle.manifest.specs.declared.paths.EdgePaths.{EdgePaths}
-use Rattle.manifest.specs.Readings.{Outcome, Reading, Give, Refuse, Unless, Then, Where, Cut, Each, Place, fault_at}
+use Rattle.manifest.specs.Readings.{Reading, Give, Refuse, Unless, Then, Where, Cut, Each, Place, fault_at}
 use Rattle.manifest.specs.Expansion.{Bound, value_here, text_at, some_text, is_large, is_empty, ArePaths}
-use Rattle.manifest.specs.States.{State, Build, Default, with_move, with_build, with_pool, with_defaults, present, is_pool, named, different, all_of}
+use Rattle.manifest.specs.States.{State, Build, with_move, with_build, with_pool, with_defaults, present, is_pool, named, different}
 use Rattle.manifest.specs.Blocks.{BlockLine, RuleText, RuleBlock, IsRuleOf, text_in, BuildBlock, build_block}
 use Rattle.manifest.specs.Numbers.{depth_in, is_newer}
 

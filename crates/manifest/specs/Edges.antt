@@ -1,8 +1,7 @@
 -- The edge of a build statement, when all is read (manual: "Rule variables", "The `phony` rule", "Pools", "deps").
-use Rattle.std.specs.Prelude.{◌≡◌, ◌≢◌, ℕ, ◌||◌, ◌&&◌, not, Bool, true, false, if◌then◌else◌, List, [], ◌∷◌, ◌++◌, ◌⊎◌, filter, Option, None, Some, bytes_eq, codes}
+use Rattle.std.specs.Prelude.{◌≡◌, ℕ, ◌||◌, ◌&&◌, not, Bool, true, false, if◌then◌else◌, List, [], ◌∷◌, ◌++◌, filter, Option, None, Some, bytes_eq, codes}
 use Rattle.lexer.specs.declared.fault.FaultKind.TheVariants.{TooLarge}
 use Rattle.lexer.specs.Path.{IsCanonical}
-use Rattle.model.specs.declared.graph.Deps.{Deps}
 use Rattle.model.specs.declared.graph.Deps.TheVariants.{Unset, Gcc}
 use Rattle.model.specs.declared.graph.Edge.{Edge}
 use Rattle.model.specs.declared.graph.Pool.{Pool}
@@ -12,7 +11,7 @@ use Rattle.scopes.specs.Moves.{Move}
 use Rattle.manifest.specs.declared.fault.FaultKind.TheVariants.{Line, UnknownPool, Circle, UnknownDeps}
 use Rattle.manifest.specs.declared.paths.EdgePaths.{EdgePaths}
 use Rattle.manifest.specs.declared.values.Values.{Values}
-use Rattle.manifest.specs.Readings.{Outcome, Reading, Give, Unless, Then, Where, fault_at}
+use Rattle.manifest.specs.Readings.{Reading, Give, Unless, Then, Where, fault_at}
 use Rattle.manifest.specs.Expansion.{is_empty}
 use Rattle.manifest.specs.States.{Build, is_pool}
 use Rattle.manifest.specs.Uses.{opened_in, LeadsIntoCircle, HasLargeValue, AreValuesOf}

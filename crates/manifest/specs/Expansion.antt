@@ -1,5 +1,5 @@
 -- Values and paths where they stand (manual: "Evaluation and scoping").
-use Rattle.std.specs.Prelude.{◌≡◌, ◌≢◌, ℕ, ◌<◌, ◌||◌, Bool, true, false, if◌then◌else◌, List, [], ◌∷◌, length, nat_lt, Option, None, Some, unwrap_or, bytes_eq}
+use Rattle.std.specs.Prelude.{ℕ, ◌||◌, Bool, true, false, if◌then◌else◌, List, [], ◌∷◌, length, nat_lt, Option, None, Some, unwrap_or, bytes_eq}
 use Rattle.std.specs.List.{AllZip, flat_map}
 use Rattle.lexer.specs.Path.{IsCanonical}
 use Rattle.lexer.specs.Said.{Fragment, Fragments}

@@ -10,7 +10,7 @@ use Rattle.lexer.specs.Said.Form.{binding, block_binding, rule, build, pool, def
 use Rattle.scopes.specs.Moves.{Enter, Leave}
 use Rattle.manifest.specs.declared.fault.FaultKind.TheVariants.{Line, NotUtf8, NotFound, TooDeep}
 use Rattle.manifest.specs.declared.fault.FileFault.{FileFault}
-use Rattle.manifest.specs.Readings.{Outcome, Reading, Give, Refuse, Unless, Then, Where, Cut, Place, fault_at}
+use Rattle.manifest.specs.Readings.{Reading, Give, Refuse, Unless, Then, Where, Cut, Place, fault_at}
 use Rattle.manifest.specs.Expansion.{text_at, is_large, is_empty}
 use Rattle.manifest.specs.States.{State, with_move}
 use Rattle.manifest.specs.Blocks.{BlockLine, Group, groups_of}

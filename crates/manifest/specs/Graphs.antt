@@ -1,12 +1,12 @@
 -- The build graph that build files declare.
-use Rattle.std.specs.Prelude.{◌≡◌, ℕ, Bool, true, false, List, [], ◌∷◌, map, Option, None, Some, unwrap_or, codes}
+use Rattle.std.specs.Prelude.{◌≡◌, ℕ, false, List, [], ◌∷◌, map, Option, None, Some, unwrap_or, codes}
 use Rattle.model.specs.declared.graph.BuildGraph.{BuildGraph}
 use Rattle.model.specs.declared.graph.Edge.{Edge}
 use Rattle.model.specs.Graph.{has}
 use Rattle.scopes.specs.Moves.{Move, value_at_end}
 use Rattle.manifest.specs.declared.fault.FaultKind.TheVariants.{NotFound, UnknownDefault}
 use Rattle.manifest.specs.Readings.{Outcome, Reading, Give, Refuse, Unless, Then, Where, fault_at}
-use Rattle.manifest.specs.States.{State, Build, Default, nothing, named}
+use Rattle.manifest.specs.States.{State, Default, nothing, named}
 use Rattle.manifest.specs.Edges.{OfEdges}
 use Rattle.manifest.specs.Files.{Holds, Reads, deepest}
 

@@ -1,5 +1,5 @@
 -- What the reader keeps of what was said so far.
-use Rattle.std.specs.Prelude.{◌≡◌, ◌≢◌, ℕ, ◌≤◌, ◌<◌, vec_len, ◌++◌, ◌∷◌, [], List, length, Option, None, Some, Result, Ok, Err, String, string_bytes, map}
+use Rattle.std.specs.Prelude.{◌≡◌, ◌≢◌, ℕ, ◌<◌, vec_len, ◌++◌, [], List, length, Option, None, Some, Result, Ok, Err, String, string_bytes, map}
 use Rattle.std.specs.List.{AllZip, AllByRecursion}
 use Rattle.std.specs.Option.{option_map}
 use Rattle.model.specs.Graph.{has}
@@ -10,10 +10,11 @@ use Rattle.scopes.specs.Scopes.{IsScopesOf}
 use Rattle.manifest.specs.declared.kept.Declared.{Declared}
 use Rattle.manifest.specs.declared.kept.ReadEdge.{ReadEdge}
 use Rattle.manifest.specs.declared.fault.ReadError.{ReadError}
-use Rattle.manifest.specs.declared.fault.ReadError.TheVariants.{Memory, Site, Refused}
+use Rattle.manifest.specs.declared.fault.ReadError.TheVariants.{Memory}
 use Rattle.manifest.specs.declared.kept.ReadDefault.{ReadDefault}
 use Rattle.manifest.specs.Readings.{Outcome}
-use Rattle.manifest.specs.Readings.Outcome.{Reached, Broken}
+use Rattle.manifest.specs.Readings.Outcome.{Reached}
+use Rattle.lexer.specs.Quote.{quoted}
 use Rattle.lexer.specs.Said.{BuildForm}
 use Rattle.manifest.specs.declared.paths.EdgePaths.{EdgePaths}
 use Rattle.manifest.specs.Answer.{IsFaultOf, ArePathsOnly}
@@ -28,6 +29,11 @@ use Rattle.scopes.specs.declared.fault.UseFault.TheVariants.{Memory as UseMemory
 use Rattle.manifest.specs.declared.fault.FaultKind.TheVariants.{Line, Circle}
 use Rattle.manifest.specs.Places.{IsFaultAt}
 use Rattle.manifest.specs.Expansion.{bound}
+
+-- the words of these paths in a command, which are kept only where some are not the paths themselves
+abbrev pub AreQuoted : List (List ℕ) → Option (List (List ℕ)) → Type 0
+AreQuoted paths None = map quoted paths ≡ paths
+AreQuoted paths (Some words) = words ≡ map quoted paths
 
 -- the edge keeps all of the build statement
 pub record IsBuildOf (edge : ReadEdge) (build : Build) : Type 0 where

@@ -1,7 +1,6 @@
 -- Places and faults as the code keeps them.
-use Rattle.std.specs.Prelude.{◌≡◌, ℕ, List}
+use Rattle.std.specs.Prelude.{◌≡◌}
 use Rattle.manifest.specs.declared.fault.FaultKind.{FaultKind}
-use Rattle.manifest.specs.declared.fault.FileFault.{FileFault}
 use Rattle.manifest.specs.declared.fault.ReadError.{ReadError}
 use Rattle.manifest.specs.declared.fault.ReadError.TheVariants.{Memory, Site, Refused}
 use Rattle.manifest.specs.declared.place.Place.{Place as KeptPlace}

@@ -1,5 +1,5 @@
 -- What the reading of files says of the site and of the files that it reads.
-use Rattle.std.specs.Prelude.{◌≡◌, ℕ, ◌<◌, ◌≤◌, true, false, List, [], ◌∷◌, map, Option, None, Some, Result, Ok, Err, IsErrOf}
+use Rattle.std.specs.Prelude.{◌≡◌, ℕ, ◌<◌, ◌≤◌, true, List, [], ◌∷◌, map, Option, None, Result, Ok, Err, IsErrOf}
 use Rattle.std.specs.Option.{option_map}
 use Rattle.lexer.specs.declared.fault.Fault.{Fault}
 use Rattle.lexer.specs.declared.statement.Line.{Line}
@@ -8,10 +8,9 @@ use Rattle.model.specs.declared.fault.SiteFault.{SiteFault}
 use Rattle.model.specs.declared.fault.SiteFault.TheVariants.{Device, Stopped}
 use Rattle.model.specs.World.{World}
 use Rattle.manifest.specs.declared.blocks.Group.{Group as KeptGroup}
-use Rattle.manifest.specs.declared.fault.FileFault.{FileFault}
 use Rattle.manifest.specs.declared.kept.Declared.{Declared}
 use Rattle.manifest.specs.declared.reader.Opened.{Opened}
-use Rattle.manifest.specs.Readings.{Outcome, Reading, Place}
+use Rattle.manifest.specs.Readings.{Outcome, Reading}
 use Rattle.manifest.specs.Readings.Outcome.{Reached}
 use Rattle.manifest.specs.States.{State}
 use Rattle.manifest.specs.Blocks.{block_lines, groups_of}

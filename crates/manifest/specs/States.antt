@@ -1,10 +1,10 @@
 -- What build files said so far.
-use Rattle.std.specs.Prelude.{◌≡◌, ℕ, ◌+◌, Bool, if◌then◌else◌, List, [], ◌∷◌, ◌++◌, Option, None, Some, bytes_eq}
+use Rattle.std.specs.Prelude.{ℕ, ◌+◌, Bool, if◌then◌else◌, List, [], ◌∷◌, ◌++◌, Option, bytes_eq}
 use Rattle.std.specs.List.{flat_map}
 use Rattle.model.specs.declared.graph.Pool.{Pool}
 use Rattle.model.specs.Graph.{has}
 use Rattle.scopes.specs.declared.template.Rule.{Rule}
-use Rattle.scopes.specs.Moves.{Move, Bind, DeclareRule, Enter, Leave, open_scopes}
+use Rattle.scopes.specs.Moves.{Move, open_scopes}
 use Rattle.manifest.specs.declared.paths.EdgePaths.{EdgePaths}
 use Rattle.manifest.specs.Readings.{Place}
 use Rattle.manifest.specs.Expansion.{Bound}

@@ -1,7 +1,6 @@
 -- The values of rule variables of a build statement, when all is read (manual: "Rule variables").
-use Rattle.std.specs.Prelude.{◌≡◌, ℕ, ◌||◌, Bool, true, false, if◌then◌else◌, List, [], ◌∷◌, map, Option, None, Some, unwrap_or, bytes_eq, codes}
+use Rattle.std.specs.Prelude.{◌≡◌, ℕ, ◌||◌, Bool, true, if◌then◌else◌, List, [], ◌∷◌, map, Option, None, Some, unwrap_or, bytes_eq, codes}
 use Rattle.lexer.specs.Quote.{quoted}
-use Rattle.model.specs.Graph.{has}
 use Rattle.scopes.specs.declared.template.Template.{Template}
 use Rattle.scopes.specs.declared.template.Rule.{Rule}
 use Rattle.scopes.specs.Texts.{joined}

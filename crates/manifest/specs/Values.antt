@@ -2,7 +2,7 @@
 use Rattle.std.specs.Prelude.{◌≡◌, ℕ, ◌≤◌, true, List, length, codes}
 use Rattle.scopes.specs.declared.usage.Use.{Use}
 use Rattle.scopes.specs.Moves.{Move}
-use Rattle.scopes.specs.Use.{opened, fixed, IsValueAtUse, HasCircle}
+use Rattle.scopes.specs.Use.{opened, fixed, IsValueAtUse}
 use Rattle.scopes.specs.Large.{IsTooLargeAtUse}
 use Rattle.scopes.specs.Texts.{largest_value}
 use Rattle.manifest.specs.declared.values.Values.{Values}

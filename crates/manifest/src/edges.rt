@@ -1,13 +1,13 @@
 //! Build statements, when all is read.
 
-ghost use Rattle.std.specs.Prelude.{◌≡◌, ◌<◌, List, vec_len, map, IfOk};
+ghost use Rattle.std.specs.Prelude.{◌≡◌, ◌<◌, List, vec_len, map, IfOk, IsTrue};
 ghost use Rattle.lexer.specs.Quote.{quoted};
 ghost use Rattle.model.specs.declared.graph.Pool.{Pool};
 ghost use Rattle.scopes.specs.Moves.{Move};
 ghost use Rattle.scopes.specs.Scopes.{IsScopesOf};
 ghost use Rattle.manifest.specs.Answer.{IsAnswerOf, IsWellFormed};
 ghost use Rattle.manifest.specs.Edges.{OfEdge, ValuesOf, CommandValues, ExpandedValues, CheckedPool, CheckedDeps};
-ghost use Rattle.manifest.specs.Held.{IsBuildOf, ArePools, ArePathsFormed, IsUseRefused};
+ghost use Rattle.manifest.specs.Held.{IsBuildOf, AreQuoted, ArePools, ArePathsFormed, IsUseRefused};
 ghost use Rattle.manifest.specs.Places.{place_of};
 ghost use Rattle.manifest.specs.States.{Build};
 
@@ -17,7 +17,7 @@ use crate::made::{command_edge, phony_edge};
 use crate::place::Place;
 use crate::values::Values;
 use indexmap::IndexMap;
-use lexer::quote;
+use lexer::{is_bare_path, quote};
 use model::Edge;
 use scopes::{Paths, Rule, Scopes, Use, UseFault};
 use std::alloc::{AllocError, Global};
@@ -79,19 +79,18 @@ impl ReadEdge {
         requires { self.now.scope < vec_len scopes.now.scopes }
         ensures { (past : List Move) (build : Build) → IsScopesOf scopes.now past → IsBuildOf self.now build → IsAnswerOf (ExpandedValues past build rule.now) result }
     {
-        let quoted_inputs = quote_all(alloc, self.paths.explicit_inputs.as_slice())?;
-        let quoted_outputs = quote_all(alloc, self.paths.explicit_outputs.as_slice())?;
+        let inputs = self.paths.explicit_inputs.as_slice();
+        let outputs = self.paths.explicit_outputs.as_slice();
+        let quoted_inputs = quote_all(alloc, inputs)?;
+        let quoted_outputs = quote_all(alloc, outputs)?;
         let at = Use {
             scope: self.scope,
             block: &self.block,
             rule,
-            plain: Paths {
-                inputs: self.paths.explicit_inputs.as_slice(),
-                outputs: self.paths.explicit_outputs.as_slice(),
-            },
+            plain: Paths { inputs, outputs },
             quoted: Paths {
-                inputs: quoted_inputs.as_slice(),
-                outputs: quoted_outputs.as_slice(),
+                inputs: words(&quoted_inputs, inputs),
+                outputs: words(&quoted_outputs, outputs),
             },
         };
         match Values::of(alloc, scopes, &at) {
@@ -152,13 +151,38 @@ impl ReadEdge {
     }
 }
 
-/// The paths, each quoted for a command.
-fn quote_all(alloc: Global, paths: &[Path]) -> Result<Items<Path>, AllocError>
-    ensures { IfOk result (λ words. words ≡ map quoted paths.now) }
+/// The paths, each quoted for a command; none where all stand as they are, as nearly always.
+fn quote_all(alloc: Global, paths: &[Path]) -> Result<Option<Items<Path>>, AllocError>
+    ensures { IfOk result (AreQuoted paths.now) }
 {
+    if are_bare(paths) {
+        return Ok(None);
+    }
     let mut words = Items::from_vec(Vec::with_capacity(alloc, paths.len())?);
     for path in paths {
         words.push(Path::from_string(quote(alloc, path.as_str())?))?;
     }
-    Ok(words)
+    Ok(Some(words))
+}
+
+/// Whether each path stands in a command as it is.
+fn are_bare(paths: &[Path]) -> bool
+    ensures { IsTrue result → map quoted paths.now ≡ paths.now }
+{
+    for path in paths {
+        if !is_bare_path(path.as_str()) {
+            return false;
+        }
+    }
+    true
+}
+
+/// The words of the paths: the quoted ones, or the paths themselves.
+fn words<'a>(kept: &'a Option<Items<Path>>, paths: &'a [Path]) -> &'a [Path]
+    ensures { AreQuoted paths.now kept.now → result.now ≡ map quoted paths.now }
+{
+    match kept {
+        Some(words) => words.as_slice(),
+        None => paths,
+    }
 }

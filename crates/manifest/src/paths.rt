@@ -14,7 +14,7 @@ ghost use Rattle.manifest.specs.Flags.{FlagsAfter, IsPathFound, NoneIsWrong};
 use crate::fault::{FaultKind, ReadError};
 use crate::place::Place;
 use lexer::{BuildLine, ReadFault, Value, canonical};
-use scopes::{Block, ExpandFault, Scopes, expand};
+use scopes::{Block, ExpandFault, Scopes, as_it_stands, expand};
 use std::alloc::Global;
 use text::{Items, Path};
 
@@ -116,6 +116,9 @@ impl<'a> PathReader<'a> {
         ensures found { IfOk result (λ path. (past : List Move) → IsScopesOf self.old.scopes.now past → self.new.has_empty ≡ false → self.new.has_large ≡ false → IsPathFound (text_of (value_of_name self.old.block.now past) (fragments_of value.now)) path) }
         ensures memory { IfErr result (λ error. error ≡ ReadError.Memory) }
     {
+        if let Some(text) = as_it_stands(value) {
+            return self.canonical(alloc, text);
+        }
         match expand(alloc, self.scopes, self.block, value) {
             Ok(text) => self.canonical(alloc, text.as_str()),
             Err(ExpandFault::Memory) => Err(ReadError::Memory),

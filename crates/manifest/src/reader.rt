@@ -64,6 +64,8 @@ pub fn read<R: Texts>(alloc: Global, texts: &mut R, name: &str) -> Result<Manife
         bytes.as_slice(),
         DEEPEST,
     )?;
+    // what is kept owns its characters
+    drop(bytes);
     declared.finish(alloc)
 }
 

@@ -5,3 +5,4 @@ mod Keeping
 pub mod Walking
 pub mod Valuing
 mod Knowing
+mod Alone

@@ -1,11 +1,13 @@
 //! Rule variables, expanded where their rule is used (manual: "Rules", "Evaluation and scoping").
 
-ghost use Rattle.std.specs.Prelude.{◌≡◌, ◌++◌, ◌<◌, ◌≤◌, ℕ, None, Some, List, OnOk, IfOk, IsErrOf, length, string_bytes, vec_len};
+ghost use Rattle.std.specs.Prelude.{◌≡◌, ◌++◌, ◌<◌, ◌≤◌, ℕ, None, Some, List, [], OnOk, IfOk, IsErrOf, IsTrue, length, string_bytes, vec_len};
+ghost use Rattle.std.specs.Option.{option_copied};
 ghost use Rattle.indexmap.specs.IndexMap.{get_by_text};
 ghost use Rattle.scopes.specs.Texts.{expansion, part_text, largest_value};
 ghost use Rattle.scopes.specs.Moves.{Move};
 ghost use Rattle.scopes.specs.Scopes.{IsScopesOf};
 ghost use Rattle.scopes.specs.Use.{opened, fixed, paths_for, HasCircle, IsValueAtUse};
+ghost use Rattle.scopes.specs.Steps.{AllDone, IsDone};
 ghost use Rattle.scopes.specs.Large.{IsTooLargeAtUse};
 ghost use Rattle.scopes.specs.Known.{known_value, other_value, text_of, Learns};
 ghost use Rattle.scopes.specs.declared.template.Template.{Template};
@@ -16,7 +18,7 @@ use crate::all_scopes::Scopes;
 use crate::buffer::{append, append_joined};
 use crate::fault::{ExpandFault, UseFault};
 use crate::order::order_of;
-use crate::template::Part;
+use crate::template::{Part, Template};
 use crate::usage::{Paths, Use};
 use indexmap::IndexMap;
 use std::alloc::Global;
@@ -45,6 +47,29 @@ pub fn expand_use(
     ensures circle { IsErrOf result Circle → HasCircle (opened at.now) asked.now }
     ensures large { IsErrOf result TooLarge → (past : List Move) → IsScopesOf scopes.now past → IsTooLargeAtUse (opened at.now) (fixed at.now asked.now past) asked.now }
 {
+    let known = Known::new(alloc, scopes, at, asked);
+    let Some(template) = at.template(asked) else {
+        return Ok(known.of_name(alloc, asked)?);
+    };
+    if stands_alone(at, template) {
+        return Ok(known.of_template(alloc, template)?);
+    }
+    expand_in_order(alloc, scopes, at, asked)
+}
+
+/// The same, where the rule's text may name others of its texts, which are expanded first.
+fn expand_in_order(
+    alloc: Global,
+    scopes: &Scopes,
+    at: &Use<'_>,
+    asked: &str,
+) -> Result<Text, UseFault>
+    requires { at.now.scope < vec_len scopes.now.scopes }
+    ensures value { IfOk result (λ text. (past : List Move) → IsScopesOf scopes.now past → IsValueAtUse (opened at.now) (fixed at.now asked.now past) asked.now text) }
+    ensures size { IfOk result (λ text. length text ≤ largest_value) }
+    ensures circle { IsErrOf result Circle → HasCircle (opened at.now) asked.now }
+    ensures large { IsErrOf result TooLarge → (past : List Move) → IsScopesOf scopes.now past → IsTooLargeAtUse (opened at.now) (fixed at.now asked.now past) asked.now }
+{
     let order = order_of(alloc, at, asked)?;
     let mut known = Known::new(alloc, scopes, at, asked);
     for name in order.as_slice() {
@@ -54,9 +79,29 @@ pub fn expand_use(
         }
         known.learn(alloc, name)?;
     }
-    let mut text = String::new(alloc);
-    known.append_name(&mut text, asked)?;
-    Ok(Text::from_string(text))
+    Ok(known.of_name(alloc, asked)?)
+}
+
+/// Whether the text names no text of the rule, as nearly all do.
+fn stands_alone(at: &Use<'_>, template: &Template) -> bool
+    ensures { IsTrue result → AllDone (opened at.now) [] template.now.parts }
+{
+    for part in template.parts.as_slice() {
+        if !is_fixed(at, part) {
+            return false;
+        }
+    }
+    true
+}
+
+/// Whether the part names no text of the rule.
+fn is_fixed(at: &Use<'_>, part: &Part) -> bool
+    ensures { IsTrue result → IsDone (opened at.now) [] part.now }
+{
+    match part {
+        Part::Text(_) => true,
+        Part::Name(name) => at.template(name.as_str()).is_none(),
+    }
 }
 
 /// The values of the rule's texts that are known so far.
@@ -106,11 +151,34 @@ impl<'a> Known<'a> {
         ensures size { IfOk result (λ text. length text ≤ largest_value) }
         ensures large { IsErrOf result Larger → (template : Template) → opened self.now.at.now name.now ≡ Some template → (past : List Move) → IsScopesOf self.now.scopes.now past → largest_value < length (text_of self.now past template) }
     {
-        let mut text = String::with_capacity(alloc, USUAL_ROOM)?;
-        if let Some(template) = self.at.template(name) {
-            self.append_parts(&mut text, template.parts.as_slice())?;
+        match self.at.template(name) {
+            Some(template) => self.of_template(alloc, template),
+            None => Ok(Text::new(alloc)),
         }
+    }
+
+    /// The text, expanded.
+    fn of_template(&self, alloc: Global, template: &Template) -> Result<Text, ExpandFault>
+        requires { self.now.at.now.scope < vec_len self.now.scopes.now.scopes }
+        ensures value { IfOk result (λ text. (past : List Move) → IsScopesOf self.now.scopes.now past → text ≡ text_of self.now past template.now) }
+        ensures size { IfOk result (λ text. length text ≤ largest_value) }
+        ensures large { IsErrOf result Larger → (past : List Move) → IsScopesOf self.now.scopes.now past → largest_value < length (text_of self.now past template.now) }
+    {
+        let mut text = String::with_capacity(alloc, USUAL_ROOM)?;
+        self.append_parts(&mut text, template.parts.as_slice())?;
         text.shrink_to_fit();
+        Ok(Text::from_string(text))
+    }
+
+    /// What a name stands for, as a value of its own.
+    fn of_name(&self, alloc: Global, name: &str) -> Result<Text, ExpandFault>
+        requires { self.now.at.now.scope < vec_len self.now.scopes.now.scopes }
+        ensures value { IfOk result (λ text. (past : List Move) → IsScopesOf self.now.scopes.now past → text ≡ known_value self.now past name.now) }
+        ensures size { IfOk result (λ text. length text ≤ largest_value) }
+        ensures large { IsErrOf result Larger → (past : List Move) → IsScopesOf self.now.scopes.now past → largest_value < length (known_value self.now past name.now) }
+    {
+        let mut text = String::new(alloc);
+        self.append_name(&mut text, name)?;
         Ok(Text::from_string(text))
     }
 
@@ -161,12 +229,22 @@ impl<'a> Known<'a> {
         if let Some(value) = self.at.block.get(name) {
             return value.as_str();
         }
-        if let Some(value) = self.values.get(name) {
+        if let Some(value) = self.learnt(name) {
             return value.as_str();
         }
         match self.scopes.lookup_in(self.at.scope, name) {
             Some(value) => value,
             None => "",
         }
+    }
+
+    /// The value of a text of the rule, where it is known.
+    fn learnt(&self, name: &str) -> Option<&Text>
+        ensures { option_copied result ≡ get_by_text self.now.values name.now }
+    {
+        if self.values.is_empty() {
+            return None;
+        }
+        self.values.get(name)
     }
 }

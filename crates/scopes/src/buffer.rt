@@ -8,7 +8,7 @@ use crate::fault::ExpandFault;
 use text::Path;
 
 /// The most bytes that an expanded value may have.
-const LARGEST_VALUE: usize = 16 * 1024 * 1024;
+pub const LARGEST_VALUE: usize = 16 * 1024 * 1024;
 
 /// Puts characters at the end.
 pub fn append(text: &mut String, more: &str) -> Result<(), ExpandFault>

@@ -18,7 +18,7 @@ pub use at_use::expand_use;
 pub use block::Block;
 pub use fault::{DeclareFault, ExpandFault, UseFault};
 pub use laws::values_are_unique;
-pub use place::expand;
+pub use place::{as_it_stands, expand};
 pub use scope::Scope;
 pub use template::{Part, Rule, Template};
 pub use usage::{Paths, Use};

@@ -1,6 +1,6 @@
 //! Values and paths as they expand where they stand.
 
-ghost use Rattle.std.specs.Prelude.{◌≡◌, ◌++◌, ◌<◌, ◌≤◌, List, OnOk, IfOk, IsErrOf, length, string_bytes};
+ghost use Rattle.std.specs.Prelude.{◌≡◌, ◌++◌, ◌<◌, ◌≤◌, ℕ, List, OnOk, IfOk, IfSome, IsErrOf, length, string_bytes};
 ghost use Rattle.scopes.specs.Texts.{piece_text, expansion_of_pieces, largest_value};
 ghost use Rattle.scopes.specs.Moves.{Move};
 ghost use Rattle.scopes.specs.Scopes.{IsScopesOf};
@@ -9,7 +9,7 @@ ghost use Rattle.scopes.specs.declared.fault.ExpandFault.TheVariants.{TooLarge};
 
 use crate::all_scopes::Scopes;
 use crate::block::Block;
-use crate::buffer::append;
+use crate::buffer::{LARGEST_VALUE, append};
 use crate::fault::ExpandFault;
 use lexer::{Piece, Value};
 use std::alloc::Global;
@@ -37,6 +37,18 @@ pub fn expand(
         append_piece(&mut text, scopes, block, piece)?;
     }
     Ok(Text::from_string(text))
+}
+
+/// The characters of a value of one piece without names, which is not too large: it needs no memory of its own, as most
+/// paths.
+pub fn as_it_stands<'a>(value: &Value<'a>) -> Option<&'a str>
+    ensures value { IfSome result (λ text. (named : List ℕ → List ℕ) → text.now ≡ expansion_of_pieces named value.now.pieces) }
+    ensures size { IfSome result (λ text. length text.now ≤ largest_value) }
+{
+    match value.pieces.as_slice() {
+        [Piece::Text(text)] if text.len() <= LARGEST_VALUE => Some(*text),
+        _ => None,
+    }
 }
 
 fn append_piece(

@@ -1,4 +1,4 @@
-use Rattle.std.proofs.Common.{ℕ, List, refl, rules}
+use Rattle.std.proofs.Common.{List, refl, rules}
 use Rattle.lexer.specs.Grammar.{Is, Give}
 use Rattle.lexer.specs.Grammar.Then.{goes_on}
 use Rattle.lexer.specs.Said.{Fragments, paths_of}

@@ -1,7 +1,7 @@
 use Rattle.std.proofs.Common.{ℕ, List, refl, rules}
 use Rattle.lexer.specs.Grammar.{Grammar, Is, Give, Then}
 use Rattle.lexer.specs.Grammar.Then.{goes_on}
-use Rattle.lexer.specs.Said.{Fragments, Form, fragments_of}
+use Rattle.lexer.specs.Said.{Form, fragments_of}
 use Rattle.lexer.specs.Said.Form.{block_binding}
 use Rattle.lexer.specs.Statements.{Bound}
 use Rattle.lexer.specs.Tokens.{name}

@@ -1,6 +1,4 @@
-use Rattle.std.proofs.Common.{None, sym, rules, ◌∙◌}
-use Rattle.lexer.specs.Grammar.Outcome.{Reached}
-use Rattle.lexer.specs.Places.{Breaks}
+use Rattle.std.proofs.Common.{sym, rules, ◌∙◌}
 use Rattle.lexer.specs.Said.{form_of}
 use Rattle.lexer.specs.Statements.{OfStatement, OfBlock}
 use Rattle.lexer.specs.Lines.{Nothing, Something, Content}

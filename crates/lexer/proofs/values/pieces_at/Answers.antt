@@ -1,5 +1,5 @@
-use Rattle.std.proofs.Common.{◌≡◌, ◌∙◌, ◌≤◌, ap, sym, refl, inl, inr, length, false, true, arith, rules, Some, None}
-use Rattle.lexer.specs.Grammar.{Outcome, Is, Give, Many}
+use Rattle.std.proofs.Common.{◌∙◌, ◌≤◌, ap, sym, refl, inl, inr, length, arith, rules, Some}
+use Rattle.lexer.specs.Grammar.{Is, Give, Many}
 use Rattle.lexer.specs.Grammar.Outcome.{Reached}
 use Rattle.lexer.specs.Grammar.Then.{goes_on}
 use Rattle.lexer.specs.Said.{Fragments}

@@ -1,6 +1,4 @@
-use Rattle.std.proofs.Common.{refl, sym, subst, [], ◌∷◌, List}
-use Rattle.lexer.specs.declared.statement.Line.{Line}
-use Rattle.manifest.proofs.BuildKeys.{drops_next}
+use Rattle.std.proofs.Common.{refl, []}
 use Rattle.manifest.proofs.BuildBlocks.{block_next, block_left, block_stop}
 use Rattle.manifest.proofs.builds.read_block.Goals as goal
 

@@ -1,4 +1,4 @@
-use Rattle.std.proofs.Common.{◌≡◌, ◌++◌, map, ap, ◌∙◌, List, ℕ}
+use Rattle.std.proofs.Common.{map, ap, ◌∙◌, List, ℕ}
 use Rattle.std.specs.Map.Iter.{deref_pair}
 use Rattle.std.proofs.lemmas.Map.Iter.{rest_more, rest_all}
 use Rattle.manifest.specs.Held.{pool_of}

@@ -1,4 +1,4 @@
-use Rattle.std.proofs.Common.{◌≡◌, true, false, refl, sym, ◌∙◌, ap}
+use Rattle.std.proofs.Common.{true, false, refl, sym, ◌∙◌, ap}
 use Rattle.std.proofs.lemmas.Bool.{false≢true}
 use Rattle.manifest.specs.declared.fault.FaultKind.TheVariants.{UnknownDefault}
 use Rattle.manifest.specs.Readings.Outcome.{Reached}

@@ -1,7 +1,6 @@
-use Rattle.std.proofs.Common.{arith, refl, add-one, ap, ◌∷◌, ◌∙◌, drop, drop-cons, sym, suc, List, subst}
+use Rattle.std.proofs.Common.{arith, add-one, drop-cons}
 use Rattle.std.proofs.lemmas.List.{drop_all}
 use Rattle.std.proofs.lemmas.Result.{err_from_is_err_and}
-use Rattle.manifest.specs.declared.kept.ReadDefault.{ReadDefault}
 use Rattle.manifest.proofs.DefaultsAll.{defaults_first, defaults_next, defaults_wrong, defaults_all}
 use Rattle.manifest.proofs.graph.check_defaults.Goals as goal
 

@@ -1,6 +1,5 @@
 use Rattle.std.proofs.Common.{List, ℕ, drop, map, string_bytes}
 use Rattle.std.specs.List.{AllZip}
-use Rattle.manifest.specs.Graphs.{OfDefaults}
 use Rattle.manifest.specs.Held.{AreKeys, IsDefaultOf}
 use Rattle.manifest.specs.States.{Default}
 use Rattle.manifest.proofs.DefaultsAll.{Defaults}

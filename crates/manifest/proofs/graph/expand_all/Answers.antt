@@ -1,10 +1,10 @@
-use Rattle.std.proofs.Common.{◌≡◌, rules, [], ◌∷◌, ◌++◌}
+use Rattle.std.proofs.Common.{rules, ◌∷◌}
 use Rattle.std.specs.List.{AllByRecursion}
 use Rattle.std.specs.Vec.Iter.{into_iter_items}
 use Rattle.std.proofs.lemmas.Result.{err_from_is_err_and}
 use Rattle.manifest.specs.declared.kept.ReadEdge.{ReadEdge}
 use Rattle.manifest.specs.Held.{ArePathsFormed, IsInScope}
-use Rattle.manifest.proofs.EdgeAll.{goes_first, goes_next, goes_wrong, goes_all, none_left}
+use Rattle.manifest.proofs.EdgeAll.{goes_next, goes_wrong, goes_all, none_left}
 use Rattle.manifest.proofs.EdgeFormed.{push_all}
 use Rattle.manifest.proofs.graph.expand_all.Goals as goal
 

@@ -1,4 +1,4 @@
-use Rattle.std.proofs.Common.{◌≡◌, List, [], ◌++◌}
+use Rattle.std.proofs.Common.{List}
 use Rattle.std.specs.List.{AllByRecursion, AllZip}
 use Rattle.std.specs.Vec.Iter.{into_iter_items}
 use Rattle.model.specs.declared.graph.Pool.{Pool}
@@ -6,7 +6,6 @@ use Rattle.scopes.specs.Moves.{Move}
 use Rattle.scopes.specs.Scopes.{IsScopesOf}
 use Rattle.manifest.specs.declared.kept.ReadEdge.{ReadEdge}
 use Rattle.manifest.specs.Answer.{IsWellFormed}
-use Rattle.manifest.specs.Edges.{OfEdges}
 use Rattle.manifest.specs.Held.{IsBuildOf, IsInScope, ArePools, ArePathsFormed}
 use Rattle.manifest.specs.States.{Build}
 use Rattle.manifest.proofs.EdgeAll.{Goes}

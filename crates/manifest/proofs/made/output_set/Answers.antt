@@ -1,4 +1,4 @@
-use Rattle.std.proofs.Common.{arith, ap, length, ◌≡◌, ◌∷◌, [], ◌++◌, ◌∙◌}
+use Rattle.std.proofs.Common.{arith, ap, length, ◌∙◌}
 use Rattle.std.proofs.lemmas.List.{take_more}
 use Rattle.manifest.proofs.EdgeKeys.{keys_push, keys_push_behind}
 use Rattle.manifest.proofs.made.output_set.Goals as goal

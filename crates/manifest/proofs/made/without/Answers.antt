@@ -1,6 +1,5 @@
-use Rattle.std.proofs.Common.{arith, take, ◌≡◌, ◌∷◌, [], ◌++◌, sym, ◌∙◌, get_or, true, false}
+use Rattle.std.proofs.Common.{arith, take, sym, ◌∙◌, true, false}
 use Rattle.std.proofs.lemmas.List.{take_more}
-use Rattle.model.specs.Graph.{has}
 use Rattle.manifest.proofs.EdgeKeys.{found, keeps_next, drops_path}
 use Rattle.manifest.proofs.made.without.Goals as goal
 use Rattle.manifest.proofs.made.without.Goals.{then-not-contains+in_ok-clone+in_ok-push, else-not-contains}

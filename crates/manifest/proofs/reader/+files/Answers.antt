@@ -1,12 +1,10 @@
-use Rattle.std.proofs.Common.{rules, ◌≡◌, ◌<◌, ℕ, ◌+◌, ◌-◌, ◌*◌, ◌≤◌, length, List, [], ◌∷◌, ◌++◌, arith, sym}
+use Rattle.std.proofs.Common.{arith}
 use Rattle.std.specs.Option.{option_map}
-use Rattle.lexer.specs.Said.{said_of, fragments_of, form_of}
+use Rattle.lexer.specs.Said.{fragments_of}
 use Rattle.scopes.specs.Moves.{Enter, Leave}
-use Rattle.manifest.specs.Answer.{site_part}
-use Rattle.manifest.specs.Files.{Reads, fault_in, OfFile, OpenOf, OfForm, InScope, too_deep_at, inner_at}
+use Rattle.manifest.specs.Files.{fault_in, InScope, too_deep_at, inner_at}
 use Rattle.manifest.specs.Seen.{seen}
 use Rattle.manifest.specs.Places.{place_of}
-use Rattle.manifest.specs.States.{State}
 use Rattle.manifest.proofs.Looking.{looks_then, looks_none, caused_on, caused_none, covers_before, covers_after}
 use Rattle.manifest.proofs.ReadTo.{own_cause, own_stated, stop_cause, read_to_first, split_shorter, read_to_none, read_to_next, read_to_fault, read_to_end, always_ok}
 use Rattle.manifest.proofs.Including.{bytes_large, bytes_unread, bytes_say, bytes_formed, declaration_says, says_at, file_unopened, file_says, scope_fault, scope_reading, state_moved, stated_moved, formed_entered, formed_left}

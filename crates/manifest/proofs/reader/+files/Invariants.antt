@@ -1,14 +1,4 @@
-use Rattle.std.proofs.Common.{◌≡◌, ◌<◌, IfOk, OnOk, IsTrue, map, ℕ, ◌+◌, ◌-◌, ◌*◌, ◌≤◌, length}
-use Rattle.lexer.specs.Said.{said_of, fragments_of, form_of}
-use Rattle.model.specs.Calls.{OnlyLooks, HasCause}
-use Rattle.model.specs.World.{World}
-use Rattle.manifest.specs.Answer.{site_part, ReadsFile, IsGraph, IsAnswerOf}
-use Rattle.manifest.specs.Files.{Reads, OfFile, OpenOf, NameOf, InScope, too_deep_at, inner_at}
-use Rattle.manifest.specs.Held.{IsStateOf, Says, KeepsScopes, IsFormed}
-use Rattle.manifest.specs.Seen.{Covers, seen, IsCaused, FindsFile, GroupSays, LinesSay, if_no_line}
-use Rattle.manifest.specs.Made.{HaveOutputs, FormHasOutput}
-use Rattle.manifest.specs.Places.{place_of, IsFaultAt}
-use Rattle.manifest.specs.States.{State}
+use Rattle.std.proofs.Common.{◌+◌, ◌*◌, length}
 use Rattle.manifest.proofs.ReadTo.{IsReadTo}
 use Rattle.manifest.proofs.reader.+files.Given as goal
 

@@ -1,4 +1,4 @@
-use Rattle.std.proofs.Common.{◌<◌, ◌≡◌, Some, None, arith}
+use Rattle.std.proofs.Common.{◌<◌, Some, None, arith}
 use Rattle.lexer.specs.Said.{fragments_of}
 use Rattle.manifest.specs.Files.{too_deep_at}
 use Rattle.manifest.specs.Seen.{seen}

@@ -1,6 +1,4 @@
-use Rattle.std.proofs.Common.{rules, ◌≡◌, Some, None, arith}
-use Rattle.model.specs.World.{World}
-use Rattle.manifest.specs.Answer.{held}
+use Rattle.std.proofs.Common.{rules, ◌≡◌, None}
 use Rattle.manifest.specs.Graphs.{AtEnd}
 use Rattle.manifest.specs.States.{nothing}
 use Rattle.manifest.proofs.Looking.{looks_then, covers_before, covers_after}

@@ -1,4 +1,3 @@
-use Rattle.scopes.specs.Use.{fixed}
 use Rattle.scopes.proofs.Valuing.{no_circle_on_the_way}
 use Rattle.manifest.proofs.values.check_circle.Goals as goal
 use Rattle.manifest.proofs.values.check_circle.Goals.{in-Ok, in-Err-TooLarge, in-Err}

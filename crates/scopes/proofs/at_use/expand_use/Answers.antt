@@ -1,79 +1,38 @@
-use Rattle.std.proofs.Common.{rules, ◌≡◌, ◌<◌, ◌≤◌, List, ℕ, length, get_or, sym, subst, ◌∙◌, Err}
-use Rattle.scopes.specs.declared.fault.UseFault.TheVariants.{TooLarge}
+use Rattle.std.proofs.Common.{rules, ◌≡◌, None, Some, Err, sym, subst}
+use Rattle.scopes.specs.declared.all_scopes.Scopes.{Scopes}
 use Rattle.scopes.specs.declared.fault.ExpandFault.TheVariants.{TooLarge as Larger}
-use Rattle.scopes.specs.Use.{opened, fixed, IsOrderFrom, IsValueAtUse}
-use Rattle.scopes.specs.Known.{known_value}
-use Rattle.scopes.proofs.Knowing.{knows_none, knows_learnt, knows_here, knows_large, knows_asked, knows_all_scopes}
+use Rattle.scopes.specs.Scopes.{IsScopesOf}
+use Rattle.scopes.specs.Use.{opened}
+use Rattle.scopes.proofs.Knowing.{knows_none}
+use Rattle.scopes.proofs.Alone.{closed_is, closed_large, alone_is, alone_large}
 use Rattle.scopes.proofs.at_use.expand_use.Goals as goal
 
-pub loop-name-init : goal.loop-name-init
-loop-name-init c = knows_none c.args.scopes.now c.args.at.now c.args.asked.now _ c.new-known.ensures.scopes c.new-known.ensures.at c.new-known.ensures.paths c.new-known.ensures.none
+pub returns-in_err-of_name-clause-large : goal.returns-in_err-of_name-clause-large
+returns-in_err-of_name-clause-large c = λ same past is.
+    let knows = knows_none c.args.scopes.now c.args.at.now c.args.asked.now c.new-known.result c.new-known.ensures.scopes c.new-known.ensures.at c.new-known.ensures.paths c.new-known.ensures.none in
+    let none : opened c.args.at.now c.args.asked.now ≡ None = search rules in
+    let failed : c.of_name.result ≡ Err Larger = search rules in
+    closed_large c.args.scopes.now c.args.at.now c.args.asked.now c.new-known.result knows past is none
+    (c.of_name.ensures.large failed past (subst (λ (s : Scopes). IsScopesOf s past) (sym c.new-known.ensures.scopes) is))
 
-pub learn-requires : goal.learn-requires
-learn-requires c = rw (c.loop-name.invariant.at_is, c.loop-name.invariant.scopes_are) c.requires
+pub returns-in_default-clause-value : goal.returns-in_default-clause-value
+returns-in_default-clause-value c = λ past is.
+    let knows = knows_none c.args.scopes.now c.args.at.now c.args.asked.now c.new-known.result c.new-known.ensures.scopes c.new-known.ensures.at c.new-known.ensures.paths c.new-known.ensures.none in
+    let none : opened c.args.at.now c.args.asked.now ≡ None = search rules in
+    closed_is c.args.scopes.now c.args.at.now c.args.asked.now c.new-known.result knows past is none c.in_ok-of_name.field-0
+    (c.in_ok-of_name.ensures.value past (subst (λ (s : Scopes). IsScopesOf s past) (sym c.new-known.ensures.scopes) is))
 
-pub loop-name-preserved : goal.loop-name-preserved
-loop-name-preserved c =
-    let order = subst (IsOrderFrom (opened c.args.at.now) c.args.asked.now) (sym c.as_slice-name-items.ensures.value) c.in_ok-order.ensures.order in
-    let is_name : c.as_str-name.result.now ≡ get_or c.as_slice-name-items.result.now c.loop-name.name-index c.as_str-name.result.now =
-    subst (λ (n : List ℕ). n ≡ get_or c.as_slice-name-items.result.now c.loop-name.name-index n) (sym c.as_str-name.ensures) c.name-item.is in
-    let low : c.loop-name.name-index < length c.as_slice-name-items.result.now = search rules in
-    knows_learnt c.args.scopes.now c.args.at.now c.args.asked.now c.loop-name.known c.as_slice-name-items.result.now c.loop-name.name-index c.as_str-name.result.now c.loop-name.invariant order low is_name
-    c.learn.new.self c.learn.ensures.scopes c.learn.ensures.at c.learn.ensures.paths c.in_ok-learn.ensures.value
+pub returns-in_err-of_template-clause-large : goal.returns-in_err-of_template-clause-large
+returns-in_err-of_template-clause-large c = λ same past is.
+    let knows = knows_none c.args.scopes.now c.args.at.now c.args.asked.now c.new-known.result c.new-known.ensures.scopes c.new-known.ensures.at c.new-known.ensures.paths c.new-known.ensures.none in
+    let some : opened c.args.at.now c.args.asked.now ≡ Some c.in-Some.template.now = search rules in
+    let failed : c.of_template.result ≡ Err Larger = search rules in
+    alone_large c.args.scopes.now c.args.at.now c.args.asked.now c.new-known.result knows past is c.in-Some.template.now some (c.stands_alone.ensures c.if-stands_alone.true)
+    (c.of_template.ensures.large failed past (subst (λ (s : Scopes). IsScopesOf s past) (sym c.new-known.ensures.scopes) is))
 
-pub returns-in_err-learn-clause-large : goal.returns-in_err-learn-clause-large
-returns-in_err-learn-clause-large c = λ same past is.
-    let order = subst (IsOrderFrom (opened c.args.at.now) c.args.asked.now) (sym c.as_slice-name-items.ensures.value) c.in_ok-order.ensures.order in
-    let is_name : c.as_str-name.result.now ≡ get_or c.as_slice-name-items.result.now c.loop-name.name-index c.as_str-name.result.now =
-    subst (λ (n : List ℕ). n ≡ get_or c.as_slice-name-items.result.now c.loop-name.name-index n) (sym c.as_str-name.ensures) c.name-item.is in
-    let low : c.loop-name.name-index < length c.as_slice-name-items.result.now = search rules in
-    let failed : c.learn.result ≡ Err TooLarge = search rules in
-    knows_large c.args.scopes.now c.args.at.now c.args.asked.now c.loop-name.known c.as_slice-name-items.result.now c.loop-name.name-index c.as_str-name.result.now c.loop-name.invariant order low is_name
-    (c.learn.ensures.large failed) past is
-
-pub returns-then-eq-clause-value : goal.returns-then-eq-clause-value
-returns-then-eq-clause-value c = λ past is.
-    let order = subst (IsOrderFrom (opened c.args.at.now) c.args.asked.now) (sym c.as_slice-name-items.ensures.value) c.in_ok-order.ensures.order in
-    let is_name : c.as_str-name.result.now ≡ get_or c.as_slice-name-items.result.now c.loop-name.name-index c.as_str-name.result.now =
-    subst (λ (n : List ℕ). n ≡ get_or c.as_slice-name-items.result.now c.loop-name.name-index n) (sym c.as_str-name.ensures) c.name-item.is in
-    let same : c.as_str-name.result.now ≡ c.args.asked.now = search rules in
-    let is_asked : c.args.asked.now ≡ get_or c.as_slice-name-items.result.now c.loop-name.name-index c.args.asked.now = subst (λ (n : List ℕ). n ≡ get_or c.as_slice-name-items.result.now c.loop-name.name-index n) same is_name in
-    let low : c.loop-name.name-index < length c.as_slice-name-items.result.now = search rules in
-    knows_here c.args.scopes.now c.args.at.now c.args.asked.now c.loop-name.known c.as_slice-name-items.result.now c.loop-name.name-index c.args.asked.now c.loop-name.invariant order low is_asked
-    c.in_ok-expand.field-0 c.in_ok-expand.ensures.value past is
-
-pub returns-in_err-expand-clause-large : goal.returns-in_err-expand-clause-large
-returns-in_err-expand-clause-large c = λ same past is.
-    let order = subst (IsOrderFrom (opened c.args.at.now) c.args.asked.now) (sym c.as_slice-name-items.ensures.value) c.in_ok-order.ensures.order in
-    let is_name : c.as_str-name.result.now ≡ get_or c.as_slice-name-items.result.now c.loop-name.name-index c.as_str-name.result.now =
-    subst (λ (n : List ℕ). n ≡ get_or c.as_slice-name-items.result.now c.loop-name.name-index n) (sym c.as_str-name.ensures) c.name-item.is in
-    let equal : c.as_str-name.result.now ≡ c.args.asked.now = search rules in
-    let is_asked : c.args.asked.now ≡ get_or c.as_slice-name-items.result.now c.loop-name.name-index c.args.asked.now = subst (λ (n : List ℕ). n ≡ get_or c.as_slice-name-items.result.now c.loop-name.name-index n) equal is_name in
-    let low : c.loop-name.name-index < length c.as_slice-name-items.result.now = search rules in
-    let failed : c.expand.result ≡ Err Larger = search rules in
-    knows_large c.args.scopes.now c.args.at.now c.args.asked.now c.loop-name.known c.as_slice-name-items.result.now c.loop-name.name-index c.args.asked.now c.loop-name.invariant order low is_asked
-    (c.expand.ensures.large failed) past is
-
-pub append_name-requires : goal.append_name-requires
-append_name-requires c = rw (c.loop-name.invariant.at_is, c.loop-name.invariant.scopes_are) c.requires
-
-pub returns-in_err-append_name-clause-large : goal.returns-in_err-append_name-clause-large
-returns-in_err-append_name-clause-large c = λ same past is.
-    let order = subst (IsOrderFrom (opened c.args.at.now) c.args.asked.now) (sym c.as_slice-name-items.ensures.value) c.in_ok-order.ensures.order in
-    let high : length c.as_slice-name-items.result.now ≤ c.loop-name.name-index = search rules in
-    let failed : c.append_name.result ≡ Err Larger = search rules in
-    let there = knows_all_scopes c.args.scopes.now c.args.at.now c.args.asked.now c.loop-name.known c.as_slice-name-items.result.now c.loop-name.name-index c.loop-name.invariant order high past is in
-    record {
-      value = known_value c.loop-name.known past c.args.asked.now;
-      is_value = knows_asked c.args.scopes.now c.args.at.now c.args.asked.now c.loop-name.known c.as_slice-name-items.result.now c.loop-name.name-index c.loop-name.invariant order high past is;
-      large = rw c.new-text.ensures.bytes at (c.append_name.ensures.large failed past there);
-    }
-
-pub returns-clause-value : goal.returns-clause-value
-returns-clause-value c = λ past is.
-    let order = subst (IsOrderFrom (opened c.args.at.now) c.args.asked.now) (sym c.as_slice-name-items.ensures.value) c.in_ok-order.ensures.order in
-    let high : length c.as_slice-name-items.result.now ≤ c.loop-name.name-index = search rules in
-    let there = knows_all_scopes c.args.scopes.now c.args.at.now c.args.asked.now c.loop-name.known c.as_slice-name-items.result.now c.loop-name.name-index c.loop-name.invariant order high past is in
-    let text = rw c.new-text.ensures.bytes at (c.in_ok-append_name.ensures.value past there) in
-    subst (IsValueAtUse (opened c.args.at.now) (fixed c.args.at.now c.args.asked.now past) c.args.asked.now) (sym (c.from_string.ensures ∙ text))
-    (knows_asked c.args.scopes.now c.args.at.now c.args.asked.now c.loop-name.known c.as_slice-name-items.result.now c.loop-name.name-index c.loop-name.invariant order high past is)
+pub returns-then-stands_alone-clause-value : goal.returns-then-stands_alone-clause-value
+returns-then-stands_alone-clause-value c = λ past is.
+    let knows = knows_none c.args.scopes.now c.args.at.now c.args.asked.now c.new-known.result c.new-known.ensures.scopes c.new-known.ensures.at c.new-known.ensures.paths c.new-known.ensures.none in
+    let some : opened c.args.at.now c.args.asked.now ≡ Some c.in-Some.template.now = search rules in
+    alone_is c.args.scopes.now c.args.at.now c.args.asked.now c.new-known.result knows past is c.in-Some.template.now some (c.stands_alone.ensures c.if-stands_alone.true) c.in_ok-of_template.field-0
+    (c.in_ok-of_template.ensures.value past (subst (λ (s : Scopes). IsScopesOf s past) (sym c.new-known.ensures.scopes) is))

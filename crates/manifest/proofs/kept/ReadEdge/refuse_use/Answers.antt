@@ -1,5 +1,4 @@
 use Rattle.std.proofs.Common.{ap, refl, ◌∙◌}
-use Rattle.scopes.specs.declared.fault.UseFault.TheVariants.{Circle, TooLarge}
 use Rattle.manifest.specs.declared.fault.FaultKind.TheVariants.{Line, Circle as KindCircle}
 use Rattle.lexer.specs.declared.fault.FaultKind.TheVariants.{TooLarge as LineTooLarge}
 use Rattle.manifest.proofs.EdgeChecks.{at_build}

@@ -1,4 +1,4 @@
-use Rattle.std.proofs.Common.{refl, Ok, Some, Err}
+use Rattle.std.proofs.Common.{refl, Ok, Some}
 use Rattle.std.proofs.lemmas.Result.{err_from_is_err_and}
 use Rattle.manifest.specs.Readings.Then.{goes_on}
 use Rattle.manifest.proofs.Binds.{then_fault}

@@ -9,19 +9,30 @@ use Rattle.manifest.proofs.TextLemmas.{text_of_pieces}
 use Rattle.manifest.proofs.FlagLemmas.{flags_small, flags_large, large_some, found_same}
 use Rattle.manifest.proofs.paths.PathReader.path.Goals as goal
 
+pub returns-in-Some-clause-flags : goal.returns-in-Some-clause-flags
+returns-in-Some-clause-flags c = on_ok_weaker c.canonical.result (λ empty past at.
+    let same : c.in-Some.text.now ≡ text_of (value_of_name c.args.self.now.block.now past) (fragments_of c.args.value.now) = c.in-Some.ensures.value _ ∙ sym (text_of_pieces _ c.args.value.now.pieces) in
+    flags_small c.args.self.now c.canonical.new.self _ (fragments_of c.args.value.now) c.in-Some.text.now same c.in-Some.ensures.size c.canonical.ensures.large empty)
+    c.canonical.ensures.empty
+
+pub returns-in-Some-clause-found : goal.returns-in-Some-clause-found
+returns-in-Some-clause-found c = IfOk-weaker c.canonical.result _ _ (λ path found past at empty large.
+    let same : c.in-Some.text.now ≡ text_of (value_of_name c.args.self.now.block.now past) (fragments_of c.args.value.now) = c.in-Some.ensures.value _ ∙ sym (text_of_pieces _ c.args.value.now.pieces) in
+    found_same _ _ path same (found empty)) c.canonical.ensures.found
+
 pub returns-in-Ok-clause-flags : goal.returns-in-Ok-clause-flags
-returns-in-Ok-clause-flags c = on_ok_weaker c.canonical.result (λ empty past at.
+returns-in-Ok-clause-flags c = on_ok_weaker c.canonical-in-Ok.result (λ empty past at.
     let same : c.as_str.result.now ≡ text_of (value_of_name c.args.self.now.block.now past) (fragments_of c.args.value.now) =
     c.as_str.ensures ∙ c.in-Ok.ensures.value past at ∙ sym (text_of_pieces _ c.args.value.now.pieces) in
     let small : length c.as_str.result.now ≤ largest_value = subst (λ (text : List ℕ). length text ≤ largest_value) (sym c.as_str.ensures) c.in-Ok.ensures.size in
-    flags_small c.args.self.now c.canonical.new.self _ (fragments_of c.args.value.now) c.as_str.result.now same small c.canonical.ensures.large empty)
-    c.canonical.ensures.empty
+    flags_small c.args.self.now c.canonical-in-Ok.new.self _ (fragments_of c.args.value.now) c.as_str.result.now same small c.canonical-in-Ok.ensures.large empty)
+    c.canonical-in-Ok.ensures.empty
 
 pub returns-in-Ok-clause-found : goal.returns-in-Ok-clause-found
-returns-in-Ok-clause-found c = IfOk-weaker c.canonical.result _ _ (λ path found past at empty large.
+returns-in-Ok-clause-found c = IfOk-weaker c.canonical-in-Ok.result _ _ (λ path found past at empty large.
     let same : c.as_str.result.now ≡ text_of (value_of_name c.args.self.now.block.now past) (fragments_of c.args.value.now) =
     c.as_str.ensures ∙ c.in-Ok.ensures.value past at ∙ sym (text_of_pieces _ c.args.value.now.pieces) in
-    found_same _ _ path same (found empty)) c.canonical.ensures.found
+    found_same _ _ path same (found empty)) c.canonical-in-Ok.ensures.found
 
 pub returns-in-Err-TooLarge-clause-flags : goal.returns-in-Err-TooLarge-clause-flags
 returns-in-Err-TooLarge-clause-flags c = λ past at.

@@ -1,4 +1,4 @@
-use Rattle.std.proofs.Common.{rules, refl, ap, sym, ◌∙◌, Bool, true, false, cond, Option, Global, ◌≡◌, ◌<◌, length, slice_get, Some, string_bytes}
+use Rattle.std.proofs.Common.{rules, refl, ap, ◌∙◌, Bool, true, false, cond, Option, Global, ◌≡◌, ◌<◌, length, slice_get, Some, string_bytes}
 use Rattle.std.proofs.lemmas.Option.{slice_get_read}
 use Rattle.std.proofs.lemmas.Map.Text.{hash_map_updates_text}
 use Rattle.std.proofs.lemmas.Result.{err_from_is_err_and}
