@@ -91,7 +91,7 @@ fn each_other_byte_is_read(rt: HostRuntime) -> Result<(), Fail> {
         assert!(rt; found.is_some());
         read = read.saturating_add(found.unwrap_or(0));
     }
-    // Of 1800 texts, as counted by a reader in another language.
+    // of 1800 texts
     assert!(rt; read == 481);
     Ok(())
 }

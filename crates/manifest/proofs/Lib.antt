@@ -1,3 +1,4 @@
+pub mod Agreeing
 pub mod BindingLemmas
 pub mod Binds
 pub mod BlockLemmas
@@ -32,5 +33,10 @@ pub mod ReadMain
 pub mod ReadTo
 pub mod ReaderLemmas
 pub mod RuleLemmas
+pub mod SameEdges
+pub mod SameFiles
+pub mod SamePasts
+pub mod SameStatements
+pub mod Sameness
 pub mod TextLemmas
 pub mod VersionLemmas

@@ -10,6 +10,7 @@ mod edges;
 mod fault;
 mod graph;
 mod kept;
+mod laws;
 mod made;
 mod numbers;
 mod paths;
@@ -21,6 +22,7 @@ mod texts;
 mod values;
 
 pub use fault::{FaultKind, FileFault, ReadError};
+pub use laws::one_outcome;
 pub use model::{Act, BuildGraph as Manifest, Edge, SiteFault};
 pub use reader::read;
 pub use texts::Texts;

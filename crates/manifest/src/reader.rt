@@ -41,9 +41,9 @@ pub struct Opened {
 ///
 /// # Errors
 ///
-/// A `Site` fault is the one that the site gave, and is answered wherever it gave one. A `Refused` fault is the first of
-/// the build files: in reading order, and behind these what is seen when all is read. Nothing is written on the site,
-/// whatever the answer.
+/// A `Site` fault is one that the site gave. A `Refused` fault is the first of the build files: in reading order, and
+/// behind these what is seen when all is read; there is one such fault at most ([`one_outcome`](crate::one_outcome)).
+/// Nothing is written on the site, whatever the answer.
 pub fn read<R: Texts>(alloc: Global, texts: &mut R, name: &str) -> Result<Manifest, ReadError>
     ensures looks { OnlyLooks R.tells (R.world texts.old) (R.world texts.new) }
     ensures cause { HasCause (R.world texts.old) (R.world texts.new) (site_part result) }

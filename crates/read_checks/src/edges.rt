@@ -60,7 +60,7 @@ fn parts_of_lines(rt: HostRuntime) -> Result<(), Fail> {
     Ok(())
 }
 
-/// An input that is an output of the same phony is dropped, and what its block binds says nothing.
+/// An input that is an output of the same phony is dropped, and rule variables in its block say nothing.
 #[test]
 fn phony_edges(rt: HostRuntime) -> Result<(), Fail> {
     let rows = [

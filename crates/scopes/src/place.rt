@@ -1,6 +1,8 @@
 //! Values and paths as they expand where they stand.
 
-ghost use Rattle.std.specs.Prelude.{◌≡◌, ◌++◌, ◌<◌, ◌≤◌, ℕ, List, OnOk, IfOk, IfSome, IsErrOf, length, string_bytes};
+ghost use Rattle.std.specs.Prelude.{◌≡◌, ◌++◌, ◌∷◌, [], ◌<◌, ◌≤◌, ℕ, List, None, OnOk, IfOk, IfSome, IsErrOf, length, string_bytes};
+ghost use denote.Ref.{Bor};
+ghost use Rattle.lexer.specs.declared.statement.Piece.TheVariants.{Text as PieceText};
 ghost use Rattle.scopes.specs.Texts.{piece_text, expansion_of_pieces, largest_value};
 ghost use Rattle.scopes.specs.Moves.{Move};
 ghost use Rattle.scopes.specs.Scopes.{IsScopesOf};
@@ -44,6 +46,7 @@ pub fn expand(
 pub fn as_it_stands<'a>(value: &Value<'a>) -> Option<&'a str>
     ensures value { IfSome result (λ text. (named : List ℕ → List ℕ) → text.now ≡ expansion_of_pieces named value.now.pieces) }
     ensures size { IfSome result (λ text. length text.now ≤ largest_value) }
+    ensures none { result ≡ None → (text : Bor (List ℕ)) → value.now.pieces ≡ PieceText text ∷ [] → largest_value < length text.now }
 {
     match value.pieces.as_slice() {
         [Piece::Text(text)] if text.len() <= LARGEST_VALUE => Some(*text),

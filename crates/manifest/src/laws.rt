@@ -1,0 +1,19 @@
+//! A law of what build files declare.
+
+ghost use Rattle.std.specs.Prelude.{◌≡◌, List, ℕ, Option};
+ghost use Rattle.model.specs.declared.graph.BuildGraph.{BuildGraph};
+ghost use Rattle.manifest.specs.Readings.{Outcome};
+ghost use Rattle.manifest.specs.Graphs.{Declares};
+
+use lexer::{one_form, one_reading};
+use scopes::values_are_unique;
+
+/// A law, which runs nothing: files that stand still declare one graph, or have one first fault. So no graph is declared
+/// where a fault stands that is refused, and the fault that is answered is the first.
+pub fn one_outcome()
+    ensures { (files : List ℕ → Option (List ℕ)) (name : List ℕ) (one other : Outcome BuildGraph) → Declares (λ file content. content ≡ files file) name one → Declares (λ file content. content ≡ files file) name other → one ≡ other }
+{
+    one_form();
+    one_reading();
+    values_are_unique();
+}
