@@ -33,6 +33,7 @@ fn count_log(rt: &impl Print, alloc: Global, bytes: &[u8]) -> Result<()> {
     let (log, tail) = Log::parse(alloc, bytes)?;
     let tail = match tail {
         Tail::Whole => "whole",
+        Tail::Old => "old",
         Tail::Torn => "torn",
         Tail::Damaged => "damaged",
     };

@@ -1,5 +1,6 @@
 -- Bytes with and without a mark.
-use Rattle.std.proofs.Common.{◌≡◌, ℕ, List, [], ◌∷◌, ◌++◌, refl, subst}
+use Rattle.std.proofs.Common.{◌≡◌, ◌<◌, ◌+◌, ℕ, List, [], ◌∷◌, ◌++◌, refl, subst, ap, ◌∙◌, length, take, get_or, add-one, arith}
+use Rattle.std.proofs.Math.Seq.{take-suc}
 use Rattle.text.specs.Marks.{Lacks}
 
 pub Lacks-append : (mark : ℕ) (xs ys : List ℕ) → Lacks mark xs → Lacks mark ys → Lacks mark (xs ++ ys)
@@ -36,3 +37,11 @@ one_tail mark (c ∷ a) (d ∷ b) x y h k e =
     let inner = one_tail mark a b x y h k cc in
     let heads : c ≡ d = cc in
     (rw (heads, inner.0) refl, inner.1)
+
+pub length_nil : {A : Type 0} (xs : List A) → length xs ≡ 0 → xs ≡ []
+length_nil [] e = refl
+length_nil (x ∷ xs) e = absurd (omega arith)
+
+-- one item more from the front
+pub take_more : {A : Type 0} (xs : List A) (i : ℕ) (d : A) → i < length xs → take (i + 1) xs ≡ take i xs ++ get_or xs i d ∷ []
+take_more xs i d lt = ap (λ (n : ℕ). take n xs) (add-one i) ∙ take-suc xs i d lt

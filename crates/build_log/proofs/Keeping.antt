@@ -1,178 +1,225 @@
--- What is kept of a log, record by record.
-use Rattle.std.proofs.Common.{◌≡◌, ℕ, ◌+◌, Bool, true, false, not, cond, ◌||◌, List, [], ◌∷◌, ◌++◌, map, filter, Option, Some, None, refl, sym, ap, ◌∙◌, subst, append-nil, arith, length-append, String, string_bytes}
-use Rattle.std.specs.List.{flat_map}
-use Rattle.std.specs.Option.{option_map}
-use Rattle.std.specs.Map.{lookup}
-use Rattle.std.specs.String.{string_eq}
+-- What is kept of records, one record after another.
+use Rattle.std.proofs.Common.{◌≡◌, ◌+◌, ℕ, zero, suc, Bool, true, false, cond, ◌||◌, ◌⊎◌, eqb, List, [], ◌∷◌, ◌++◌, length, Option, Some, None, slice_get, refl, sym, ap, ◌∙◌, subst, inl, inr, arith, String, string_bytes}
+use Rattle.std.specs.List.{AllByRecursion, list_any, find}
 use Rattle.std.specs.Str.{bytes_eq}
-use Rattle.std.proofs.lemmas.Slice.Eq.{bytes_eq-Decides}
-use Rattle.std.proofs.lemmas.List.Concat.{flat_map-append}
-use Rattle.indexmap.specs.IndexMap.{insert_entry}
-use Rattle.model.specs.declared.record.Record.{Record}
-use Rattle.model.specs.declared.record.Record.TheVariants.{Begun, Done as DoneRecord}
-use Rattle.model.specs.Graph.{has}
-use Rattle.model.specs.Records.{Made, in_force, in_force_from}
-use Rattle.build_log.specs.declared.done.Done.{Done}
-use Rattle.build_log.specs.Record.{outputs_of}
-use Rattle.build_log.specs.Kept.{Kept, by_bytes, made_of, says, entry_of, once, outputs_in, Keeps}
+use Rattle.std.proofs.lemmas.List.{length-append, map-append}
+use Rattle.std.proofs.lemmas.Option.{slice_get_within, slice_get_past}
+use Rattle.std.proofs.lemmas.Bool.{false≢true, cases_Bool, or_cases, or_parts, false_from_ne_true, eqb-true, eq-eqb}
+use Rattle.model.specs.Graph.{has, has_number}
+use Rattle.build_log.specs.Kept.{Saying, Telling, AreDistinct, tellings, place_from, place_of, Table, joined, AreNumbersOf, AreTold, IsTableOf, texts_of}
+use Rattle.build_log.specs.Steps.{IsSaid, next_place, told_also}
+use Rattle.build_log.proofs.Distinct.{same_bytes, bytes_same, bytes_differ, distinct_push, has-push, has_at, one_place}
 
--- ---- equality of bytes as a test
+-- ---- numbers of outputs
 
-pub same_bytes : (a b : List ℕ) → bytes_eq a b ≡ true → a ≡ b
-same_bytes a b = (bytes_eq-Decides a b).0
+get_grown : (xs ys : List (List ℕ)) (n : ℕ) (t : List ℕ) → slice_get xs n ≡ Some t → slice_get (xs ++ ys) n ≡ Some t
+get_grown [] ys n t is = cc
+get_grown (x ∷ xs) ys zero t is = is
+get_grown (x ∷ xs) ys (suc n) t is = get_grown xs ys n t is
 
-pub bytes_eq-same : (a : List ℕ) → bytes_eq a a ≡ true
-bytes_eq-same a = (bytes_eq-Decides a a).1 refl
+pub numbers_grown : (xs ys : List (List ℕ)) (ns : List ℕ) (ts : List (List ℕ)) → AreNumbersOf xs ns ts → AreNumbersOf (xs ++ ys) ns ts
+numbers_grown xs ys [] [] are = tt
+numbers_grown xs ys [] (t ∷ ts) are = are
+numbers_grown xs ys (n ∷ ns) [] are = are
+numbers_grown xs ys (n ∷ ns) (t ∷ ts) are = (get_grown xs ys n t are.0, numbers_grown xs ys ns ts are.1)
 
-pub bytes_eq-sym : (a b : List ℕ) → bytes_eq a b ≡ bytes_eq b a
-bytes_eq-sym a b = go (bytes_eq a b) (bytes_eq b a) refl refl
+pub numbers_push : (xs : List (List ℕ)) (ns : List ℕ) (ts : List (List ℕ)) (n : ℕ) (t : List ℕ) → AreNumbersOf xs ns ts → slice_get xs n ≡ Some t → AreNumbersOf xs (ns ++ n ∷ []) (ts ++ t ∷ [])
+numbers_push xs [] [] n t are is = (is, tt)
+numbers_push xs [] (u ∷ ts) n t are is = absurd are
+numbers_push xs (m ∷ ns) [] n t are is = absurd are
+numbers_push xs (m ∷ ns) (u ∷ ts) n t are is = (are.0, numbers_push xs ns ts n t are.1 is)
+
+-- an output that has a number stands among the texts
+numbers_have : (xs : List (List ℕ)) (ns : List ℕ) (ts : List (List ℕ)) (o : List ℕ) → AreNumbersOf xs ns ts → has ts o ≡ true → has xs o ≡ true
+numbers_have xs [] [] o are h = absurd (false≢true h)
+numbers_have xs [] (t ∷ ts) o are h = absurd are
+numbers_have xs (n ∷ ns) [] o are h = absurd are
+numbers_have xs (n ∷ ns) (t ∷ ts) o are h = elim (or_cases (bytes_eq t o) (has ts o) h) [
+  | inl here ↦ ap (has xs) (sym (same_bytes t o here)) ∙ has_at xs n t are.0
+  | inr there ↦ numbers_have xs ns ts o are.1 there
+]
+
+-- a number is among those of some outputs where its own is among them
+named : (xs : List (List ℕ)) (ns : List ℕ) (ts : List (List ℕ)) (n : ℕ) (o : List ℕ) → AreDistinct xs → AreNumbersOf xs ns ts → slice_get xs n ≡ Some o → has_number ns n ≡ has ts o
+named xs [] [] n o distinct are is = refl
+named xs [] (t ∷ ts) n o distinct are is = absurd are
+named xs (m ∷ ns) [] n o distinct are is = absurd are
+named xs (m ∷ ns) (t ∷ ts) n o distinct are is = go (cases_Bool (eqb m n)) ∙ ap (λ (b : Bool). bytes_eq t o || b) (named xs ns ts n o distinct are.1 is)
   where
-    go : (x y : Bool) → bytes_eq a b ≡ x → bytes_eq b a ≡ y → x ≡ y
-    go true true e f = refl
-    go false false e f = refl
-    go true false e f = let clash : false ≡ true = sym f ∙ (bytes_eq-Decides b a).1 (sym (same_bytes a b e)) in cc
-    go false true e f = let clash : false ≡ true = sym e ∙ (bytes_eq-Decides a b).1 (sym (same_bytes b a f)) in cc
+    go : (eqb m n ≡ true) ⊎ (eqb m n ≡ false) → (eqb m n || has_number ns n) ≡ (bytes_eq t o || has_number ns n)
+    go (inl e) =
+        let there : Some t ≡ Some o = sym are.0 ∙ (ap (slice_get xs) (eqb-true m n e) ∙ is) in
+        let same : t ≡ o = cc in
+        ap (λ (b : Bool). b || has_number ns n) (e ∙ sym (ap (λ (x : List ℕ). bytes_eq x o) same ∙ bytes_same o))
+    go (inr e) =
+        let other : bytes_eq t o ≡ false = bytes_differ t o (λ (f : t ≡ o). let same = one_place xs m n o distinct (are.0 ∙ ap (λ (x : List ℕ). Some x) f) is in false≢true (sym e ∙ eq-eqb m n same)) in
+        ap (λ (b : Bool). b || has_number ns n) (e ∙ sym other)
 
--- ---- one entry more
+-- ---- the texts of the table
 
-abbrev pub with_entry : List (List ℕ × Option Done) → List ℕ → Option Done → List (List ℕ × Option Done)
-with_entry [] key value = (key, value) ∷ []
-with_entry (e ∷ es) key value = cond (bytes_eq key e.0) ((e.0, value) ∷ es) (e ∷ with_entry es key value)
-
-pub entry_of-with : (es : List (List ℕ × Option Done)) (key : List ℕ) (value : Option Done) (output : List ℕ) → entry_of (with_entry es key value) output ≡ cond (bytes_eq output key) value (entry_of es output)
-entry_of-with [] key value output = refl
-entry_of-with (e ∷ es) key value output = go (bytes_eq key e.0) refl (entry_of-with es key value output)
+pub flip : (a b : List ℕ) → bytes_eq a b ≡ bytes_eq b a
+flip a b = go (cases_Bool (bytes_eq a b))
   where
-    other : (x y : Bool) → bytes_eq output e.0 ≡ x → bytes_eq output key ≡ y → bytes_eq key e.0 ≡ false → cond x e.1 (cond y value (entry_of es output)) ≡ cond y value (cond x e.1 (entry_of es output))
-    other true true f g h = let clash : false ≡ true = sym h ∙ (bytes_eq-Decides key e.0).1 (sym (same_bytes output key g) ∙ same_bytes output e.0 f) in cc
-    other true false f g h = refl
-    other false true f g h = refl
-    other false false f g h = refl
-
-    here : (x : Bool) → cond x value (entry_of es output) ≡ cond x value (cond x e.1 (entry_of es output))
-    here true = refl
-    here false = refl
-
-    go : (b : Bool) → bytes_eq key e.0 ≡ b → entry_of (with_entry es key value) output ≡ cond (bytes_eq output key) value (entry_of es output)
-        → entry_of (cond b ((e.0, value) ∷ es) (e ∷ with_entry es key value)) output ≡ cond (bytes_eq output key) value (cond (bytes_eq output e.0) e.1 (entry_of es output))
-    go true f ih =
-        let key_is : bytes_eq output key ≡ bytes_eq output e.0 = ap (bytes_eq output) (same_bytes key e.0 f) in
-        here (bytes_eq output e.0) ∙ ap (λ (x : Bool). cond x value (cond (bytes_eq output e.0) e.1 (entry_of es output))) (sym key_is)
-    go false f ih =
-        ap (λ (o : Option Done). cond (bytes_eq output e.0) e.1 o) ih ∙ other (bytes_eq output e.0) (bytes_eq output key) refl refl f
-
-abbrev pub keys : List (List ℕ × Option Done) → List (List ℕ)
-keys = map (λ e. e.0)
-
-pub keys-with : (es : List (List ℕ × Option Done)) (key : List ℕ) (value : Option Done) → keys (with_entry es key value) ≡ cond (has (keys es) key) (keys es) (keys es ++ key ∷ [])
-keys-with [] key value = refl
-keys-with (e ∷ es) key value = go (bytes_eq key e.0) refl (has (keys es) key) (keys-with es key value)
-  where
-    go : (b : Bool) → bytes_eq key e.0 ≡ b → (h : Bool) → keys (with_entry es key value) ≡ cond h (keys es) (keys es ++ key ∷ [])
-        → keys (cond b ((e.0, value) ∷ es) (e ∷ with_entry es key value)) ≡ cond (bytes_eq e.0 key || h) (e.0 ∷ keys es) (e.0 ∷ (keys es ++ key ∷ []))
-    go true f h ih = rw (bytes_eq-sym e.0 key, f) refl
-    go false f true ih = rw (bytes_eq-sym e.0 key, f) (ap (λ (ks : List (List ℕ)). e.0 ∷ ks) ih)
-    go false f false ih = rw (bytes_eq-sym e.0 key, f) (ap (λ (ks : List (List ℕ)). e.0 ∷ ks) ih)
-
--- ---- each once
-
-abbrev pub others : List ℕ → List (List ℕ) → List (List ℕ)
-others x = filter (λ y. not (bytes_eq x y))
-
-has-others : (x : List ℕ) (ys : List (List ℕ)) (z : List ℕ) → bytes_eq x z ≡ false → has (others x ys) z ≡ has ys z
-has-others x [] z ne = refl
-has-others x (y ∷ ys) z ne = go (bytes_eq x y) refl (bytes_eq y z) refl (has-others x ys z ne)
-  where
-    go : (a : Bool) → bytes_eq x y ≡ a → (b : Bool) → bytes_eq y z ≡ b → has (others x ys) z ≡ has ys z → has (cond (not a) (y ∷ others x ys) (others x ys)) z ≡ (b || has ys z)
-    go true f true g ih = let clash : false ≡ true = sym ne ∙ (bytes_eq-Decides x z).1 (same_bytes x y f ∙ same_bytes y z g) in cc
-    go true f false g ih = ih
-    go false f true g ih = rw g refl
-    go false f false g ih = rw g ih
-
-others-push : (x : List ℕ) (ys : List (List ℕ)) (z : List ℕ) → others x (ys ++ z ∷ []) ≡ cond (bytes_eq x z) (others x ys) (others x ys ++ z ∷ [])
-others-push x [] z = go (bytes_eq x z)
-  where
-    go : (a : Bool) → cond (not a) (z ∷ []) [] ≡ cond a [] (z ∷ [])
-    go true = refl
-    go false = refl
-others-push x (y ∷ ys) z = go (bytes_eq x y) (bytes_eq x z) (others-push x ys z)
-  where
-    go : (a b : Bool) → others x (ys ++ z ∷ []) ≡ cond b (others x ys) (others x ys ++ z ∷ [])
-        → cond (not a) (y ∷ others x (ys ++ z ∷ [])) (others x (ys ++ z ∷ [])) ≡ cond b (cond (not a) (y ∷ others x ys) (others x ys)) (cond (not a) (y ∷ others x ys) (others x ys) ++ z ∷ [])
-    go true true ih = ih
-    go true false ih = ih
-    go false true ih = ap (λ (l : List (List ℕ)). y ∷ l) ih
-    go false false ih = ap (λ (l : List (List ℕ)). y ∷ l) ih
-
-pub once-push : (xs : List (List ℕ)) (z : List ℕ) → once (xs ++ z ∷ []) ≡ cond (has (once xs) z) (once xs) (once xs ++ z ∷ [])
-once-push [] z = refl
-once-push (x ∷ xs) z = go (bytes_eq x z) refl (has (once xs) z) refl (once-push xs z)
-  where
-    go : (a : Bool) → bytes_eq x z ≡ a → (h : Bool) → has (once xs) z ≡ h → once (xs ++ z ∷ []) ≡ cond h (once xs) (once xs ++ z ∷ [])
-        → x ∷ others x (once (xs ++ z ∷ [])) ≡ cond (a || has (others x (once xs)) z) (x ∷ others x (once xs)) (x ∷ (others x (once xs) ++ z ∷ []))
-    go true f true g ih = ap (λ (l : List (List ℕ)). x ∷ others x l) ih
-    go true f false g ih = ap (λ (l : List (List ℕ)). x ∷ others x l) ih ∙ ap (λ (l : List (List ℕ)). x ∷ l) (others-push x (once xs) z ∙ rw f refl)
-    go false f true g ih = rw (has-others x (once xs) z f, g) (ap (λ (l : List (List ℕ)). x ∷ others x l) ih)
-    go false f false g ih = rw (has-others x (once xs) z f, g) (ap (λ (l : List (List ℕ)). x ∷ others x l) ih ∙ ap (λ (l : List (List ℕ)). x ∷ l) (others-push x (once xs) z ∙ rw f refl))
-
--- ---- the record in force
-
-pub in_force_from-push : (output : List ℕ) (held : Option Made) (rs : List Record) (r : Record) → in_force_from output held (rs ++ r ∷ []) ≡ cond (has (outputs_of r) output) (says r) (in_force_from output held rs)
-in_force_from-push output held [] (Begun outputs) = refl
-in_force_from-push output held [] (DoneRecord outputs start act) = refl
-in_force_from-push output held (Begun outputs ∷ rs) r = in_force_from-push output (cond (has outputs output) None held) rs r
-in_force_from-push output held (DoneRecord outputs start act ∷ rs) r = in_force_from-push output (cond (has outputs output) (Some (record { act = act; start = start })) held) rs r
-
--- the last record of a list is of one output
-pub keeps_more : (rs : List Record) (r : Record) (key : List ℕ) (value : Option Done) (log : Kept) → outputs_of r ≡ key ∷ [] → says r ≡ option_map made_of value → Keeps rs log
-    → Keeps (rs ++ r ∷ []) (record { entries = with_entry log.entries key value; records = log.records + 1 })
-keeps_more rs r key value log one said keeps = record {
-  in_force = λ output.
-      ap (option_map made_of) (entry_of-with log.entries key value output)
-      ∙ (split (bytes_eq output key) (entry_of log.entries output)
-      ∙ (ap (λ (m : Option Made). cond (bytes_eq output key) (option_map made_of value) m) (keeps.in_force output)
-      ∙ sym (in_force_from-push output None rs r ∙ (ap (λ (os : List (List ℕ)). cond (has os output) (says r) (in_force rs output)) one ∙ (ap (λ (m : Option Made). cond (has (key ∷ []) output) m (in_force rs output)) said ∙ only output)))));
-  order = keys-with log.entries key value ∙ (ap (λ (ks : List (List ℕ)). cond (has ks key) ks (ks ++ key ∷ [])) keeps.order ∙ sym (outputs_more ∙ once-push (flat_map outputs_of rs) key));
-  count = omega (arith, keeps.count, length-append rs (r ∷ []));
-}
-  where
-    split : (b : Bool) (o : Option Done) → option_map made_of (cond b value o) ≡ cond b (option_map made_of value) (option_map made_of o)
-    split true o = refl
-    split false o = refl
-
-    only : (output : List ℕ) → cond (has (key ∷ []) output) (option_map made_of value) (in_force rs output) ≡ cond (bytes_eq output key) (option_map made_of value) (in_force rs output)
-    only output = rw (bytes_eq-sym output key) (go (bytes_eq key output))
-      where
-        go : (b : Bool) → cond (b || false) (option_map made_of value) (in_force rs output) ≡ cond b (option_map made_of value) (in_force rs output)
-        go true = refl
-        go false = refl
-
-    outputs_more : outputs_in (rs ++ r ∷ []) ≡ once (flat_map outputs_of rs ++ key ∷ [])
-    outputs_more = ap once (flat_map-append outputs_of rs (r ∷ []) ∙ ap (λ (os : List (List ℕ)). flat_map outputs_of rs ++ os) (append-nil (outputs_of r) ∙ one))
-
--- ---- the map of the log
-
-abbrev pub joined : Option (Option Done) → Option Done
-joined None = None
-joined (Some o) = o
+    go : (bytes_eq a b ≡ true) ⊎ (bytes_eq a b ≡ false) → bytes_eq a b ≡ bytes_eq b a
+    go (inl e) = e ∙ sym (ap (bytes_eq b) (same_bytes a b e) ∙ bytes_same b)
+    go (inr e) = e ∙ sym (bytes_differ b a (λ (f : b ≡ a). false≢true (sym e ∙ (ap (bytes_eq a) f ∙ bytes_same a))))
 
 module _ {Z : Type 0} where
-  pub lookup_is : (es : List (String Z × Option Done)) (q : List ℕ) → joined (lookup (λ k. bytes_eq q (string_bytes k)) es) ≡ entry_of (by_bytes es) q
-  lookup_is [] q = refl
-  lookup_is (e ∷ es) q = go (bytes_eq q (string_bytes e.0)) (lookup_is es q)
-    where
-      go : (b : Bool) → joined (lookup (λ k. bytes_eq q (string_bytes k)) es) ≡ entry_of (by_bytes es) q → joined (cond b (Some e.1) (lookup (λ k. bytes_eq q (string_bytes k)) es)) ≡ cond b e.1 (entry_of (by_bytes es) q)
-      go true ih = refl
-      go false ih = ih
+  pub texts_have : (keys : List (String Z)) (q : List ℕ) → has (texts_of keys) q ≡ list_any (λ k. bytes_eq q (string_bytes k)) keys
+  texts_have [] q = refl
+  texts_have (k ∷ keys) q = ap (λ (b : Bool). b || has (texts_of keys) q) (flip (string_bytes k) q) ∙ ap (λ (b : Bool). bytes_eq q (string_bytes k) || b) (texts_have keys q)
 
-  pub insert_is : (es : List (String Z × Option Done)) (k : String Z) (v : Option Done) → by_bytes (insert_entry string_eq es k v) ≡ with_entry (by_bytes es) (string_bytes k) v
-  insert_is [] k v = refl
-  insert_is (e ∷ es) k v = go (bytes_eq (string_bytes k) (string_bytes e.0)) (insert_is es k v)
+  found : (keys : List (String Z)) (q : List ℕ) (k : String Z) → Some k ≡ find (λ x. bytes_eq q (string_bytes x)) keys → q ≡ string_bytes k
+  found [] q k e = cc
+  found (x ∷ keys) q k e = go (cases_Bool (bytes_eq q (string_bytes x))) (found keys q k)
     where
-      go : (b : Bool) → by_bytes (insert_entry string_eq es k v) ≡ with_entry (by_bytes es) (string_bytes k) v
-          → by_bytes (cond b ((e.0, v) ∷ es) (e ∷ insert_entry string_eq es k v)) ≡ cond b ((string_bytes e.0, v) ∷ by_bytes es) ((string_bytes e.0, e.1) ∷ with_entry (by_bytes es) (string_bytes k) v)
-      go true ih = refl
-      go false ih = ap (λ rest. (string_bytes e.0, e.1) ∷ rest) ih
+      go : (bytes_eq q (string_bytes x) ≡ true) ⊎ (bytes_eq q (string_bytes x) ≡ false) → (Some k ≡ find (λ x. bytes_eq q (string_bytes x)) keys → q ≡ string_bytes k) → q ≡ string_bytes k
+      go (inl h) ih =
+          let here : Some k ≡ Some x = e ∙ ap (λ (b : Bool). cond b (Some x) (find (λ x. bytes_eq q (string_bytes x)) keys)) h in
+          let same : k ≡ x = cc in
+          same_bytes q (string_bytes x) h ∙ ap string_bytes (sym same)
+      go (inr h) ih = ih (e ∙ ap (λ (b : Bool). cond b (Some x) (find (λ x. bytes_eq q (string_bytes x)) keys)) h)
 
-pub kept_as : (rs : List Record) (entries : List (List ℕ × Option Done)) (n : ℕ) → Keeps rs (record { entries = entries; records = n }) → (other : List (List ℕ × Option Done)) (m : ℕ) → other ≡ entries → m ≡ n → Keeps rs (record { entries = other; records = m })
-kept_as rs entries n keeps other m e f = subst (λ (es : List (List ℕ × Option Done)). Keeps rs (record { entries = es; records = m })) (sym e) (subst (λ (k : ℕ). Keeps rs (record { entries = entries; records = k })) (sym f) keeps)
+  text_at : (keys : List (String Z)) (n : ℕ) (k : String Z) → slice_get keys n ≡ Some k → slice_get (texts_of keys) n ≡ Some (string_bytes k)
+  text_at [] n k e = cc
+  text_at (x ∷ keys) zero k e = let same : x ≡ k = cc in ap (λ (y : String Z). Some (string_bytes y)) same
+  text_at (x ∷ keys) (suc n) k e = text_at keys n k e
+
+  -- where a key is found, it stands at its number
+  pub known : (keys : List (String Z)) (n : ℕ) (k : String Z) (q : List ℕ) → Some k ≡ find (λ x. bytes_eq q (string_bytes x)) keys → slice_get keys n ≡ Some k → slice_get (texts_of keys) n ≡ Some q
+  known keys n k q e at = text_at keys n k at ∙ ap (λ (x : List ℕ). Some x) (sym (found keys q k e))
+
+  -- a key that was put in stands at its number
+  pub stored : (keys : List (String Z)) (n : ℕ) (k : String Z) (q : List ℕ) → slice_get keys n ≡ Some k → bytes_eq q (string_bytes k) ≡ true → slice_get (texts_of keys) n ≡ Some q
+  stored keys n k q at e = text_at keys n k at ∙ ap (λ (x : List ℕ). Some x) (sym (same_bytes q (string_bytes k) e))
+
+  -- a key that no key is equal to is put in at the end
+  pub put_in : (keys new : List (String Z)) (own : String Z) (q : List ℕ) → false ≡ list_any (λ k. bytes_eq q (string_bytes k)) keys → string_bytes own ≡ q → new ≡ cond (list_any (λ k. bytes_eq (string_bytes own) (string_bytes k)) keys) keys (keys ++ own ∷ []) → texts_of new ≡ texts_of keys ++ q ∷ []
+  put_in keys new own q none is e =
+      ap texts_of (e ∙ (ap (λ (x : List ℕ). cond (list_any (λ k. bytes_eq x (string_bytes k)) keys) keys (keys ++ own ∷ [])) is ∙ ap (λ (b : Bool). cond b keys (keys ++ own ∷ [])) (sym none)))
+      ∙ (map-append string_bytes keys (own ∷ []) ∙ ap (λ (x : List ℕ). texts_of keys ++ x ∷ []) is)
+
+get_push : (xs : List (List ℕ)) (q : List ℕ) (n : ℕ) (o : List ℕ) → slice_get (xs ++ q ∷ []) n ≡ Some o → (slice_get xs n ≡ Some o) ⊎ ((n ≡ length xs) × (q ≡ o))
+get_push [] q zero o e = let same : q ≡ o = cc in inr (refl, same)
+get_push [] q (suc n) o e = absurd (let clash : None ≡ Some o = e in cc)
+get_push (x ∷ xs) q zero o e = inl e
+get_push (x ∷ xs) q (suc n) o e = elim (get_push xs q n o e) [
+  | inl there ↦ inl there
+  | inr end ↦ inr (ap suc end.0, end.1)
+]
+
+joined_push : (slots : List (Option ℕ)) (n : ℕ) → joined (slice_get (slots ++ None ∷ []) n) ≡ joined (slice_get slots n)
+joined_push [] zero = refl
+joined_push [] (suc n) = refl
+joined_push (s ∷ slots) zero = refl
+joined_push (s ∷ slots) (suc n) = joined_push slots n
+
+-- ---- records told
+
+module _ {T : Type 0} where
+  told_grown : (xs ys : List (List ℕ)) (ks : List (List ℕ × T)) (ts : List (Telling T)) → AreTold xs ks ts → AreTold (xs ++ ys) ks ts
+  told_grown xs ys [] [] are = tt
+  told_grown xs ys [] (t ∷ ts) are = are
+  told_grown xs ys (k ∷ ks) [] are = are
+  told_grown xs ys (k ∷ ks) (t ∷ ts) are = (numbers_grown xs ys k.0 t.0 are.0, are.1, told_grown xs ys ks ts are.2)
+
+  told_push : (xs : List (List ℕ)) (ks : List (List ℕ × T)) (ts : List (Telling T)) (ns : List ℕ) (os : List (List ℕ)) (x : T) → AreTold xs ks ts → AreNumbersOf xs ns os → AreTold xs (ks ++ (ns, x) ∷ []) (ts ++ (os, x) ∷ [])
+  told_push xs [] [] ns os x are nums = (nums, refl, tt)
+  told_push xs [] (t ∷ ts) ns os x are nums = absurd are
+  told_push xs (k ∷ ks) [] ns os x are nums = absurd are
+  told_push xs (k ∷ ks) (t ∷ ts) ns os x are nums = (are.0, are.1, told_push xs ks ts ns os x are.2 nums)
+
+  pub told_length : (xs : List (List ℕ)) (ks : List (List ℕ × T)) (ts : List (Telling T)) → AreTold xs ks ts → length ks ≡ length ts
+  told_length xs [] [] are = refl
+  told_length xs [] (t ∷ ts) are = absurd are
+  told_length xs (k ∷ ks) [] are = absurd are
+  told_length xs (k ∷ ks) (t ∷ ts) are = let rest = told_length xs ks ts are.2 in omega arith
+
+  tellings-none : (all : List (Saying T)) (os : List (List ℕ)) → tellings (all ++ (os, None) ∷ []) ≡ tellings all
+  tellings-none [] os = refl
+  tellings-none ((ps, None) ∷ all) os = tellings-none all os
+  tellings-none ((ps, Some x) ∷ all) os = ap (λ (ts : List (Telling T)). (ps, x) ∷ ts) (tellings-none all os)
+
+  tellings-some : (all : List (Saying T)) (os : List (List ℕ)) (y : T) → tellings (all ++ (os, Some y) ∷ []) ≡ tellings all ++ (os, y) ∷ []
+  tellings-some [] os y = refl
+  tellings-some ((ps, None) ∷ all) os y = tellings-some all os y
+  tellings-some ((ps, Some x) ∷ all) os y = ap (λ (ts : List (Telling T)). (ps, x) ∷ ts) (tellings-some all os y)
+
+  place_from-none : (all : List (Saying T)) (os : List (List ℕ)) (o : List ℕ) (held : Option ℕ) (n : ℕ) → place_from o held n (all ++ (os, None) ∷ []) ≡ cond (has os o) None (place_from o held n all)
+  place_from-none [] os o held n = refl
+  place_from-none ((ps, None) ∷ all) os o held n = place_from-none all os o (cond (has ps o) None held) n
+  place_from-none ((ps, Some x) ∷ all) os o held n = place_from-none all os o (cond (has ps o) (Some n) held) (n + 1)
+
+  place_from-some : (all : List (Saying T)) (os : List (List ℕ)) (y : T) (o : List ℕ) (held : Option ℕ) (n : ℕ) → place_from o held n (all ++ (os, Some y) ∷ []) ≡ cond (has os o) (Some (n + length (tellings all))) (place_from o held n all)
+  place_from-some [] os y o held n = let same : n ≡ n + 0 = omega arith in ap (λ (m : ℕ). cond (has os o) (Some m) held) same
+  place_from-some ((ps, None) ∷ all) os y o held n = place_from-some all os y o (cond (has ps o) None held) n
+  place_from-some ((ps, Some x) ∷ all) os y o held n =
+      let same : (n + 1) + length (tellings all) ≡ n + length ((ps, x) ∷ tellings all) = omega arith in
+      place_from-some all os y o (cond (has ps o) (Some n) held) (n + 1)
+      ∙ ap (λ (m : ℕ). cond (has os o) (Some m) (place_from o (cond (has ps o) (Some n) held) (n + 1) all)) same
+
+  once_push : (all : List (Saying T)) (s : Saying T) → AllByRecursion (λ (s : Saying T). AreDistinct s.0) all → AreDistinct s.0 → AllByRecursion (λ (s : Saying T). AreDistinct s.0) (all ++ s ∷ [])
+  once_push [] s once here = (here, tt)
+  once_push (t ∷ all) s once here = (once.0, once_push all s once.1 here)
+
+  -- ---- one output more
+
+  pub grown_same : (all : List (Saying T)) (table : Table T) (q : List ℕ) → IsTableOf all table → has table.outputs q ≡ false
+      → IsTableOf all (record { outputs = table.outputs ++ q ∷ []; in_force = table.in_force ++ None ∷ []; told = table.told; records = table.records })
+  grown_same all table q is none = record {
+    once = is.once;
+    distinct = distinct_push table.outputs q is.distinct none;
+    fits = length-append table.in_force (None ∷ []) ∙ (ap (λ (n : ℕ). n + 1) is.fits ∙ sym (length-append table.outputs (q ∷ [])));
+    place = λ n o e.
+        joined_push table.in_force n
+        ∙ elim (get_push table.outputs q n o e) [
+          | inl there ↦ is.place n o there
+          | inr end ↦ ap joined (slice_get_past table.in_force n (let len = is.fits in let at = end.0 in omega arith)) ∙ sym (ap (place_of all) (sym end.1) ∙ is.absent q none)
+        ];
+    absent = λ o h. is.absent o (or_parts (has table.outputs o) (bytes_eq q o) (sym (has-push table.outputs q o) ∙ h)).0;
+    told = told_grown table.outputs (q ∷ []) table.told (tellings all) is.told;
+    count = is.count;
+  }
+
+  -- ---- one record more
+
+  pub said_more : (all : List (Saying T)) (mid after : Table T) (outputs : List (List ℕ)) (numbers : List ℕ) (said : Option T) (count : ℕ) → IsTableOf all mid → AreDistinct outputs → AreNumbersOf mid.outputs numbers outputs → IsSaid mid numbers said after → count ≡ mid.records + 1
+      → IsTableOf (all ++ (outputs, said) ∷ []) (record { outputs = after.outputs; in_force = after.in_force; told = after.told; records = count })
+  said_more all mid after outputs numbers said count is once nums step counted = record {
+    once = once_push all (outputs, said) is.once once;
+    distinct = subst AreDistinct (sym step.outputs) is.distinct;
+    fits = step.in_force.len ∙ (is.fits ∙ ap length (sym step.outputs));
+    place = λ n o e.
+        let there : slice_get mid.outputs n ≡ Some o = ap (λ (xs : List (List ℕ)). slice_get xs n) (sym step.outputs) ∙ e in
+        let within = slice_get_within mid.outputs n o there in
+        let len = is.fits in
+        step.in_force.at n (omega arith)
+        ∙ (ap (λ (b : Bool). cond b (next_place mid said) (joined (slice_get mid.in_force n))) (named mid.outputs numbers outputs n o is.distinct nums there)
+        ∙ (ap (λ (x : Option ℕ). cond (has outputs o) (next_place mid said) x) (is.place n o there)
+        ∙ sym (placed o)));
+    absent = λ o h.
+        let none : has mid.outputs o ≡ false = ap (λ (xs : List (List ℕ)). has xs o) (sym step.outputs) ∙ h in
+        let out : has outputs o ≡ false = false_from_ne_true (has outputs o) (λ some. false≢true (sym none ∙ numbers_have mid.outputs numbers outputs o nums some)) in
+        placed o ∙ (ap (λ (b : Bool). cond b (next_place mid said) (place_of all o)) out ∙ is.absent o none);
+    told = subst (λ (xs : List (List ℕ)). AreTold xs after.told (tellings (all ++ (outputs, said) ∷ []))) (sym step.outputs) (subst (λ (ks : List (List ℕ × T)). AreTold mid.outputs ks (tellings (all ++ (outputs, said) ∷ []))) (sym step.told) (telling said));
+    count = counted ∙ (ap (λ (n : ℕ). n + 1) is.count ∙ sym (length-append all ((outputs, said) ∷ [])));
+  }
+    where
+      next : (s : Option T) (o : List ℕ) → place_of (all ++ (outputs, s) ∷ []) o ≡ cond (has outputs o) (next_place mid s) (place_of all o)
+      next None o = place_from-none all outputs o None 0
+      next (Some x) o =
+          let same : 0 + length (tellings all) ≡ length mid.told = let len = told_length mid.outputs mid.told (tellings all) is.told in omega arith in
+          place_from-some all outputs x o None 0 ∙ ap (λ (m : ℕ). cond (has outputs o) (Some m) (place_of all o)) same
+
+      placed : (o : List ℕ) → place_of (all ++ (outputs, said) ∷ []) o ≡ cond (has outputs o) (next_place mid said) (place_of all o)
+      placed o = next said o
+
+      telling : (s : Option T) → AreTold mid.outputs (told_also mid numbers s) (tellings (all ++ (outputs, s) ∷ []))
+      telling None = subst (AreTold mid.outputs mid.told) (sym (tellings-none all outputs)) is.told
+      telling (Some x) = subst (AreTold mid.outputs (mid.told ++ (numbers, x) ∷ [])) (sym (tellings-some all outputs x)) (told_push mid.outputs mid.told (tellings all) numbers outputs x is.told nums)
+
+  -- another spelling of outputs and of what is in force
+  pub as_table : (all : List (Saying T)) (outputs : List (List ℕ)) (in_force : List (Option ℕ)) (told : List (List ℕ × T)) (records : ℕ) → {others : List (List ℕ)} {forces : List (Option ℕ)} → others ≡ outputs → forces ≡ in_force → IsTableOf all (record { outputs = outputs; in_force = in_force; told = told; records = records })
+      → IsTableOf all (record { outputs = others; in_force = forces; told = told; records = records })
+  as_table all outputs in_force told records {others} {forces} e f is =
+      subst (λ (os : List (List ℕ)). IsTableOf all (record { outputs = os; in_force = forces; told = told; records = records })) (sym e) (subst (λ (fs : List (Option ℕ)). IsTableOf all (record { outputs = outputs; in_force = fs; told = told; records = records })) (sym f) is)

@@ -1,9 +1,13 @@
 pub mod Bytes
 pub mod Escapes
 pub mod Lines
-pub mod Records
-pub mod Keeping
-pub mod Tails
 pub mod Reading
-pub mod Compaction
+pub mod Tails
 pub mod LawLemmas
+pub mod Distinct
+pub mod Filling
+pub mod Keeping
+pub mod Lookups
+pub mod Parts
+pub mod InForce
+pub mod Compacting

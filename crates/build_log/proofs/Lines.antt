@@ -1,13 +1,13 @@
 -- What a line spells.
-use Rattle.std.proofs.Common.{◌≡◌, ◌≢◌, ◌≤◌, ℕ, Bool, true, false, eqb, List, [], ◌∷◌, ◌++◌, length, ◌⊎◌, inl, inr, refl, sym, ap, ◌∙◌, subst, append_assoc, arith, map, take, Bor}
+use Rattle.std.proofs.Common.{◌≡◌, ◌≢◌, ◌≤◌, ℕ, Bool, true, false, eqb, List, [], ◌∷◌, ◌++◌, length, ◌⊎◌, inl, inr, refl, sym, ap, ◌∙◌, subst, append_assoc, arith, map, take, Bor, decimal}
 use Rattle.std.proofs.lemmas.Bool.{eqb-false}
-use Rattle.std.proofs.lemmas.List.{take_all}
+use Rattle.std.proofs.lemmas.List.{take_all, length-map}
 use Rattle.std.specs.List.{flat_map}
 use Rattle.std.specs.Str.{IsUtf8}
 use Rattle.text.specs.Marks.{Lacks}
 use Rattle.text.specs.Fronts.{IsFront}
 use Rattle.text.proofs.Fronts.{front_none, front_more, front_stops, front_all}
-use Rattle.build_log.specs.Line.{field_text, field_and_tab, escaped, line_text, AreTexts, SpellsNothing}
+use Rattle.build_log.specs.Line.{field_text, field_and_tab, escaped, line_text, AreTexts, SpellsNothing, counted}
 use Rattle.build_log.proofs.Bytes.{Lacks-append, has_mark, one_cut}
 use Rattle.build_log.proofs.Escapes.{one_text}
 
@@ -126,7 +126,8 @@ flat_map-map : (texts : List (Bor (List ℕ))) → flat_map field_and_tab (map (
 flat_map-map [] = refl
 flat_map-map (f ∷ texts) = ap (λ (xs : List ℕ). field_and_tab f.now ++ xs) (flat_map-map texts)
 
--- after the last field a dot and a line feed
-pub line_pushed : (old : List ℕ) (texts : List (Bor (List ℕ))) (n : ℕ) → length texts ≤ n
-    → (old ++ flat_map (λ text. field_and_tab text.now) (take n texts)) ++ 46 ∷ 10 ∷ [] ≡ old ++ (line_text (map (λ text. text.now) texts) ++ 10 ∷ [])
-line_pushed old texts n le = rw (take_all n texts le, ← flat_map-map texts) (simp append_assoc)
+-- the last of the texts is written
+pub list_pushed : (old line : List ℕ) (texts : List (Bor (List ℕ))) (n : ℕ) → length texts ≤ n → line ≡ old ++ field_and_tab (decimal (length texts))
+    → line ++ flat_map (λ text. field_and_tab text.now) (take n texts) ≡ old ++ flat_map field_and_tab (counted (map (λ text. text.now) texts))
+list_pushed old line texts n le e =
+    rw (take_all n texts le, ← flat_map-map texts, length-map texts (λ text. text.now)) (ap (λ (xs : List ℕ). xs ++ flat_map field_and_tab (map (λ text. text.now) texts)) e ∙ append_assoc old (field_and_tab (decimal (length texts))) (flat_map field_and_tab (map (λ text. text.now) texts)))

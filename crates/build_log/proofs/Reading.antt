@@ -1,57 +1,70 @@
 -- Lines of records, one after another.
-use Rattle.std.proofs.Common.{◌≡◌, ◌≢◌, ℕ, List, [], ◌∷◌, ◌++◌, refl, sym, ap, ◌∙◌, subst, append_assoc}
+use Rattle.std.proofs.Common.{◌≡◌, ◌≢◌, ℕ, Bool, List, [], ◌∷◌, ◌++◌, refl, sym, ap, ◌∙◌, subst, append_assoc, Result, Ok, Err}
+use Rattle.std.specs.Prelude.{IfOk, IsFalse}
 use Rattle.text.specs.Marks.{Lacks}
 use Rattle.text.specs.Fronts.{IsFront, IsNext}
 use Rattle.text.proofs.Fronts.{front_none, front_more, front_stops, front_all}
-use Rattle.model.specs.declared.record.Record.{Record}
 use Rattle.build_log.specs.Line.{line_text}
-use Rattle.build_log.specs.Record.{fields_of, record_line, HasLine}
-use Rattle.build_log.specs.Log.{HaveLines, lines_text}
+use Rattle.build_log.specs.Form.{Form, record_line, HasLine, HaveLines, lines_text}
 use Rattle.build_log.proofs.Bytes.{one_cut, has_mark}
 use Rattle.build_log.proofs.Lines.{one_line, Lacks-line_text}
-use Rattle.build_log.proofs.Records.{one_record}
+
+-- no two records of the form have the same fields
+abbrev pub AreApart : {R : Type 0} → Form R → Type 0
+AreApart {R} form = (r s : R) → form.Fits r → form.Fits s → form.fields r ≡ form.fields s → r ≡ s
 
 -- how far the lines are read: rest is left
-abbrev pub AreRead : List ℕ → List Record → List ℕ → Type 0
-AreRead = IsFront record_line HasLine
+abbrev pub AreRead : {R : Type 0} → Form R → List ℕ → List R → List ℕ → Type 0
+AreRead form = IsFront (record_line form) (HasLine form)
 
-pub starts : (lines : List ℕ) → AreRead lines [] lines
-starts lines = front_none record_line HasLine lines
+abbrev pub AreNoLines : {R : Type 0} → Form R → List ℕ → Type 0
+AreNoLines {R} form lines = (records : List R) → HaveLines form records → lines ≡ lines_text form records → ⊥
+
+-- the line is no record's
+abbrev pub IsNoLine : {R : Type 0} → Form R → List ℕ → Type 0
+IsNoLine {R} form line = (r : R) → HasLine form r → line ≡ line_text (form.fields r) → ⊥
 
 some_line : (rest line after : List ℕ) → rest ≡ line ++ 10 ∷ after → rest ≢ []
 some_line rest [] after e f = let clash : 10 ∷ after ≡ [] = sym e ∙ f in cc
 some_line rest (b ∷ line) after e f = let clash : b ∷ (line ++ 10 ∷ after) ≡ [] = sym e ∙ f in cc
 
--- the line in front is a record's only where it is its line
-front_line : (rest line after : List ℕ) (r : Record) (others : List ℕ) → rest ≡ line ++ 10 ∷ after → Lacks 10 line → rest ≡ record_line r ++ others → (line ≡ line_text (fields_of r)) × (after ≡ others)
-front_line rest line after r others e lacks f = one_cut 10 line (line_text (fields_of r)) after others lacks (Lacks-line_text (fields_of r)) (sym e ∙ (f ∙ append_assoc (line_text (fields_of r)) (10 ∷ []) others))
+module _ {R : Type 0} (form : Form R) where
+  pub starts : (lines : List ℕ) → AreRead form lines [] lines
+  starts lines = front_none (record_line form) (HasLine form) lines
 
--- a line in front of others
-pub next_line : (r : Record) (after : List ℕ) → HasLine r → IsNext record_line HasLine (record_line r ++ after) r after
-next_line r after has = record {
-  spelled = refl;
-  fits = has;
-  only = λ other others fits f.
-      let parts = front_line (record_line r ++ after) (line_text (fields_of r)) after other others (append_assoc (line_text (fields_of r)) (10 ∷ []) after) (Lacks-line_text (fields_of r)) f in
-      (one_record r other has.fits fits.fits (one_line (fields_of r) (fields_of other) parts.0), parts.1);
-}
+  -- the line in front is a record's only where it is its line
+  front_line : (rest line after : List ℕ) (r : R) (others : List ℕ) → rest ≡ line ++ 10 ∷ after → Lacks 10 line → rest ≡ record_line form r ++ others → (line ≡ line_text (form.fields r)) × (after ≡ others)
+  front_line rest line after r others e lacks f = one_cut 10 line (line_text (form.fields r)) after others lacks (Lacks-line_text (form.fields r)) (sym e ∙ (f ∙ append_assoc (line_text (form.fields r)) (10 ∷ []) others))
 
-pub one_more : (lines : List ℕ) (rs : List Record) (rest line after : List ℕ) (r : Record) → AreRead lines rs rest → rest ≡ line ++ 10 ∷ after → line ≡ line_text (fields_of r) → HasLine r → AreRead lines (rs ++ r ∷ []) after
-one_more lines rs rest line after r read e is has =
-    let front : rest ≡ record_line r ++ after = e ∙ (ap (λ (xs : List ℕ). xs ++ 10 ∷ after) is ∙ sym (append_assoc (line_text (fields_of r)) (10 ∷ []) after)) in
-    front_more record_line HasLine lines rs rest r after read (some_line rest line after e) (subst (λ (xs : List ℕ). IsNext record_line HasLine xs r after) (sym front) (next_line r after has))
+  -- a line in front of others
+  next_line : AreApart form → (r : R) (after : List ℕ) → HasLine form r → IsNext (record_line form) (HasLine form) (record_line form r ++ after) r after
+  next_line apart r after has = record {
+    spelled = refl;
+    fits = has;
+    only = λ other others fits f.
+        let parts = front_line (record_line form r ++ after) (line_text (form.fields r)) after other others (append_assoc (line_text (form.fields r)) (10 ∷ []) after) (Lacks-line_text (form.fields r)) f in
+        (apart r other has.fits fits.fits (one_line (form.fields r) (form.fields other) parts.0), parts.1);
+  }
 
-abbrev pub AreNoLines : List ℕ → Type 0
-AreNoLines lines = (records : List Record) → HaveLines records → lines ≡ lines_text records → ⊥
+  pub one_more : AreApart form → (lines : List ℕ) (rs : List R) (rest line after : List ℕ) (r : R) → AreRead form lines rs rest → rest ≡ line ++ 10 ∷ after → line ≡ line_text (form.fields r) → HasLine form r → AreRead form lines (rs ++ r ∷ []) after
+  one_more apart lines rs rest line after r read e is has =
+      let front : rest ≡ record_line form r ++ after = e ∙ (ap (λ (xs : List ℕ). xs ++ 10 ∷ after) is ∙ sym (append_assoc (line_text (form.fields r)) (10 ∷ []) after)) in
+      front_more (record_line form) (HasLine form) lines rs rest r after read (some_line rest line after e) (subst (λ (xs : List ℕ). IsNext (record_line form) (HasLine form) xs r after) (sym front) (next_line apart r after has))
 
-pub stops_at_line : (lines : List ℕ) (rs : List Record) (rest line after : List ℕ) → AreRead lines rs rest → rest ≡ line ++ 10 ∷ after → Lacks 10 line → ((r : Record) → HasLine r → line ≡ line_text (fields_of r) → ⊥) → AreNoLines lines
-stops_at_line lines rs rest line after read e lacks none =
-    front_stops record_line HasLine lines rs rest read (some_line rest line after e) (λ r others has f. none r has (front_line rest line after r others e lacks f).0)
+  pub stops_at_line : (lines : List ℕ) (rs : List R) (rest line after : List ℕ) → AreRead form lines rs rest → rest ≡ line ++ 10 ∷ after → Lacks 10 line → IsNoLine form line → AreNoLines form lines
+  stops_at_line lines rs rest line after read e lacks none =
+      front_stops (record_line form) (HasLine form) lines rs rest read (some_line rest line after e) (λ r others has f. none r has (front_line rest line after r others e lacks f).0)
 
--- without a line feed nothing may be left
-pub stops_at_end : (lines : List ℕ) (rs : List Record) (rest : List ℕ) → AreRead lines rs rest → Lacks 10 rest → rest ≢ [] → AreNoLines lines
-stops_at_end lines rs rest read lacks some =
-    front_stops record_line HasLine lines rs rest read some (λ r others has f. has_mark 10 (line_text (fields_of r)) others (subst (Lacks 10) (f ∙ append_assoc (line_text (fields_of r)) (10 ∷ []) others) lacks))
+  -- without a line feed nothing may be left
+  pub stops_at_end : (lines : List ℕ) (rs : List R) (rest : List ℕ) → AreRead form lines rs rest → Lacks 10 rest → rest ≢ [] → AreNoLines form lines
+  stops_at_end lines rs rest read lacks some =
+      front_stops (record_line form) (HasLine form) lines rs rest read some (λ r others has f. has_mark 10 (line_text (form.fields r)) others (subst (Lacks 10) (f ∙ append_assoc (line_text (form.fields r)) (10 ∷ []) others) lacks))
 
-pub all_read : (lines : List ℕ) (rs : List Record) (rest : List ℕ) → AreRead lines rs rest → rest ≡ [] → lines ≡ lines_text rs
-all_read lines rs rest read e = front_all record_line HasLine lines rs rest read e
+  pub all_read : (lines : List ℕ) (rs : List R) (rest : List ℕ) → AreRead form lines rs rest → rest ≡ [] → lines ≡ lines_text form rs
+  all_read lines rs rest read e = front_all (record_line form) (HasLine form) lines rs rest read e
+
+-- fields that are no record's are in no record's line
+pub no_line : {R E : Type 0} (form : Form R) (found : Result Bool E) (line : List ℕ) (fields : List (List ℕ)) → line ≡ line_text fields → IfOk found (λ is_put. IsFalse is_put → (r : R) → form.Fits r → fields ≡ form.fields r → ⊥)
+    → IfOk found (λ is_put. IsFalse is_put → IsNoLine form line)
+no_line form (Ok b) line fields e none = λ no r has f. none no r has.fits (one_line fields (form.fields r) (sym e ∙ f))
+no_line form (Err x) line fields e none = tt

@@ -1,7 +1,10 @@
 pub mod Spelled
 pub mod Line
-pub mod Record
+pub mod Form
+pub mod Text
+pub mod Laws
 pub mod Kept
+pub mod Steps
+pub mod Record
 pub mod Log
 pub mod Written
-pub mod Laws

@@ -1,5 +1,5 @@
 -- A line of a log: fields with a tab behind each, and a dot.
-use Rattle.std.specs.Prelude.{◌≡◌, ℕ, List, [], ◌∷◌, ◌++◌, ◌==◌, if◌then◌else◌}
+use Rattle.std.specs.Prelude.{◌≡◌, ℕ, List, [], ◌∷◌, ◌++◌, ◌==◌, if◌then◌else◌, decimal, length}
 use Rattle.std.specs.List.{flat_map, AllByRecursion}
 use Rattle.std.specs.Str.{IsUtf8}
 use Rattle.text.specs.Marks.{Lacks}
@@ -20,6 +20,10 @@ field_and_tab text = field_text text ++ 9 ∷ []
 -- the line of these fields, without its line feed
 abbrev pub line_text : List (List ℕ) → List ℕ
 line_text fields = flat_map field_and_tab fields ++ 46 ∷ []
+
+-- the fields of a list: how many there are, and each
+abbrev pub counted : List (List ℕ) → List (List ℕ)
+counted texts = decimal (length texts) ∷ texts
 
 abbrev pub AreTexts : List (List ℕ) → Type 0
 AreTexts = AllByRecursion IsUtf8

@@ -1,62 +1,41 @@
--- The text of a log.
-use Rattle.std.specs.Prelude.{◌≡◌, ◌≢◌, ℕ, List, [], ◌∷◌, ◌++◌, ◌⊎◌, codes}
-use Rattle.std.specs.List.{flat_map, AllByRecursion}
-use Rattle.text.specs.Marks.{Lacks}
+-- The build log.
+use Rattle.std.specs.Prelude.{◌≡◌, ℕ, List, Some, None, map}
 use Rattle.model.specs.declared.record.Record.{Record}
-use Rattle.build_log.specs.declared.tail.Tail.{Tail}
-use Rattle.build_log.specs.declared.tail.Tail.TheVariants.{Whole, Torn, Damaged}
-use Rattle.build_log.specs.Record.{record_line, HasLine}
+use Rattle.model.specs.declared.record.Record.TheVariants.{Begun, Done as DoneRecord}
+use Rattle.model.specs.Records.{Made, in_force}
+use Rattle.build_log.specs.declared.done.Done.{Done}
+use Rattle.build_log.specs.declared.form.Version.TheVariants.{Two}
+use Rattle.build_log.specs.Kept.{Saying, Telling, Table, IsTableOf, in_force_of, tellings}
+use Rattle.build_log.specs.Text.{IsLogOf}
+use Rattle.build_log.specs.Record.{forms}
 
-abbrev pub lines_text : List Record → List ℕ
-lines_text records = flat_map record_line records
+abbrev pub made_of : Done → Made
+made_of done = record { act = done.act; start = done.start }
 
-abbrev pub HaveLines : List Record → Type 0
-HaveLines = AllByRecursion HasLine
+-- what a record says of its outputs
+abbrev pub saying : Record → Saying Done
+saying (Begun outputs) = (outputs, None)
+saying (DoneRecord outputs start act) = (outputs, Some (record { start = start; act = act }))
 
--- the first line
-abbrev pub header : List ℕ
-header = codes "nj-log 1\n"
+abbrev pub done_record : Telling Done → Record
+done_record (outputs, done) = DoneRecord outputs done.start done.act
 
--- the text is the whole log of these records: the header and their lines
-pub record IsLog (text : List ℕ) (records : List Record) : Type 0 where
-  pub lines : text ≡ header ++ lines_text records
-  pub fit : HaveLines records
+-- what is kept stands for these records
+abbrev pub Keeps : List Record → Table Done → Type 0
+Keeps records log = IsTableOf (map saying records) log
 
--- a log, or nothing at all
-abbrev pub IsWhole : List ℕ → List Record → Type 0
-IsWhole bytes records = ((bytes ≡ []) × (records ≡ [])) ⊎ IsLog bytes records
+-- the text is the whole log of these records, in version 2
+abbrev pub IsLog : List ℕ → List Record → Type 0
+IsLog text records = IsLogOf (forms Two) text records
 
--- a beginning of the header, without a line feed
-pub record IsTornHeader (bytes : List ℕ) (records : List Record) : Type 0 where
-  pub some : bytes ≢ []
-  pub lacks : Lacks 10 bytes
-  pub rest : List ℕ
-  pub begins : header ≡ bytes ++ rest
-  pub none : records ≡ []
+-- the done records in force in the order of the log, each with those of its outputs for which it is in force
+abbrev pub compaction : List Record → List Record
+compaction records = map done_record (in_force_of (map saying records))
 
--- a log, and bytes without a line feed behind it
-pub record IsTornLine (bytes : List ℕ) (records : List Record) : Type 0 where
-  pub whole : List ℕ
-  pub rest : List ℕ
-  pub parts : bytes ≡ whole ++ rest
-  pub some : rest ≢ []
-  pub lacks : Lacks 10 rest
-  pub log : IsLog whole records
+-- what the done records say, in order
+abbrev pub makings : List Record → List Made
+makings records = map (λ t. made_of t.1) (tellings (map saying records))
 
-abbrev pub IsTorn : List ℕ → List Record → Type 0
-IsTorn bytes records = IsTornHeader bytes records ⊎ IsTornLine bytes records
-
--- neither a whole nor a torn log
-pub record IsDamaged (bytes : List ℕ) : Type 0 where
-  pub not_whole : (records : List Record) → ¬ IsWhole bytes records
-  pub not_torn : (records : List Record) → ¬ IsTorn bytes records
-
--- these are the records of the bytes, and this is how they end; a damaged log has no records
-abbrev pub IsRead : List ℕ → List Record → Tail → Type 0
-IsRead bytes records Whole = IsWhole bytes records
-IsRead bytes records Torn = IsTorn bytes records
-IsRead bytes records Damaged = (records ≡ []) × IsDamaged bytes
-
--- whole lines
-abbrev pub EndsLine : List ℕ → Type 0
-EndsLine bytes = (bytes ≡ []) ⊎ ((front : List ℕ) × (bytes ≡ front ++ 10 ∷ []))
+-- of a compaction the same is in force
+abbrev pub CompactionKeeps : Type 0
+CompactionKeeps = (records : List Record) (output : List ℕ) → in_force (compaction records) output ≡ in_force records output

@@ -1,49 +1,59 @@
--- A record and its line.
-use Rattle.std.specs.Prelude.{◌≡◌, ◌<◌, ◌^◌, ℕ, List, [], ◌∷◌, ◌++◌, decimal}
+-- The records of the build log, and their lines.
+use Rattle.std.specs.Prelude.{◌≡◌, ◌<◌, ◌^◌, ℕ, List, [], ◌∷◌, ◌++◌, decimal, length, codes}
 use Rattle.model.specs.declared.act.Act.{Act}
 use Rattle.model.specs.declared.record.Record.{Record}
 use Rattle.model.specs.declared.record.Record.TheVariants.{Begun, Done}
-use Rattle.build_log.specs.Line.{line_text, AreTexts}
+use Rattle.build_log.specs.declared.form.Version.{Version}
+use Rattle.build_log.specs.declared.form.Version.TheVariants.{One, Two}
+use Rattle.build_log.specs.declared.done.Done.{Done as DoneData}
+use Rattle.build_log.specs.Line.{counted}
+use Rattle.build_log.specs.Form.{Form}
+use Rattle.build_log.specs.Kept.{AreDistinct}
 
 abbrev pub act_fields : Act → List (List ℕ)
 act_fields act = act.command ∷ act.depfile ∷ act.response_path ∷ act.response_content ∷ []
 
--- `b` and the output; or `d`, the output, the start and the act
-abbrev pub fields_of : Record → List (List ℕ)
-fields_of (Begun outputs) = (98 ∷ []) ∷ outputs
-fields_of (Done outputs start act) = (100 ∷ []) ∷ (outputs ++ decimal start ∷ act_fields act)
+-- outputs as fields: in version 1 there is one, in version 2 their number stands in front
+abbrev pub output_fields : Version → List (List ℕ) → List (List ℕ)
+output_fields One outputs = outputs
+output_fields Two outputs = counted outputs
+
+-- `b` and the outputs; or `d`, the outputs, the start and the act
+abbrev pub fields_of : Version → Record → List (List ℕ)
+fields_of version (Begun outputs) = (98 ∷ []) ∷ output_fields version outputs
+fields_of version (Done outputs start act) = (100 ∷ []) ∷ (output_fields version outputs ++ decimal start ∷ act_fields act)
 
 abbrev pub outputs_of : Record → List (List ℕ)
 outputs_of (Begun outputs) = outputs
 outputs_of (Done outputs start act) = outputs
 
--- in this format a record is of one output
-abbrev pub IsOfOneOutput : Record → Type 0
-IsOfOneOutput r = (output : List ℕ) × (outputs_of r ≡ output ∷ [])
+-- how many outputs a record may have
+abbrev pub HasRoomFor : Version → List (List ℕ) → Type 0
+HasRoomFor One outputs = length outputs ≡ 1
+HasRoomFor Two outputs = (0 < length outputs) × (length outputs < 2 ^ 64)
 
 -- a start is a number below 2 to the 64
 abbrev pub HasStart : Record → Type 0
 HasStart (Begun outputs) = Unit {0}
 HasStart (Done outputs start act) = start < 2 ^ 64
 
-pub record IsRecord (r : Record) : Type 0 where
-  pub one : IsOfOneOutput r
+-- a record has an output, in version 1 just one, and none twice
+pub record IsRecord (version : Version) (r : Record) : Type 0 where
+  pub room : HasRoomFor version (outputs_of r)
+  pub once : AreDistinct (outputs_of r)
   pub start : HasStart r
 
--- a record that has a line: its fields are texts
-pub record HasLine (r : Record) : Type 0 where
-  pub fits : IsRecord r
-  pub texts : AreTexts (fields_of r)
+abbrev pub first_line : Version → List ℕ
+first_line One = codes "nj-log 1"
+first_line Two = codes "nj-log 2"
 
--- the line of a record, with its line feed
-abbrev pub record_line : Record → List ℕ
-record_line r = line_text (fields_of r) ++ 10 ∷ []
+abbrev pub forms : Version → Form Record
+forms version = record { first = first_line version; fields = fields_of version; Fits = IsRecord version }
 
--- these bytes are the line of this record, which has one
-pub record IsLineOf (r : Record) (line : List ℕ) : Type 0 where
-  pub spelled : line ≡ record_line r
-  pub has : HasLine r
+-- a start and an act as fields
+abbrev pub done_fields : DoneData → List (List ℕ)
+done_fields done = decimal done.start ∷ act_fields done.act
 
 -- the fields are no record's
-abbrev pub IsNoRecord : List (List ℕ) → Type 0
-IsNoRecord fields = (other : Record) → IsRecord other → fields ≡ fields_of other → ⊥
+abbrev pub IsNoRecord : Version → List (List ℕ) → Type 0
+IsNoRecord version fields = (other : Record) → IsRecord version other → fields ≡ fields_of version other → ⊥

@@ -1,16 +1,22 @@
--- What is written of what is kept.
-use Rattle.std.specs.Prelude.{◌≡◌, ℕ, List, [], ◌∷◌, ◌++◌, Option, Some, None}
+-- What a compaction writes of one record.
+use Rattle.std.specs.Prelude.{◌≡◌, ℕ, List, [], ◌++◌, map, Option, Some, None, slice_get}
 use Rattle.model.specs.declared.record.Record.{Record}
-use Rattle.model.specs.declared.record.Record.TheVariants.{Done as DoneRecord}
 use Rattle.build_log.specs.declared.done.Done.{Done}
-use Rattle.build_log.specs.Log.{lines_text, HaveLines}
+use Rattle.build_log.specs.declared.form.Version.TheVariants.{Two}
+use Rattle.build_log.specs.Form.{lines_text, HaveLines}
+use Rattle.build_log.specs.Kept.{Saying, tellings, left_to, outputs_at, some_of}
+use Rattle.build_log.specs.Record.{forms}
+use Rattle.build_log.specs.Log.{done_record}
 
--- the record in force of an output, if there is one
-abbrev pub record_of : List ℕ × Option Done → List Record
-record_of (output, None) = []
-record_of (output, Some done) = DoneRecord (output ∷ []) done.start done.act ∷ []
+-- what the record with this number has in force, if there is one
+abbrev pub left_of : List (Saying Done) → ℕ → Option Done → List Record
+left_of all n None = []
+left_of all n (Some done) = map done_record (some_of (left_to all n (outputs_at (tellings all) n)) done)
+
+abbrev pub written_of : List (Saying Done) → ℕ → List Record
+written_of all n = left_of all n (slice_get (map (λ t. t.1) (tellings all)) n)
 
 -- its line was written behind the old text
-pub record IsWritten (old : List ℕ) (entry : List ℕ × Option Done) (new : List ℕ) : Type 0 where
-  pub text : new ≡ old ++ lines_text (record_of entry)
-  pub fit : HaveLines (record_of entry)
+pub record IsWritten (all : List (Saying Done)) (n : ℕ) (old new : List ℕ) : Type 0 where
+  pub text : new ≡ old ++ lines_text (forms Two) (written_of all n)
+  pub fit : HaveLines (forms Two) (written_of all n)

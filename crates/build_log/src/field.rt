@@ -1,6 +1,6 @@
 //! Fields of a line: texts in which a backslash, a tab and a line feed are escaped.
 
-ghost use Rattle.std.specs.Prelude.{◌≡◌, ◌∷◌, ◌++◌, List, ℕ, OnOk, IfOk, IfSome, IfNone, string_bytes};
+ghost use Rattle.std.specs.Prelude.{◌≡◌, ◌∷◌, ◌++◌, List, ℕ, OnOk, IfOk, IfSome, IfNone, IsTrue, string_bytes};
 ghost use Rattle.std.specs.Str.{IsUtf8};
 ghost use Rattle.text.specs.Marks.{Lacks};
 ghost use Rattle.build_log.specs.Line.{field_text, escaped, IsPlain, SpellsNothing};
@@ -41,7 +41,8 @@ impl<'a> Field<'a> {
         }
     }
 
-    fn plain(text: &'a str) -> Field<'a>
+    /// The field of a text, which borrows from it.
+    pub(crate) fn plain(text: &'a str) -> Field<'a>
         ensures { result ≡ text.now }
     {
         Field {
@@ -106,14 +107,33 @@ pub fn field_text(alloc: Global, text: &str) -> Result<Vec<u8>, AllocError>
     Ok(field)
 }
 
-/// The text that a field spells, if it spells one: nothing else is a field.
-pub(crate) fn field_of<'a>(alloc: Global, field: &'a [u8]) -> Result<Option<Field<'a>>, AllocError>
+/// Whether nothing in a line is escaped.
+pub(crate) fn is_plain(line: &[u8]) -> bool
+    ensures { IsTrue result → Lacks 92 line.now }
+{
+    match line.find_byte(b'\\') {
+        Some(_) => false,
+        None => true,
+    }
+}
+
+/// The text that a field spells, if it spells one: nothing else is a field. It is handed in whether it is known that
+/// nothing in it is escaped.
+pub(crate) fn field_of<'a>(
+    alloc: Global,
+    field: &'a [u8],
+    is_plain: bool,
+) -> Result<Option<Field<'a>>, AllocError>
     requires tab { Lacks 9 field.now }
     requires line_feed { Lacks 10 field.now }
+    requires plain { IsTrue is_plain → Lacks 92 field.now }
     ensures found { IfOk result (λ found. IfSome found (λ text. field.now ≡ field_text text)) }
     ensures utf8 { IfOk result (λ found. IfSome found IsUtf8) }
     ensures none { IfOk result (λ found. IfNone found (SpellsNothing field.now)) }
 {
+    if is_plain {
+        return Ok(plain_of(field));
+    }
     match field.find_byte(b'\\') {
         Some(_) => unescaped_of(alloc, field),
         None => Ok(plain_of(field)),

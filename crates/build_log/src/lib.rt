@@ -1,8 +1,11 @@
-//! The build log: its lines, how its text ends, and which record of each output is in force.
+//! The build log: its lines, how its text ends, and which record of each output is in force. What other logs have in
+//! common with it stands here too: the forms of lines and texts, and what is kept of records.
 #![tactic(auto)]
 
 mod done;
 mod field;
+mod form;
+mod kept;
 mod laws;
 mod line;
 mod log;
@@ -13,9 +16,14 @@ mod tail;
 
 pub use done::Done;
 pub use field::{Field, field_text, push_field};
-pub use laws::{front_of_lines, front_of_log, line_grows_log, one_reading, one_spelling};
-pub use line::{fields, push_line};
+pub use form::{Records, Version};
+pub use kept::Kept;
+pub use laws::{
+    compaction_keeps, front_of_lines, front_of_log, line_grows_log, one_reading, one_spelling,
+};
+pub use line::{end_line, fields, push_list, push_number, push_text};
 pub use log::Log;
 pub use number::number_of;
+pub use read::parse;
 pub use record::{begun_line, done_line};
 pub use tail::Tail;

@@ -1,15 +1,18 @@
 //! Lines of fields.
 
-ghost use Rattle.std.specs.Prelude.{◌≡◌, [], ◌∷◌, ◌++◌, List, ℕ, IfOk, OnOk, IfSome, IfNone, map};
+ghost use Rattle.std.specs.Prelude.{◌≡◌, [], ◌∷◌, ◌++◌, List, ℕ, IfOk, OnOk, IfSome, IfNone, map, decimal};
+ghost use Rattle.std.specs.List.{flat_map};
+ghost use Rattle.std.specs.Str.{IsUtf8};
 ghost use Rattle.text.specs.Marks.{Lacks};
-ghost use Rattle.build_log.specs.Line.{line_text, AreTexts};
+ghost use Rattle.build_log.specs.Line.{field_and_tab, line_text, AreTexts, counted};
 
-use crate::field::{Field, field_of, push_field};
+use crate::field::{Field, field_of, is_plain, push_field};
+use itoa::Buffer;
 use std::alloc::{AllocError, Global};
 use text::cut;
 
-/// As many fields as a record has: room for them is made at once.
-const USUAL_FIELDS: usize = 7;
+/// As many fields as a record of one output has: room for them is made at once.
+const USUAL_FIELDS: usize = 8;
 
 /// The texts of the fields of a line, if it is one: nothing else is a line. Its line feed is not handed in. The texts
 /// borrow from the line, but for those of fields with escapes.
@@ -22,10 +25,11 @@ pub fn fields<'a>(alloc: Global, line: &'a [u8]) -> Result<Option<Vec<Field<'a>>
     let Some(front) = without_dot(line) else {
         return Ok(None);
     };
+    let plain = is_plain(line);
     let mut fields = Vec::with_capacity(alloc, USUAL_FIELDS)?;
     let mut rest = front;
     'parts: while let Some((field, after)) = cut(rest, b'\t') {
-        let Some(text) = field_of(alloc, field)? else {
+        let Some(text) = field_of(alloc, field, plain)? else {
             return Ok(None);
         };
         fields.push(text)?;
@@ -48,15 +52,43 @@ fn without_dot(line: &[u8]) -> Option<&[u8]>
     }
 }
 
-/// Writes a line of the fields of these texts, with its line feed, at the end. Where memory is refused, a part of it
-/// may stand there.
-pub fn push_line(line: &mut Vec<u8>, texts: &[&str]) -> Result<(), AllocError>
-    ensures { OnOk result (line.new.items ≡ line.old.items ++ (line_text (map (λ text. text.now) texts.now) ++ 10 ∷ [])) }
+/// Writes the field of a text, and the tab behind it, at the end of a line. Where memory is refused, a part of it may
+/// stand there.
+pub fn push_text(line: &mut Vec<u8>, text: &str) -> Result<(), AllocError>
+    ensures field { OnOk result (line.new.items ≡ line.old.items ++ field_and_tab text.now) }
+    ensures utf8 { IsUtf8 text.now }
 {
-    for text in texts {
-        push_field(line, text)?;
-        line.push(b'\t')?;
-    }
-    line.extend_from_slice(b".\n")?;
+    push_field(line, text)?;
+    line.push(b'\t')?;
     Ok(())
+}
+
+/// Writes the field of a number, and the tab behind it, at the end of a line. Where memory is refused, a part of it may
+/// stand there.
+pub fn push_number(line: &mut Vec<u8>, n: u64) -> Result<(), AllocError>
+    ensures field { OnOk result (line.new.items ≡ line.old.items ++ field_and_tab (decimal n)) }
+    ensures utf8 { IsUtf8 (decimal n) }
+{
+    let mut buffer = Buffer::new();
+    push_text(line, buffer.format(n))
+}
+
+/// Writes the fields of how many texts there are, and of each, at the end of a line. Where memory is refused, a part of
+/// it may stand there.
+pub fn push_list(line: &mut Vec<u8>, texts: &[&str]) -> Result<(), AllocError>
+    ensures field { OnOk result (line.new.items ≡ line.old.items ++ flat_map field_and_tab (counted (map (λ text. text.now) texts.now))) }
+    ensures utf8 { OnOk result (AreTexts (counted (map (λ text. text.now) texts.now))) }
+{
+    push_number(line, texts.len() as u64)?;
+    for text in texts {
+        push_text(line, text)?;
+    }
+    Ok(())
+}
+
+/// Ends a line. Where memory is refused, a part of its end may stand there.
+pub fn end_line(line: &mut Vec<u8>) -> Result<(), AllocError>
+    ensures { OnOk result (line.new.items ≡ line.old.items ++ 46 ∷ 10 ∷ []) }
+{
+    line.extend_from_slice(b".\n")
 }

@@ -1,128 +1,199 @@
-//! What is kept of a log.
+//! What is kept of the build log.
 
-ghost use Rattle.std.specs.Prelude.{◌≡◌, [], ◌∷◌, ◌++◌, List, ℕ, Option, Some, None, IfOk, IfSome, IfNone, OnOk, OnErr, length};
-ghost use Rattle.std.specs.Option.{option_map, option_copied};
+ghost use Rattle.std.specs.Prelude.{◌≡◌, ◌↔◌, [], ◌∷◌, ◌++◌, List, ℕ, Option, IfOk, IsTrue, OnOk, OnErr, length, slice_get};
+ghost use Rattle.std.specs.Option.{option_map, option_copied, option_and_then};
 ghost use Rattle.model.specs.Records.{in_force};
-ghost use Rattle.build_log.specs.Record.{outputs_of, IsOfOneOutput};
-ghost use Rattle.build_log.specs.Log.{IsLog};
+ghost use Rattle.build_log.specs.declared.form.Version.TheVariants.{Two};
+ghost use Rattle.build_log.specs.Kept.{Saying, IsTableOf, AreDistinct, WantsCompaction};
 ghost use Rattle.build_log.specs.Written.{IsWritten};
-ghost use Rattle.build_log.specs.Kept.{Keeps, made_of, made_in, says, IsCompaction};
+ghost use Rattle.build_log.specs.Text.{IsRead};
+ghost use Rattle.build_log.specs.Record.{IsRecord, forms};
+ghost use Rattle.build_log.specs.Log.{Keeps, IsLog, compaction, made_of, makings};
 
 use crate::done::Done;
-use crate::record::push_done;
-use crate::tail::HEADER;
-use indexmap::IndexMap;
+use crate::field::Field;
+use crate::form::{Records, Version};
+use crate::kept::Kept;
+use crate::record::{done_line, said_by};
+use crate::tail::Tail;
 use model::Record;
 use std::alloc::{AllocError, Global};
 use std::marker::Model;
-use text::{Items, Path};
+use text::Path;
 
-/// Which record of each output is in force, in the order in which the outputs first appeared in the log.
-///
-/// Each output is kept once, and the act of a record that no longer counts is let go.
+/// Which record of each output is in force.
 #[derive(Drop)]
 pub struct Log {
-    /// `None` where the last record says that the output's command began.
-    outputs: IndexMap<String, Option<Done>>,
-    records: u64,
+    kept: Kept<Done>,
 }
 
 impl Model for Log {
-    ghost use Rattle.build_log.specs.Kept.{Kept, by_bytes};
+    ghost use Rattle.std.specs.Prelude.{List};
+    ghost use Rattle.build_log.specs.Kept.{Table, Saying, IsTableOf};
+    ghost use Rattle.build_log.specs.declared.done.Done.{Done};
 
-    ghost Value = { Kept };
+    ghost Value = { Table Done };
 
-    ghost view = { λ log. record { entries = by_bytes log.outputs.entries; records = log.records } };
+    ghost view = { λ log. log.kept };
+
+    ghost invariant = { λ log. (all : List (Saying Done)) × IsTableOf all log.kept };
 }
 
-impl Log {
-    /// The log of no records, which takes no memory.
-    pub fn new(alloc: Global) -> Log
-        ensures { Keeps [] result }
-    {
+impl Records for Log {
+    ghost use Rattle.build_log.specs.Record.{forms};
+    ghost use Rattle.build_log.specs.Log.{Keeps};
+
+    type Record = Record;
+
+    ghost forms = { forms };
+
+    ghost Keeps = { Keeps };
+
+    fn new(alloc: Global) -> Log {
         Log {
-            outputs: IndexMap::new(alloc),
-            records: 0,
+            kept: Kept::new(alloc),
         }
     }
 
-    /// The record in force of an output. It takes no memory.
+    fn first_line(version: Version) -> &'static [u8] {
+        match version {
+            Version::One => b"nj-log 1",
+            Version::Two => b"nj-log 2",
+        }
+    }
+
+    fn put_fields(
+        &mut self,
+        alloc: Global,
+        version: Version,
+        fields: &[Field<'_>],
+    ) -> Result<bool, AllocError> {
+        let Some((outputs, said)) = said_by(alloc, version, fields)? else {
+            return Ok(false);
+        };
+        self.kept.put(alloc, outputs, said)?;
+        Ok(true)
+    }
+
+    fn are_readable() {}
+}
+
+impl Log {
+    /// What the text of a log tells, and how it ends. A damaged one tells nothing.
+    ///
+    /// Each byte is looked at a fixed number of times. An output is copied once, and each text of an act once.
+    pub fn parse(alloc: Global, bytes: &[u8]) -> Result<(Log, Tail), AllocError>
+        ensures { IfOk result (λ read. (records : List Record) × IsRead forms bytes.now records read.1 × Keeps records read.0) }
+    {
+        crate::read::parse::<Log>(alloc, bytes)
+    }
+
+    /// Puts a record at the end. Where memory is refused, the log stands for the same records as before.
+    pub fn apply(&mut self, alloc: Global, added: Record) -> Result<(), AllocError>
+        requires { IsRecord Two added }
+        ensures ok { OnOk result ((records : List Record) → Keeps records self.old → Keeps (records ++ added ∷ []) self.new) }
+        ensures err { OnErr result ((records : List Record) → Keeps records self.old → Keeps records self.new) }
+    {
+        match added {
+            Record::Begun { outputs } => self.put(alloc, outputs.as_slice(), None),
+            Record::Done {
+                outputs,
+                start,
+                act,
+            } => self.put(alloc, outputs.as_slice(), Some(Done { start, act })),
+        }
+    }
+
+    fn put(&mut self, alloc: Global, outputs: &[Path], said: Option<Done>) -> Result<(), AllocError>
+        requires { AreDistinct outputs.now }
+        ensures ok { OnOk result ((all : List (Saying Done)) → IsTableOf all self.old → IsTableOf (all ++ (outputs.now, said) ∷ []) self.new) }
+        ensures err { OnErr result ((all : List (Saying Done)) → IsTableOf all self.old → IsTableOf all self.new) }
+    {
+        let fields = fields_of(alloc, outputs)?;
+        self.kept.put(alloc, fields.as_slice(), said)
+    }
+
+    /// The record in force for an output. It takes no memory.
     pub fn lookup(&self, output: &str) -> Option<&Done>
         ensures { (records : List Record) → Keeps records self.now → option_map made_of (option_copied result) ≡ in_force records output.now }
     {
-        self.outputs.get(output)?.as_ref()
+        self.kept.lookup(output)
     }
 
-    /// Puts a record at the end. Where memory is refused, the log stays as it was.
-    pub fn apply(&mut self, added: Record) -> Result<(), AllocError>
-        requires { IsOfOneOutput added }
-        ensures ok { OnOk result ((records : List Record) → Keeps records self.old → Keeps (records ++ added ∷ []) self.new) }
-        ensures err { OnErr result (self.new ≡ self.old) }
+    /// The number of the record in force for an output, as `done_at` takes it. It takes no memory.
+    pub fn find(&self, output: &str) -> Option<usize>
+        ensures { (records : List Record) → Keeps records self.now → option_and_then (slice_get (makings records)) result ≡ in_force records output.now }
     {
-        let records = self.records.checked_add(1).ok_or(AllocError)?;
-        let (output, done) = said_by(added);
-        self.outputs.insert(output.into_string(), done)?;
-        self.records = records;
-        Ok(())
+        self.kept.find(output)
+    }
+
+    /// What the done record with this number tells: they are counted from 0. It takes no memory.
+    pub fn done_at(&self, number: usize) -> Option<&Done>
+        ensures { (records : List Record) → Keeps records self.now → option_map made_of (option_copied result) ≡ slice_get (makings records) number }
+    {
+        self.kept.at(number)
     }
 
     /// How many records there were.
     pub fn records(&self) -> u64
         ensures { (records : List Record) → Keeps records self.now → result ≡ length records }
     {
-        self.records
+        self.kept.records()
     }
 
-    /// How many records are in force.
+    /// How many records are in force, each for one of its outputs at least.
     pub fn records_in_force(&self) -> usize
-        ensures { (records : List Record) → Keeps records self.now → result ≡ length (made_in records) }
+        ensures { (records : List Record) → Keeps records self.now → result ≡ length (compaction records) }
     {
-        self.outputs.values().filter(|done| done.is_some()).count()
+        self.kept.records_in_force()
     }
 
-    /// The text of a log with the same records in force and no others, in the order in which their outputs first
-    /// appeared.
-    pub fn compacted(&self, alloc: Global) -> Result<Vec<u8>, AllocError>
-        ensures { IfOk result (λ text. (records : List Record) → Keeps records self.now → (kept : List Record) × IsLog text.items kept × IsCompaction records kept) }
+    /// Whether the log is to be compacted before something is appended: where it has at least 100 records, and more than
+    /// half of them are not in force.
+    pub fn wants_compaction(&self) -> bool
+        ensures { (records : List Record) → Keeps records self.now → IsTrue result ↔ WantsCompaction (length records) (length (compaction records)) }
     {
-        let mut text = Vec::from_slice(alloc, HEADER)?;
-        for (output, done) in self.outputs.iter() {
-            push_entry(&mut text, output.as_str(), done)?;
+        self.kept.wants_compaction()
+    }
+
+    /// The text of a log, in version 2, with the done records in force in their order, each with those of its outputs for
+    /// which it is in force, and no others.
+    pub fn compacted(&self, alloc: Global) -> Result<Vec<u8>, AllocError>
+        ensures { IfOk result (λ text. (records : List Record) → Keeps records self.now → IsLog text.items (compaction records)) }
+    {
+        let mut text = Vec::from_slice(alloc, Log::first_line(Version::Two))?;
+        text.push(b'\n')?;
+        for number in 0..self.kept.tellings() {
+            self.push_in_force(alloc, &mut text, number)?;
         }
         Ok(text)
     }
-}
 
-/// Writes the line of what is in force for an output, if anything is, at the end.
-fn push_entry(text: &mut Vec<u8>, output: &str, done: &Option<Done>) -> Result<(), AllocError>
-    ensures { OnOk result (IsWritten text.old.items (output.now, done.now) text.new.items) }
-{
-    match done {
-        Some(done) => push_done(text, output, done),
-        None => Ok(()),
+    /// Writes the line of the done record with this number, with the outputs for which it is in force, at the end; none
+    /// where it is in force for none.
+    fn push_in_force(
+        &self,
+        alloc: Global,
+        text: &mut Vec<u8>,
+        number: usize,
+    ) -> Result<(), AllocError>
+        ensures { OnOk result ((all : List (Saying Done)) → IsTableOf all self.now → IsWritten all number text.old.items text.new.items) }
+    {
+        let outputs = self.kept.outputs_in_force(alloc, number)?;
+        match self.kept.at(number) {
+            Some(done) if !outputs.is_empty() => done_line(text, outputs.as_slice(), done),
+            _ => Ok(()),
+        }
     }
 }
 
-/// The output of a record, and what it says of it.
-fn said_by(told: Record) -> (Path, Option<Done>)
-    requires { IsOfOneOutput told }
-    ensures output { outputs_of told ≡ result.0 ∷ [] }
-    ensures said { says told ≡ option_map made_of result.1 }
+/// These paths as fields.
+fn fields_of<'a>(alloc: Global, paths: &'a [Path]) -> Result<Vec<Field<'a>>, AllocError>
+    ensures { IfOk result (λ fields. fields.items ≡ paths.now) }
 {
-    match told {
-        Record::Begun { outputs } => (only(outputs), None),
-        Record::Done {
-            outputs,
-            start,
-            act,
-        } => (only(outputs), Some(Done { start, act })),
+    let mut fields = Vec::with_capacity(alloc, paths.len())?;
+    for path in paths {
+        fields.push(Field::plain(path.as_str()))?;
     }
-}
-
-/// The only one of a list.
-fn only(paths: Items<Path>) -> Path
-    requires { length paths ≡ 1 }
-    ensures { paths ≡ result ∷ [] }
-{
-    paths.into_vec().pop().unwrap()
+    Ok(fields)
 }

@@ -9,6 +9,9 @@ pub fn number_of(text: &str) -> Option<u64>
     ensures found { IfSome result (λ n. text.now ≡ decimal n) }
     ensures none { IfNone result ((n : ℕ) → n < 2 ^ 64 → text.now ≡ decimal n → ⊥) }
 {
+    if text == "1" {
+        return Some(1);
+    }
     let n = text.parse::<u64>().ok()?;
     let mut buffer = Buffer::new();
     if buffer.format(n) != text {

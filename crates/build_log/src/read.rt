@@ -1,62 +1,87 @@
 //! Reading the text of a log.
 
-ghost use Rattle.std.specs.Prelude.{◌≡◌, [], List, IfOk, IfSome, IfNone};
-ghost use Rattle.build_log.specs.Kept.{Keeps};
-ghost use Rattle.build_log.specs.Log.{HaveLines, lines_text, IsLog, IsRead};
+ghost use Rattle.std.specs.Prelude.{◌≡◌, [], ◌∷◌, ◌++◌, List, IfOk, IfSome, IfNone, IsTrue, IsFalse};
+ghost use Rattle.text.specs.Marks.{Lacks};
+ghost use Rattle.build_log.specs.Line.{line_text};
+ghost use Rattle.build_log.specs.Form.{HasLine, HaveLines, lines_text};
+ghost use Rattle.build_log.specs.Text.{IsRead};
 
-use crate::log::Log;
-use crate::record::record_at;
-use crate::tail::{HEADER, Tail, split_tail, tail_of_header};
-use model::Record;
+use crate::form::{Records, Version};
+use crate::line::fields;
+use crate::tail::{Tail, split_tail, tail_behind, tail_of_header};
 use std::alloc::{AllocError, Global};
 use text::cut;
 
-impl Log {
-    /// What the text of a log tells, and how it ends. A damaged one tells nothing.
-    ///
-    /// Each byte is looked at a fixed number of times, and each text of a record is copied at most once.
-    pub fn parse(alloc: Global, bytes: &[u8]) -> Result<(Log, Tail), AllocError>
-        ensures { IfOk result (λ read. (records : List Record) × IsRead bytes.now records read.1 × Keeps records read.0) }
-    {
-        let (whole, rest) = split_tail(bytes);
-        if whole.is_empty() {
-            return Ok((Log::new(alloc), tail_of_header(rest)));
-        }
-        match log_of(alloc, whole)? {
-            None => Ok((Log::new(alloc), Tail::Damaged)),
-            Some(log) if rest.is_empty() => Ok((log, Tail::Whole)),
-            Some(log) => Ok((log, Tail::Torn)),
-        }
+/// What is kept of the text of a log, and how the text ends. A damaged one tells nothing.
+///
+/// Each byte is looked at a fixed number of times.
+pub fn parse<L: Records>(alloc: Global, bytes: &[u8]) -> Result<(L, Tail), AllocError>
+    ensures { IfOk result (λ read. (records : List L.Record) × IsRead L.forms bytes.now records read.1 × L.Keeps records read.0) }
+{
+    L::are_readable();
+    let (whole, rest) = split_tail(bytes);
+    let Some((first, lines)) = cut(whole, b'\n') else {
+        return Ok((L::new(alloc), tail_of_header::<L>(rest)));
+    };
+    let Some(version) = version_of::<L>(first) else {
+        return Ok((L::new(alloc), Tail::Damaged));
+    };
+    let mut log = L::new(alloc);
+    if !put_lines(alloc, version, lines, &mut log)? {
+        return Ok((L::new(alloc), Tail::Damaged));
+    }
+    Ok((log, tail_behind::<L>(version, rest)))
+}
+
+/// The version that a first line tells.
+fn version_of<L: Records>(first: &[u8]) -> Option<Version>
+    ensures found { IfSome result (λ version. first.now ≡ (L.forms version).first) }
+    ensures none { IfNone result ((version : Version) → first.now ≡ (L.forms version).first → ⊥) }
+{
+    if first == L::first_line(Version::Two) {
+        Some(Version::Two)
+    } else if first == L::first_line(Version::One) {
+        Some(Version::One)
+    } else {
+        None
     }
 }
 
-/// What a text of whole lines tells, if it is a log's.
-fn log_of(alloc: Global, whole: &[u8]) -> Result<Option<Log>, AllocError>
-    ensures found { IfOk result (λ found. IfSome found (λ log. (records : List Record) × IsLog whole.now records × Keeps records log)) }
-    ensures none { IfOk result (λ found. IfNone found ((records : List Record) → IsLog whole.now records → ⊥)) }
+/// Puts the records of these lines at the end, if each is a record's, and says whether they are.
+fn put_lines<L: Records>(
+    alloc: Global,
+    version: Version,
+    lines: &[u8],
+    log: &mut L,
+) -> Result<bool, AllocError>
+    requires { L.Keeps [] log.old }
+    ensures put { IfOk result (λ are. IsTrue are → (records : List L.Record) × (lines.now ≡ lines_text (L.forms version) records) × HaveLines (L.forms version) records × L.Keeps records log.new) }
+    ensures none { IfOk result (λ are. IsFalse are → (records : List L.Record) → HaveLines (L.forms version) records → lines.now ≡ lines_text (L.forms version) records → ⊥) }
 {
-    match whole.strip_prefix(HEADER) {
-        Some(lines) => log_of_lines(alloc, lines),
-        None => Ok(None),
-    }
-}
-
-/// What the lines behind the header tell, if each is a record's.
-fn log_of_lines(alloc: Global, lines: &[u8]) -> Result<Option<Log>, AllocError>
-    ensures found { IfOk result (λ found. IfSome found (λ log. (records : List Record) × (lines.now ≡ lines_text records) × HaveLines records × Keeps records log)) }
-    ensures none { IfOk result (λ found. IfNone found ((records : List Record) → HaveLines records → lines.now ≡ lines_text records → ⊥)) }
-{
-    let mut log = Log::new(alloc);
+    L::are_readable();
     let mut rest = lines;
     'lines: while let Some((line, after)) = cut(rest, b'\n') {
-        let Some(found) = record_at(alloc, line)? else {
-            return Ok(None);
-        };
-        log.apply(found)?;
+        if !put_line(alloc, version, line, log)? {
+            return Ok(false);
+        }
         rest = after;
     }
-    if rest.is_empty() {
-        return Ok(Some(log));
+    Ok(rest.is_empty())
+}
+
+/// Puts the record of a line, which is handed in without its line feed, at the end, if it is one's.
+fn put_line<L: Records>(
+    alloc: Global,
+    version: Version,
+    line: &[u8],
+    log: &mut L,
+) -> Result<bool, AllocError>
+    requires { Lacks 10 line.now }
+    ensures put { IfOk result (λ is_put. IsTrue is_put → (r : L.Record) × (line.now ≡ line_text ((L.forms version).fields r)) × HasLine (L.forms version) r × ((records : List L.Record) → L.Keeps records log.old → L.Keeps (records ++ r ∷ []) log.new)) }
+    ensures none { IfOk result (λ is_put. IsFalse is_put → (r : L.Record) → HasLine (L.forms version) r → line.now ≡ line_text ((L.forms version).fields r) → ⊥) }
+{
+    match fields(alloc, line)? {
+        Some(fields) => log.put_fields(alloc, version, fields.as_slice()),
+        None => Ok(false),
     }
-    Ok(None)
 }

@@ -1,79 +1,130 @@
-//! Records of a log.
+//! The records of the build log and their lines.
 
-ghost use Rattle.std.specs.Prelude.{◌≡◌, [], ◌∷◌, ◌++◌, IfOk, IfSome, IfNone, List, ℕ};
-ghost use Rattle.text.specs.Marks.{Lacks};
-ghost use Rattle.build_log.specs.Line.{line_text};
-ghost use Rattle.build_log.specs.Record.{act_fields, fields_of, IsRecord, HasLine, IsNoRecord, IsLineOf};
+ghost use Rattle.std.specs.Prelude.{◌≡◌, ◌<◌, ◌^◌, [], ◌∷◌, ◌++◌, IfOk, OnOk, IfSome, IfNone, IsTrue, IsFalse, List, ℕ, map, length};
+ghost use Rattle.build_log.specs.declared.form.Version.TheVariants.{Two};
+ghost use Rattle.build_log.specs.Form.{IsAppended};
+ghost use Rattle.build_log.specs.Kept.{AreDistinct};
+ghost use Rattle.std.specs.List.{flat_map};
+ghost use Rattle.build_log.specs.Line.{counted, field_and_tab, AreTexts};
+ghost use Rattle.build_log.specs.Record.{act_fields, done_fields, output_fields, HasRoomFor, IsRecord, IsNoRecord, fields_of, forms};
+ghost use Rattle.build_log.specs.Log.{saying};
 
 use crate::done::Done;
 use crate::field::Field;
-use crate::line::{fields, push_line};
+use crate::form::Version;
+use crate::line::{end_line, push_list, push_number, push_text};
 use crate::number::number_of;
-use itoa::Buffer;
+use indexmap::IndexSet;
 use model::{Act, Record};
 use std::alloc::{AllocError, Global};
-use text::{Items, Path, Text};
+use text::Text;
 
-/// The record of a line, which is handed in without its line feed, if it is one's: nothing else is a record.
-pub(crate) fn record_at(alloc: Global, line: &[u8]) -> Result<Option<Record>, AllocError>
-    requires { Lacks 10 line.now }
-    ensures found { IfOk result (λ found. IfSome found (λ r. line.now ≡ line_text (fields_of r))) }
-    ensures fits { IfOk result (λ found. IfSome found HasLine) }
-    ensures none { IfOk result (λ found. IfNone found ((other : Record) → HasLine other → line.now ≡ line_text (fields_of other) → ⊥)) }
+/// The outputs that a record names, and what it says of them.
+pub(crate) type Said<'f, 'a> = (&'f [Field<'a>], Option<Done>);
+
+/// What the record of these fields says, if they are one's.
+pub(crate) fn said_by<'f, 'a>(
+    alloc: Global,
+    version: Version,
+    fields: &'f [Field<'a>],
+) -> Result<Option<Said<'f, 'a>>, AllocError>
+    ensures found { IfOk result (λ found. IfSome found (λ said. (r : Record) × (fields.now ≡ fields_of version r) × IsRecord version r × (saying r ≡ (said.0.now, said.1)))) }
+    ensures none { IfOk result (λ found. IfNone found (IsNoRecord version fields.now)) }
 {
-    match fields(alloc, line)? {
-        Some(fields) => record_of(alloc, fields.as_slice()),
+    let Some((kind, rest)) = fields.split_first() else {
+        return Ok(None);
+    };
+    let Some((outputs, after)) = split_outputs(version, rest) else {
+        return Ok(None);
+    };
+    if !are_distinct(alloc, outputs)? {
+        return Ok(None);
+    }
+    if kind.as_str() == "b" && after.is_empty() {
+        return Ok(Some((outputs, None)));
+    }
+    if kind.as_str() != "d" {
+        return Ok(None);
+    }
+    match done_of(alloc, after)? {
+        Some(done) => Ok(Some((outputs, Some(done)))),
         None => Ok(None),
     }
 }
 
-/// The record of these fields, if they are one's.
-fn record_of(alloc: Global, fields: &[Field<'_>]) -> Result<Option<Record>, AllocError>
-    ensures found { IfOk result (λ found. IfSome found (λ r. (fields.now ≡ fields_of r) × IsRecord r)) }
-    ensures none { IfOk result (λ found. IfNone found (IsNoRecord fields.now)) }
+/// The outputs that these fields begin with, and the fields behind them.
+fn split_outputs<'f, 'a>(
+    version: Version,
+    fields: &'f [Field<'a>],
+) -> Option<(&'f [Field<'a>], &'f [Field<'a>])>
+    ensures found { IfSome result (λ parts. (fields.now ≡ output_fields version parts.0.now ++ parts.1.now) × HasRoomFor version parts.0.now) }
+    ensures none { IfNone result ((outputs after : List (List ℕ)) → HasRoomFor version outputs → fields.now ≡ output_fields version outputs ++ after → ⊥) }
 {
-    match fields {
-        [kind, output] if kind.as_str() == "b" => {
-            let outputs = one_output(alloc, output)?;
-            Ok(Some(Record::Begun { outputs }))
-        }
-        [kind, output, start, act @ ..] if kind.as_str() == "d" => {
-            done_of(alloc, output, start, act)
-        }
-        _ => Ok(None),
+    match version {
+        Version::One => split_front(fields, 1),
+        Version::Two => split_counted(fields),
     }
 }
 
-/// The done record of these fields behind its first, if they are one's.
-fn done_of(
-    alloc: Global,
-    output: &Field<'_>,
-    start: &Field<'_>,
-    act: &[Field<'_>],
-) -> Result<Option<Record>, AllocError>
-    ensures found { IfOk result (λ found. IfSome found (λ r. ((100 ∷ []) ∷ output.now ∷ start.now ∷ act.now ≡ fields_of r) × IsRecord r)) }
-    ensures none { IfOk result (λ found. IfNone found (IsNoRecord ((100 ∷ []) ∷ output.now ∷ start.now ∷ act.now))) }
+/// As many fields as the first of them says, one at least, and the fields behind them.
+fn split_counted<'f, 'a>(fields: &'f [Field<'a>]) -> Option<(&'f [Field<'a>], &'f [Field<'a>])>
+    ensures found { IfSome result (λ parts. (fields.now ≡ counted parts.0.now ++ parts.1.now) × HasRoomFor Two parts.0.now) }
+    ensures none { IfNone result ((outputs after : List (List ℕ)) → HasRoomFor Two outputs → fields.now ≡ counted outputs ++ after → ⊥) }
 {
+    let (first, rest) = fields.split_first()?;
+    let count = number_of(first.as_str())?;
+    if count == 0 {
+        return None;
+    }
+    split_front(rest, count as usize)
+}
+
+/// As many fields from the front, and those behind them.
+fn split_front<'f, 'a>(
+    fields: &'f [Field<'a>],
+    count: usize,
+) -> Option<(&'f [Field<'a>], &'f [Field<'a>])>
+    ensures found { IfSome result (λ parts. (fields.now ≡ parts.0.now ++ parts.1.now) × (length parts.0.now ≡ count)) }
+    ensures none { IfNone result (length fields.now < count) }
+{
+    if fields.len() < count {
+        return None;
+    }
+    Some(fields.split_at(count))
+}
+
+/// Whether no output stands twice among these. One alone takes no memory.
+fn are_distinct(alloc: Global, outputs: &[Field<'_>]) -> Result<bool, AllocError>
+    ensures distinct { IfOk result (λ are. IsTrue are → AreDistinct outputs.now) }
+    ensures twice { IfOk result (λ are. IsFalse are → AreDistinct outputs.now → ⊥) }
+{
+    if outputs.len() < 2 {
+        return Ok(true);
+    }
+    let mut seen = IndexSet::new(alloc);
+    for output in outputs {
+        if !seen.insert(output.as_str())? {
+            return Ok(false);
+        }
+    }
+    Ok(true)
+}
+
+/// What the fields behind the outputs tell of a command that finished well.
+fn done_of(alloc: Global, fields: &[Field<'_>]) -> Result<Option<Done>, AllocError>
+    ensures found { IfOk result (λ found. IfSome found (λ done. (fields.now ≡ done_fields done) × (done.start < 2 ^ 64))) }
+    ensures none { IfOk result (λ found. IfNone found ((done : Done) → done.start < 2 ^ 64 → fields.now ≡ done_fields done → ⊥)) }
+{
+    let Some((start, act)) = fields.split_first() else {
+        return Ok(None);
+    };
     let Some(start) = number_of(start.as_str()) else {
         return Ok(None);
     };
-    let Some(act) = act_of(alloc, act)? else {
-        return Ok(None);
-    };
-    let outputs = one_output(alloc, output)?;
-    Ok(Some(Record::Done {
-        outputs,
-        start,
-        act,
-    }))
-}
-
-fn one_output(alloc: Global, output: &Field<'_>) -> Result<Items<Path>, AllocError>
-    ensures { IfOk result (λ outputs. outputs ≡ output.now ∷ []) }
-{
-    let mut outputs = Vec::with_capacity(alloc, 1)?;
-    outputs.push(Path::from_str(alloc, output.as_str())?)?;
-    Ok(Items::from_vec(outputs))
+    match act_of(alloc, act)? {
+        Some(act) => Ok(Some(Done { start, act })),
+        None => Ok(None),
+    }
 }
 
 /// The act of these fields, if they are four. Each text is copied once.
@@ -92,39 +143,39 @@ fn act_of(alloc: Global, fields: &[Field<'_>]) -> Result<Option<Act>, AllocError
     }
 }
 
-/// The line, with its line feed, of a record that says that the output's command is about to start.
-pub fn begun_line(alloc: Global, output: &str) -> Result<Vec<u8>, AllocError>
-    ensures { IfOk result (λ line. IsLineOf (Record.Begun (output.now ∷ [])) line.items) }
+/// Writes the line, with its line feed, of a record that says that the command of these outputs is about to start, at
+/// the end of a text. Where memory is refused, a part of it may stand there.
+pub fn begun_line(text: &mut Vec<u8>, outputs: &[&str]) -> Result<(), AllocError>
+    requires some { 0 < length outputs.now }
+    requires once { AreDistinct (map (λ output. output.now) outputs.now) }
+    ensures { OnOk result (IsAppended (forms Two) (Record.Begun (map (λ output. output.now) outputs.now)) text.old.items text.new.items) }
 {
-    let mut line = Vec::new(alloc);
-    push_line(&mut line, &["b", output])?;
-    Ok(line)
+    push_text(text, "b")?;
+    push_list(text, outputs)?;
+    end_line(text)
 }
 
-/// The line, with its line feed, of a record that says that the output's command finished well.
-pub fn done_line(alloc: Global, output: &str, done: &Done) -> Result<Vec<u8>, AllocError>
-    ensures { IfOk result (λ line. IsLineOf (Record.Done (output.now ∷ []) done.now.start done.now.act) line.items) }
+/// Writes the line, with its line feed, of a record that says that the command of these outputs finished well, at the end
+/// of a text. Where memory is refused, a part of it may stand there.
+pub fn done_line(text: &mut Vec<u8>, outputs: &[&str], done: &Done) -> Result<(), AllocError>
+    requires some { 0 < length outputs.now }
+    requires once { AreDistinct (map (λ output. output.now) outputs.now) }
+    ensures { OnOk result (IsAppended (forms Two) (Record.Done (map (λ output. output.now) outputs.now) done.now.start done.now.act) text.old.items text.new.items) }
 {
-    let mut line = Vec::new(alloc);
-    push_done(&mut line, output, done)?;
-    Ok(line)
+    push_text(text, "d")?;
+    push_list(text, outputs)?;
+    push_number(text, done.start)?;
+    push_act(text, &done.act)?;
+    end_line(text)
 }
 
-/// Writes the line of a done record at the end. Where memory is refused, a part of it may stand there.
-pub(crate) fn push_done(text: &mut Vec<u8>, output: &str, done: &Done) -> Result<(), AllocError>
-    ensures { IfOk result (λ _. (line : List ℕ) × (text.new.items ≡ text.old.items ++ line) × IsLineOf (Record.Done (output.now ∷ []) done.now.start done.now.act) line) }
+/// Writes the fields of an act at the end of a line. Where memory is refused, a part of them may stand there.
+fn push_act(line: &mut Vec<u8>, act: &Act) -> Result<(), AllocError>
+    ensures fields { OnOk result (line.new.items ≡ line.old.items ++ flat_map field_and_tab (act_fields act.now)) }
+    ensures utf8 { OnOk result (AreTexts (act_fields act.now)) }
 {
-    let mut buffer = Buffer::new();
-    let act = &done.act;
-    let texts = [
-        "d",
-        output,
-        buffer.format(done.start),
-        act.command.as_str(),
-        act.depfile.as_str(),
-        act.response_path.as_str(),
-        act.response_content.as_str(),
-    ];
-    push_line(text, &texts)?;
-    Ok(())
+    push_text(line, act.command.as_str())?;
+    push_text(line, act.depfile.as_str())?;
+    push_text(line, act.response_path.as_str())?;
+    push_text(line, act.response_content.as_str())
 }

@@ -1,19 +1,19 @@
 //! How the text of a log ends.
 
-ghost use Rattle.std.specs.Prelude.{◌≡◌, ◌++◌, [], List, IfOk, IfSome, IfNone};
+ghost use Rattle.std.specs.Prelude.{◌≡◌, ◌++◌, [], ℕ, List, IfOk, IfSome, IfNone, IsTrue, IsFalse};
 ghost use Rattle.text.specs.Marks.{Lacks};
-ghost use Rattle.build_log.specs.Log.{EndsLine, IsRead};
+ghost use Rattle.build_log.specs.Text.{EndsLine, IsRead, IsLogOf, header};
 
+use crate::form::{Records, Version};
 use bstr::ByteSlice;
-
-/// The first line.
-pub(crate) const HEADER: &[u8] = b"nj-log 1\n";
 
 /// How the text of a log ends.
 #[derive(Clone, Copy, Debug, PartialEq, Eq)]
 pub enum Tail {
-    /// It is empty, or each of its lines is whole and a record.
+    /// It is empty, or each of its lines is whole and a record of version 2.
     Whole,
+    /// Each of its lines is whole and a record of version 1.
+    Old,
     /// Behind its whole lines, or in place of the first one, stands the beginning of a line, which counts for nothing.
     Torn,
     /// One of its whole lines is not what it has to be. Nothing of it counts.
@@ -33,15 +33,38 @@ pub(crate) fn split_tail(bytes: &[u8]) -> (&[u8], &[u8])
 }
 
 /// How bytes without a line feed end.
-pub(crate) fn tail_of_header(bytes: &[u8]) -> Tail
+pub(crate) fn tail_of_header<L: Records>(bytes: &[u8]) -> Tail
     requires { Lacks 10 bytes.now }
-    ensures { IsRead bytes.now [] result }
+    ensures { IsRead L.forms bytes.now [] result }
 {
     if bytes.is_empty() {
         Tail::Whole
-    } else if HEADER.starts_with(bytes) {
+    } else if begins_header::<L>(Version::Two, bytes) || begins_header::<L>(Version::One, bytes) {
         Tail::Torn
     } else {
         Tail::Damaged
+    }
+}
+
+/// Whether bytes without a line feed begin the first line of this version.
+fn begins_header<L: Records>(version: Version, bytes: &[u8]) -> bool
+    requires { Lacks 10 bytes.now }
+    ensures begins { IsTrue result → (rest : List ℕ) × (header (L.forms version) ≡ bytes.now ++ rest) }
+    ensures other { IsFalse result → (rest : List ℕ) → header (L.forms version) ≡ bytes.now ++ rest → ⊥ }
+{
+    L::first_line(version).starts_with(bytes)
+}
+
+/// How a log of this version ends, with these bytes behind its whole lines.
+pub(crate) fn tail_behind<L: Records>(version: Version, rest: &[u8]) -> Tail
+    requires { Lacks 10 rest.now }
+    ensures { (whole : List ℕ) (records : List L.Record) → IsLogOf (L.forms version) whole records → IsRead L.forms (whole ++ rest.now) records result }
+{
+    if !rest.is_empty() {
+        return Tail::Torn;
+    }
+    match version {
+        Version::One => Tail::Old,
+        Version::Two => Tail::Whole,
     }
 }

@@ -1,12 +1,16 @@
 -- Faults that cut a run off, and what is left then.
-use Rattle.std.proofs.Common.{◌≡◌, ℕ, ◌≤◌, true, false, sym, arith}
+use Rattle.std.proofs.Common.{◌≡◌, inl, inr, ℕ, ◌≤◌, true, false, Err, refl, sym, ◌∙◌, arith}
 use Rattle.std.proofs.lemmas.Bool.{false≢true}
 use Rattle.model.specs.declared.fault.SiteFault.TheVariants.{Device, Stopped, Memory}
+use Rattle.model.specs.declared.fault.SiteFault.{SiteFault}
 use Rattle.model.specs.World.{World, runs, IsIdle}
+use Rattle.model.specs.Calls.{HasCause, is_stop}
+use Rattle.model.specs.SingleBuild.{Answer, PassesNoFault}
+use Rattle.model.specs.SingleBuild as answer
 use Rattle.builder.specs.declared.cut.Cut.{Cut}
 use Rattle.builder.specs.declared.cut.Cut.TheVariants.{Waiting, Other}
-use Rattle.builder.specs.Answers.{IsSeen}
-use Rattle.builder.specs.Cut.{fault_of, is_final, IfWaiting, IsLeft}
+use Rattle.builder.specs.Answers.{IsSeen, Unrefused, StartsUnrefused}
+use Rattle.builder.specs.Cut.{fault_of, is_final, IfWaiting, IsLeft, TakesIn}
 
 -- where no command runs, a fault that is not final has left none
 pub left_idle : (now : World) (cut : Cut) → is_final cut ≡ false → IsIdle now.events → IsLeft now cut
@@ -21,6 +25,32 @@ left_running now (Waiting fault) final some = some
 left_running now (Other Device) final some = absurd (false≢true final)
 left_running now (Other Stopped) final some = tt
 left_running now (Other Memory) final some = absurd (false≢true final)
+
+-- what a run passes over that a fault has ended
+pub passes_cut : {T : Type 0} (old mid new : World) (cut last : Cut) → StartsUnrefused old mid → HasCause {T = T} old mid (Err (fault_of cut)) → TakesIn mid new last → PassesNoFault old new (answer.Fault (fault_of last))
+passes_cut old mid new cut last starts cause takes = record {
+  refused = λ fine. absurd (false≢true (sym fine));
+  starts = elim starts [
+    | inl none ↦ inl (takes.at_start ∙ none)
+    | inr some ↦ inr (takes.at_start ∙ some)
+  ];
+  stopped = λ stopped. by_fault (fault_of last) (sym takes.stopped ∙ stopped);
+  earlier = takes.earlier ∙ cause.earlier;
+}
+  where
+    by_fault : (f : SiteFault) → is_stop {T = Unit {0}} (Err f) ≡ true → answer.Fault f ≡ answer.Fault Stopped
+    by_fault Device is = absurd (false≢true is)
+    by_fault Stopped is = refl
+    by_fault Memory is = absurd (false≢true is)
+
+-- what a run passes over that was not cut off
+pub passes_whole : (old new : World) (said : Answer) → StartsUnrefused old new → Unrefused old new → PassesNoFault old new said
+passes_whole old new said starts calm = record {
+  refused = λ fine. calm.failures;
+  starts = starts;
+  stopped = λ stopped. absurd (false≢true (sym calm.goes_on ∙ stopped));
+  earlier = calm.earlier;
+}
 
 pub if_waiting : {P Q : Type 0} (cut : Cut) → IfWaiting cut P → (P → Q) → IfWaiting cut Q
 if_waiting (Waiting fault) p f = f p

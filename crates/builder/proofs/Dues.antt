@@ -1,5 +1,5 @@
 -- Which edges are due before anything runs, where nothing is recorded.
-use Rattle.std.proofs.Common.{◌≡◌, ◌≢◌, ◌⊎◌, ◌↔◌, inl, inr, ℕ, zero, suc, ◌+◌, ◌<◌, ◌==◌, not, cond, Bool, true, false, IsTrue, List, [], ◌∷◌, ◌++◌, Option, Some, None, map, length, take, drop, get_or, slice_get, refl, sym, ◌∙◌, ap, subst, arith, append_assoc}
+use Rattle.std.proofs.Common.{◌≡◌, ◌↔◌, inl, inr, ℕ, zero, suc, ◌+◌, ◌<◌, ◌==◌, not, cond, Bool, true, false, List, [], ◌∷◌, ◌++◌, Option, Some, None, map, length, take, drop, get_or, slice_get, refl, sym, ◌∙◌, ap, subst, arith, append_assoc}
 use Rattle.std.proofs.Math.ListN.{set, replicate}
 use Rattle.std.proofs.Math.Seq.{take-append_seam}
 use Rattle.std.specs.List.{list_any}
@@ -8,16 +8,16 @@ use Rattle.std.proofs.lemmas.Bool.{false≢true, cases_Bool, eqb-true, eq-eqb, o
 use Rattle.std.proofs.lemmas.List.{append-nil, take_more, take-map, take-append-drop, get_or-set_same, get_or-set_other}
 use Rattle.model.specs.declared.event.Moment.{Moment}
 use Rattle.model.specs.declared.graph.Edge.{Edge}
-use Rattle.model.specs.World.{File, file_at}
-use Rattle.model.specs.Graph.{has, has_number, edge_at, no_edge, maker, later_number, outputs, regular_inputs, inputs, IsCommand}
-use Rattle.model.specs.OutOfDate.{IsDue, Stale, Below, AliasOfNothing, AliasOfAbsent, AliasOfDue}
+use Rattle.model.specs.World.{file_at}
+use Rattle.model.specs.Graph.{has, has_number, edge_at, maker, later_number, outputs, regular_inputs, inputs, IsCommand}
+use Rattle.model.specs.OutOfDate.{IsDue, WasJudged, Stale, Below, AliasOfNothing, AliasOfAbsent, AliasOfDue}
 use Rattle.model.specs.Reading.{needs}
 use Rattle.model.specs.Records.{recorded_inputs}
-use Rattle.laws.specs.Order.{no_records, AreMakersFirst}
-use Rattle.laws.proofs.Builds.{due_of_nothing}
-use Rattle.laws.proofs.Lists.{has-left, has_number-left, has_number-push, has_number-push_other}
+use Rattle.build_theory.specs.Order.{no_records, AreMakersFirst}
+use Rattle.build_theory.proofs.Builds.{due_of_nothing}
+use Rattle.build_theory.proofs.Lists.{has-left, has_number-left, has_number-push, has_number-push_other}
 use Rattle.graph.specs.declared.graph.Graph.{Graph}
-use Rattle.graph.specs.Cone.{inputs_at, regular_at, phony_at}
+use Rattle.graph.specs.Cone.{inputs_at, regular_at}
 use Rattle.graph.specs.Linked.{paths_of, path_at, IsGraphOf}
 use Rattle.builder.specs.Missing.{HaveOutputs, AreDue, due_at, due_by, is_absent, is_due_path, is_due_edge}
 use Rattle.builder.proofs.Slices.{any_path, path_any, any_number, number_any, suc_has, has_suc, has_text, number_of, same_or_other}
@@ -86,7 +86,7 @@ module _ (edges : List Edge) (graph : Graph) (files : List Moment) (stands : IsG
   text = path_at (paths_of graph)
 
   abbrev Known : ℕ → Type 0
-  Known i = (p : List ℕ) (m : ℕ) → has (inputs (edge_at edges i)) p ≡ true → maker edges p ≡ Some (suc m) → (due_at due m ≡ true) ↔ IsDue edges no_records files (suc m)
+  Known i = (p : List ℕ) (m : ℕ) → has (inputs (edge_at edges i)) p ≡ true → maker edges p ≡ Some (suc m) → (due_at due m ≡ true) ↔ IsDue edges no_records [] files (suc m)
 
   named_input : (i : ℕ) (p : List ℕ) → has (regular_inputs (edge_at edges i)) p ≡ true → has (inputs (edge_at edges i)) p ≡ true
   named_input i p h = has-left (regular_inputs (edge_at edges i)) (edge_at edges i).order_only_inputs p h
@@ -94,14 +94,15 @@ module _ (edges : List Edge) (graph : Graph) (files : List Moment) (stands : IsG
   no_regular : (i : ℕ) (p : List ℕ) → inputs (edge_at edges i) ≡ [] → has (regular_inputs (edge_at edges i)) p ≡ true → ⊥
   no_regular i p none h = false≢true (sym (ap (λ (l : List (List ℕ)). has l p) none) ∙ named_input i p h)
 
-  due_by_nothing : (i : ℕ) → (edge_at edges i).phony ≡ true → inputs (edge_at edges i) ≡ [] → IsDue edges no_records files i → list_any (is_absent files) (outputs (edge_at edges i)) ≡ true
-  due_by_nothing _ phony none (Stale i command stale) = absurd (false≢true (sym command ∙ phony))
-  due_by_nothing _ phony none (Below i j p command counted is below) = absurd (false≢true (sym command ∙ phony))
+  due_by_nothing : (i : ℕ) → (edge_at edges i).phony ≡ true → inputs (edge_at edges i) ≡ [] → IsDue edges no_records [] files i → list_any (is_absent files) (outputs (edge_at edges i)) ≡ true
+  due_by_nothing _ phony none (WasJudged i judged) = absurd (false≢true judged)
+  due_by_nothing _ phony none (Stale i command unjudged stale) = absurd (false≢true (sym command ∙ phony))
+  due_by_nothing _ phony none (Below i j p command unjudged counted is below) = absurd (false≢true (sym command ∙ phony))
   due_by_nothing _ phony none (AliasOfNothing i o alias empty made absent) = path_any (is_absent files) (outputs (edge_at edges i)) o made (there_none (file_at files o) absent)
   due_by_nothing _ phony none (AliasOfAbsent i p alias named source absent) = absurd (no_regular i p none named)
   due_by_nothing _ phony none (AliasOfDue i j p alias named is below) = absurd (no_regular i p none named)
 
-  nothing_due : (i : ℕ) → (edge_at edges i).phony ≡ true → inputs (edge_at edges i) ≡ [] → list_any (is_absent files) (outputs (edge_at edges i)) ≡ true → IsDue edges no_records files i
+  nothing_due : (i : ℕ) → (edge_at edges i).phony ≡ true → inputs (edge_at edges i) ≡ [] → list_any (is_absent files) (outputs (edge_at edges i)) ≡ true → IsDue edges no_records [] files i
   nothing_due i phony none any = let o = any_path (is_absent files) (outputs (edge_at edges i)) any in AliasOfNothing i o.0 phony none o.1 (none_there (file_at files o.0) o.2)
 
   by_maker : (n : ℕ) (o : Option ℕ) → slice_get graph.links.makers.items n ≡ o → is_due_path graph files due n ≡ due_by due (is_absent files (text n)) o
@@ -114,7 +115,7 @@ module _ (edges : List Edge) (graph : Graph) (files : List Moment) (stands : IsG
     made_by : (n : ℕ) (p : List ℕ) → has_number xs n ≡ true → text n ≡ p → maker edges p ≡ later_number (slice_get graph.links.makers.items n)
     made_by n p h is = ap (maker edges) (sym is) ∙ stands.makers n (numbered n h)
 
-    due_by_inputs : (edge_at edges i).phony ≡ true → (inputs (edge_at edges i) ≡ [] → ⊥) → IsDue edges no_records files i → list_any (is_due_path graph files due) xs ≡ true
+    due_by_inputs : (edge_at edges i).phony ≡ true → (inputs (edge_at edges i) ≡ [] → ⊥) → IsDue edges no_records [] files i → list_any (is_due_path graph files due) xs ≡ true
     due_by_inputs phony some is = by_case i refl is
       where
         of_source : (p : List ℕ) → has (regular_inputs (edge_at edges i)) p ≡ true → maker edges p ≡ None → file_at files p ≡ None → list_any (is_due_path graph files due) xs ≡ true
@@ -123,21 +124,22 @@ module _ (edges : List Edge) (graph : Graph) (files : List Moment) (stands : IsG
             number_any (is_due_path graph files due) xs n.0 n.1
             (by_maker n.0 None (no_number (slice_get graph.links.makers.items n.0) (sym (made_by n.0 p n.1 n.2) ∙ source)) ∙ there_none (file_at files (text n.0)) (ap (file_at files) n.2 ∙ absent))
 
-        of_maker : (p : List ℕ) (j : ℕ) → has (regular_inputs (edge_at edges i)) p ≡ true → maker edges p ≡ Some j → IsDue edges no_records files j → list_any (is_due_path graph files due) xs ≡ true
+        of_maker : (p : List ℕ) (j : ℕ) → has (regular_inputs (edge_at edges i)) p ≡ true → maker edges p ≡ Some j → IsDue edges no_records [] files j → list_any (is_due_path graph files due) xs ≡ true
         of_maker p j h made below =
             let n = number_for p h in
             let m = some_number (slice_get graph.links.makers.items n.0) j (sym (made_by n.0 p n.1 n.2) ∙ made) in
             number_any (is_due_path graph files due) xs n.0 n.1
-            (by_maker n.0 (Some m.0) m.1 ∙ (known p m.0 (named_input i p h) (made ∙ ap Some (sym m.2))).1 (subst (λ (q : ℕ). IsDue edges no_records files q) (sym m.2) below))
+            (by_maker n.0 (Some m.0) m.1 ∙ (known p m.0 (named_input i p h) (made ∙ ap Some (sym m.2))).1 (subst (λ (q : ℕ). IsDue edges no_records [] files q) (sym m.2) below))
 
-        by_case : (k : ℕ) → k ≡ i → IsDue edges no_records files k → list_any (is_due_path graph files due) xs ≡ true
-        by_case _ same (Stale k command stale) = absurd (false≢true (sym command ∙ (ap (λ (q : ℕ). (edge_at edges q).phony) same ∙ phony)))
-        by_case _ same (Below k j p command counted made below) = absurd (false≢true (sym command ∙ (ap (λ (q : ℕ). (edge_at edges q).phony) same ∙ phony)))
+        by_case : (k : ℕ) → k ≡ i → IsDue edges no_records [] files k → list_any (is_due_path graph files due) xs ≡ true
+        by_case _ same (WasJudged k judged) = absurd (false≢true judged)
+        by_case _ same (Stale k command unjudged stale) = absurd (false≢true (sym command ∙ (ap (λ (q : ℕ). (edge_at edges q).phony) same ∙ phony)))
+        by_case _ same (Below k j p command unjudged counted made below) = absurd (false≢true (sym command ∙ (ap (λ (q : ℕ). (edge_at edges q).phony) same ∙ phony)))
         by_case _ same (AliasOfNothing k o alias empty made absent) = absurd (some (sym (ap (λ (q : ℕ). inputs (edge_at edges q)) same) ∙ empty))
         by_case _ same (AliasOfAbsent k p alias h source absent) = of_source p (subst (λ (q : ℕ). has (regular_inputs (edge_at edges q)) p ≡ true) same h) source absent
         by_case _ same (AliasOfDue k j p alias h made below) = of_maker p j (subst (λ (q : ℕ). has (regular_inputs (edge_at edges q)) p ≡ true) same h) made below
 
-    inputs_due : (edge_at edges i).phony ≡ true → list_any (is_due_path graph files due) xs ≡ true → IsDue edges no_records files i
+    inputs_due : (edge_at edges i).phony ≡ true → list_any (is_due_path graph files due) xs ≡ true → IsDue edges no_records [] files i
     inputs_due phony any = by_case (slice_get graph.links.makers.items n.0) refl
       where
         n : (n : ℕ) × (has_number xs n ≡ true) × (is_due_path graph files due n ≡ true)
@@ -146,7 +148,7 @@ module _ (edges : List Edge) (graph : Graph) (files : List Moment) (stands : IsG
         h : has (regular_inputs (edge_at edges i)) (text n.0) ≡ true
         h = subst (λ (l : List (List ℕ)). has l (text n.0) ≡ true) named (has_text text xs n.0 n.1)
 
-        by_case : (o : Option ℕ) → slice_get graph.links.makers.items n.0 ≡ o → IsDue edges no_records files i
+        by_case : (o : Option ℕ) → slice_get graph.links.makers.items n.0 ≡ o → IsDue edges no_records [] files i
         by_case None is =
             AliasOfAbsent i (text n.0) phony h (made_by n.0 (text n.0) n.1 refl ∙ ap later_number is) (none_there (file_at files (text n.0)) (sym (by_maker n.0 None is) ∙ n.2))
         by_case (Some m) is =
@@ -155,7 +157,7 @@ module _ (edges : List Edge) (graph : Graph) (files : List Moment) (stands : IsG
 
   -- ---- one edge
 
-  module _ (e : ℕ) (command_due : IsCommand edges (suc e) → IsDue edges no_records files (suc e)) (known : Known (suc e)) where
+  module _ (e : ℕ) (command_due : IsCommand edges (suc e) → IsDue edges no_records [] files (suc e)) (known : Known (suc e)) where
     abbrev answer : Bool
     answer = is_due_edge graph files due e (edge_at edges (suc e))
 
@@ -179,7 +181,7 @@ module _ (edges : List Edge) (graph : Graph) (files : List Moment) (stands : IsG
     abbrev if_phony : Bool → Bool
     if_phony phony = cond (not phony) true (if_inputs (length (inputs_at graph.links e) == 0))
 
-    pub due_is : (is_due_edge graph files due e (edge_at edges (suc e)) ≡ true) ↔ IsDue edges no_records files (suc e)
+    pub due_is : (is_due_edge graph files due e (edge_at edges (suc e)) ≡ true) ↔ IsDue edges no_records [] files (suc e)
     due_is = elim (cases_Bool (edge_at edges (suc e)).phony) [
       | inr command ↦ ((λ is. command_due command), (λ is. ap if_phony (stands.phony e ∙ command)))
       | inl phony ↦
@@ -203,11 +205,11 @@ module _ (edges : List Edge) (graph : Graph) (files : List Moment) (stands : IsG
 module _ (edges : List Edge) (graph : Graph) (files : List Moment) (stands : IsGraphOf edges (paths_of graph) graph.links) (some : HaveOutputs edges)
     (order : List ℕ) (first : AreMakersFirst edges (recorded_inputs no_records edges) [] (map suc order))
   where
-    command_due : (e : ℕ) → has_number order e ≡ true → IsCommand edges (suc e) → IsDue edges no_records files (suc e)
+    command_due : (e : ℕ) → has_number order e ≡ true → IsCommand edges (suc e) → IsDue edges no_records [] files (suc e)
     command_due e listed command = due_of_nothing edges files (map suc order) first (suc e) (has_suc order e listed) command (some (suc e) command)
 
     module _ (k : ℕ) (within : k < length order) (due : List Bool) (fits : get_or order k 0 < length due) (so_far : AreDue edges files (take k order) due) where
-      known : (p : List ℕ) (m : ℕ) → has (inputs (edge_at edges (suc (get_or order k 0)))) p ≡ true → maker edges p ≡ Some (suc m) → (due_at due m ≡ true) ↔ IsDue edges no_records files (suc m)
+      known : (p : List ℕ) (m : ℕ) → has (inputs (edge_at edges (suc (get_or order k 0)))) p ≡ true → maker edges p ≡ Some (suc m) → (due_at due m ≡ true) ↔ IsDue edges no_records [] files (suc m)
       known p m input made = ((λ is. ((so_far m).0 is).1), (λ is. (so_far m).1 (listed, is)))
         where
           found : (q : ℕ) × (suc q ≡ suc m) × (has_number (take k order) q ≡ true)
@@ -220,26 +222,26 @@ module _ (edges : List Edge) (graph : Graph) (files : List Moment) (stands : IsG
       pub due_one_more : (is : Bool) → is ≡ is_due_edge graph files due (get_or order k 0) (edge_at edges (suc (get_or order k 0)))
           → AreDue edges files (take (k + 1) order) (set due (get_or order k 0) is)
       due_one_more is seen x = elim (same_or_other (get_or order k 0) x) [
-        | inl here ↦ subst (λ (q : ℕ). (due_at (set due (get_or order k 0) is) q ≡ true) ↔ ((has_number (take (k + 1) order) q ≡ true) × IsDue edges no_records files (suc q))) (sym here) at_edge
+        | inl here ↦ subst (λ (q : ℕ). (due_at (set due (get_or order k 0) is) q ≡ true) ↔ ((has_number (take (k + 1) order) q ≡ true) × IsDue edges no_records [] files (suc q))) (sym here) at_edge
         | inr other ↦ elsewhere other
       ]
         where
           longer : take (k + 1) order ≡ take k order ++ get_or order k 0 ∷ []
           longer = take_more order k 0 within
 
-          decided : (is_due_edge graph files due (get_or order k 0) (edge_at edges (suc (get_or order k 0))) ≡ true) ↔ IsDue edges no_records files (suc (get_or order k 0))
+          decided : (is_due_edge graph files due (get_or order k 0) (edge_at edges (suc (get_or order k 0))) ≡ true) ↔ IsDue edges no_records [] files (suc (get_or order k 0))
           decided = due_is edges graph files stands due (get_or order k 0) (command_due (get_or order k 0) (at_has order k within)) known
 
           written : due_at (set due (get_or order k 0) is) (get_or order k 0) ≡ is
           written = get_or-set_same due (get_or order k 0) is false fits
 
-          at_edge : (due_at (set due (get_or order k 0) is) (get_or order k 0) ≡ true) ↔ ((has_number (take (k + 1) order) (get_or order k 0) ≡ true) × IsDue edges no_records files (suc (get_or order k 0)))
+          at_edge : (due_at (set due (get_or order k 0) is) (get_or order k 0) ≡ true) ↔ ((has_number (take (k + 1) order) (get_or order k 0) ≡ true) × IsDue edges no_records [] files (suc (get_or order k 0)))
           at_edge = (
             (λ h. (ap (λ (l : List ℕ). has_number l (get_or order k 0)) longer ∙ has_number-push (take k order) (get_or order k 0), decided.0 (sym seen ∙ (sym written ∙ h)))),
             (λ both. written ∙ (seen ∙ decided.1 both.1)),
           )
 
-          elsewhere : (x ≡ get_or order k 0 → ⊥) → (due_at (set due (get_or order k 0) is) x ≡ true) ↔ ((has_number (take (k + 1) order) x ≡ true) × IsDue edges no_records files (suc x))
+          elsewhere : (x ≡ get_or order k 0 → ⊥) → (due_at (set due (get_or order k 0) is) x ≡ true) ↔ ((has_number (take (k + 1) order) x ≡ true) × IsDue edges no_records [] files (suc x))
           elsewhere other =
               let kept : due_at (set due (get_or order k 0) is) x ≡ due_at due x = get_or-set_other due (get_or order k 0) x is false other in
               let same : has_number (take (k + 1) order) x ≡ has_number (take k order) x = ap (λ (l : List ℕ). has_number l x) longer ∙ has_number-push_other (take k order) (get_or order k 0) x (λ h. other (sym h)) in

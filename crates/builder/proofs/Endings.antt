@@ -8,9 +8,9 @@ use Rattle.model.specs.Calls.{OnlyLooks}
 use Rattle.model.specs.Graph.{edge_at, first_output}
 use Rattle.model.specs.Records.{OwnFiles}
 use Rattle.model.specs.Schedule.{Task, Step as Done, IsLawful, failed_in}
-use Rattle.laws.specs.Run.{IsRun}
-use Rattle.laws.proofs.Nothing.{recorded_nothing}
-use Rattle.laws.proofs.Runs.{run_begins, run_looks, rest_begins}
+use Rattle.build_theory.specs.Run.{IsRun}
+use Rattle.build_theory.proofs.Nothing.{recorded_nothing}
+use Rattle.build_theory.proofs.Runs.{run_begins, run_looks, rest_begins}
 use Rattle.builder.specs.declared.plan.Plan.{Plan}
 use Rattle.builder.specs.declared.plan.Standing.{Standing}
 use Rattle.builder.specs.declared.plan.End.{End}
@@ -46,22 +46,24 @@ module _ (tells : Bool) (own : OwnFiles) (task : Task) (entry now : World) where
   on_begins plan failed none planned looks = record { steps = []; planned = planned; run = run_of_looks looks; stale = refl; noted = ap (λ (l : List ℕ). map suc l) none }
 
   pub cut_begins : OnlyLooks tells entry now → IsCut tells own task entry now
-  cut_begins looks = record { steps = []; rest = rest_begins tells own task entry [] now (run_of_looks looks); stale = refl }
+  cut_begins looks = record { steps = []; lawful = tt; rest = rest_begins tells own task entry [] now (run_of_looks looks); stale = refl }
 
   pub ran_cut : (fault : SiteFault) → IsCut tells own task entry now → IsSeen entry now fault → HasRun tells own task entry now (Fault fault)
-  ran_cut fault cut seen = record { steps = cut.steps; rest = cut.rest; stale = cut.stale; ends = seen }
+  ran_cut fault cut seen = record { steps = cut.steps; lawful = cut.lawful; rest = cut.rest; stale = cut.stale; ends = seen }
 
   -- a run that is over has the report that its steps and its end give
   pub ran_over : (plan : Plan) (failed : List ℕ) (standings : List Standing) (end : End) (report : Report) → IsOver tells own task plan failed end entry now → Reports standings failed end report
       → ((steps : List Done) → IsPlanOf task plan steps → IsLawful task steps → map suc failed ≡ failed_in steps → ReportsSteps task.graph.edges steps report) → HasRun tells own task entry now report
   ran_over plan failed standings ending.Well (Success started) over reports says = record {
     steps = over.on.steps;
+    lawful = over.on.run.lawful;
     rest = rest_begins tells own task entry over.on.steps now over.on.run;
     stale = over.on.stale;
     ends = (over.on.run, over.over, says over.on.steps over.on.planned over.on.run.lawful over.on.noted);
   }
   ran_over plan failed standings ending.Failed (Failed outputs) over reports says = record {
     steps = over.on.steps;
+    lawful = over.on.run.lawful;
     rest = rest_begins tells own task entry over.on.steps now over.on.run;
     stale = over.on.stale;
     ends = (over.on.run, over.over, says over.on.steps over.on.planned over.on.run.lawful over.on.noted);

@@ -1,28 +1,19 @@
 -- What the edges of build files have.
-use Rattle.std.proofs.Common.{◌≡◌, ◌≢◌, ℕ, false, true, List, [], ◌∷◌, ◌++◌, Some, None, inl, inr, refl, sym, ◌∙◌}
-use Rattle.std.specs.List.{AllByRecursion}
-use Rattle.std.proofs.lemmas.Bool.{false≢true, false_from_ne_true}
+use Rattle.std.proofs.Common.{◌≡◌, ◌≢◌, ℕ, false, List, [], Some, None, refl, sym, ◌∙◌}
+use Rattle.std.proofs.lemmas.Bool.{false≢true}
 use Rattle.model.specs.declared.graph.Edge.{Edge}
 use Rattle.model.specs.declared.graph.BuildGraph.{BuildGraph}
-use Rattle.model.specs.Graph.{has, edge_at, no_edge, outputs, IsCommand}
+use Rattle.model.specs.Graph.{edge_at, no_edge, outputs}
 use Rattle.model.specs.SingleBuild.{NamesOther}
-use Rattle.laws.specs.Run.{HasNoEmptyOutput}
-use Rattle.laws.proofs.Lists.{all_weaker, all_append, all_has}
-use Rattle.laws.proofs.Makers.{each_edge}
+use Rattle.build_theory.proofs.Lists.{all_weaker}
+use Rattle.build_theory.proofs.Makers.{each_edge}
 use Rattle.builder.specs.Missing.{HaveOutputs}
-use Rattle.builder.specs.Taken.{IsTakenEdge, IsTaken, IsFirstNotTaken}
-use Rattle.manifest.specs.Answer.{IsPath, IsWellFormed, IsGraph}
-
-none_empty : (ps : List (List ℕ)) → AllByRecursion IsPath ps → has ps [] ≡ false
-none_empty ps all = false_from_ne_true (has ps []) (λ h. (all_has IsPath ps [] all h).some refl)
+use Rattle.builder.specs.Taken.{IsTakenEdge, IsTaken}
+use Rattle.manifest.specs.Answer.{IsWellFormed, IsGraph}
 
 module _ (graph : BuildGraph) (formed : IsGraph graph) where
   of_each : (P : Edge → Type 0) → P no_edge → ((e : Edge) → IsWellFormed e → P e) → (i : ℕ) → P (edge_at graph.edges i)
   of_each P none each = each_edge P graph.edges none (all_weaker IsWellFormed P each graph.edges formed)
-
-  pub no_empty_output : HasNoEmptyOutput graph.edges
-  no_empty_output = of_each (λ e. has (outputs e) [] ≡ false) refl
-      (λ e well. none_empty (outputs e) (all_append IsPath e.explicit_outputs e.implicit_outputs well.explicit_outputs well.implicit_outputs))
 
   pub have_outputs : HaveOutputs graph.edges
   have_outputs = of_each (λ e. e.phony ≡ false → outputs e ≢ []) (λ h. absurd (false≢true (sym h))) (λ e well command. well.made)
@@ -34,10 +25,13 @@ module _ (edges : List Edge) (taken : IsTaken edges) where
   pub no_depfile : (i : ℕ) → (edge_at edges i).act.depfile ≡ []
   no_depfile = of_taken (λ e. e.act.depfile ≡ []) refl (λ e is. is.depfile)
 
+  pub no_response : (i : ℕ) → (edge_at edges i).act.response_path ≡ []
+  no_response = of_taken (λ e. e.act.response_path ≡ []) refl (λ e is. is.response_path)
+
   pub no_pool : (i : ℕ) → (edge_at edges i).pool ≡ None
   no_pool = of_taken (λ e. e.pool ≡ None) refl (λ e is. is.pool)
 
-  no_dyndep : (i : ℕ) → (edge_at edges i).dyndep ≡ None
+  pub no_dyndep : (i : ℕ) → (edge_at edges i).dyndep ≡ None
   no_dyndep = of_taken (λ e. e.dyndep ≡ None) refl (λ e is. is.dyndep)
 
   pub names_no_other : (file : List ℕ) → NamesOther edges file → ⊥

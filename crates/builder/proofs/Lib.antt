@@ -1,9 +1,11 @@
 pub mod Builds
 pub mod Calls
 pub mod Courses
+pub mod CountBy
 pub mod Cutting
 pub mod Dues
 pub mod Endings
+pub mod Folders
 pub mod Formed
 pub mod Fresh
 pub mod Planned

@@ -7,8 +7,8 @@ use Rattle.std.proofs.lemmas.Bool.{false≢true, or_cases, or_left, or_right, an
 use Rattle.model.specs.Graph.{has_number, IsCommand}
 use Rattle.model.specs.Reading.{IsInCone, Needed}
 use Rattle.model.specs.Schedule.{Task, Step, Judged, Started, Ended, running_in, failed_in, well_in, done_in, IsSettled, Done, IsBelow, MayBeJudged, MayStart, NoneMayBeJudged, NoneMayStart, IsLawfulStep, IsLawful}
-use Rattle.laws.proofs.Lists.{has_number-one, has_number-is}
-use Rattle.laws.proofs.Settled.{settled_more}
+use Rattle.build_theory.proofs.Lists.{has_number-one, has_number-is}
+use Rattle.build_theory.proofs.Settled.{settled_more}
 use Rattle.graph.specs.declared.graph.Links.{Links}
 use Rattle.builder.specs.declared.plan.Standing.{Standing}
 use Rattle.builder.specs.declared.plan.Standing.TheVariants.{Outside, Unjudged, Clean, OutOfDate, Running, Well, Failed}

@@ -6,12 +6,12 @@ use Rattle.std.proofs.lemmas.List.Sums.{sum_by-cons}
 use Rattle.std.proofs.lemmas.Bool.{false≢true, or_left, or_right, eq-eqb, eqb-true, cases_eq, false_from_ne_true, cond-true, cond-false}
 use Rattle.model.specs.Graph.{has_number}
 use Rattle.model.specs.Schedule.{Task, Step, Judged, Started, Ended, started_in, ended_in, well_in, failed_in, running_in, IsLawfulStep, IsLawfulFrom, IsLawful}
-use Rattle.laws.proofs.Lists.{has_number-filter, has_number-push_cases}
-use Rattle.laws.proofs.Steps.{kept_lawful, lawful_push, running_parts, started-append, well-append, failed-append}
+use Rattle.build_theory.proofs.Lists.{has_number-filter, has_number-push_cases}
+use Rattle.build_theory.proofs.Steps.{kept_lawful, lawful_push, running_parts, started-append, well-append, failed-append}
 use Rattle.builder.specs.declared.plan.Standing.{Standing}
 use Rattle.builder.specs.declared.plan.Standing.TheVariants.{Outside}
 use Rattle.builder.specs.Plan.{standing_at}
-use Rattle.graph.proofs.Counts.{count_loses}
+use Rattle.builder.proofs.CountBy.{count_loses}
 
 -- ---- lists with each number once
 

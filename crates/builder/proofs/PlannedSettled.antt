@@ -9,9 +9,9 @@ use Rattle.model.specs.declared.graph.Edge.{Edge}
 use Rattle.model.specs.Graph.{has, has_number, edge_at, inputs, IsCommand}
 use Rattle.model.specs.Reading.{IsInCone, Needed}
 use Rattle.model.specs.Schedule.{Task, Step, done_in, IsSettled, Done, Alias}
-use Rattle.laws.specs.Order.{AreMakersFirst}
-use Rattle.laws.proofs.Lists.{has-left, has-cases, has_number-filter, has_number-push, has_number-push_cases, has_number-left}
-use Rattle.laws.proofs.Settled.{settled_command}
+use Rattle.build_theory.specs.Order.{AreMakersFirst}
+use Rattle.build_theory.proofs.Lists.{has-left, has-cases, has_number-filter, has_number-push, has_number-push_cases, has_number-left}
+use Rattle.build_theory.proofs.Settled.{settled_command}
 use Rattle.graph.specs.declared.graph.Links.{Links}
 use Rattle.graph.specs.declared.cone.Mark.{Mark}
 use Rattle.graph.specs.Cone.{inputs_at, maker_at, mark_at, is_listed}

@@ -10,13 +10,13 @@ use Rattle.model.specs.Calls.{OnlyLooks, TicksOrNot, Starts, StartsOrNot, Finish
 use Rattle.model.specs.Graph.{edge_at, no_edge}
 use Rattle.model.specs.Records.{OwnFiles}
 use Rattle.model.specs.Schedule.{Task, Step as Done, Judged, Started, Ended, IsLawful, IsLawfulStep, NoneMayBeJudged, NoneMayStart, clean_in, failed_in}
-use Rattle.laws.proofs.Steps.{clean-append, failed-append}
-use Rattle.laws.proofs.Runs.{run_judged, run_looks, run_ticks_or_not, run_starts, run_takes_in, running_now, rest_begins, rest_looks, rest_finishes}
+use Rattle.build_theory.proofs.Steps.{clean-append, failed-append}
+use Rattle.build_theory.proofs.Runs.{run_judged, run_looks, run_ticks_or_not, run_starts, run_takes_in, running_now, rest_begins, rest_looks, rest_finishes}
 use Rattle.builder.specs.declared.plan.Plan.{Plan}
 use Rattle.builder.specs.PlanOf.{IsPlanOf}
 use Rattle.builder.specs.Run.{IsOn, IsCut, failed_after}
 use Rattle.builder.proofs.Calls.{start_shown}
-use Rattle.builder.proofs.Starting.{unshown, shown}
+use Rattle.builder.proofs.Starting.{unshown, shown, none_more, one_more_event}
 
 pub ok_then : {T E : Type 0} {P Q : Type 0} (r : Result T E) → OnOk r P → (P → Q) → OnOk r Q
 ok_then (Ok x) p f = f p
@@ -77,23 +77,23 @@ module _ (tells : Bool) (own : OwnFiles) (task : Task) (failed : List ℕ) (entr
   }
 
   -- the plan knows of a start where one more event shows it
-  pub on_start : {E : Type 0} (r : Result (Unit {0}) E) (plan after : Plan) (now new : World) (e : ℕ) (act : Act) (known seen : List Event) → known ≡ now.events → seen ≡ new.events
+  pub on_start : {E : Type 0} (r : Result (Unit {0}) E) (plan after : Plan) (now new : World) (e : ℕ) (act : Act) (known seen : List Event) → known ≡ now.earlier ++ now.events → seen ≡ new.earlier ++ new.events → new.earlier ≡ now.earlier
       → OnOk r (Starts tells (e + 1) act now new) → OnErr r (StartsOrNot tells (e + 1) act now new)
       → (ltb (length known) (length seen) ≡ false → after ≡ plan)
       → (ltb (length known) (length seen) ≡ true → (task : Task) (steps : List Done) → IsPlanOf task plan steps → IsLawful task steps → IsLawfulStep task steps (Started (suc e)) → IsPlanOf task after (steps ++ Started (suc e) ∷ []))
       → (on : IsOn tells own task plan failed entry now) → IsLawfulStep task on.steps (Started (suc e)) → act ≡ (edge_at task.graph.edges (suc e)).act → IsOn tells own task after failed entry new
-  on_start r plan after now new e act known seen known_is seen_is ok err still planned on next is = by_start (start_shown r tells (e + 1) act now new ok err)
+  on_start r plan after now new e act known seen known_is seen_is same ok err still planned on next is = by_start (start_shown r tells (e + 1) act now new ok err)
     where
       next_is : e + 1 ≡ suc e
       next_is = omega arith
 
       by_start : StartsOrNot tells (e + 1) act now new → IsOn tells own task after failed entry new
       by_start (inl looks) =
-          subst (λ (p : Plan). IsOn tells own task p failed entry new) (sym {A = Plan} (still (unshown known seen (seen_is ∙ (looks.events ∙ sym known_is)))))
+          subst (λ (p : Plan). IsOn tells own task p failed entry new) (sym {A = Plan} (still (unshown known seen (none_more now new known seen known_is seen_is same looks.events))))
           (on_looks plan now new on looks)
       by_start (inr starts) =
           on_started plan after now new e act on next is (subst (λ (n : ℕ). Starts tells n act now new) next_is starts)
-          (planned (shown known seen (Start (e + 1) act now.ticked) (seen_is ∙ (starts.events ∙ ap (λ (l : List Event). l ++ Start (e + 1) act now.ticked ∷ []) (sym known_is)))) task)
+          (planned (shown known seen (Start (e + 1) act now.ticked) (one_more_event now new known seen known_is seen_is same (Start (e + 1) act now.ticked) starts.events)) task)
 
   noted_after : (steps : List Done) (e : ℕ) (ok : Bool) → map suc failed ≡ failed_in steps → map suc (failed_after failed e ok) ≡ failed_in (steps ++ Ended (suc e) ok ∷ [])
   noted_after steps e true noted = noted_more steps (Ended (suc e) true) refl noted
@@ -114,10 +114,10 @@ module _ (tells : Bool) (own : OwnFiles) (task : Task) (failed : List ℕ) (entr
 module _ (tells : Bool) (own : OwnFiles) (task : Task) (entry : World) where
   -- a fault cuts a build off
   pub cut_on : (plan : Plan) (failed : List ℕ) (now : World) → IsOn tells own task plan failed entry now → IsCut tells own task entry now
-  cut_on plan failed now on = record { steps = on.steps; rest = rest_begins tells own task entry on.steps now on.run; stale = on.stale }
+  cut_on plan failed now on = record { steps = on.steps; lawful = on.run.lawful; rest = rest_begins tells own task entry on.steps now on.run; stale = on.stale }
 
   pub cut_looks : (now new : World) → IsCut tells own task entry now → OnlyLooks tells now new → IsCut tells own task entry new
-  cut_looks now new cut looks = record { steps = cut.steps; rest = rest_looks tells own task entry cut.steps now new cut.rest looks; stale = cut.stale }
+  cut_looks now new cut looks = record { steps = cut.steps; lawful = cut.lawful; rest = rest_looks tells own task entry cut.steps now new cut.rest looks; stale = cut.stale }
 
   pub cut_finishes : (now new : World) (job : ℕ) (ok : Bool) → IsCut tells own task entry now → Finishes tells job ok now new → IsCut tells own task entry new
-  cut_finishes now new job ok cut finish = record { steps = cut.steps; rest = rest_finishes tells own task entry cut.steps now new job ok cut.rest finish; stale = cut.stale }
+  cut_finishes now new job ok cut finish = record { steps = cut.steps; lawful = cut.lawful; rest = rest_finishes tells own task entry cut.steps now new job ok cut.rest finish; stale = cut.stale }

@@ -1,5 +1,5 @@
 -- What a run that has ended reports.
-use Rattle.std.proofs.Common.{◌≡◌, ◌⊎◌, inl, inr, ℕ, zero, suc, ◌+◌, ◌≤◌, cond, Bool, List, [], ◌∷◌, ◌++◌, length, map, count_by, Err, refl, sym, ◌∙◌, ap, subst, arith}
+use Rattle.std.proofs.Common.{◌≡◌, ◌⊎◌, inl, inr, ℕ, ◌+◌, ◌≤◌, cond, Bool, List, [], ◌∷◌, ◌++◌, length, map, count_by, Err, refl, sym, ◌∙◌, ap, subst, arith}
 use Rattle.std.proofs.lemmas.List.{append-nil}
 use Rattle.std.proofs.lemmas.List.Sums.{sum_by-cons}
 use Rattle.model.specs.declared.graph.Edge.{Edge}
@@ -27,7 +27,6 @@ use Rattle.builder.specs.Plan.{is_running, is_failed, is_well, EndsSo, IsFresh}
 use Rattle.builder.specs.Run.{is_started, IsAt, IsNoted}
 use Rattle.graph.specs.Linked.{path_at}
 use Rattle.builder.specs.Answers.{Ran, Ended, Answers, Reports, unread, ungraphed, Uncut}
-use Rattle.builder.specs.Build.{IsIdleButAtFault}
 use Rattle.builder.proofs.Fresh.{fresh_course, fresh_started, fresh_failed}
 use Rattle.builder.proofs.Calls.{looks_none, looks_then, seen_of, seen_before}
 use Rattle.builder.proofs.Standings.{idle_at_end}
@@ -152,10 +151,3 @@ pub answers_uncut : (tells : Bool) (edges : List Edge) (now : World) (given path
 answers_uncut tells edges now given paths cone.Memory report is = of_memory tells edges now report is
 answers_uncut tells edges now given paths (cone.Unknown place) report is = answers_either tells edges now (refusal.UnknownTarget (path_at given place)) report is
 answers_uncut tells edges now given paths (cone.Cycle numbers) report is = answers_either tells edges now (refusal.Cycle (map (path_at paths) numbers)) report is
-
--- a build without a fault has left no command running
-pub idle_of_answers : (tells : Bool) (edges : List Edge) (old now : World) (report : Report) → IsIdle old.events → Answers tells edges old now report → IsIdleButAtFault now report
-idle_of_answers tells edges old now (Success started) idle ended = ended.idle
-idle_of_answers tells edges old now (Failed outputs) idle answers = answers.1.1.idle
-idle_of_answers tells edges old now (Refused refusal) idle looks = idle_after tells old now looks idle
-idle_of_answers tells edges old now (Fault fault) idle answers = tt

@@ -14,7 +14,7 @@ use Rattle.graph.specs.declared.graph.Links.{Links}
 use Rattle.builder.specs.Plan.{standing_at, is_unjudged, is_out_of_date, is_failed, is_running, standing_after, inputs_settled, may_judge, may_start, IsFirst}
 use Rattle.builder.specs.Run.{Course, NotStarted, Runs, EndedWell, EndedBadly, course_after, course_of, failures_in, act_of, standing_of, course_by, is_started, IsAt, IsNoted}
 use Rattle.builder.proofs.Courses.{is_runs, course_push, runs_since, starts_start, starts_finish, failures_start, failures_well, failures_bad, lawful_push}
-use Rattle.graph.proofs.Counts.{count_gains, count_keeps, count_none, count_some}
+use Rattle.builder.proofs.CountBy.{count_gains, count_keeps, count_none, count_some}
 
 pub course_set : (ss : List Standing) (e : ℕ) (v : Standing) (j : ℕ) → e < length ss → course_by (standing_of (set ss e v) j) ≡ cond (e + 1 == j) (course_by v) (course_by (standing_of ss j))
 course_set ss e v zero lt = sym (cond-false (e + 1 == 0) (course_by v) NotStarted (never (e + 1 == 0) (λ h. eqb-true (e + 1) 0 h)))

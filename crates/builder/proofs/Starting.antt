@@ -1,5 +1,5 @@
 -- Where a run stands after a start, which may have failed.
-use Rattle.std.proofs.Common.{◌≡◌, inl, inr, ℕ, zero, suc, ◌+◌, ◌<◌, ltb, cond, Bool, true, false, List, [], ◌∷◌, ◌++◌, Some, length, get_or, slice_get, option_map, OnOk, OnErr, Result, Ok, Err, refl, sym, ◌∙◌, ap, subst, arith}
+use Rattle.std.proofs.Common.{◌≡◌, inl, inr, ℕ, zero, suc, ◌+◌, ◌<◌, ltb, cond, Bool, true, false, List, [], ◌∷◌, ◌++◌, Some, length, get_or, slice_get, option_map, OnOk, OnErr, Result, Ok, Err, refl, sym, ◌∙◌, ap, subst, arith, append_assoc}
 use Rattle.std.proofs.Math.ListN.{set}
 use Rattle.std.proofs.lemmas.List.{length_push}
 use Rattle.std.proofs.lemmas.Bool.Decides.{Decides-ltb}
@@ -39,15 +39,27 @@ unshown known now same = by_test (ltb (length known) (length now)) (Decides-ltb 
 pub shown : (known now : List Event) (e : Event) → now ≡ known ++ e ∷ [] → ltb (length known) (length now) ≡ true
 shown known now e more = (Decides-ltb (length known) (length now)).1 (omega (arith, ap length more, one_more known e))
 
+-- what the site shows of its events after a call, by those since the last restart
+module _ (old new : World) (known now : List Event) (known_is : known ≡ old.earlier ++ old.events) (now_is : now ≡ new.earlier ++ new.events) (same : new.earlier ≡ old.earlier) where
+  pub none_more : new.events ≡ old.events → now ≡ known
+  none_more is = now_is ∙ (ap (λ (l : List Event). l ++ new.events) same ∙ (ap (λ (l : List Event). old.earlier ++ l) is ∙ sym known_is))
+
+  pub one_more_event : (e : Event) → new.events ≡ old.events ++ e ∷ [] → now ≡ known ++ e ∷ []
+  one_more_event e is =
+      now_is
+      ∙ (ap (λ (l : List Event). l ++ new.events) same
+      ∙ (ap (λ (l : List Event). old.earlier ++ l) is
+      ∙ (sym (append_assoc old.earlier old.events (e ∷ [])) ∙ ap (λ (l : List Event). l ++ e ∷ []) (sym known_is))))
+
 module _ (tells : Bool) (edges : List Edge) (ss after : List Standing) (e : ℕ) (act : Act) (old new : World) (known now : List Event)
-    (known_is : known ≡ old.events) (now_is : now ≡ new.events)
+    (known_is : known ≡ old.earlier ++ old.events) (now_is : now ≡ new.earlier ++ new.events) (same : new.earlier ≡ old.earlier)
     (after_is : after ≡ cond (ltb (length known) (length now)) (set ss e Running) ss) where
   starts_after : Starts tells (e + 1) act old new → after ≡ set ss e Running
   starts_after starts =
-      after_is ∙ ap (λ (b : Bool). cond b (set ss e Running) ss) (shown known now (Start (e + 1) act old.ticked) (now_is ∙ (starts.events ∙ ap (λ (l : List Event). l ++ Start (e + 1) act old.ticked ∷ []) (sym known_is))))
+      after_is ∙ ap (λ (b : Bool). cond b (set ss e Running) ss) (shown known now (Start (e + 1) act old.ticked) (one_more_event old new known now known_is now_is same (Start (e + 1) act old.ticked) starts.events))
 
   looks_after : OnlyLooks tells old new → after ≡ ss
-  looks_after looks = after_is ∙ ap (λ (b : Bool). cond b (set ss e Running) ss) (unshown known now (now_is ∙ (looks.events ∙ sym known_is)))
+  looks_after looks = after_is ∙ ap (λ (b : Bool). cond b (set ss e Running) ss) (unshown known now (none_more old new known now known_is now_is same looks.events))
 
   pub start_after : {E : Type 0} (r : Result (Unit {0}) E) → OnOk r (Starts tells (e + 1) act old new) → OnOk r (after ≡ set ss e Running)
   start_after (Ok x) ok = starts_after ok

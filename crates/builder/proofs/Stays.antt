@@ -9,8 +9,8 @@ use Rattle.std.proofs.lemmas.List.Folds.{list_any_at, list_any_more}
 use Rattle.model.specs.declared.event.Moment.{Moment}
 use Rattle.model.specs.World.{World, File, file_at, stamp_of}
 use Rattle.model.specs.Calls.{OnlyLooks, Sees}
-use Rattle.laws.proofs.Lists.{same_rest}
-use Rattle.laws.proofs.Looks.{sees_so}
+use Rattle.build_theory.proofs.Lists.{same_rest}
+use Rattle.build_theory.proofs.Looks.{sees_so}
 use Rattle.graph.specs.Linked.{path_at}
 use Rattle.builder.specs.Missing.{StaysAt, IfStays, is_absent}
 

@@ -1,18 +1,17 @@
 -- The paths that were asked for: which of them is missing, and what is found missing in their cone.
-use Rattle.std.proofs.Common.{◌≡◌, ◌⊎◌, ◌↔◌, inl, inr, ℕ, suc, ◌<◌, ◌≤◌, not, cond, filter, Bool, true, false, List, [], ◌∷◌, ◌++◌, Option, Some, None, length, bytes_eq, refl, sym, ◌∙◌, ap, subst, arith}
-use Rattle.std.specs.List.{AllByRecursion}
+use Rattle.std.proofs.Common.{◌≡◌, ◌↔◌, inl, inr, ℕ, suc, ◌<◌, ◌≤◌, not, cond, filter, Bool, true, false, List, [], ◌∷◌, ◌++◌, Option, Some, None, length, bytes_eq, refl, sym, ◌∙◌, ap, subst, arith}
 use Rattle.std.specs.Option.{is_none}
 use Rattle.std.proofs.lemmas.Bool.{false≢true, cases_Bool, or_cases, or_left, or_right}
 use Rattle.std.proofs.lemmas.List.{get_or_past}
 use Rattle.model.specs.declared.graph.Edge.{Edge}
 use Rattle.model.specs.declared.graph.BuildGraph.{BuildGraph}
 use Rattle.model.specs.declared.event.Moment.{Moment}
-use Rattle.model.specs.World.{File, file_at}
+use Rattle.model.specs.World.{file_at}
 use Rattle.model.specs.Graph.{has, has_number, edge_at, inputs, maker, outputs, later_number, roots, all_inputs, all_outputs, or_else, targets_of}
 use Rattle.model.specs.OutOfDate.{IsDue, IsMissing, NoneIsMissing, IsFirstMissing}
 use Rattle.model.specs.Records.{recorded_inputs}
-use Rattle.laws.specs.Order.{no_records}
-use Rattle.laws.proofs.Lists.{all_from_has, has-cases}
+use Rattle.build_theory.specs.Order.{no_records}
+use Rattle.build_theory.proofs.Lists.{all_from_has, has-cases}
 use Rattle.graph.specs.declared.cone.Mark.{Mark}
 use Rattle.graph.specs.declared.cone.Mark.TheVariants.{Unseen}
 use Rattle.builder.specs.declared.report.Missing.{Missing}
@@ -142,7 +141,7 @@ found_of edges targets order marks files cone of_targets due are None none = rec
       let place = suc_has order i (cone.all i asked.within) in
       subst (λ (n : ℕ). NoneIsMissing edges files (inputs (edge_at edges n))) place.1
       (none place.0 (in_graph edges (recorded_inputs no_records edges) targets order marks cone place.0 place.2)
-      ((are place.0).1 (place.2, subst (λ (n : ℕ). IsDue edges no_records files n) (sym place.1) asked.due)));
+      ((are place.0).1 (place.2, subst (λ (n : ℕ). IsDue edges no_records [] files n) (sym place.1) asked.due)));
 }
 found_of edges targets order marks files cone of_targets due are (Some missing) first =
     subst (λ (needed : Option (List ℕ)). IsMissingFor edges targets files missing.path needed) (sym {A = Option (List ℕ)} first.needed_by) (
@@ -154,10 +153,10 @@ found_of edges targets order marks files cone of_targets due are (Some missing) 
         lowest = λ k less asked.
             let place = suc_has order k (cone.all k asked.within) in
             subst (λ (n : ℕ). NoneIsMissing edges files (inputs (edge_at edges n))) place.1
-            (first.lowest place.0 (omega (arith, less, place.1)) ((are place.0).1 (place.2, subst (λ (n : ℕ). IsDue edges no_records files n) (sym place.1) asked.due)));
+            (first.lowest place.0 (omega (arith, less, place.1)) ((are place.0).1 (place.2, subst (λ (n : ℕ). IsDue edges no_records [] files n) (sym place.1) asked.due)));
         first = first.first;
       },
     )
   where
-    listed : (has_number order first.edge ≡ true) × IsDue edges no_records files (suc first.edge)
+    listed : (has_number order first.edge ≡ true) × IsDue edges no_records [] files (suc first.edge)
     listed = (are first.edge).0 first.is_due

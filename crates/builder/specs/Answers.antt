@@ -1,5 +1,5 @@
 -- What a build answers, and what it did by then.
-use Rattle.std.specs.Prelude.{◌≡◌, ◌⊎◌, map, ℕ, ◌≤◌, ◌<◌, Bool, true, List, [], ◌++◌, length, count_by, Result, IfErr}
+use Rattle.std.specs.Prelude.{◌≡◌, ◌⊎◌, map, ℕ, ◌<◌, Bool, true, false, List, [], ◌++◌, length, count_by}
 use Rattle.model.specs.declared.graph.Edge.{Edge}
 use Rattle.model.specs.declared.event.Event.{Event}
 use Rattle.model.specs.declared.fault.SiteFault.{SiteFault}
@@ -28,15 +28,21 @@ IsSeen old new Device = old.failures < new.failures
 IsSeen old new Stopped = new.stopped ≡ true
 IsSeen old new Memory = Unit {0}
 
--- a fault has its cause, and no failure is forgotten
-pub record Causes {T : Type 0} (old new : World) (result : Result T SiteFault) : Type 0 where
-  pub grows : old.failures ≤ new.failures
-  pub seen : IfErr result (IsSeen old new)
+-- no call was refused so far, the site has not stopped, and it was not started again
+pub record Unrefused (old now : World) : Type 0 where
+  pub failures : now.failures ≡ old.failures
+  pub began : old.stopped ≡ false
+  pub goes_on : now.stopped ≡ false
+  pub earlier : now.earlier ≡ old.earlier
 
--- calls that only looked since the entry, and forgot no failure
+-- calls that only looked since the entry, and were not refused
 pub record Looked (tells : Bool) (old now : World) : Type 0 where
   pub looks : OnlyLooks tells old now
-  pub failures : old.failures ≤ now.failures
+  pub unrefused : Unrefused old now
+
+-- what was started, was started before any call was refused
+abbrev pub StartsUnrefused : World → World → Type 0
+StartsUnrefused old new = (new.failures_at_start ≡ old.failures_at_start) ⊎ (new.failures_at_start ≡ old.failures)
 
 -- what was started and taken in since the entry
 pub record Ran (edges : List Edge) (old new : World) : Type 0 where

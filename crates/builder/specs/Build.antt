@@ -1,49 +1,42 @@
 -- What `build` promises: what it read, and the build of the graph that it read.
-use Rattle.std.specs.Prelude.{◌≡◌, ◌⊎◌, ℕ, true, Bool, IsTrue, List, [], ◌∷◌, ◌++◌, Option, Some, None, Ok, Err, OnOk}
+use Rattle.std.specs.Prelude.{◌≡◌, ◌⊎◌, ℕ, Bool, IsTrue, List, [], Option, Some, None, Ok, Err, OnOk}
 use Rattle.model.specs.declared.act.Act.{Act}
 use Rattle.model.specs.declared.fault.SiteFault.TheVariants.{Memory}
 use Rattle.model.specs.declared.graph.BuildGraph.{BuildGraph}
 use Rattle.model.specs.declared.graph.Edge.{Edge}
 use Rattle.model.specs.declared.outcome.Outcome.{Outcome}
 use Rattle.model.specs.World.{World, View, IsIdle}
+use Rattle.model.specs.Graph.{Addition}
 use Rattle.model.specs.Calls.{OnlyLooks, HasCause}
 use Rattle.model.specs.Outcome.{Behaviour}
-use Rattle.model.specs.Records.{LogFormat, OwnFiles}
+use Rattle.model.specs.Records.{LogFormat, OwnFiles, IsOwnIn}
 use Rattle.model.specs.Schedule.{Task}
 use Rattle.model.specs.SingleBuild.{Asked, Answer, SingleBuild, task_of}
 use Rattle.model.specs.SingleBuild as answer
 use Rattle.manifest.specs.Answer.{ReadsFile, site_part}
 use Rattle.manifest.specs.declared.fault.ReadError.{ReadError}
-use Rattle.laws.specs.Order.{no_records}
+use Rattle.build_theory.specs.Order.{no_records}
 use Rattle.builder.specs.declared.report.Refusal.TheVariants.{File, MadeTwice, NoDyndepInput, NotTaken, UnknownTarget, Cycle, Missing}
 use Rattle.builder.specs.declared.report.Report.{Report}
 use Rattle.builder.specs.declared.report.Report.TheVariants.{Success, Failed, Refused, Fault}
 use Rattle.builder.specs.Answers.{Looked, unread}
-use Rattle.builder.specs.Asked.{AreTargets}
+use Rattle.builder.specs.Asked.{AreTargets, IsFolder}
 use Rattle.graph.specs.Linked.{path_at}
 use Rattle.builder.specs.Taken.{IsTaken, IsFirstNotTaken}
 use Rattle.graph.specs.Targets.{IsFirstUnknown}
 use Rattle.manifest.specs.Answer.{IsGraph}
 
--- the name .nj_tick
-abbrev pub tick_name : List ℕ
-tick_name = 46 ∷ 110 ∷ 106 ∷ 95 ∷ 116 ∷ 105 ∷ 99 ∷ 107 ∷ []
-
--- the file that gets a new stamp before each start, in the build folder where there is one
-abbrev pub tick_file : List ℕ → List ℕ
-tick_file [] = tick_name
-tick_file (c ∷ folder) = (c ∷ folder) ++ 47 ∷ tick_name
-
 -- no logs are read yet
 abbrev pub no_logs : LogFormat
 no_logs = record { records = λ text. None; deps = λ text. None }
 
--- these canonical targets are built, one command at a time, and nothing is started after a failed one
-abbrev pub asked_of : BuildGraph → List (List ℕ) → Asked
-asked_of graph targets = record { graph = graph; declared = graph.edges; targets = targets; jobs = 1; keep = 1 }
+-- these canonical targets are built, one command at a time, and nothing is started after a failed one; own files lie in this folder
+abbrev pub asked_of : BuildGraph → List ℕ → List (List ℕ) → Asked
+asked_of graph folder targets = record { graph = graph; declared = graph.edges; targets = targets; folder = folder; jobs = 1; keep = 1 }
 
+-- what is to be built, wherever own files lie
 abbrev pub task_for : BuildGraph → List (List ℕ) → Task
-task_for graph targets = task_of (asked_of graph targets) no_records
+task_for graph targets = task_of (asked_of graph [] targets) no_records
 
 abbrev pub missing_answer : List ℕ → Option (List ℕ) → Answer
 missing_answer path None = answer.MissingTarget path
@@ -78,25 +71,17 @@ pub record IsNotTaken (tells : Bool) (edges : List Edge) (old new : World) (repo
   pub looks : OnlyLooks tells old new
 
 -- the graph was built, and the report says how
-pub record Builds (tells : Bool) (B : Behaviour) (own : OwnFiles) (graph : BuildGraph) (given targets : List (List ℕ)) (old new : World) (report : Report) : Type 0 where
+pub record Builds (tells : Bool) (B : Behaviour) (own : OwnFiles) (graph : BuildGraph) (folder : List ℕ) (given targets : List (List ℕ)) (old new : World) (report : Report) : Type 0 where
   pub taken : IsTaken graph.edges ⊎ IsNotTaken tells graph.edges old new report
   pub answer : Answer
   pub said : Says graph.edges given targets report answer
-  pub build : SingleBuild tells B no_logs own (asked_of graph targets) old new answer
+  pub build : SingleBuild tells B no_logs own (asked_of graph folder targets) old new answer
 
--- it was built from an entry on, since which there was only looked, for any own files of the program that the file of the
--- ticks belongs to
-abbrev pub BuildsFor : Bool → BuildGraph → List (List ℕ) → List (List ℕ) → World → World → Report → Type 0
-BuildsFor tells graph given targets old new report =
-    (B : Behaviour) (own : OwnFiles) (entry : World) → own.files (tick_file graph.builddir) ≡ true → IsIdle entry.events → Looked tells entry old
-    → Builds tells B own graph given targets entry new report
-
--- commands run at the exit only under a fault
-abbrev pub IsIdleButAtFault : World → Report → Type 0
-IsIdleButAtFault new (Success started) = IsIdle new.events
-IsIdleButAtFault new (Failed outputs) = IsIdle new.events
-IsIdleButAtFault new (Refused refusal) = IsIdle new.events
-IsIdleButAtFault new (Fault fault) = Unit {0}
+-- it was built from an entry on, since which there was only looked, for any own files of the program that lie in this folder
+abbrev pub BuildsFor : Bool → BuildGraph → List ℕ → List (List ℕ) → List (List ℕ) → World → World → Report → Type 0
+BuildsFor tells graph folder given targets old new report =
+    (B : Behaviour) (own : OwnFiles) (entry : World) → IsOwnIn own folder → IsIdle entry.events → Looked tells entry old
+    → Builds tells B own graph folder given targets entry new report
 
 -- the files were not read, or there was no memory for what was asked: the site was only looked at, and the report is of the
 -- reader's error, or of such a one
@@ -107,8 +92,8 @@ pub record IsUnread (tells : Bool) (name : List ℕ) (old new : World) (report :
   pub cause : HasCause old new (site_part {T = BuildGraph} (Err error))
   pub file : IsTrue tells → OnOk (site_part {T = BuildGraph} (Err error)) (ReadsFile name old.history new.history (Err error))
 
--- The file of this name was read, and the graph that it declares was built: for any own files of the program that the file
--- of the ticks belongs to, whatever depfiles say, as no edge has one.
+-- The file of this name was read, and the graph that it declares was built: for any own files of the program that lie in the
+-- folder which `builddir` names, and whatever depfiles and dyndep files say, as no edge has one.
 pub record IsBuilt (tells : Bool) (outcome : Act → View → Outcome) (name : List ℕ) (given : List (List ℕ)) (old new : World) (report : Report) : Type 0 where
   pub graph : BuildGraph
   pub formed : IsGraph graph
@@ -116,8 +101,10 @@ pub record IsBuilt (tells : Bool) (outcome : Act → View → Outcome) (name : L
   -- the canonical paths of the targets
   pub targets : List (List ℕ)
   pub canonical : AreTargets given targets
-  pub builds : (own : OwnFiles) (depfile : List ℕ → Option (List (List ℕ))) → own.files (tick_file graph.builddir) ≡ true
-      → Builds tells (record { outcome = outcome; depfile = depfile }) own graph given targets old new report
+  pub folder : List ℕ
+  pub in_folder : IsFolder graph.builddir folder
+  pub builds : (own : OwnFiles) (depfile : List ℕ → Option (List (List ℕ))) (dyndep : List ℕ → Option (List Addition)) → IsOwnIn own folder
+      → Builds tells (record { outcome = outcome; depfile = depfile; dyndep = dyndep }) own graph folder given targets old new report
 
 abbrev pub IsBuild : Bool → (Act → View → Outcome) → List ℕ → List (List ℕ) → World → World → Report → Type 0
 IsBuild tells outcome name given old new report = IsUnread tells name old new report ⊎ IsBuilt tells outcome name given old new report

@@ -3,12 +3,13 @@ use Rattle.std.specs.Prelude.{◌≡◌, ℕ, ◌≤◌, ◌<◌, Bool, true, fa
 use Rattle.model.specs.declared.fault.SiteFault.{SiteFault}
 use Rattle.model.specs.declared.fault.SiteFault.TheVariants.{Device, Stopped, Memory}
 use Rattle.model.specs.World.{World, runs, IsIdle}
+use Rattle.model.specs.Calls.{HasCause, is_stop}
 use Rattle.builder.specs.declared.cut.Cut.{Cut}
 use Rattle.builder.specs.declared.cut.Cut.TheVariants.{Waiting, Other}
 use Rattle.builder.specs.declared.plan.Standing.{Standing}
 use Rattle.builder.specs.declared.report.Report.{Report}
 use Rattle.builder.specs.declared.report.Report.TheVariants.{Fault}
-use Rattle.builder.specs.Answers.{IsSeen}
+use Rattle.builder.specs.Answers.{StartsUnrefused}
 use Rattle.builder.specs.Plan.{is_running}
 
 abbrev pub fault_of : Cut → SiteFault
@@ -34,11 +35,27 @@ IsOfWait (Other Device) = ⊥
 IsOfWait (Other Stopped) = ⊥
 IsOfWait (Other Memory) = Unit {0}
 
--- a fault has its cause, no failure is forgotten, and a wait is refused only where commands run
+-- the answer that the site gave
+abbrev pub site_answer : {T : Type 0} → Result T Cut → Result T SiteFault
+site_answer (Ok value) = Ok value
+site_answer (Err cut) = Err (fault_of cut)
+
+-- a fault has its cause, nothing is started after one, and a wait is refused only where commands run
 pub record Cuts {T : Type 0} (standings : List Standing) (old new : World) (result : Result T Cut) : Type 0 where
-  pub grows : old.failures ≤ new.failures
-  pub seen : IfErr result (λ cut. IsSeen old new (fault_of cut))
+  pub cause : HasCause old new (site_answer result)
+  pub starts : StartsUnrefused old new
   pub waits : IfErr result (λ cut. IfWaiting cut (0 < count_by is_running standings))
+
+-- the site has stopped exactly where this is the fault
+abbrev pub IsStoppedBy : World → Cut → Type 0
+IsStoppedBy world cut = world.stopped ≡ is_stop {T = Unit {0}} (Err (fault_of cut))
+
+-- after a fault nothing was started, no failure was forgotten, and the fault is that the site has stopped exactly where it has
+pub record TakesIn (old new : World) (cut : Cut) : Type 0 where
+  pub grows : old.failures ≤ new.failures
+  pub at_start : new.failures_at_start ≡ old.failures_at_start
+  pub stopped : IsStoppedBy new cut
+  pub earlier : new.earlier ≡ old.earlier
 
 -- What is left when a fault has ended a build: no command runs, unless a wait was refused; a site that has stopped would
 -- refuse each.

@@ -1,21 +1,18 @@
 -- How a build ends that ran commands.
-use Rattle.std.specs.Prelude.{◌≡◌, ℕ, ◌≤◌, Bool, List, [], map, length}
+use Rattle.std.specs.Prelude.{◌≡◌, Bool, List, [], map, length}
 use Rattle.model.specs.declared.graph.Edge.{Edge}
-use Rattle.model.specs.declared.graph.BuildGraph.{BuildGraph}
 use Rattle.model.specs.World.{World}
-use Rattle.model.specs.Calls.{OnlyLooks}
 use Rattle.model.specs.Graph.{edge_at, first_output}
-use Rattle.model.specs.Records.{OwnFiles, recorded_inputs}
-use Rattle.model.specs.Schedule.{Task, Step as Done, clean_in, well_in, failed_in}
-use Rattle.laws.specs.Order.{no_records}
-use Rattle.laws.specs.Run.{IsRun, IsRunOrRest}
-use Rattle.graph.specs.declared.cone.Cone.{Cone}
+use Rattle.model.specs.Records.{OwnFiles}
+use Rattle.model.specs.Schedule.{Task, Step as Done, IsLawful, clean_in, well_in, failed_in}
+use Rattle.model.specs.SingleBuild.{Answer}
+use Rattle.model.specs.SingleBuild as answer
+use Rattle.build_theory.specs.Run.{IsRun, IsRunOrRest}
 use Rattle.builder.specs.declared.plan.End.TheVariants as ending
 use Rattle.builder.specs.declared.plan.Step.TheVariants.{Ended as Over}
 use Rattle.builder.specs.declared.report.Report.{Report}
 use Rattle.builder.specs.declared.report.Report.TheVariants.{Success, Failed, Refused, Fault}
 use Rattle.builder.specs.Answers.{IsSeen}
-use Rattle.graph.specs.Targets.{IsConeFor}
 use Rattle.builder.specs.Planned.{IsNextOf}
 
 -- what a report says of the steps
@@ -34,9 +31,17 @@ EndsRun tells own task steps old new (Failed outputs) =
 EndsRun tells own task steps old new (Refused refusal) = ⊥
 EndsRun tells own task steps old new (Fault fault) = IsSeen old new fault
 
+-- what a run answers
+abbrev pub run_answer : Report → Answer
+run_answer (Success started) = answer.Success started
+run_answer (Failed outputs) = answer.Failed outputs
+run_answer (Refused refusal) = answer.Refused
+run_answer (Fault fault) = answer.Fault fault
+
 -- commands were run, and the report says how that ended
 pub record HasRun (tells : Bool) (own : OwnFiles) (task : Task) (old new : World) (report : Report) : Type 0 where
   pub steps : List Done
+  pub lawful : IsLawful task steps
   pub rest : IsRunOrRest tells own task steps old new
   pub stale : clean_in steps ≡ []
   pub ends : EndsRun tells own task steps old new report

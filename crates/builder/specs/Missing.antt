@@ -10,7 +10,7 @@ use Rattle.model.specs.declared.graph.Edge.{Edge}
 use Rattle.model.specs.World.{World, file_at}
 use Rattle.model.specs.Graph.{has_number, edge_at, inputs, outputs, first_output, IsCommand}
 use Rattle.model.specs.OutOfDate.{IsDue, NoneIsMissing, IsFirstMissing, NothingIsMissing, IsMissingInput}
-use Rattle.laws.specs.Order.{no_records}
+use Rattle.build_theory.specs.Order.{no_records}
 use Rattle.graph.specs.declared.graph.Graph.{Graph}
 use Rattle.builder.specs.declared.report.Missing.{Missing}
 use Rattle.graph.specs.Cone.{inputs_at, regular_at, phony_at}
@@ -31,11 +31,11 @@ IfStays tells old new So = IsTrue tells → (files : List Moment) → StaysAt fi
 abbrev pub IsMissingFor : List Edge → List (List ℕ) → List Moment → List ℕ → Option (List ℕ) → Type 0
 IsMissingFor edges targets files path None = IsFirstMissing edges files targets path
 IsMissingFor edges targets files path (Some output) =
-    (i : ℕ) × (output ≡ first_output (edge_at edges i)) × IsMissingInput edges no_records files targets i path
+    (i : ℕ) × (output ≡ first_output (edge_at edges i)) × IsMissingInput edges no_records [] files targets i path
 
 -- what is told of a missing source before anything runs
 abbrev pub IsFound : List Edge → List (List ℕ) → List Moment → Option Missing → Type 0
-IsFound edges targets files None = NothingIsMissing edges no_records files targets
+IsFound edges targets files None = NothingIsMissing edges no_records [] files targets
 IsFound edges targets files (Some missing) = IsMissingFor edges targets files missing.path missing.needed_by
 
 abbrev pub HaveOutputs : List Edge → Type 0
@@ -48,7 +48,7 @@ due_at due e = slice_index_or due e false
 
 -- just the listed edges that are due
 abbrev pub AreDue : List Edge → List Moment → List ℕ → List Bool → Type 0
-AreDue edges files listed due = (e : ℕ) → (due_at due e ≡ true) ↔ ((has_number listed e ≡ true) × IsDue edges no_records files (suc e))
+AreDue edges files listed due = (e : ℕ) → (due_at due e ≡ true) ↔ ((has_number listed e ≡ true) × IsDue edges no_records [] files (suc e))
 
 abbrev pub is_absent : List Moment → List ℕ → Bool
 is_absent files p = is_none (file_at files p)

@@ -7,8 +7,8 @@ use Rattle.model.specs.declared.event.Event.{Event}
 use Rattle.model.specs.declared.event.Event.TheVariants.{Start, Finish}
 use Rattle.model.specs.World.{World}
 use Rattle.model.specs.Records.{OwnFiles}
-use Rattle.model.specs.Schedule.{Task, Step as Done, clean_in, failed_in}
-use Rattle.laws.specs.Run.{IsRun, IsRunOrRest}
+use Rattle.model.specs.Schedule.{Task, Step as Done, IsLawful, clean_in, failed_in}
+use Rattle.build_theory.specs.Run.{IsRun, IsRunOrRest}
 use Rattle.builder.specs.declared.plan.Standing.{Standing}
 use Rattle.builder.specs.declared.plan.Standing.TheVariants.{Outside, Unjudged, Clean, OutOfDate, Running, Well, Failed}
 use Rattle.builder.specs.declared.plan.Plan.{Plan}
@@ -148,6 +148,7 @@ pub record IsOver (tells : Bool) (own : OwnFiles) (task : Task) (plan : Plan) (f
 -- where a fault has left a build
 pub record IsCut (tells : Bool) (own : OwnFiles) (task : Task) (old now : World) : Type 0 where
   pub steps : List Done
+  pub lawful : IsLawful task steps
   pub rest : IsRunOrRest tells own task steps old now
   pub stale : clean_in steps ≡ []
 

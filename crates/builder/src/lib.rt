@@ -1,6 +1,7 @@
 //! One build: reads the build files, decides which commands are needed, and runs them.
 #![tactic(auto)]
 
+mod asked;
 mod cut;
 mod due;
 mod missing;
@@ -10,7 +11,6 @@ mod report;
 mod run;
 mod start;
 mod taken;
-mod targets;
 
 pub use one_build::build;
 pub use report::{Missing, Options, Refusal, Report};

@@ -1,14 +1,13 @@
 //! Whether a path is absent that no edge makes.
 
-ghost use Rattle.std.specs.Prelude.{◌≡◌, ◌≢◌, ◌↔◌, ℕ, Bool, suc, ◌<◌, true, List, Some, None, map, IfOk, length, vec_len, slice_index, EachIndex, MatchOption};
+ghost use Rattle.std.specs.Prelude.{◌≡◌, ◌≢◌, ◌↔◌, ℕ, Bool, suc, ◌<◌, true, List, Some, None, map, IfOk, length, vec_len, slice_index, EachIndex, MatchOption, false};
 ghost use Rattle.model.specs.declared.graph.BuildGraph.{BuildGraph};
-ghost use Rattle.model.specs.Calls.{OnlyLooks};
+ghost use Rattle.model.specs.Calls.{OnlyLooks, HasCause};
 ghost use Rattle.model.specs.World.{file_at};
 ghost use Rattle.model.specs.Graph.{edge_at, first_output, targets_of};
 ghost use Rattle.model.specs.OutOfDate.{IsMissing};
 ghost use Rattle.model.specs.Records.{recorded_inputs};
-ghost use Rattle.laws.specs.Order.{no_records};
-ghost use Rattle.builder.specs.Answers.{Causes};
+ghost use Rattle.build_theory.specs.Order.{no_records};
 ghost use Rattle.graph.specs.Cone.{inputs_at};
 ghost use Rattle.graph.specs.Linked.{IsGraphOf, IsGraphFor, IsConeOf, path_at, paths_of};
 ghost use Rattle.graph.specs.Targets.{IsConeFor};
@@ -32,11 +31,12 @@ pub fn first_missing<S: Site>(
     cone: &Cone,
     targets: &[Path],
 ) -> Result<Option<Missing>, SiteFault>
+    requires running { (S.world site.old).stopped ≡ false }
     requires graph { IsGraphFor whole.now graph.now }
     requires cone { IsConeFor whole.now (recorded_inputs no_records whole.now.edges) targets.now cone.now }
     requires outputs { HaveOutputs whole.now.edges }
     ensures looks { OnlyLooks S.tells (S.world site.old) (S.world site.new) }
-    ensures cause { Causes (S.world site.old) (S.world site.new) result }
+    ensures cause { HasCause (S.world site.old) (S.world site.new) result }
     ensures found { IfOk result (λ found. IfStays S.tells (S.world site.old) (S.world site.new) (λ files. IsFound whole.now.edges (targets_of whole.now targets.now) files found)) }
 {
     match missing_target(site, graph, requested(whole, targets))? {
@@ -65,8 +65,9 @@ fn missing_target<'a, S: Site>(
     graph: &Graph<'_>,
     targets: &'a [Path],
 ) -> Result<Option<&'a Path>, SiteFault>
+    requires running { (S.world site.old).stopped ≡ false }
     ensures looks { OnlyLooks S.tells (S.world site.old) (S.world site.new) }
-    ensures cause { Causes (S.world site.old) (S.world site.new) result }
+    ensures cause { HasCause (S.world site.old) (S.world site.new) result }
     ensures found { IfOk result (λ found. (whole : BuildGraph) → IsGraphFor whole graph.now → IfStays S.tells (S.world site.old) (S.world site.new) (λ files. IsMissingOf whole.edges files targets.now found)) }
 {
     for target in targets {
@@ -79,8 +80,9 @@ fn missing_target<'a, S: Site>(
 
 /// Whether the path is absent and no edge makes it.
 fn is_missing<S: Site>(site: &mut S, graph: &Graph<'_>, path: &str) -> Result<bool, SiteFault>
+    requires running { (S.world site.old).stopped ≡ false }
     ensures looks { OnlyLooks S.tells (S.world site.old) (S.world site.new) }
-    ensures cause { Causes (S.world site.old) (S.world site.new) result }
+    ensures cause { HasCause (S.world site.old) (S.world site.new) result }
     ensures missing { IfOk result (λ is. (whole : BuildGraph) → IsGraphFor whole graph.now → IfStays S.tells (S.world site.old) (S.world site.new) (λ files. (is ≡ true) ↔ IsMissing whole.edges files path.now)) }
 {
     match graph.maker_of(path) {
@@ -97,11 +99,12 @@ fn missing_of_cone<S: Site>(
     graph: &Graph<'_>,
     cone: &Cone,
 ) -> Result<Option<Missing>, SiteFault>
+    requires running { (S.world site.old).stopped ≡ false }
     requires graph { IsGraphOf edges.now (paths_of graph.now) graph.now.links }
     requires cone { (targets : List (List ℕ)) × IsConeOf edges.now (recorded_inputs no_records edges.now) targets cone.now.order.items cone.now.marks.items }
     requires outputs { HaveOutputs edges.now }
     ensures looks { OnlyLooks S.tells (S.world site.old) (S.world site.new) }
-    ensures cause { Causes (S.world site.old) (S.world site.new) result }
+    ensures cause { HasCause (S.world site.old) (S.world site.new) result }
     ensures found { IfOk result (λ found. IfStays S.tells (S.world site.old) (S.world site.new) (λ files. (due : List Bool) × AreDue edges.now files cone.now.order.items due × IsFoundOfDue edges.now due files found)) }
 {
     let due = due_edges(alloc, site, edges, graph, cone)?;
@@ -116,10 +119,11 @@ fn missing_of_due<S: Site>(
     graph: &Graph<'_>,
     due: &[bool],
 ) -> Result<Option<Missing>, SiteFault>
+    requires running { (S.world site.old).stopped ≡ false }
     requires graph { IsGraphOf edges.now (paths_of graph.now) graph.now.links }
     requires fits { length due.now ≡ length edges.now }
     ensures looks { OnlyLooks S.tells (S.world site.old) (S.world site.new) }
-    ensures cause { Causes (S.world site.old) (S.world site.new) result }
+    ensures cause { HasCause (S.world site.old) (S.world site.new) result }
     ensures found { IfOk result (λ found. IfStays S.tells (S.world site.old) (S.world site.new) (λ files. IsFoundOfDue edges.now due.now files found)) }
 {
     let mut asked = vec![in alloc; false; graph.paths.len()]?;
@@ -139,12 +143,13 @@ fn missing_of_edge<'a, S: Site>(
     edge: usize,
     asked: &mut [bool],
 ) -> Result<Option<&'a str>, SiteFault>
+    requires running { (S.world site.old).stopped ≡ false }
     requires edges { edge < vec_len graph.now.links.inputs }
     requires fits { edge < length due.now }
     requires numbered { EachIndex (inputs_at graph.now.links edge) (λ k. slice_index (inputs_at graph.now.links edge) k < length (paths_of graph.now)) }
     requires places { length asked.old ≡ length (paths_of graph.now) }
     ensures looks { OnlyLooks S.tells (S.world site.old) (S.world site.new) }
-    ensures cause { Causes (S.world site.old) (S.world site.new) result }
+    ensures cause { HasCause (S.world site.old) (S.world site.new) result }
     ensures places { length asked.new ≡ length asked.old }
     ensures found { IfOk result (λ found. IfStays S.tells (S.world site.old) (S.world site.new) (λ files. AreThere graph.now files asked.old →
         MatchOption found (AreThere graph.now files asked.new × IsClearOf graph.now files due.now edge) (λ text. (due_at due.now edge ≡ true) × IsFirstAbsent graph.now files (inputs_at graph.now.links edge) text.now))) }
@@ -163,10 +168,11 @@ fn missing_input<'a, S: Site>(
     inputs: &[usize],
     asked: &mut [bool],
 ) -> Result<Option<&'a str>, SiteFault>
+    requires running { (S.world site.old).stopped ≡ false }
     requires numbered { EachIndex inputs.now (λ k. slice_index inputs.now k < length (paths_of graph.now)) }
     requires places { length asked.old ≡ length (paths_of graph.now) }
     ensures looks { OnlyLooks S.tells (S.world site.old) (S.world site.new) }
-    ensures cause { Causes (S.world site.old) (S.world site.new) result }
+    ensures cause { HasCause (S.world site.old) (S.world site.new) result }
     ensures places { length asked.new ≡ length asked.old }
     ensures found { IfOk result (λ found. IfStays S.tells (S.world site.old) (S.world site.new) (λ files. AreThere graph.now files asked.old →
         MatchOption found (AreThere graph.now files asked.new × NoneAbsent graph.now files inputs.now (length inputs.now)) (λ text. IsFirstAbsent graph.now files inputs.now text.now))) }
@@ -186,10 +192,11 @@ fn ask<'a, S: Site>(
     path: usize,
     asked: &mut [bool],
 ) -> Result<Option<&'a str>, SiteFault>
+    requires running { (S.world site.old).stopped ≡ false }
     requires within { path < length (paths_of graph.now) }
     requires places { length asked.old ≡ length (paths_of graph.now) }
     ensures looks { OnlyLooks S.tells (S.world site.old) (S.world site.new) }
-    ensures cause { Causes (S.world site.old) (S.world site.new) result }
+    ensures cause { HasCause (S.world site.old) (S.world site.new) result }
     ensures places { length asked.new ≡ length asked.old }
     ensures found { IfOk result (λ found. IfStays S.tells (S.world site.old) (S.world site.new) (λ files. AreThere graph.now files asked.old →
         MatchOption found (AreThere graph.now files asked.new × (IsAbsent graph.now files path → ⊥)) (λ text. IsAbsent graph.now files path × (text.now ≡ path_at (paths_of graph.now) path)))) }
@@ -203,7 +210,7 @@ fn ask<'a, S: Site>(
 /// The path, where it is absent.
 fn missing_text<'a, S: Site>(site: &mut S, path: &'a str) -> Result<Option<&'a str>, SiteFault>
     ensures looks { OnlyLooks S.tells (S.world site.old) (S.world site.new) }
-    ensures cause { Causes (S.world site.old) (S.world site.new) result }
+    ensures cause { HasCause (S.world site.old) (S.world site.new) result }
     ensures found { IfOk result (λ found. IfStays S.tells (S.world site.old) (S.world site.new) (λ files.
         MatchOption found (file_at files path.now ≢ None) (λ text. (file_at files path.now ≡ None) × (text.now ≡ path.now)))) }
 {

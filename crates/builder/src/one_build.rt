@@ -1,12 +1,14 @@
 //! One build.
 
-ghost use Rattle.std.specs.Prelude.{◌≡◌, ◌⊎◌, ℕ, true, List, IfOk, IfErr, OnErr, [], string_bytes, length, map, suc};
+ghost use Rattle.std.specs.Prelude.{◌≡◌, ◌⊎◌, ℕ, List, IfOk, IfErr, OnErr, [], false, string_bytes, length, map, suc};
+ghost use Rattle.model.specs.declared.graph.BuildGraph.{BuildGraph};
 ghost use Rattle.model.specs.declared.graph.Edge.{Edge};
 ghost use Rattle.model.specs.World.{World, IsIdle};
 ghost use Rattle.model.specs.Graph.{first_output};
-ghost use Rattle.model.specs.Records.{OwnFiles, recorded_inputs};
+ghost use Rattle.model.specs.Records.{OwnFiles, IsOwnIn, file_in, tick_name, recorded_inputs};
+ghost use Rattle.model.specs.SingleBuild.{PassesNoFault};
 ghost use Rattle.model.specs.Schedule.{Task, Step as Done, IsLawful, failed_in};
-ghost use Rattle.laws.specs.Order.{no_records};
+ghost use Rattle.build_theory.specs.Order.{no_records};
 ghost use Rattle.builder.specs.Plan.{IsFresh};
 ghost use Rattle.builder.specs.PlanOf.{IsPlanOf};
 ghost use Rattle.graph.specs.Linked.{path_at, paths_of, IsGraphFor};
@@ -14,40 +16,44 @@ ghost use Rattle.graph.specs.Targets.{IsConeFor};
 ghost use Rattle.builder.specs.Run.{IsAt, IsNoted, Suits, IsCut};
 ghost use Rattle.builder.specs.Answers.{Answers, Looked, Reports, unread, ungraphed, Uncut};
 ghost use Rattle.builder.specs.Cut.{Cuts, IsLeft, report_of};
-ghost use Rattle.builder.specs.Build.{tick_file, task_for, BuildsFor, IsBuild, IsIdleButAtFault};
-ghost use Rattle.builder.specs.Ended.{ReportsSteps, HasRun};
+ghost use Rattle.builder.specs.Build.{task_for, BuildsFor, IsBuild};
+ghost use Rattle.builder.specs.Ended.{ReportsSteps, HasRun, run_answer};
 ghost use Rattle.builder.specs.Taken.{IsTaken};
 ghost use Rattle.manifest.specs.Answer.{IsGraph};
 
+use crate::asked::Asked;
 use crate::cut::Cut;
 use crate::missing::{first_missing, first_output, first_outputs};
 use crate::plan::{End, Plan};
 use crate::report::{Options, Refusal, Report};
 use crate::run::{end_after_fault, run};
 use crate::taken::first_not_taken;
-use crate::targets::Targets;
-use graph::{Cone, ConeFault, Graph, GraphFault};
-use manifest::{Manifest, ReadError};
+use graph::{Cone, ConeFault, Graph, GraphFault, links_are_makers};
+use manifest::{Manifest, ReadError, reads_longer};
 use model::{Edge, SiteFault};
 use site::Site;
 use std::alloc::{AllocError, Global};
-use text::Text;
+use text::{Path, Text};
 
 /// The file that gets a new stamp before each start.
 const TICK: &str = ".nj_tick";
 
 /// Builds the targets, or the default ones where none is given (manual: "Default target statements").
 ///
-/// A refusal has started and written nothing. `NotTaken` goes before every other refusal of the graph.
+/// A refusal has started and written nothing. `NotTaken` goes before every other refusal of the graph. Where a call was
+/// refused, a fault is answered, and nothing was started after it; where the site has stopped, that is the fault. The file
+/// that gets new stamps lies in the folder of `builddir` (manual: "Top-level variables").
 pub fn build<S: Site>(alloc: Global, site: &mut S, options: &Options, targets: &[Text]) -> Report
     requires { IsIdle (S.world site.old).events }
     ensures answers { (edges : List Edge) × Answers S.tells edges (S.world site.old) (S.world site.new) result }
-    ensures idle { IsIdleButAtFault (S.world site.new) result }
     ensures build { IsBuild S.tells S.outcome options.now.file targets.now (S.world site.old) (S.world site.new) result }
 {
     match manifest::read(alloc, site, options.file.as_str()) {
-        Ok(manifest) => match Targets::new(alloc, targets) {
-            Ok(targets) => build_manifest(alloc, site, &manifest, &targets),
+        Ok(manifest) => match Asked::new(alloc, targets, &manifest.builddir) {
+            Ok(asked) => {
+                reads_longer();
+                build_manifest(alloc, site, &manifest, &asked)
+            }
             Err(_) => Report::Fault(SiteFault::Memory),
         },
         Err(error) => not_read(error),
@@ -70,16 +76,17 @@ fn build_manifest<S: Site>(
     alloc: Global,
     site: &mut S,
     manifest: &Manifest,
-    targets: &Targets<'_>,
+    asked: &Asked<'_>,
 ) -> Report
     requires idle { IsIdle (S.world site.old).events }
+    requires running { (S.world site.old).stopped ≡ false }
     requires formed { IsGraph manifest.now }
     ensures answers { Answers S.tells manifest.now.edges (S.world site.old) (S.world site.new) result }
-    ensures builds { BuildsFor S.tells manifest.now targets.now.given.now targets.now.paths (S.world site.old) (S.world site.new) result }
+    ensures builds { BuildsFor S.tells manifest.now asked.now.folder asked.now.given.now asked.now.targets (S.world site.old) (S.world site.new) result }
 {
     match first_not_taken(manifest.edges.as_slice()) {
         Some(edge) => not_taken(alloc, edge),
-        None => build_taken(alloc, site, manifest, targets),
+        None => build_taken(alloc, site, manifest, asked),
     }
 }
 
@@ -98,16 +105,17 @@ fn build_taken<S: Site>(
     alloc: Global,
     site: &mut S,
     manifest: &Manifest,
-    targets: &Targets<'_>,
+    asked: &Asked<'_>,
 ) -> Report
     requires idle { IsIdle (S.world site.old).events }
+    requires running { (S.world site.old).stopped ≡ false }
     requires formed { IsGraph manifest.now }
     requires taken { IsTaken manifest.now.edges }
     ensures answers { Answers S.tells manifest.now.edges (S.world site.old) (S.world site.new) result }
-    ensures builds { BuildsFor S.tells manifest.now targets.now.given.now targets.now.paths (S.world site.old) (S.world site.new) result }
+    ensures builds { BuildsFor S.tells manifest.now asked.now.folder asked.now.given.now asked.now.targets (S.world site.old) (S.world site.new) result }
 {
     match Graph::build(alloc, manifest) {
-        Ok(graph) => build_graph(alloc, site, manifest, &graph, targets),
+        Ok(graph) => build_graph(alloc, site, manifest, &graph, asked),
         Err(fault) => no_graph(fault),
     }
 }
@@ -129,18 +137,19 @@ fn build_graph<S: Site>(
     site: &mut S,
     manifest: &Manifest,
     graph: &Graph<'_>,
-    targets: &Targets<'_>,
+    asked: &Asked<'_>,
 ) -> Report
     requires idle { IsIdle (S.world site.old).events }
+    requires running { (S.world site.old).stopped ≡ false }
     requires formed { IsGraph manifest.now }
     requires taken { IsTaken manifest.now.edges }
     requires graph { IsGraphFor manifest.now graph.now }
     ensures answers { Answers S.tells manifest.now.edges (S.world site.old) (S.world site.new) result }
-    ensures builds { BuildsFor S.tells manifest.now targets.now.given.now targets.now.paths (S.world site.old) (S.world site.new) result }
+    ensures builds { BuildsFor S.tells manifest.now asked.now.folder asked.now.given.now asked.now.targets (S.world site.old) (S.world site.new) result }
 {
-    match graph.cone(alloc, targets.paths.as_slice()) {
-        Ok(cone) => build_cone(alloc, site, manifest, graph, &cone, targets),
-        Err(fault) => no_cone(alloc, graph, targets.given, fault),
+    match graph.cone(alloc, asked.targets.as_slice()) {
+        Ok(cone) => build_cone(alloc, site, manifest, graph, &cone, asked),
+        Err(fault) => no_cone(alloc, graph, asked.given, fault),
     }
 }
 
@@ -184,18 +193,19 @@ fn build_cone<S: Site>(
     manifest: &Manifest,
     graph: &Graph<'_>,
     cone: &Cone,
-    targets: &Targets<'_>,
+    asked: &Asked<'_>,
 ) -> Report
     requires idle { IsIdle (S.world site.old).events }
+    requires running { (S.world site.old).stopped ≡ false }
     requires formed { IsGraph manifest.now }
     requires taken { IsTaken manifest.now.edges }
     requires graph { IsGraphFor manifest.now graph.now }
-    requires cone { IsConeFor manifest.now (recorded_inputs no_records manifest.now.edges) targets.now.paths cone.now }
+    requires cone { IsConeFor manifest.now (recorded_inputs no_records manifest.now.edges) asked.now.targets cone.now }
     ensures answers { Answers S.tells manifest.now.edges (S.world site.old) (S.world site.new) result }
-    ensures builds { BuildsFor S.tells manifest.now targets.now.given.now targets.now.paths (S.world site.old) (S.world site.new) result }
+    ensures builds { BuildsFor S.tells manifest.now asked.now.folder asked.now.given.now asked.now.targets (S.world site.old) (S.world site.new) result }
 {
-    match first_missing(alloc, site, manifest, graph, cone, targets.paths.as_slice()) {
-        Ok(None) => run_cone(alloc, site, manifest, graph, cone),
+    match first_missing(alloc, site, manifest, graph, cone, asked.targets.as_slice()) {
+        Ok(None) => run_cone(alloc, site, manifest, graph, cone, &asked.folder),
         Ok(Some(missing)) => Report::Refused(Refusal::Missing(missing)),
         Err(fault) => Report::Fault(fault),
     }
@@ -208,16 +218,19 @@ fn run_cone<S: Site>(
     manifest: &Manifest,
     graph: &Graph<'_>,
     cone: &Cone,
+    folder: &Path,
 ) -> Report
     requires idle { IsIdle (S.world site.old).events }
+    requires running { (S.world site.old).stopped ≡ false }
     requires taken { IsTaken manifest.now.edges }
     requires graph { IsGraphFor manifest.now graph.now }
     requires cone { (targets : List (List ℕ)) × IsConeFor manifest.now (recorded_inputs no_records manifest.now.edges) targets cone.now }
     ensures answers { Answers S.tells manifest.now.edges (S.world site.old) (S.world site.new) result }
-    ensures ran { (targets : List (List ℕ)) (own : OwnFiles) (entry : World) → IsConeFor manifest.now (recorded_inputs no_records manifest.now.edges) targets cone.now → own.files (tick_file manifest.now.builddir) ≡ true → IsIdle entry.events → Looked S.tells entry (S.world site.old) → HasRun S.tells own (task_for manifest.now targets) entry (S.world site.new) result }
+    ensures ran { (targets : List (List ℕ)) (own : OwnFiles) (entry : World) → IsConeFor manifest.now (recorded_inputs no_records manifest.now.edges) targets cone.now → IsOwnIn own folder.now → IsIdle entry.events → Looked S.tells entry (S.world site.old) → HasRun S.tells own (task_for manifest.now targets) entry (S.world site.new) result }
+    ensures faults { PassesNoFault (S.world site.old) (S.world site.new) (run_answer result) }
 {
     let edges = manifest.edges.as_slice();
-    match set_up(alloc, manifest, graph, cone) {
+    match set_up(alloc, graph, cone, folder) {
         Ok((tick, mut plan)) => report_of(run_plan(alloc, site, edges, tick.as_str(), &mut plan)),
         Err(_) => Report::Fault(SiteFault::Memory),
     }
@@ -236,20 +249,19 @@ fn report_of(ended: Result<Report, Cut>) -> Report
 /// The path of the file that gets new stamps, and a plan in which nothing is judged yet.
 fn set_up<'a>(
     alloc: Global,
-    manifest: &Manifest,
     graph: &'a Graph<'_>,
     cone: &Cone,
+    folder: &Path,
 ) -> Result<(String, Plan<'a>), AllocError>
-    requires taken { IsTaken manifest.now.edges }
-    requires graph { IsGraphFor manifest.now graph.now }
-    requires cone { (targets : List (List ℕ)) × IsConeFor manifest.now (recorded_inputs no_records manifest.now.edges) targets cone.now }
-    ensures fits { IfOk result (λ found. length found.1.standings.items ≡ length manifest.now.edges) }
+    requires { length cone.now.marks.items ≡ length graph.now.links.inputs.items }
+    ensures fits { IfOk result (λ found. length found.1.standings.items ≡ length graph.now.links.inputs.items) }
     ensures fresh { IfOk result (λ found. IsFresh found.1.standings.items) }
-    ensures tick { IfOk result (λ found. string_bytes found.0 ≡ tick_file manifest.now.builddir) }
-    ensures planned { IfOk result (λ found. (targets : List (List ℕ)) → IsConeFor manifest.now (recorded_inputs no_records manifest.now.edges) targets cone.now → IsPlanOf (task_for manifest.now targets) found.1 []) }
+    ensures tick { IfOk result (λ found. string_bytes found.0 ≡ file_in folder.now tick_name) }
+    ensures planned { IfOk result (λ found. (whole : BuildGraph) (targets : List (List ℕ)) → IsTaken whole.edges → IsGraphFor whole graph.now → IsConeFor whole (recorded_inputs no_records whole.edges) targets cone.now → IsPlanOf (task_for whole targets) found.1 []) }
 {
-    let tick = tick_path(alloc, &manifest.builddir)?;
+    let tick = tick_path(alloc, folder.as_str())?;
     let plan = Plan::new(alloc, &graph.links, cone, 1, 1)?;
+    links_are_makers();
     Ok((tick, plan))
 }
 
@@ -262,10 +274,12 @@ fn run_plan<S: Site>(
     plan: &mut Plan<'_>,
 ) -> Result<Report, Cut>
     requires idle { IsIdle (S.world site.old).events }
+    requires running { (S.world site.old).stopped ≡ false }
     requires fits { length plan.old.standings.items ≡ length edges.now }
     requires fresh { IsFresh plan.old.standings.items }
     ensures answers { Answers S.tells edges.now (S.world site.old) (S.world site.new) (report_of result) }
     ensures left { IfErr result (IsLeft (S.world site.new)) }
+    ensures faults { PassesNoFault (S.world site.old) (S.world site.new) (run_answer (report_of result)) }
     ensures ran { (own : OwnFiles) (task : Task) (entry : World) → Suits own task tick.now edges.now → IsPlanOf task plan.old [] → IsIdle entry.events → Looked S.tells entry (S.world site.old) → HasRun S.tells own task entry (S.world site.new) (report_of result) }
 {
     match try_run(alloc, site, edges, tick, plan) {
@@ -283,6 +297,7 @@ fn try_run<S: Site>(
     plan: &mut Plan<'_>,
 ) -> Result<Report, Cut>
     requires idle { IsIdle (S.world site.old).events }
+    requires running { (S.world site.old).stopped ≡ false }
     requires fits { length plan.old.standings.items ≡ length edges.now }
     requires fresh { IsFresh plan.old.standings.items }
     ensures at { IsAt edges.now plan.new.standings.items (S.world site.old) (S.world site.new) }
@@ -319,13 +334,13 @@ fn report(
     }
 }
 
-/// The path of the file that gets a new stamp before each start.
-fn tick_path(alloc: Global, builddir: &Text) -> Result<String, AllocError>
-    ensures { IfOk result (λ path. string_bytes path ≡ tick_file builddir.now) }
+/// The path of the file in this folder that gets a new stamp before each start.
+fn tick_path(alloc: Global, folder: &str) -> Result<String, AllocError>
+    ensures { IfOk result (λ path. string_bytes path ≡ file_in folder.now tick_name) }
 {
-    if builddir.is_empty() {
-        String::from_str(alloc, TICK)
-    } else {
-        format!(in alloc; "{builddir}/{TICK}")
+    match folder {
+        "" => String::from_str(alloc, TICK),
+        "/" => format!(in alloc; "/{TICK}"),
+        _ => format!(in alloc; "{folder}/{TICK}"),
     }
 }

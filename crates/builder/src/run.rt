@@ -1,14 +1,15 @@
 //! Running commands until a plan has ended.
 
-ghost use Rattle.std.specs.Prelude.{◌≡◌, ◌⊎◌, ℕ, ◌<◌, ◌-◌, IfOk, IfErr, OnOk, OnErr, MatchOption, List, length, slice_set, count_by};
+ghost use Rattle.std.specs.Prelude.{◌≡◌, ◌⊎◌, ℕ, ◌<◌, ◌-◌, IfOk, IfErr, OnOk, OnErr, MatchOption, false, List, length, slice_set, count_by};
 ghost use Rattle.model.specs.World.{World, IsIdle};
 ghost use Rattle.model.specs.Records.{OwnFiles};
 ghost use Rattle.model.specs.Schedule.{Task, NoneMayBeJudged, NoneMayStart};
 ghost use Rattle.builder.specs.declared.plan.Standing.{Standing};
 ghost use Rattle.builder.specs.Plan.{is_running, standing_at, standing_after, EndsSo};
 ghost use Rattle.builder.specs.Run.{IsAt, IsEndOf, IsNoted, work_left, Suits, IsOn, IsOver, IsCut, failed_after};
-ghost use Rattle.builder.specs.Answers.{Causes, IsSeen};
-ghost use Rattle.builder.specs.Cut.{fault_of, Cuts, IfWaiting, IsOfWait, IsLeft};
+ghost use Rattle.model.specs.Calls.{HasCause};
+ghost use Rattle.builder.specs.Answers.{IsSeen};
+ghost use Rattle.builder.specs.Cut.{fault_of, Cuts, IfWaiting, IsOfWait, IsLeft, IsStoppedBy, TakesIn};
 
 use crate::cut::Cut;
 use crate::plan::{End, Plan, Step, Verdict};
@@ -26,6 +27,7 @@ pub fn run<S: Site>(
     plan: &mut Plan<'_>,
     failed: &mut Vec<usize>,
 ) -> Result<End, Cut>
+    requires running { (S.world site.old).stopped ≡ false }
     requires at { (entry : World) × IsIdle entry.events × IsAt edges.now plan.old.standings.items entry (S.world site.old) }
     requires noted { IsNoted plan.old.standings.items failed.old.items }
     ensures kept { (entry : World) → IsIdle entry.events → IsAt edges.now plan.old.standings.items entry (S.world site.old) → IsAt edges.now plan.new.standings.items entry (S.world site.new) }
@@ -51,6 +53,7 @@ fn go_on<S: Site>(
     plan: &mut Plan<'_>,
     failed: &mut Vec<usize>,
 ) -> Result<Option<End>, Cut>
+    requires running { (S.world site.old).stopped ≡ false }
     requires at { (entry : World) × IsIdle entry.events × IsAt edges.now plan.old.standings.items entry (S.world site.old) }
     requires noted { IsNoted plan.old.standings.items failed.old.items }
     ensures kept { (entry : World) → IsIdle entry.events → IsAt edges.now plan.old.standings.items entry (S.world site.old) → IsAt edges.now plan.new.standings.items entry (S.world site.new) }
@@ -80,6 +83,7 @@ fn go_on<S: Site>(
 
 /// Takes in a command that has ended.
 fn take_in<S: Site>(site: &mut S, plan: &mut Plan<'_>, failed: &mut Vec<usize>) -> Result<(), Cut>
+    requires running { (S.world site.old).stopped ≡ false }
     requires at { (edges : List Edge) × (entry : World) × IsIdle entry.events × IsAt edges plan.old.standings.items entry (S.world site.old) }
     requires noted { IsNoted plan.old.standings.items failed.old.items }
     requires some { 0 < count_by is_running plan.old.standings.items }
@@ -102,7 +106,8 @@ fn wait<S: Site>(site: &mut S, plan: &mut Plan<'_>) -> Result<Finished, SiteFaul
     requires at { (edges : List Edge) × (entry : World) × IsIdle entry.events × IsAt edges plan.old.standings.items entry (S.world site.old) }
     requires some { 0 < count_by is_running plan.old.standings.items }
     ensures kept { (edges : List Edge) (entry : World) → IsIdle entry.events → IsAt edges plan.old.standings.items entry (S.world site.old) → IsAt edges plan.new.standings.items entry (S.world site.new) }
-    ensures cause { Causes (S.world site.old) (S.world site.new) result }
+    ensures cause { HasCause (S.world site.old) (S.world site.new) result }
+    ensures at_start { (S.world site.new).failures_at_start ≡ (S.world site.old).failures_at_start }
     ensures runs { OnErr result (0 < count_by is_running plan.new.standings.items) }
     ensures ended { IfOk result (λ finished. IsEndOf finished.job finished.ok plan.old.standings.items plan.new.standings.items) }
     ensures on { IfOk result (λ finished. (own : OwnFiles) (task : Task) (failed : List ℕ) (entry : World) → IsIdle entry.events → (on : IsOn S.tells own task plan.old failed entry (S.world site.old)) → NoneMayBeJudged task on.steps → NoneMayStart task on.steps → IsOn S.tells own task plan.new (failed_after failed (finished.job - 1) finished.ok) entry (S.world site.new)) }
@@ -130,11 +135,13 @@ fn note_end(failed: &mut Vec<usize>, number: usize, ok: bool) -> Result<(), Allo
 pub fn end_after_fault<S: Site>(site: &mut S, plan: &mut Plan<'_>, cut: Cut) -> Cut
     requires at { (edges : List Edge) × (entry : World) × IsIdle entry.events × IsAt edges plan.old.standings.items entry (S.world site.old) }
     requires waits { IfWaiting cut (0 < count_by is_running plan.old.standings.items) }
+    requires stopped { IsStoppedBy (S.world site.old) cut }
     ensures kept { (edges : List Edge) (entry : World) → IsIdle entry.events → IsAt edges plan.old.standings.items entry (S.world site.old) → IsAt edges plan.new.standings.items entry (S.world site.new) }
     ensures seen { (entry : World) → IsSeen entry (S.world site.old) (fault_of cut) → IsSeen entry (S.world site.new) (fault_of result) }
     ensures first { (fault_of result ≡ fault_of cut) ⊎ (fault_of result ≡ SiteFault.Stopped) }
     ensures still { IfWaiting cut (S.world site.new ≡ S.world site.old) }
     ensures left { IsLeft (S.world site.new) result }
+    ensures takes_in { TakesIn (S.world site.old) (S.world site.new) result }
     ensures cut { (own : OwnFiles) (task : Task) (entry : World) → IsCut S.tells own task entry (S.world site.old) → IsCut S.tells own task entry (S.world site.new) }
 {
     if cut.is_final() {
@@ -149,9 +156,11 @@ pub fn end_after_fault<S: Site>(site: &mut S, plan: &mut Plan<'_>, cut: Cut) -> 
 
 /// Takes in all that runs, until a wait is refused.
 fn take_in_rest<S: Site>(site: &mut S, plan: &mut Plan<'_>) -> Result<(), SiteFault>
+    requires running { (S.world site.old).stopped ≡ false }
     requires at { (edges : List Edge) × (entry : World) × IsIdle entry.events × IsAt edges plan.old.standings.items entry (S.world site.old) }
     ensures kept { (edges : List Edge) (entry : World) → IsIdle entry.events → IsAt edges plan.old.standings.items entry (S.world site.old) → IsAt edges plan.new.standings.items entry (S.world site.new) }
-    ensures cause { Causes (S.world site.old) (S.world site.new) result }
+    ensures cause { HasCause (S.world site.old) (S.world site.new) result }
+    ensures at_start { (S.world site.new).failures_at_start ≡ (S.world site.old).failures_at_start }
     ensures runs { OnErr result (0 < count_by is_running plan.new.standings.items) }
     ensures idle { OnOk result (count_by is_running plan.new.standings.items ≡ 0) }
     ensures cut { (own : OwnFiles) (task : Task) (entry : World) → IsCut S.tells own task entry (S.world site.old) → IsCut S.tells own task entry (S.world site.new) }

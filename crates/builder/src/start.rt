@@ -4,12 +4,12 @@ ghost use Rattle.std.specs.Prelude.{◌≡◌, ℕ, suc, ◌<◌, List, [], ◌�
 ghost use Rattle.model.specs.World.{World, IsIdle};
 ghost use Rattle.model.specs.Records.{OwnFiles};
 ghost use Rattle.model.specs.Schedule.{Task, Step as Done, Started, IsLawful, IsLawfulStep};
-ghost use Rattle.model.specs.Calls.{OnlyLooks};
+ghost use Rattle.model.specs.Calls.{OnlyLooks, HasCause};
 ghost use Rattle.builder.specs.declared.plan.Standing.{Standing};
 ghost use Rattle.builder.specs.Plan.{standing_at};
 ghost use Rattle.builder.specs.PlanOf.{IsPlanOf};
 ghost use Rattle.builder.specs.Run.{IsAt, Suits, IsOn};
-ghost use Rattle.builder.specs.Answers.{Causes};
+ghost use Rattle.builder.specs.Answers.{StartsUnrefused};
 
 use crate::plan::Plan;
 use model::{Act, Edge, SiteFault};
@@ -25,11 +25,13 @@ pub fn start_edge<S: Site>(
     plan: &mut Plan<'_>,
     number: usize,
 ) -> Result<(), SiteFault>
+    requires running { (S.world site.old).stopped ≡ false }
     requires at { (entry : World) × IsIdle entry.events × IsAt edges.now plan.old.standings.items entry (S.world site.old) }
     requires within { number < length edges.now }
     requires out_of_date { standing_at plan.old.standings.items number ≡ Standing.OutOfDate }
     ensures kept { (entry : World) → IsIdle entry.events → IsAt edges.now plan.old.standings.items entry (S.world site.old) → IsAt edges.now plan.new.standings.items entry (S.world site.new) }
-    ensures cause { Causes (S.world site.old) (S.world site.new) result }
+    ensures cause { HasCause (S.world site.old) (S.world site.new) result }
+    ensures starts { StartsUnrefused (S.world site.old) (S.world site.new) }
     ensures links { plan.new.links.now ≡ plan.old.links.now }
     ensures standings { OnOk result (plan.new.standings.items ≡ slice_set plan.old.standings.items number Standing.Running) }
     ensures on { (own : OwnFiles) (task : Task) (failed : List ℕ) (entry : World) → Suits own task tick.now edges.now → (on : IsOn S.tells own task plan.old failed entry (S.world site.old)) → IsLawfulStep task on.steps (Started (suc number)) → IsOn S.tells own task plan.new failed entry (S.world site.new) }
@@ -50,7 +52,8 @@ fn start_command<S: Site>(
     requires within { number < length edges.now }
     requires out_of_date { standing_at plan.old.standings.items number ≡ Standing.OutOfDate }
     ensures kept { (entry : World) → IsIdle entry.events → IsAt edges.now plan.old.standings.items entry (S.world site.old) → IsAt edges.now plan.new.standings.items entry (S.world site.new) }
-    ensures cause { Causes (S.world site.old) (S.world site.new) result }
+    ensures cause { HasCause (S.world site.old) (S.world site.new) result }
+    ensures starts { StartsUnrefused (S.world site.old) (S.world site.new) }
     ensures links { plan.new.links.now ≡ plan.old.links.now }
     ensures standings { OnOk result (plan.new.standings.items ≡ slice_set plan.old.standings.items number Standing.Running) }
     ensures on { (own : OwnFiles) (task : Task) (failed : List ℕ) (entry : World) → task.graph.edges ≡ edges.now → (on : IsOn S.tells own task plan.old failed entry (S.world site.old)) → IsLawfulStep task on.steps (Started (suc number)) → IsOn S.tells own task plan.new failed entry (S.world site.new) }
@@ -77,8 +80,9 @@ fn note_start(plan: &mut Plan<'_>, number: usize, is_started: bool)
 
 /// Makes the folders of the tick's file and of the outputs.
 fn make_folders<S: Site>(site: &mut S, tick: &str, edge: &Edge) -> Result<(), SiteFault>
+    requires running { (S.world site.old).stopped ≡ false }
     ensures looks { OnlyLooks S.tells (S.world site.old) (S.world site.new) }
-    ensures cause { Causes (S.world site.old) (S.world site.new) result }
+    ensures cause { HasCause (S.world site.old) (S.world site.new) result }
 {
     make_folder(site, tick)?;
     make_output_folders(site, edge.explicit_outputs.as_slice())?;
@@ -86,8 +90,9 @@ fn make_folders<S: Site>(site: &mut S, tick: &str, edge: &Edge) -> Result<(), Si
 }
 
 fn make_output_folders<S: Site>(site: &mut S, outputs: &[Path]) -> Result<(), SiteFault>
+    requires running { (S.world site.old).stopped ≡ false }
     ensures looks { OnlyLooks S.tells (S.world site.old) (S.world site.new) }
-    ensures cause { Causes (S.world site.old) (S.world site.new) result }
+    ensures cause { HasCause (S.world site.old) (S.world site.new) result }
 {
     for output in outputs {
         make_folder(site, output.as_str())?;
@@ -97,8 +102,9 @@ fn make_output_folders<S: Site>(site: &mut S, outputs: &[Path]) -> Result<(), Si
 
 /// Makes the folder of a file, unless that is the working folder or the root.
 fn make_folder<S: Site>(site: &mut S, path: &str) -> Result<(), SiteFault>
+    requires running { (S.world site.old).stopped ≡ false }
     ensures looks { OnlyLooks S.tells (S.world site.old) (S.world site.new) }
-    ensures cause { Causes (S.world site.old) (S.world site.new) result }
+    ensures cause { HasCause (S.world site.old) (S.world site.new) result }
 {
     match path.rsplit_once('/') {
         Some((folder, _)) if !folder.is_empty() => site.make_dirs(folder),

@@ -6,6 +6,4 @@ mod builds;
 #[cfg(test)]
 mod clean_builds;
 #[cfg(test)]
-mod host;
-#[cfg(test)]
 mod refused_calls;

@@ -1,61 +1,65 @@
-//! Builds on a site that tells nothing of its files, and whose device refuses one call.
+//! Builds in which the device refuses one call, or the site stops in one, and the builds that come next.
 
 ghost use Rattle.std.specs.Prelude.{IfOk};
 ghost use Rattle.model.specs.World.{IsIdle};
 ghost use Rattle.site.specs.World.{world_of};
 
-use crate::host::{Call, Host};
 use builder::{Options, Report, build};
 use model::{Event, SiteFault};
-use site::{Sim, Site, Toy};
+use site::{Call, Sim, Site, Timing, Toy};
 use std::alloc::{AllocError, Global};
 use std::process::Abort;
 use std::test::Fail;
 use text::Text;
 
-const TWO_COMMANDS: &[u8] = b"rule cat
-  command = cat $out $in
-build b: cat a
-build c: cat b a
-";
-
-/// The same with an output in a folder, which has to be made.
-const COMMANDS_AND_FOLDER: &[u8] = b"rule cat
+/// Two commands, of which one makes an output in a folder.
+const BUILD_FILE: &[u8] = b"rule cat
   command = cat $out $in
 build folder/b: cat a
 build c: cat folder/b a
 ";
 
-/// Where the calls of a build of two commands can be refused.
-const PLACES: [Call; 7] = [
+/// The calls that a build makes, each at least once.
+const CALLS: [Call; 6] = [
     Call::Read,
     Call::Stat,
     Call::Tick,
-    Call::TickDone,
+    Call::MakeDirs,
     Call::Start,
-    Call::StartDone,
     Call::WaitAny,
 ];
 
-/// More calls than these builds make.
-const MANY: u64 = 1000;
+/// More calls of a kind than this build makes.
+const MANY: u64 = 100;
 
-/// A fresh site with a build file and the source `a`, whose device refuses the call after so many.
-fn host_with(alloc: Global, build_file: &[u8], passing: u64) -> Result<Host<Sim<Toy>>, AllocError>
-    ensures { IfOk result (λ host. IsIdle (world_of host.site).events) }
+/// A fresh site with a build file and the source `a`.
+fn fresh(alloc: Global, timing: Timing) -> Result<Sim<Toy>, AllocError>
+    ensures { IfOk result (λ site. IsIdle (world_of site).events) }
 {
     let mut site = Sim::new(alloc, Toy);
-    site.put("build.ninja", build_file)?;
+    site.put("build.ninja", BUILD_FILE)?;
     site.put("a", b"x")?;
-    Ok(Host::refusing_after(site, passing))
+    site.timing(timing);
+    Ok(site)
 }
 
-fn options(alloc: Global) -> Result<Options, AllocError> {
-    Ok(Options {
+/// Starts the site again, with no call named any more.
+fn start_again(site: &mut Sim<Toy>)
+    ensures { IsIdle (world_of site.new).events }
+{
+    site.forget_faults();
+    site.restart();
+}
+
+fn build_all(alloc: Global, site: &mut Sim<Toy>) -> Result<Report, AllocError>
+    requires { IsIdle (world_of site.old).events }
+{
+    let options = Options {
         file: Text::from_str(alloc, "build.ninja")?,
         jobs: 4,
         keep: 1,
-    })
+    };
+    Ok(build(alloc, site, &options, &[]))
 }
 
 /// How many commands were started and have not ended.
@@ -67,55 +71,97 @@ fn running(events: &[Event]) -> usize {
     events.len().saturating_sub(ended).saturating_sub(ended)
 }
 
-#[test]
-fn two_commands_are_built_where_no_file_is_told(rt: HostRuntime) -> Result<(), Fail> {
-    let alloc = rt.alloc();
-    let mut host = host_with(alloc, TWO_COMMANDS, MANY)?;
-    let report = build(alloc, &mut host, &options(alloc)?, &[]);
+/// What a build from a fresh site gives.
+fn is_built(rt: &impl Abort, report: &Report, site: &Sim<Toy>, place: &str) {
     assert!(rt;
-        matches!(&report, Report::Success { started: 2 }),
-        "{report:?}"
+        matches!(report, Report::Success { started: 2 }),
+        "{place}: {report:?}"
     );
-    assert_eq!(rt; host.events().len(), 4);
-    let content = host.site.content("c").map(|content| content.as_slice());
-    assert_eq!(rt; content, Some(b"xx".as_slice()));
-    Ok(())
+    let content = site.content("c").map(|content| content.as_slice());
+    assert_eq!(rt; content, Some(b"xx".as_slice()), "{place}");
 }
 
-/// Builds again and again, with the first call refused, then the second and so on, until all calls pass. Gives the
-/// places at which one was refused.
-fn refuse_each_call(rt: &impl Abort, alloc: Global, build_file: &[u8]) -> Result<Vec<Call>, Fail> {
-    let mut places = Vec::new(alloc);
-    for passing in 0..MANY {
-        let mut host = host_with(alloc, build_file, passing)?;
-        let report = build(alloc, &mut host, &options(alloc)?, &[]);
-        let Some(place) = host.calls.refused else {
-            assert!(rt;
-                matches!(&report, Report::Success { started: 2 }),
-                "{report:?}"
-            );
-            return Ok(places);
-        };
-        assert!(rt;
-            matches!(&report, Report::Fault(SiteFault::Device)),
-            "{place:?}: {report:?}"
-        );
-        assert_eq!(rt; host.calls.late_starts, 0, "{place:?}");
-        // A refused wait ends the build with its command running; after any other fault it is taken in.
-        let left = if place == Call::WaitAny { 1 } else { 0 };
-        assert_eq!(rt; running(host.events()), left, "{place:?}");
-        places.push(place)?;
+/// The device refuses the call of this number. Gives whether the build made so many.
+fn refuse(
+    rt: &impl Abort,
+    alloc: Global,
+    call: Call,
+    number: u64,
+    timing: Timing,
+) -> Result<bool, Fail> {
+    let mut site = fresh(alloc, timing)?;
+    site.fail(call, number)?;
+    let report = build_all(alloc, &mut site)?;
+    if matches!(&report, Report::Success { .. }) {
+        is_built(rt, &report, &site, "no call was refused");
+        return Ok(false);
     }
-    panic!(rt; "a build of two commands makes {MANY} calls")
+    assert!(rt;
+        matches!(&report, Report::Fault(SiteFault::Device)),
+        "{call:?} {number}: {report:?}"
+    );
+    // A refused wait ends the build with its command running; after any other fault it is taken in.
+    let left = if call == Call::WaitAny { 1 } else { 0 };
+    assert_eq!(rt; running(site.events()), left, "{call:?} {number}");
+    start_again(&mut site);
+    let report = build_all(alloc, &mut site)?;
+    is_built(rt, &report, &site, "after a refused call");
+    Ok(true)
+}
+
+/// The site stops in the call of this number. Gives whether the build made so many.
+fn stop(
+    rt: &impl Abort,
+    alloc: Global,
+    call: Call,
+    number: u64,
+    timing: Timing,
+) -> Result<bool, Fail> {
+    let mut site = fresh(alloc, timing)?;
+    site.stop_at(call, number, 0)?;
+    let report = build_all(alloc, &mut site)?;
+    if matches!(&report, Report::Success { .. }) {
+        is_built(rt, &report, &site, "the site did not stop");
+        return Ok(false);
+    }
+    assert!(rt;
+        matches!(&report, Report::Fault(SiteFault::Stopped)),
+        "{call:?} {number}: {report:?}"
+    );
+    start_again(&mut site);
+    let report = build_all(alloc, &mut site)?;
+    is_built(rt, &report, &site, "after a stop");
+    Ok(true)
 }
 
 #[test]
 fn each_call_is_refused_in_turn(rt: HostRuntime) -> Result<(), Fail> {
-    let refused = refuse_each_call(&rt, rt.alloc(), TWO_COMMANDS)?;
-    for place in PLACES {
-        assert!(rt; refused.contains(&place), "{place:?}");
+    let alloc = rt.alloc();
+    for call in CALLS {
+        for timing in [Timing::Early, Timing::Late] {
+            assert!(rt; refuse(&rt, alloc, call, 1, timing)?, "{call:?}");
+            for number in 2..MANY {
+                if !refuse(&rt, alloc, call, number, timing)? {
+                    break;
+                }
+            }
+        }
     }
-    let refused = refuse_each_call(&rt, rt.alloc(), COMMANDS_AND_FOLDER)?;
-    assert!(rt; refused.contains(&Call::MakeDirs));
+    Ok(())
+}
+
+#[test]
+fn the_site_stops_in_each_call_in_turn(rt: HostRuntime) -> Result<(), Fail> {
+    let alloc = rt.alloc();
+    for call in CALLS {
+        for timing in [Timing::Early, Timing::Late] {
+            assert!(rt; stop(&rt, alloc, call, 1, timing)?, "{call:?}");
+            for number in 2..MANY {
+                if !stop(&rt, alloc, call, number, timing)? {
+                    break;
+                }
+            }
+        }
+    }
     Ok(())
 }

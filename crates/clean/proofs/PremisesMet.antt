@@ -9,11 +9,11 @@ use Rattle.model.specs.declared.event.Event.TheVariants.{Start, Finish}
 use Rattle.model.specs.declared.event.Moment.{Moment}
 use Rattle.model.specs.declared.event.Moment.TheVariants.{Wrote, Happened}
 use Rattle.model.specs.World.{View, view_of}
-use Rattle.model.specs.Graph.{has, has_number, edge_at, outputs, inputs, regular_inputs, IsCommand}
+use Rattle.model.specs.Graph.{has, has_number, edge_at, maker, outputs, inputs, regular_inputs, IsCommand}
 use Rattle.model.specs.Outcome.{Behaviour, GivesTheSame, ends_well, given, reports_of, depfile_in, listed}
 use Rattle.model.specs.declared.outcome.Outcome.{Outcome}
 use Rattle.model.specs.Reading.{IsRead, Itself, IsAlias}
-use Rattle.model.specs.Premises.{HasOneOutcome, OneOutcome, LeftOutcome, EndedAt, StampsGrow, Increases, IsWithinEdge, OwnFilesApart, LiesIn, SharesNone, IsNoEdit, IsFromAbove, FilesAreKept}
+use Rattle.model.specs.Premises.{HasOneOutcome, OneOutcome, LeftOutcome, EndedAt, StampsGrow, Increases, IsWithinEdge, OwnFilesApart, LiesIn, SharesNone, IsNoEdit, IsFromAbove, DyndepOutputsAreReadBelow, FilesAreKept}
 use Rattle.site.specs.Toy.{toy_outcome}
 use Rattle.site.specs.Alone.{toy_reads_alone}
 use Rattle.clean.specs.Beyond.{none_recorded}
@@ -73,7 +73,7 @@ same_if act made u v same = record {
 }
   where
     always : Outcome → Behaviour
-    always o = record { outcome = λ act view. o; depfile = toys.depfile }
+    always o = record { outcome = λ act view. o; depfile = toys.depfile; dyndep = toys.dyndep }
 
 read_itself : (i : ℕ) (p : List ℕ) → has (regular_inputs (edge_at two_edges i)) p ≡ true → ((j : ℕ) → IsAlias two_edges p j → ⊥) → IsRead two_edges (view_of after) i p
 read_itself i p h none = Itself i p h (inl none)
@@ -142,16 +142,16 @@ no_text : {A : Type 0} (p : List ℕ) → p ≢ p → A
 no_text p h = absurd (h refl)
 
 of_depfiles : (i : ℕ) → IsCommand two_edges i → LiesIn own (edge_at two_edges i).act.depfile
-of_depfiles zero command = λ some. no_text [] some
-of_depfiles (suc zero) command = λ some. no_text [] some
-of_depfiles (suc (suc zero)) command = λ some. (refl, refl)
-of_depfiles (suc (suc (suc i))) command = λ some. no_text [] some
+of_depfiles zero command = (refl, refl)
+of_depfiles (suc zero) command = (refl, refl)
+of_depfiles (suc (suc zero)) command = (refl, refl)
+of_depfiles (suc (suc (suc i))) command = (refl, refl)
 
 of_responses : (i : ℕ) → IsCommand two_edges i → LiesIn own (edge_at two_edges i).act.response_path
-of_responses zero command = λ some. no_text [] some
-of_responses (suc zero) command = λ some. no_text [] some
-of_responses (suc (suc zero)) command = λ some. no_text [] some
-of_responses (suc (suc (suc i))) command = λ some. no_text [] some
+of_responses zero command = (refl, refl)
+of_responses (suc zero) command = (refl, refl)
+of_responses (suc (suc zero)) command = (refl, refl)
+of_responses (suc (suc (suc i))) command = (refl, refl)
 
 no_response : (i : ℕ) → (edge_at two_edges i).act.response_path ≡ []
 no_response zero = refl
@@ -170,13 +170,14 @@ shares_depfile (suc (suc (suc i))) j other = λ some. no_text [] some
 
 own_files : OwnFilesApart own two_edges
 own_files = record {
-  within = λ p h. has-left (codes ".nj_log" ∷ codes ".nj_deps" ∷ codes "tick" ∷ []) (codes "o.d" ∷ []) p h;
+  within = λ p h. has-left (codes ".nj_log" ∷ codes ".nj_deps" ∷ codes "tick" ∷ []) (codes "o.d" ∷ [] ∷ []) p h;
   build_log = refl;
   deps_log = refl;
   inputs = of_inputs;
   outputs = of_outputs;
   depfiles = of_depfiles;
   responses = of_responses;
+  both = λ i command some same. some (same ∙ no_response i);
   apart = λ i j command1 command2 other.
       (shares_depfile i j other, (λ some. absurd (some (no_response i))), λ some same. some (same ∙ no_response j));
 }
@@ -193,16 +194,33 @@ kept = record {
 stamps : StampsGrow before after
 stamps more is = subst (λ (ms : List Moment). Increases 2 ms) (sym (added more is)) (omega arith, (omega arith, (omega arith, (omega arith, (omega arith, tt)))))
 
+-- no command reports what another makes
+abbrev ReportsSources : ℕ → List Moment → Type 0
+ReportsSources i at = AllByRecursion (λ p. maker two_edges p ≡ None) (listed (depfile_in toys (edge_at two_edges i).act (view_of at)))
+
+each_reports_sources : AtEach ReportsSources before during
+each_reports_sources = (tt, ((refl, tt), tt))
+
+dyndep : DyndepOutputsAreReadBelow toys two_edges two_edges none_recorded one_by_one before after
+dyndep = record {
+  inputs = λ i p command read j file made none named. absurd (none_some j (sym none ∙ made));
+  reports = λ i j p reported made command.
+      let source = has_from_all (λ q. maker two_edges q ≡ None) _ p (at_ended ReportsSources each_reports_sources i reported.at reported.ended) reported.told in
+      absurd (none_some j (sym source ∙ made));
+}
+
 pub premises_met : PremisesAreMet
 premises_met = record {
   premises = record {
-    kept = kept;
-    recorded_apart = λ i p h. absurd cc;
+    files = record {
+      kept = kept;
+      recorded_apart = λ i p h. absurd cc;
+      stamps = stamps;
+      reports = λ i at ended well. at_ended Reports each_reports i at ended;
+      dyndep = dyndep;
+    };
     one_outcome = one_outcome;
     left_outcomes = λ i at ended well. at_ended Leaves each_leaves i at ended;
-    stamps = stamps;
-    reports = λ i at ended well. at_ended Reports each_reports i at ended;
-    dyndep = λ i j p file read made none named. absurd (none_some j (sym none ∙ made));
   };
   well = refl;
   reports = refl;

@@ -160,7 +160,7 @@ among_made es p = has_filter (λ q. is_some (command_of es q)) (all_outputs es) 
 
 -- commands that always fail
 abbrev failing : Behaviour
-failing = record { outcome = λ act view. record { ok = false; writes = [] }; depfile = λ content. None }
+failing = record { outcome = λ act view. record { ok = false; writes = [] }; depfile = λ content. None; dyndep = λ content. None }
 
 -- a source is what no command makes
 sources_by : (es : List Edge) (files : View) (p : List ℕ) → sources_of es files p ≡ made_by failing files files p (command_of es p)

@@ -42,16 +42,16 @@ two_edges =
     ∷ edge_with (codes "o" ∷ []) (codes "b" ∷ []) [] [] (act_with (codes "both o o.d b") (codes "o.d"))
     ∷ []
 
--- the toy commands, with depfiles that hold just one path
+-- the toy commands, with depfiles that hold just one path; no dyndep file can be read
 abbrev pub toys : Behaviour
-toys = record { outcome = toy_outcome; depfile = λ content. Some (content ∷ []) }
+toys = record { outcome = toy_outcome; depfile = λ content. Some (content ∷ []); dyndep = λ content. None }
 
 abbrev pub own : OwnFiles
 own = record {
   build_log = codes ".nj_log";
   deps_log = codes ".nj_deps";
   files = λ p. has (codes ".nj_log" ∷ codes ".nj_deps" ∷ codes "tick" ∷ []) p;
-  set = λ p. has (codes ".nj_log" ∷ codes ".nj_deps" ∷ codes "tick" ∷ codes "o.d" ∷ []) p;
+  set = λ p. has (codes ".nj_log" ∷ codes ".nj_deps" ∷ codes "tick" ∷ codes "o.d" ∷ [] ∷ []) p;
 }
 
 -- both commands are judged out of date and run, one after the other

@@ -7,9 +7,9 @@ use Rattle.model.specs.World.{View}
 use Rattle.model.specs.Graph.{has, outputs, all_outputs}
 use Rattle.model.specs.Outcome.{Behaviour, given}
 
--- commands that give these outcomes, with depfiles that are read so
+-- commands that give these outcomes, with depfiles that are read so; no dyndep file can be read
 abbrev pub behaviour : (Act → View → Outcome) → (List ℕ → Option (List (List ℕ))) → Behaviour
-behaviour outcome depfile = record { outcome = outcome; depfile = depfile }
+behaviour outcome depfile = record { outcome = outcome; depfile = depfile; dyndep = λ content. None }
 
 abbrev pub if_command : Edge → Option Edge
 if_command e = if e.phony then None else Some e

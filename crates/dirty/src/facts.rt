@@ -21,7 +21,7 @@ pub struct OutputFacts<'a> {
 impl<'a> Model for OutputFacts<'a> {
     ghost use Rattle.std.specs.Option.{option_map, option_copied};
     ghost use Rattle.model.specs.Judgement.{OutputFacts};
-    ghost use Rattle.build_log.specs.Kept.{made_of};
+    ghost use Rattle.build_log.specs.Log.{made_of};
 
     ghost Value = { OutputFacts };
 

@@ -7,10 +7,10 @@ use Rattle.model.specs.declared.graph.Edge.{Edge}
 use Rattle.model.specs.Graph.{has, has_number, edge_at, maker, later_number, outputs, inputs, targets_of}
 use Rattle.model.specs.Records.{Store, recorded_inputs}
 use Rattle.model.specs.Reading.{IsInCone, Wanted, Needed, Validating, IsCycle}
-use Rattle.model.specs.SingleBuild.{Asked, IsChainOf, IsShownCycle}
-use Rattle.laws.specs.Order.{AreMakersFirst}
-use Rattle.laws.proofs.Cones.{cone_within, no_cycle_by_order}
-use Rattle.laws.proofs.Lists.{same_bytes, bytes_same, has-left, has-right, has_number-right, all_parts}
+use Rattle.model.specs.SingleBuild.{Asked, declared_graph, IsChainOf, IsShownCycle}
+use Rattle.build_theory.specs.Order.{AreMakersFirst}
+use Rattle.build_theory.proofs.Cones.{cone_within, no_cycle_by_order}
+use Rattle.build_theory.proofs.Lists.{same_bytes, bytes_same, has-left, has-right, has_number-right, all_parts}
 use Rattle.graph.specs.declared.graph.Links.{Links}
 use Rattle.graph.specs.declared.cone.Mark.{Mark}
 use Rattle.graph.specs.Cone.{inputs_at, IsNeeded, Asked as Requested, Above, Beside, made_by, Follows, IsOrder, IsCone, IsChain, IsRound, IsConeFault}
@@ -197,7 +197,7 @@ module _ (edges : List Edge) (recorded : ℕ → List (List ℕ)) (paths : List 
 -- the texts of the paths round a cycle of edges that a build of these targets needs
 pub shown_cycle : (asked : Asked) (store : Store) (paths : List (List ℕ)) (links : Links) (requested numbers : List ℕ)
     → IsGraphOf asked.graph.edges paths links → IsLinksOf asked.graph.edges (recorded_inputs store asked.graph.edges) links
-    → AreMakersOf asked.graph.edges (targets_of asked.graph asked.targets) requested
+    → AreMakersOf asked.graph.edges (targets_of (declared_graph asked) asked.targets) requested
     → IsRound links requested numbers → IsShownCycle asked store (map (path_at paths) numbers)
 shown_cycle asked store paths links requested numbers graph linked makers round = record {
   first = path_at paths round.first;
@@ -206,7 +206,7 @@ shown_cycle asked store paths links requested numbers graph linked makers round 
   chain = shown_chain edges recorded paths links graph requested numbers round;
   within = λ p i h is.
       let made = shown_maker edges recorded paths links graph requested numbers round p i h is in
-      subst (IsInCone edges recorded (targets_of asked.graph asked.targets)) made.2 (needed_in_cone edges recorded (targets_of asked.graph asked.targets) links requested linked makers made.0 made.1);
+      subst (IsInCone edges recorded (targets_of (declared_graph asked) asked.targets)) made.2 (needed_in_cone edges recorded (targets_of (declared_graph asked) asked.targets) links requested linked makers made.0 made.1);
   lowest = λ p i j first_is h is less. shown_lowest edges recorded paths links graph requested numbers round p i j first_is h is less;
 }
   where

@@ -10,7 +10,7 @@ use Rattle.std.proofs.lemmas.Option.{slice_get-get_or}
 use Rattle.model.specs.declared.graph.Edge.{Edge}
 use Rattle.model.specs.declared.graph.BuildGraph.{BuildGraph}
 use Rattle.model.specs.Graph.{has, has_number, no_edge, inputs, all_inputs, all_outputs, roots, or_else, targets_of, maker, later_number, StandsTwice}
-use Rattle.laws.proofs.Lists.{same_bytes, bytes_same, has-left, has-right, has-cases, has_number-left, has_number-right, has_number-append, has_number-cases, has_number-push, has_number-push_cases}
+use Rattle.build_theory.proofs.Lists.{same_bytes, bytes_same, has-left, has-right, has-cases, has_number-left, has_number-right, has_number-append, has_number-cases, has_number-push, has_number-push_cases}
 use Rattle.graph.specs.declared.graph.Links.{Links}
 use Rattle.graph.specs.Cone.{inputs_at}
 use Rattle.graph.specs.Linked.{path_at, AreDistinct, IsGraphOf, default_targets, AreMakersOf}

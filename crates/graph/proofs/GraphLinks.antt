@@ -5,7 +5,7 @@ use Rattle.std.proofs.lemmas.Bool.{cases_lt, or_left, or_right, or_cases, falseâ
 use Rattle.std.proofs.lemmas.List.{get_or_past, length-map}
 use Rattle.model.specs.declared.graph.Edge.{Edge}
 use Rattle.model.specs.Graph.{has, edge_at, no_edge, inputs, regular_inputs, all_inputs, all_outputs, maker, later_number}
-use Rattle.laws.proofs.Lists.{same_bytes, bytes_same, has-left, has-cases}
+use Rattle.build_theory.proofs.Lists.{same_bytes, bytes_same, has-left, has-cases}
 use Rattle.graph.specs.declared.graph.Links.{Links}
 use Rattle.graph.specs.Cone.{inputs_at, validations_at}
 use Rattle.graph.specs.Linked.{path_at, AreDistinct, IsGraphOf, IsMakerFor, HasMaker, IsLinksOf}

@@ -9,7 +9,7 @@ use Rattle.std.proofs.lemmas.Option.{slice_get-get_or, slice_get_past}
 use Rattle.model.specs.declared.graph.Edge.{Edge}
 use Rattle.model.specs.Graph.{has, no_edge, edge_at, outputs, inputs, all_outputs, maker, later_number, StandsTwice, IsMadeTwice, IsMadeOnce}
 use Rattle.model.specs.SingleBuild.{NamesOther}
-use Rattle.laws.proofs.Lists.{bytes_same, has-left, has-right, has-cases, all_append}
+use Rattle.build_theory.proofs.Lists.{bytes_same, has-left, has-right, has-cases, all_append}
 use Rattle.graph.specs.declared.graph.GraphFault.{GraphFault}
 use Rattle.graph.specs.declared.graph.GraphFault.TheVariants.{Memory, MadeTwice, NoDyndepInput}
 use Rattle.graph.specs.Linked.{path_at, AreDistinct, NamesDyndepInput, IsFirstRepeated, IsFaultOf}

@@ -7,7 +7,7 @@ use Rattle.std.proofs.lemmas.List.{map-append, append-nil, get_or_append_left, g
 use Rattle.std.proofs.Math.Seq.{take-suc, get_or-append_seam}
 use Rattle.model.specs.declared.graph.Edge.{Edge}
 use Rattle.model.specs.Graph.{has, no_edge, edge_at, inputs, outputs, all_inputs, all_outputs, is_named}
-use Rattle.laws.proofs.Lists.{same_bytes}
+use Rattle.build_theory.proofs.Lists.{same_bytes}
 use Rattle.graph.specs.Linked.{path_at}
 use Rattle.graph.specs.Numbers.{IsAdded, AreNumbersOf, Extends, HasAlso, all_validations}
 use Rattle.graph.proofs.GraphPaths.{distinct_push}

@@ -11,7 +11,7 @@ use Rattle.std.proofs.Math.ListN.{replicate}
 use Rattle.std.proofs.Math.Seq.{take-suc}
 use Rattle.indexmap.specs.IndexSet.{insert_key}
 use Rattle.model.specs.Graph.{has, StandsTwice}
-use Rattle.laws.proofs.Lists.{same_bytes, bytes_same, one_if}
+use Rattle.build_theory.proofs.Lists.{same_bytes, bytes_same, one_if}
 use Rattle.graph.specs.Linked.{texts_of, AreDistinct, IsFirstRepeated}
 use Rattle.graph.specs.declared.graph.GraphFault.{GraphFault}
 use Rattle.graph.specs.declared.graph.GraphFault.TheVariants.{Memory, MadeTwice, NoDyndepInput}

@@ -12,8 +12,8 @@ use Rattle.model.specs.declared.graph.BuildGraph.{BuildGraph}
 use Rattle.model.specs.declared.graph.Edge.{Edge}
 use Rattle.model.specs.Graph.{has, has_number, maker, later_number, is_named, all_outputs, or_else, targets_of}
 use Rattle.model.specs.Records.{Store, recorded_inputs}
-use Rattle.model.specs.SingleBuild.{Asked}
-use Rattle.laws.proofs.Lists.{same_bytes, bytes_same, has-left, has-right, has-cases, has_number-left, has_number-push, has_number-push_cases}
+use Rattle.model.specs.SingleBuild.{Asked, declared_graph}
+use Rattle.build_theory.proofs.Lists.{same_bytes, bytes_same, has-left, has-right, has-cases, has_number-left, has_number-push, has_number-push_cases}
 use Rattle.graph.specs.declared.cone.Cone.{Cone}
 use Rattle.graph.specs.declared.cone.ConeFault.{ConeFault}
 use Rattle.graph.specs.declared.cone.ConeFault.TheVariants.{Memory, Unknown, Cycle}
@@ -175,11 +175,27 @@ cone_for whole graph recorded is nothing targets requested makers each the_cone 
     listed : IsConeOf whole.edges recorded (targets_of whole targets) the_cone.order.items the_cone.marks.items
     listed = cone whole.edges recorded (targets_of whole targets) (stand_for whole graph recorded is nothing (targets_of whole targets) requested makers)
 
-pub no_cone_for : (asked : Asked) (store : Store) (graph : Graph) → IsGraphFor asked.graph graph → NothingRecorded (recorded_inputs store asked.graph.edges) → (requested : List ℕ) → AreMakersOf asked.graph.edges (targets_of asked.graph asked.targets) requested
+-- the graph as the build files have it, where no dyndep file has added to it
+declared_targets : (asked : Asked) → asked.declared ≡ asked.graph.edges → (requested : List ℕ) → AreMakersOf asked.graph.edges (targets_of asked.graph asked.targets) requested
+    → AreMakersOf asked.graph.edges (targets_of (declared_graph asked) asked.targets) requested
+declared_targets asked same requested makers =
+    subst (λ (es : List Edge). AreMakersOf asked.graph.edges (targets_of (record { edges = es; pools = asked.graph.pools; defaults = asked.graph.defaults; builddir = asked.graph.builddir }) asked.targets) requested)
+    (sym {A = List Edge} same) makers
+
+pub no_cone_for : (asked : Asked) (store : Store) (graph : Graph) → asked.declared ≡ asked.graph.edges → IsGraphFor asked.graph graph → NothingRecorded (recorded_inputs store asked.graph.edges) → (requested : List ℕ)
+    → AreMakersOf asked.graph.edges (targets_of asked.graph asked.targets) requested
     → ((k : ℕ) → k < length asked.targets → has (paths_of graph) (path_at asked.targets k) ≡ true) → (fault : ConeFault) → IsFaultForEach graph.links requested fault → IsNoCone asked store (paths_of graph) fault
-no_cone_for asked store graph is nothing requested makers each Memory fault = tt
-no_cone_for asked store graph is nothing requested makers each (Unknown place) fault = absurd fault
-no_cone_for asked store graph is nothing requested makers each (Cycle numbers) fault = (
-  each_named asked.graph graph is asked.targets each,
-  fault asked store (paths_of graph) is.linked (stand_for asked.graph graph (recorded_inputs store asked.graph.edges) is nothing (targets_of asked.graph asked.targets) requested makers),
+no_cone_for asked store graph same is nothing requested makers each Memory fault = tt
+no_cone_for asked store graph same is nothing requested makers each (Unknown place) fault = absurd fault
+no_cone_for asked store graph same is nothing requested makers each (Cycle numbers) fault = (
+  subst (λ (es : List Edge). AllByRecursion (λ p. is_named es p ≡ true) asked.targets) (sym {A = List Edge} same) (each_named asked.graph graph is asked.targets each),
+  fault asked store (paths_of graph) is.linked
+      (stand_for asked.graph graph (recorded_inputs store asked.graph.edges) is nothing (targets_of (declared_graph asked) asked.targets) requested (declared_targets asked same requested makers)),
 )
+
+-- a target that is none of the paths is one that no build line names
+pub unknown_for : (asked : Asked) (graph : Graph) (targets : List (List ℕ)) (place : ℕ) → asked.declared ≡ asked.graph.edges → IsGraphFor asked.graph graph → asked.targets ≡ targets → IsFirstAbsentIn (paths_of graph) targets place
+    → IsFirstUnknown asked.declared asked.targets place
+unknown_for asked graph targets place same is same_targets first =
+    subst (λ (es : List Edge). IsFirstUnknown es asked.targets place) (sym {A = List Edge} same)
+    (subst (λ (ts : List (List ℕ)). IsFirstUnknown asked.graph.edges ts place) (sym {A = List (List ℕ)} same_targets) (first_unknown asked.graph graph is targets place first))

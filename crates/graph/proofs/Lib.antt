@@ -1,5 +1,4 @@
 pub mod ConesOf
-pub mod Counts
 pub mod GraphDefaults
 pub mod GraphLinks
 pub mod GraphMakers

@@ -8,7 +8,7 @@ use Rattle.std.proofs.lemmas.List.{append-nil}
 use Rattle.std.proofs.lemmas.Option.{slice_get_within, slice_get-get_or}
 use Rattle.indexmap.specs.IndexSet.{insert_key, insert_all}
 use Rattle.model.specs.Graph.{has_number}
-use Rattle.laws.proofs.Lists.{has_number-left, has_number-cases, has_number-is, has_number-push}
+use Rattle.build_theory.proofs.Lists.{has_number-left, has_number-cases, has_number-is, has_number-push}
 use Rattle.graph.specs.declared.graph.Links.{Links}
 use Rattle.graph.specs.ReadingOf.{regular_inputs_at, alias_at}
 

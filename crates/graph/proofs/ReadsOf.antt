@@ -12,7 +12,7 @@ use Rattle.model.specs.declared.graph.Edge.{Edge}
 use Rattle.model.specs.World.{View}
 use Rattle.model.specs.Graph.{has, has_number, edge_at, inputs, regular_inputs, later_number}
 use Rattle.model.specs.Reading.{IsAlias, Counts, IsRead, Itself, Through}
-use Rattle.laws.proofs.Lists.{same_bytes, bytes_same, has-right, has_number-left}
+use Rattle.build_theory.proofs.Lists.{same_bytes, bytes_same, has-right, has_number-left}
 use Rattle.graph.specs.declared.graph.Links.{Links}
 use Rattle.graph.specs.declared.reading.Read.{Read}
 use Rattle.graph.specs.Cone.{inputs_at, regular_at, phony_at}

@@ -3,7 +3,7 @@ use Rattle.std.specs.Prelude.{ℕ, List, map}
 use Rattle.model.specs.declared.graph.Edge.{Edge}
 use Rattle.model.specs.Graph.{targets_of}
 use Rattle.model.specs.Records.{Store, recorded_inputs}
-use Rattle.model.specs.SingleBuild.{Asked, IsShownCycle}
+use Rattle.model.specs.SingleBuild.{Asked, declared_graph, IsShownCycle}
 use Rattle.graph.specs.declared.graph.Links.{Links}
 use Rattle.graph.specs.declared.cone.ConeFault.{ConeFault}
 use Rattle.graph.specs.declared.cone.ConeFault.TheVariants.{Memory, Unknown, Cycle}
@@ -26,5 +26,5 @@ IsFaultForEach links requested Memory = Unit {0}
 IsFaultForEach links requested (Unknown place) = ⊥
 IsFaultForEach links requested (Cycle numbers) =
     (asked : Asked) (store : Store) (paths : List (List ℕ)) → IsGraphOf asked.graph.edges paths links
-    → StandFor asked.graph.edges (recorded_inputs store asked.graph.edges) (targets_of asked.graph asked.targets) links requested
+    → StandFor asked.graph.edges (recorded_inputs store asked.graph.edges) (targets_of (declared_graph asked) asked.targets) links requested
     → IsShownCycle asked store (map (path_at paths) numbers)

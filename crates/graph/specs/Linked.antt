@@ -8,7 +8,7 @@ use Rattle.model.specs.declared.graph.Edge.{Edge}
 use Rattle.model.specs.Graph.{has, has_number, edge_at, maker, later_number, outputs, regular_inputs, inputs, roots, all_outputs, or_else, is_named, StandsTwice, IsMadeTwice, IsMadeOnce}
 use Rattle.model.specs.Reading.{needs, IsInCone}
 use Rattle.model.specs.SingleBuild.{NamesOther}
-use Rattle.laws.specs.Order.{AreMakersFirst}
+use Rattle.build_theory.specs.Order.{AreMakersFirst}
 use Rattle.graph.specs.declared.graph.Graph.{Graph}
 use Rattle.graph.specs.declared.graph.GraphFault.{GraphFault}
 use Rattle.graph.specs.declared.graph.GraphFault.TheVariants.{Memory, MadeTwice, NoDyndepInput}

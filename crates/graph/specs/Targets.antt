@@ -37,5 +37,5 @@ pub record IsConeFor (whole : BuildGraph) (recorded : ℕ → List (List ℕ)) (
 -- why what was asked for has no cone: a target that is unknown, or paths that lead round a cycle
 abbrev pub IsNoCone : Asked → Store → List (List ℕ) → ConeFault → Type 0
 IsNoCone asked store paths Memory = Unit {0}
-IsNoCone asked store paths (Unknown place) = IsFirstUnknown asked.graph.edges asked.targets place
+IsNoCone asked store paths (Unknown place) = IsFirstUnknown asked.declared asked.targets place
 IsNoCone asked store paths (Cycle numbers) = AllNamed asked × IsShownCycle asked store (map (path_at paths) numbers)

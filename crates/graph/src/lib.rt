@@ -3,9 +3,11 @@
 
 mod cone;
 mod graph;
+mod laws;
 mod reading;
 mod walk;
 
 pub use cone::{Cone, ConeFault, Mark};
 pub use graph::{Graph, GraphFault, Links};
+pub use laws::links_are_makers;
 pub use reading::Read;

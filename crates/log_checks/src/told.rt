@@ -2,7 +2,7 @@
 
 ghost use Rattle.std.specs.Prelude.{◌≡◌, [], ◌∷◌, IfOk};
 
-use build_log::{Done, Log, Tail};
+use build_log::{Done, Log, Tail, done_line};
 use model::Act;
 use std::alloc::Global;
 use std::test::Fail;
@@ -19,7 +19,7 @@ pub struct Told {
     pub b: u64,
 }
 
-fn start_of(log: &Log, output: &str) -> u64 {
+pub fn start_of(log: &Log, output: &str) -> u64 {
     match log.lookup(output) {
         Some(done) => done.start,
         None => 0,
@@ -67,4 +67,10 @@ pub fn outputs(alloc: Global, output: &str) -> Result<Items<Path>, Fail>
     let mut outputs = Vec::new(alloc);
     outputs.push(Path::from_str(alloc, output)?)?;
     Ok(Items::from_vec(outputs))
+}
+
+/// Writes the line of a command of one output that finished well.
+pub fn push_done(text: &mut Vec<u8>, output: &str, done: &Done) -> Result<(), Fail> {
+    done_line(text, &[output], done)?;
+    Ok(())
 }

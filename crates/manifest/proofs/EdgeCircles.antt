@@ -3,7 +3,7 @@ use Rattle.std.proofs.Common.{◌≡◌, inl, inr, ℕ, Bool, true, List, Option
 use Rattle.std.specs.Prelude.{codes, bytes_eq, ◌||◌}
 use Rattle.scopes.specs.declared.template.Template.{Template}
 use Rattle.scopes.specs.Use.{HasCircle}
-use Rattle.scopes.proofs.Walking.{same_bytes, or_false}
+use Rattle.text.proofs.Plain.{same_bytes, or_false}
 use Rattle.manifest.specs.Uses.{is_expanded, LeadsIntoCircle}
 
 abbrev pub HasNoCircle : (List ℕ → Option Template) → List ℕ → Type 0

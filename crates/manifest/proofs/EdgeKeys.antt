@@ -7,7 +7,7 @@ use Rattle.std.proofs.lemmas.List.{map-append}
 use Rattle.std.proofs.lemmas.List.Elements.{filter-append}
 use Rattle.indexmap.specs.IndexSet.{insert_key}
 use Rattle.model.specs.Graph.{has}
-use Rattle.scopes.proofs.Walking.{same_bytes, bytes_eq-same}
+use Rattle.text.proofs.Plain.{same_bytes, bytes_eq-same}
 use Rattle.manifest.specs.Edges.{without}
 use Rattle.manifest.specs.Held.{HasKeys}
 

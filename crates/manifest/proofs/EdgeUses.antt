@@ -14,7 +14,6 @@ use Rattle.scopes.specs.Moves.{Move, or_else, value_at_end}
 use Rattle.scopes.specs.Rule.{template_of}
 use Rattle.scopes.specs.Texts.{joined, largest_value}
 use Rattle.scopes.specs.Use.{is_special, is_unquoted, unless_bound, paths_for, special_value, opened, fixed, IsValueAtUse, Fixed, Opened, Names, Leads, Once, More, IsOnTheWay, HasCircle}
-use Rattle.scopes.proofs.Valuing.{one_value, no_circle_on_the_way}
 use Rattle.manifest.specs.declared.fault.FaultKind.TheVariants.{Line, Circle}
 use Rattle.manifest.specs.declared.fault.ReadError.{ReadError}
 use Rattle.manifest.specs.declared.values.Values.{Values}
@@ -134,34 +133,41 @@ module _ (at : Use) (build : Build) (rule : Rule) (for : IsUseFor at build rule)
 
 -- ---- the answer
 
+-- a name has one value at most, and none where texts of the rule name each other in a circle on the way: the laws of scopes
+abbrev pub OneValue : Type 0
+OneValue = (opens : List ℕ → Option Template) (fixed : List ℕ → List ℕ) (name one other : List ℕ) → IsValueAtUse opens fixed name one → IsValueAtUse opens fixed name other → one ≡ other
+
+abbrev pub NoCircle : Type 0
+NoCircle = (opens : List ℕ → Option Template) (fixed : List ℕ → List ℕ) (name value : List ℕ) → IsValueAtUse opens fixed name value → HasCircle opens name → ⊥
+
 module _ (past : List Move) (build : Build) (rule : Rule) where
-  small : (name value : List ℕ) → IsValueOf build rule past name value → length value ≤ largest_value
+  small : OneValue → (name value : List ℕ) → IsValueOf build rule past name value → length value ≤ largest_value
       → IsTooLargeAtUse (opened_in build rule) (fixed_in build past name) name → ⊥
-  small name value is low has =
+  small one_value name value is low has =
       let same : length value ≡ length has.value = ap length (one_value (opened_in build rule) (fixed_in build past name) name value has.value is has.is_value) in
       omega (arith, same, low, has.large)
 
   abbrev IsSmallAt : List ℕ → Type 0
   IsSmallAt name = IsTooLargeAtUse (opened_in build rule) (fixed_in build past name) name → ⊥
 
-  none_large : (values : Values) → AreValuesOf build rule past values → AreSmall values → HasLargeValue build rule past → ⊥
-  none_large values are low has =
+  none_large : OneValue → (values : Values) → AreValuesOf build rule past values → AreSmall values → HasLargeValue build rule past → ⊥
+  none_large one_value values are low has =
       each_variable IsSmallAt
-      (small _ _ are.command low.command) (small _ _ are.depfile low.depfile) (small _ _ are.deps low.deps) (small _ _ are.dyndep low.dyndep)
-      (small _ _ are.description low.description) (small _ _ are.pool low.pool) (small _ _ are.restat low.restat)
-      (small _ _ are.rspfile low.rspfile) (small _ _ are.rspfile_content low.rspfile_content) has.name has.expanded has.large
+      (small one_value _ _ are.command low.command) (small one_value _ _ are.depfile low.depfile) (small one_value _ _ are.deps low.deps) (small one_value _ _ are.dyndep low.dyndep)
+      (small one_value _ _ are.description low.description) (small one_value _ _ are.pool low.pool) (small one_value _ _ are.restat low.restat)
+      (small one_value _ _ are.rspfile low.rspfile) (small one_value _ _ are.rspfile_content low.rspfile_content) has.name has.expanded has.large
 
-  none_circular : (values : Values) → AreValuesOf build rule past values → LeadsIntoCircle (opened_in build rule) → ⊥
-  none_circular values are =
+  none_circular : NoCircle → (values : Values) → AreValuesOf build rule past values → LeadsIntoCircle (opened_in build rule) → ⊥
+  none_circular no_circle values are =
       no_circles (opened_in build rule)
-      (no_circle_on_the_way _ _ _ _ are.command) (no_circle_on_the_way _ _ _ _ are.depfile) (no_circle_on_the_way _ _ _ _ are.deps)
-      (no_circle_on_the_way _ _ _ _ are.dyndep) (no_circle_on_the_way _ _ _ _ are.description) (no_circle_on_the_way _ _ _ _ are.pool)
-      (no_circle_on_the_way _ _ _ _ are.restat) (no_circle_on_the_way _ _ _ _ are.rspfile) (no_circle_on_the_way _ _ _ _ are.rspfile_content)
+      (no_circle _ _ _ _ are.command) (no_circle _ _ _ _ are.depfile) (no_circle _ _ _ _ are.deps)
+      (no_circle _ _ _ _ are.dyndep) (no_circle _ _ _ _ are.description) (no_circle _ _ _ _ are.pool)
+      (no_circle _ _ _ _ are.restat) (no_circle _ _ _ _ are.rspfile) (no_circle _ _ _ _ are.rspfile_content)
 
-  pub expanded : (values : Values) → AreValuesOf build rule past values → AreSmall values → ExpandedValues past build rule (Reached values)
-  expanded values are low = in_order (none_circular values are) (in_order (none_large values are low) (with_value are refl))
+  expanded : OneValue → NoCircle → (values : Values) → AreValuesOf build rule past values → AreSmall values → ExpandedValues past build rule (Reached values)
+  expanded one_value no_circle values are low = in_order (none_circular no_circle values are) (in_order (none_large one_value values are low) (with_value are refl))
 
-  pub not_expanded : (fault : UseFault) (r : Result Values ReadError) → (fault ≡ UseCircle → LeadsIntoCircle (opened_in build rule))
+  not_expanded : (fault : UseFault) (r : Result Values ReadError) → (fault ≡ UseCircle → LeadsIntoCircle (opened_in build rule))
       → (fault ≡ UseTooLarge → LeadsIntoCircle (opened_in build rule) → ⊥) → (fault ≡ UseTooLarge → HasLargeValue build rule past)
       → IsUseRefused build fault r → IsAnswerOf (ExpandedValues past build rule) r
   not_expanded fault (Ok values) circle no_circle large told = absurd told
@@ -186,8 +192,8 @@ use_for at edge build rule is block of_rule scope inputs outputs quoted_inputs q
 }
 
 module _ (past : List Move) (build : Build) (rule : Rule) where
-  pub expanded_use : (at : Use) (values : Values) → AreValuesAt at past values → AreSmall values → IsUseFor at build rule → ExpandedValues past build rule (Reached values)
-  expanded_use at values are low for = expanded past build rule values (values_of at build rule for past values are) low
+  pub expanded_use : OneValue → NoCircle → (at : Use) (values : Values) → AreValuesAt at past values → AreSmall values → IsUseFor at build rule → ExpandedValues past build rule (Reached values)
+  expanded_use one_value no_circle at values are low for = expanded past build rule one_value no_circle values (values_of at build rule for past values are) low
 
   pub not_expanded_use : (at : Use) (fault : UseFault) (r : Result Values ReadError) → (fault ≡ UseCircle → LeadsIntoCircle (opened at))
       → (fault ≡ UseTooLarge → LeadsIntoCircle (opened at) → ⊥) → (fault ≡ UseTooLarge → HasLargeValueAt at past)

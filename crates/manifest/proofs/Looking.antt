@@ -1,5 +1,5 @@
 -- What calls of a site see and leave, one after another.
-use Rattle.std.proofs.Common.{◌≡◌, ℕ, ◌≤◌, Bool, IsTrue, List, [], ◌∷◌, ◌++◌, Option, Result, Ok, Err, IsErrAnd, refl, sym, ◌∙◌, ap, subst, arith, append_assoc}
+use Rattle.std.proofs.Common.{◌≡◌, ℕ, Bool, IsTrue, List, [], ◌∷◌, ◌++◌, Option, Result, Ok, Err, IsErrAnd, refl, sym, ◌∙◌, ap, subst, arith, append_assoc}
 use Rattle.std.specs.List.{AllByRecursion}
 use Rattle.std.proofs.lemmas.List.{append-nil}
 use Rattle.model.specs.declared.fault.SiteFault.{SiteFault}
@@ -18,13 +18,14 @@ all_append P [] ys a b = b
 all_append P (x ∷ xs) ys a b = (a.0, all_append P xs ys a.1 b)
 
 pub looks_none : (tells : Bool) (w : World) → OnlyLooks tells w w
-looks_none tells w = record { events = refl; ticked = refl; history = λ told. record { more = []; grows = sym (append-nil w.history); all = tt } }
+looks_none tells w = record { events = refl; ticked = refl; at_start = refl; history = λ told. record { more = []; grows = sym (append-nil w.history); all = tt } }
 
 pub looks_then : (tells : Bool) (a b c : World) → OnlyLooks tells a b → OnlyLooks tells b c → OnlyLooks tells a c
 looks_then tells a b c first second =
     record {
       events = second.events ∙ first.events;
       ticked = second.ticked ∙ first.ticked;
+      at_start = second.at_start ∙ first.at_start;
       history = λ told.
           let f = first.history told in
           let s : OthersWrote (IsRunning a.events) b.history c.history = subst (λ (l : List Event). OthersWrote (IsRunning l) b.history c.history) first.events (second.history told) in
@@ -37,9 +38,6 @@ looks_then tells a b c first second =
 
 -- ---- causes of faults
 
-pub caused_then : {T : Type 0} (a b c : World) (r : Result T SiteFault) → a.failures ≤ b.failures → IsCaused b c r → IsCaused a c r
-caused_then a b c r le cause = record { grows = omega (arith, le, cause.grows); device = λ is. omega (arith, le, cause.device is); stopped = cause.stopped }
-
 abbrev pub fine : Result (Unit {0}) SiteFault
 fine = Ok tt
 
@@ -49,15 +47,30 @@ failed error = Err error
 fine_is_no_fault : (fault : SiteFault) → fine ≡ Err fault → ⊥
 fine_is_no_fault fault is = cc
 
-pub caused_none : (a b : World) → a.failures ≤ b.failures → IsCaused a b fine
-caused_none a b le = record { grows = le; device = λ is. absurd (fine_is_no_fault _ is); stopped = λ is. absurd (fine_is_no_fault _ is) }
+-- no call between the two failed
+abbrev pub NoneFailed : World → World → Type 0
+NoneFailed old new = IsCaused old new fine
+
+pub none_failed : (w : World) → NoneFailed w w
+none_failed w = record { grows = omega arith; device = λ is. absurd (fine_is_no_fault _ is); others = λ no. refl; stopped = λ going. going; earlier = refl }
+
+pub caused_then : {T : Type 0} (a b c : World) (r : Result T SiteFault) → NoneFailed a b → IsCaused b c r → IsCaused a c r
+caused_then a b c r none cause =
+    let same = none.others (fine_is_no_fault _) in
+    record {
+      grows = omega (arith, same, cause.grows);
+      device = λ is. let more = cause.device is in omega (arith, same, more);
+      others = λ no. cause.others no ∙ same;
+      stopped = λ going. cause.stopped (none.stopped going);
+      earlier = cause.earlier ∙ none.earlier;
+    }
 
 -- a fault that is passed on
 pub caused_on : {T : Type 0} (a b c : World) (error : ReadError) (r : Result T ReadError)
-    → a.failures ≤ b.failures → IsCaused b c (site_part (failed error)) → IsErrAnd r (λ (e : ReadError). e ≡ error) → IsCaused a c (site_part r)
-caused_on a b c error (Ok value) le cause is = absurd is
-caused_on a b c error (Err other) le cause is =
-    caused_then a b c (site_part (failed other)) le
+    → NoneFailed a b → IsCaused b c (site_part (failed error)) → IsErrAnd r (λ (e : ReadError). e ≡ error) → IsCaused a c (site_part r)
+caused_on a b c error (Ok value) none cause is = absurd is
+caused_on a b c error (Err other) none cause is =
+    caused_then a b c (site_part (failed other)) none
     (subst (λ (e : ReadError). IsCaused b c (site_part (failed e))) (sym is) cause)
 
 -- ---- what was seen

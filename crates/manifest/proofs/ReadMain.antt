@@ -1,11 +1,11 @@
 -- The main file, and what is seen when all is read.
-use Rattle.std.proofs.Common.{◌≡◌, ℕ, ◌≤◌, List, [], ◌∷◌, Option, None, Some, Result, Ok, Err, IsErrAnd, sym, subst, arith}
+use Rattle.std.proofs.Common.{◌≡◌, ℕ, false, List, [], ◌∷◌, Option, None, Some, Result, Ok, Err, IsErrAnd, sym, ◌∙◌, ap, subst, arith}
 use Rattle.std.specs.List.{AllZip, AllByRecursion}
 use Rattle.model.specs.declared.fault.SiteFault.{SiteFault}
-use Rattle.model.specs.declared.fault.SiteFault.TheVariants.{Stopped}
+use Rattle.model.specs.declared.fault.SiteFault.TheVariants.{Device, Stopped}
 use Rattle.model.specs.declared.graph.BuildGraph.{BuildGraph}
 use Rattle.model.specs.World.{World}
-use Rattle.model.specs.Calls.{HasCause}
+use Rattle.model.specs.Calls.{HasCause, is_stop}
 use Rattle.manifest.specs.declared.fault.FaultKind.TheVariants.{NotFound}
 use Rattle.manifest.specs.declared.fault.ReadError.{ReadError}
 use Rattle.manifest.specs.declared.fault.ReadError.TheVariants.{Memory, Site, Refused}
@@ -23,7 +23,7 @@ use Rattle.manifest.specs.Held.{IsStateOf, IsFormed, IsBuildOf}
 use Rattle.manifest.specs.Places.{IsFaultAt}
 use Rattle.manifest.specs.Seen.{IsCaused}
 use Rattle.manifest.proofs.Binds.{refuse_at}
-use Rattle.manifest.proofs.Looking.{failed, caused_none}
+use Rattle.manifest.proofs.Looking.{failed, NoneFailed}
 use Rattle.manifest.proofs.ReadTo.{seen_fault, seen_fault_wider}
 
 -- ---- causes
@@ -31,39 +31,45 @@ use Rattle.manifest.proofs.ReadTo.{seen_fault, seen_fault_wider}
 not_both : {T : Type 0} (first : Result T SiteFault) (content : T) (fault : SiteFault) → first ≡ Ok content → first ≡ Err fault → ⊥
 not_both first content fault one other = cc
 
+not_stopped : {T : Type 0} (first : Result T SiteFault) (content : T) → first ≡ Ok content → is_stop first ≡ false
+not_stopped first content given = ap is_stop given
+
 -- the main file was given, so the site had not stopped
 pub main_cause : {T U : Type 0} (old mid new : World) (first : Result T SiteFault) (content : T) (r : Result U ReadError)
     → HasCause old mid first → first ≡ Ok content → IsCaused mid new (site_part r) → HasCause old new (site_part r)
 main_cause old mid new first content r cause given rest =
+    let same = cause.others (not_both first content Device given) in
     record {
       grows = omega (arith, cause.grows, rest.grows);
-      device = λ is. omega (arith, cause.grows, rest.device is);
-      stopped = rest.stopped;
+      device = λ is. let more = rest.device is in omega (arith, same, more);
+      others = λ no. rest.others no ∙ same;
+      stopped = rest.stopped (cause.stopped ∙ not_stopped first content given);
       after_stop = λ stopped. absurd (not_both first content Stopped given (cause.after_stop stopped).0);
+      earlier = rest.earlier ∙ cause.earlier;
     }
 
 -- no fault of the site
-pub fault_cause : {T X : Type 0} (old new : World) (R : Outcome X → Type 0) (error : ReadError) (r : Result T ReadError) → old.failures ≤ new.failures
+pub fault_cause : {T X : Type 0} (old new : World) (R : Outcome X → Type 0) (error : ReadError) (r : Result T ReadError) → NoneFailed old new
     → IsFaultOf R error → IsErrAnd r (λ (e : ReadError). e ≡ error) → IsCaused old new (site_part r)
-fault_cause old new R error (Ok value) le is passed = absurd passed
-fault_cause old new R error (Err Memory) le is passed = caused_none old new le
-fault_cause old new R error (Err (Refused fault)) le is passed = caused_none old new le
-fault_cause old new R error (Err (Site fault)) le is passed = absurd (subst (IsFaultOf R) (sym passed) is)
+fault_cause old new R error (Ok value) none is passed = absurd passed
+fault_cause old new R error (Err Memory) none is passed = none
+fault_cause old new R error (Err (Refused fault)) none is passed = none
+fault_cause old new R error (Err (Site fault)) none is passed = absurd (subst (IsFaultOf R) (sym passed) is)
 
-pub answer_cause : {X : Type 0} (old new : World) (R : Outcome X → Type 0) (r : Result X ReadError) → old.failures ≤ new.failures → IsAnswerOf R r → IsCaused old new (site_part r)
-answer_cause old new R (Ok value) le is = caused_none old new le
-answer_cause old new R (Err Memory) le is = caused_none old new le
-answer_cause old new R (Err (Site fault)) le is = absurd is
-answer_cause old new R (Err (Refused fault)) le is = caused_none old new le
+pub answer_cause : {X : Type 0} (old new : World) (R : Outcome X → Type 0) (r : Result X ReadError) → NoneFailed old new → IsAnswerOf R r → IsCaused old new (site_part r)
+answer_cause old new R (Ok value) none is = none
+answer_cause old new R (Err Memory) none is = none
+answer_cause old new R (Err (Site fault)) none is = absurd is
+answer_cause old new R (Err (Refused fault)) none is = none
 
 -- a refusal at a place is none of the site's
-pub place_cause : (place : Place) (old new : World) (r : ReadError) → old.failures ≤ new.failures → IsFaultAt place (NotFound place.file) r → IsCaused old new (site_part (failed r))
-place_cause place old new Memory le is = caused_none old new le
-place_cause place old new (Site fault) le is = absurd is
-place_cause place old new (Refused fault) le is = caused_none old new le
+pub place_cause : (place : Place) (old new : World) (r : ReadError) → NoneFailed old new → IsFaultAt place (NotFound place.file) r → IsCaused old new (site_part (failed r))
+place_cause place old new Memory none is = none
+place_cause place old new (Site fault) none is = absurd is
+place_cause place old new (Refused fault) none is = none
 
-pub memory_cause : (old new : World) → old.failures ≤ new.failures → IsCaused old new (site_part (failed Memory))
-memory_cause old new le = caused_none old new le
+pub memory_cause : (old new : World) → NoneFailed old new → IsCaused old new (site_part (failed Memory))
+memory_cause old new none = none
 
 -- ---- nothing is read yet
 

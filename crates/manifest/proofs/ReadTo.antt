@@ -21,7 +21,7 @@ use Rattle.manifest.specs.Held.{IsStateOf, Says, KeepsScopes, IsFormed}
 use Rattle.manifest.specs.Made.{HaveOutputs, FormHasOutput}
 use Rattle.manifest.specs.Seen.{Covers, seen, IsCaused, SaysSeen, IsStated, LinesSay, if_no_line}
 use Rattle.manifest.proofs.Binds.{cut_ok, cut_fault}
-use Rattle.manifest.proofs.Looking.{looks_then, looks_none, caused_none, covers_before, covers_after}
+use Rattle.manifest.proofs.Looking.{looks_then, looks_none, fine, NoneFailed, none_failed, caused_then, covers_before, covers_after}
 use Rattle.manifest.proofs.Grouping.{at_statement, reads_first}
 
 -- ---- answers where the site is asked
@@ -56,10 +56,10 @@ seen_on R S error (Err other) after wider is passed = subst (IsFaultSeen S) (sym
 -- no fault of the site
 pub own_cause : (w : World) (before after : Declared) (R : State → Outcome State → Type 0) (r : Result (Unit {0}) ReadError)
     → ((state : State) → IsStateOf before state → Says r after (R state)) → IsStated before → IsCaused w w (site_part r)
-own_cause w before after R (Ok value) is stated = caused_none w w (omega arith)
-own_cause w before after R (Err Memory) is stated = caused_none w w (omega arith)
+own_cause w before after R (Ok value) is stated = none_failed w
+own_cause w before after R (Err Memory) is stated = none_failed w
 own_cause w before after R (Err (Site fault)) is stated = absurd (is stated.0 stated.1)
-own_cause w before after R (Err (Refused fault)) is stated = caused_none w w (omega arith)
+own_cause w before after R (Err (Refused fault)) is stated = none_failed w
 
 -- some state is reached
 pub own_stated : (before after : Declared) (R : State → Outcome State → Type 0) (r : Result (Unit {0}) ReadError)
@@ -67,17 +67,17 @@ pub own_stated : (before after : Declared) (R : State → Outcome State → Type
 own_stated before after R (Ok value) is = λ stated. let now = is stated.0 stated.1 in (now.0, now.1)
 own_stated before after R (Err error) is = tt
 
-pub stop_cause : (old new : World) (behind : Option FileFault) (r : Result (Unit {0}) ReadError) → old.failures ≤ new.failures → IsAnswerOf (Cut behind (Give tt)) r → IsCaused old new (site_part r)
-stop_cause old new behind (Ok value) le is = caused_none old new le
-stop_cause old new behind (Err Memory) le is = caused_none old new le
-stop_cause old new behind (Err (Site fault)) le is = absurd is
-stop_cause old new behind (Err (Refused fault)) le is = caused_none old new le
+pub stop_cause : (old new : World) (behind : Option FileFault) (r : Result (Unit {0}) ReadError) → NoneFailed old new → IsAnswerOf (Cut behind (Give tt)) r → IsCaused old new (site_part r)
+stop_cause old new behind (Ok value) none is = none
+stop_cause old new behind (Err Memory) none is = none
+stop_cause old new behind (Err (Site fault)) none is = absurd is
+stop_cause old new behind (Err (Refused fault)) none is = none
 
 -- ---- the statements so far
 
 pub record IsReadTo (tells : Bool) (old new : World) (levels : ℕ) (file : List ℕ) (fault : Option Fault) (lines rest : List Line) (before after : Declared) : Type 0 where
   pub looks : OnlyLooks tells old new
-  pub failures : IsStated before → old.failures ≤ new.failures
+  pub failed : IsStated before → NoneFailed old new
   pub stated : IsStated before → IsStated after
   pub said : IsTrue tells → (entry exit : World) → Covers entry exit old new → (state : State) → IsStateOf before state
       → (now : State) × IsStateOf after now × ((outcome : Outcome State) → LinesSay (seen entry exit) levels file fault rest now outcome → LinesSay (seen entry exit) levels file fault lines state outcome)
@@ -121,7 +121,7 @@ pub read_to_none : (tells : Bool) (w : World) (levels : ℕ) (file : List ℕ) (
 read_to_none tells w levels file fault lines block rest declared split =
     record {
       looks = looks_none tells w;
-      failures = λ stated. omega arith;
+      failed = λ stated. none_failed w;
       stated = λ stated. stated;
       said = λ told entry exit covered state is. (
         state,
@@ -144,14 +144,14 @@ module _ (tells : Bool) (old mid new : World) (levels : ℕ) (file : List ℕ) (
   One entry exit = OfForm (seen entry exit) (too_deep_at levels) (inner_at (seen entry exit) levels) (record { file = file; line = line.number }) (form_of line.statement) (block_lines (map said_of block)) (option_map (fault_in file) behind)
 
   -- the next statement is read
-  pub read_to_next : (IsStated between → mid.failures ≤ new.failures) → (IsStated between → IsStated after)
+  pub read_to_next : (IsStated between → NoneFailed mid new) → (IsStated between → IsStated after)
       → (IsTrue tells → (entry exit : World) → Covers entry exit mid new → (state : State) → IsStateOf between state → (now : State) × IsStateOf after now × One entry exit state (Reached now))
       → KeepsScopes between after → (FormHasOutput (form_of line.statement) → IsFormed between → IsFormed after)
       → IsReadTo tells old new levels file fault lines next before after
-  read_to_next grows stated one scopes formed =
+  read_to_next none stated one scopes formed =
       record {
         looks = looks_then tells old mid new read.looks looks;
-        failures = λ first. let le = read.failures first in let more = grows (read.stated first) in omega (arith, le, more);
+        failed = λ first. caused_then old mid new fine (read.failed first) (none (read.stated first));
         stated = λ first. stated (read.stated first);
         said = λ told entry exit covered state is.
             let front = read.said told entry exit (covers_before tells entry exit old mid new told looks covered) state is in

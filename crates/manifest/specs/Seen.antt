@@ -1,12 +1,13 @@
 -- What the reading of files says of the site and of the files that it reads.
-use Rattle.std.specs.Prelude.{◌≡◌, ℕ, ◌<◌, ◌≤◌, true, List, [], ◌∷◌, map, Option, None, Result, Ok, Err, IsErrOf}
+use Rattle.std.specs.Prelude.{◌≡◌, ℕ, ◌<◌, ◌≤◌, false, List, [], ◌∷◌, map, Option, None, Result, Ok, Err, IsErrOf}
 use Rattle.std.specs.Option.{option_map}
 use Rattle.lexer.specs.declared.fault.Fault.{Fault}
 use Rattle.lexer.specs.declared.statement.Line.{Line}
 use Rattle.lexer.specs.Said.{form_of, said_of}
 use Rattle.model.specs.declared.fault.SiteFault.{SiteFault}
-use Rattle.model.specs.declared.fault.SiteFault.TheVariants.{Device, Stopped}
+use Rattle.model.specs.declared.fault.SiteFault.TheVariants.{Device}
 use Rattle.model.specs.World.{World}
+use Rattle.model.specs.Calls.{is_stop}
 use Rattle.manifest.specs.declared.blocks.Group.{Group as KeptGroup}
 use Rattle.manifest.specs.declared.kept.Declared.{Declared}
 use Rattle.manifest.specs.declared.reader.Opened.{Opened}
@@ -28,11 +29,14 @@ Covers entry exit old new =
 abbrev pub seen : World → World → Holds
 seen entry exit = held entry.history exit.history
 
--- a fault of the site has its cause; a site that has stopped before is not asked here
+-- A fault of the site has its cause, and nothing else is counted as one, in calls of which the last alone may have failed. A site
+-- that has stopped before is not asked here.
 pub record IsCaused {T : Type 0} (old new : World) (result : Result T SiteFault) : Type 0 where
   pub grows : old.failures ≤ new.failures
   pub device : IsErrOf result Device → old.failures < new.failures
-  pub stopped : IsErrOf result Stopped → new.stopped ≡ true
+  pub others : (IsErrOf result Device → ⊥) → new.failures ≡ old.failures
+  pub stopped : old.stopped ≡ false → new.stopped ≡ is_stop result
+  pub earlier : new.earlier ≡ old.earlier
 
 -- the file that was found, or why none was, is that of the reading
 abbrev pub FindsFile : (Outcome Found → Type 0) → Result Opened ReadError → Type 0

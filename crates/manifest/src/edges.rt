@@ -19,7 +19,7 @@ use crate::values::Values;
 use indexmap::IndexMap;
 use lexer::{is_bare_path, quote};
 use model::Edge;
-use scopes::{Paths, Rule, Scopes, Use, UseFault};
+use scopes::{Paths, Rule, Scopes, Use, UseFault, values_are_unique};
 use std::alloc::{AllocError, Global};
 use text::{Items, Path, Text};
 
@@ -93,6 +93,7 @@ impl ReadEdge {
                 outputs: words(&quoted_outputs, outputs),
             },
         };
+        values_are_unique();
         match Values::of(alloc, scopes, &at) {
             Ok(values) => Ok(values),
             Err(fault) => self.refuse_use(alloc, fault),

@@ -1,7 +1,10 @@
-//! A law of what build files declare.
+//! Laws of what build files declare.
 
-ghost use Rattle.std.specs.Prelude.{◌≡◌, List, ℕ, Option};
+ghost use Rattle.std.specs.Prelude.{◌≡◌, List, ℕ, Option, Result, ◌++◌};
+ghost use Rattle.model.specs.declared.event.Moment.{Moment};
 ghost use Rattle.model.specs.declared.graph.BuildGraph.{BuildGraph};
+ghost use Rattle.manifest.specs.declared.fault.ReadError.{ReadError};
+ghost use Rattle.manifest.specs.Answer.{ReadsFile};
 ghost use Rattle.manifest.specs.Readings.{Outcome};
 ghost use Rattle.manifest.specs.Graphs.{Declares};
 
@@ -17,3 +20,8 @@ pub fn one_outcome()
     one_reading();
     values_are_unique();
 }
+
+/// A law, which runs nothing: what build files declared during a call, they declared during a longer one.
+pub fn reads_longer()
+    ensures { (name : List ℕ) (old mid new later : List Moment) (result : Result BuildGraph ReadError) → new ≡ mid ++ later → ReadsFile name old mid result → ReadsFile name old new result }
+{}

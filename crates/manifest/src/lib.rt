@@ -22,7 +22,7 @@ mod texts;
 mod values;
 
 pub use fault::{FaultKind, FileFault, ReadError};
-pub use laws::one_outcome;
+pub use laws::{one_outcome, reads_longer};
 pub use model::{Act, BuildGraph as Manifest, Edge, SiteFault};
 pub use reader::read;
 pub use texts::Texts;

@@ -7,7 +7,7 @@ ghost use Rattle.scopes.specs.Use.{opened, HasCircle};
 ghost use Rattle.scopes.specs.declared.fault.UseFault.TheVariants.{Circle, TooLarge};
 ghost use Rattle.manifest.specs.Values.{AreValuesAt, AreSmall, LeadsIntoCircleAt, HasLargeValueAt};
 
-use scopes::{Scopes, Use, UseFault, expand_use};
+use scopes::{Scopes, Use, UseFault, expand_use, values_are_unique};
 use std::alloc::Global;
 use text::Text;
 
@@ -94,6 +94,7 @@ fn check_circle(alloc: Global, scopes: &Scopes, at: &Use<'_>, name: &str) -> Res
     ensures circle { IsErrOf result Circle → HasCircle (opened at.now) name.now }
     ensures not_large { IsErrOf result TooLarge → ⊥ }
 {
+    values_are_unique();
     match expand_use(alloc, scopes, at, name) {
         Ok(_) => Ok(()),
         Err(UseFault::TooLarge) => Ok(()),

@@ -3,16 +3,16 @@ use Rattle.std.specs.Prelude.{◌≡◌, ◌⊎◌, ◌↔◌, ℕ, ◌<◌, ◌
 use Rattle.std.specs.List.{AllByRecursion}
 use Rattle.model.specs.declared.event.Moment.{Moment}
 use Rattle.model.specs.declared.graph.Edge.{Edge}
-use Rattle.model.specs.declared.record.DepsRecord.{DepsRecord}
 use Rattle.model.specs.World.{file_at, stamp_of, view_of}
 use Rattle.model.specs.Graph.{has, has_number, edge_at, maker, outputs, regular_inputs, inputs, IsCommand}
 use Rattle.model.specs.Reading.{IsRead, IsInCone}
-use Rattle.model.specs.Records.{Store, in_force, deps_in_force, recorded_inputs}
+use Rattle.model.specs.Schedule.{Step, judged_in, out_of_date_in}
+use Rattle.model.specs.Records.{Store, Told, in_force, deps_in_force, recorded_inputs}
 use Rattle.model.specs.Judgement.{OutputFacts, InputFacts, Facts, is_same_number, reason_of}
 
 -- ---- the facts of an edge
 
-abbrev pub deps_start : Option DepsRecord → Option ℕ
+abbrev pub deps_start : Option Told → Option ℕ
 deps_start None = None
 deps_start (Some deps) = Some deps.start
 
@@ -63,19 +63,21 @@ pub record IsVerdict (edges : List Edge) (store : Store) (ran : List ℕ) (old n
 abbrev pub IsOutOfDate : List Edge → Store → List ℕ → List Moment → List Moment → ℕ → Type 0
 IsOutOfDate edges store ran old new i = IsVerdict edges store ran old new i true
 
--- ---- before the first start
+-- ---- before a start
 
--- Edge i is due: it is out of date before anything ran, or reads what a due edge makes. A phony is due where it has no
--- inputs and its file is absent, or where a regular input is an absent source or made by a due edge (this project's own).
-pub data IsDue (edges : List Edge) (store : Store) (files : List Moment) : ℕ → Type 0 where
-  Stale : (i : ℕ) → IsCommand edges i → IsOutOfDate edges store [] files files i → IsDue edges store files i
-  Below : (i j : ℕ) (p : List ℕ) → IsCommand edges i → Counted edges store files i p → maker edges p ≡ Some j → IsDue edges store files j → IsDue edges store files i
+-- Edge i is due: it was judged out of date in these steps; or it was not judged, and is out of date before anything ran, or reads
+-- what a due edge makes. A phony is due where it has no inputs and its file is absent, or where a regular input is an absent
+-- source or made by a due edge (this project's own).
+pub data IsDue (edges : List Edge) (store : Store) (before : List Step) (files : List Moment) : ℕ → Type 0 where
+  WasJudged : (i : ℕ) → has_number (out_of_date_in before) i ≡ true → IsDue edges store before files i
+  Stale : (i : ℕ) → IsCommand edges i → has_number (judged_in before) i ≡ false → IsOutOfDate edges store [] files files i → IsDue edges store before files i
+  Below : (i j : ℕ) (p : List ℕ) → IsCommand edges i → has_number (judged_in before) i ≡ false → Counted edges store files i p → maker edges p ≡ Some j → IsDue edges store before files j → IsDue edges store before files i
   AliasOfNothing : (i : ℕ) (o : List ℕ) → (edge_at edges i).phony ≡ true → inputs (edge_at edges i) ≡ [] → has (outputs (edge_at edges i)) o ≡ true
-      → file_at files o ≡ None → IsDue edges store files i
+      → file_at files o ≡ None → IsDue edges store before files i
   AliasOfAbsent : (i : ℕ) (p : List ℕ) → (edge_at edges i).phony ≡ true → has (regular_inputs (edge_at edges i)) p ≡ true
-      → maker edges p ≡ None → file_at files p ≡ None → IsDue edges store files i
+      → maker edges p ≡ None → file_at files p ≡ None → IsDue edges store before files i
   AliasOfDue : (i j : ℕ) (p : List ℕ) → (edge_at edges i).phony ≡ true → has (regular_inputs (edge_at edges i)) p ≡ true
-      → maker edges p ≡ Some j → IsDue edges store files j → IsDue edges store files i
+      → maker edges p ≡ Some j → IsDue edges store before files j → IsDue edges store before files i
 
 -- ---- missing sources
 
@@ -96,18 +98,18 @@ pub record IsFirstMissing (edges : List Edge) (files : List Moment) (paths : Lis
   pub missing : IsMissing edges files p
 
 -- the edge is due, and in the cone
-pub record IsAsked (edges : List Edge) (store : Store) (files : List Moment) (targets : List (List ℕ)) (i : ℕ) : Type 0 where
+pub record IsAsked (edges : List Edge) (store : Store) (before : List Step) (files : List Moment) (targets : List (List ℕ)) (i : ℕ) : Type 0 where
   pub within : IsInCone edges (recorded_inputs store edges) targets i
-  pub due : IsDue edges store files i
+  pub due : IsDue edges store before files i
 
 -- no target is missing, nor an input of a due edge; recorded inputs are none here (this project's own)
-pub record NothingIsMissing (edges : List Edge) (store : Store) (files : List Moment) (targets : List (List ℕ)) : Type 0 where
+pub record NothingIsMissing (edges : List Edge) (store : Store) (before : List Step) (files : List Moment) (targets : List (List ℕ)) : Type 0 where
   pub of_targets : NoneIsMissing edges files targets
-  pub of_edges : (i : ℕ) → IsAsked edges store files targets i → NoneIsMissing edges files (inputs (edge_at edges i))
+  pub of_edges : (i : ℕ) → IsAsked edges store before files targets i → NoneIsMissing edges files (inputs (edge_at edges i))
 
 -- p is the missing input of edge i that is named: no target is missing, nor an input of a due edge with a lower number (this project's own)
-pub record IsMissingInput (edges : List Edge) (store : Store) (files : List Moment) (targets : List (List ℕ)) (i : ℕ) (p : List ℕ) : Type 0 where
-  pub asked : IsAsked edges store files targets i
+pub record IsMissingInput (edges : List Edge) (store : Store) (before : List Step) (files : List Moment) (targets : List (List ℕ)) (i : ℕ) (p : List ℕ) : Type 0 where
+  pub asked : IsAsked edges store before files targets i
   pub of_targets : NoneIsMissing edges files targets
-  pub lowest : (k : ℕ) → k < i → IsAsked edges store files targets k → NoneIsMissing edges files (inputs (edge_at edges k))
+  pub lowest : (k : ℕ) → k < i → IsAsked edges store before files targets k → NoneIsMissing edges files (inputs (edge_at edges k))
   pub first : IsFirstMissing edges files (inputs (edge_at edges i)) p

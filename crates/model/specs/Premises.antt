@@ -11,9 +11,9 @@ use Rattle.model.specs.declared.event.Writer.TheVariants.{Program, Command, Some
 use Rattle.model.specs.declared.graph.Edge.{Edge}
 use Rattle.model.specs.World.{World, View, view_of, latest, IsIdle}
 use Rattle.model.specs.Calls.{AgreeOn}
-use Rattle.model.specs.Graph.{has, has_number, edge_at, maker, outputs, inputs, IsCommand}
+use Rattle.model.specs.Graph.{has, has_number, edge_at, maker, outputs, regular_inputs, inputs, IsCommand}
 use Rattle.model.specs.Outcome.{Behaviour, GivesTheSame, ends_well, given, reports_of, depfile_in, listed}
-use Rattle.model.specs.Reading.{IsRead, IsAbove, needs}
+use Rattle.model.specs.Reading.{IsRead, IsAlias, IsAbove, needs}
 use Rattle.model.specs.Records.{OwnFiles}
 use Rattle.model.specs.Schedule.{Step, judged_in, well_in}
 
@@ -85,16 +85,16 @@ IsWithinEdge edges (Happened event) = Unit {0}
 abbrev pub KeepToOutputs : List Edge → List Moment → List Moment → Type 0
 KeepToOutputs edges old new = AllSince (IsWithinEdge edges) old new
 
--- a path that an act may name or not is in the set, and none of the program's own files
+-- the path is in the set, and none of the program's own files; so is the empty text, which an act has that names none
 abbrev pub LiesIn : OwnFiles → List ℕ → Type 0
-LiesIn own p = p ≢ [] → (own.set p ≡ true) × (own.files p ≡ false)
+LiesIn own p = (own.set p ≡ true) × (own.files p ≡ false)
 
--- the depfile and the response file of one edge are not those of another
+-- a path that is there is not the other
 abbrev pub SharesNone : List ℕ → List ℕ → Type 0
 SharesNone p q = p ≢ [] → p ≢ q
 
 -- The program's own files, depfiles and response files lie in one set of paths that holds no input and no output; no two
--- edges share one.
+-- edges share one, and no edge has one path for both.
 pub record OwnFilesApart (own : OwnFiles) (edges : List Edge) : Type 0 where
   pub within : (p : List ℕ) → own.files p ≡ true → own.set p ≡ true
   pub build_log : own.files own.build_log ≡ true
@@ -103,6 +103,7 @@ pub record OwnFilesApart (own : OwnFiles) (edges : List Edge) : Type 0 where
   pub outputs : (i : ℕ) (p : List ℕ) → has (outputs (edge_at edges i)) p ≡ true → own.set p ≡ false
   pub depfiles : (i : ℕ) → IsCommand edges i → LiesIn own (edge_at edges i).act.depfile
   pub responses : (i : ℕ) → IsCommand edges i → LiesIn own (edge_at edges i).act.response_path
+  pub both : (i : ℕ) → IsCommand edges i → SharesNone (edge_at edges i).act.depfile (edge_at edges i).act.response_path
   pub apart : (i j : ℕ) → IsCommand edges i → IsCommand edges j → i ≢ j →
       SharesNone (edge_at edges i).act.depfile (edge_at edges j).act.depfile
       × SharesNone (edge_at edges i).act.response_path (edge_at edges j).act.response_path
@@ -132,19 +133,50 @@ ReportsComeFromAbove B own edges recorded steps old new =
     (i : ℕ) (at : List Moment) → EndedAt i old new at → has_number (well_in steps) i ≡ true
     → AllByRecursion (IsFromAbove own edges recorded i) (listed (depfile_in B (edge_at edges i).act (view_of at)))
 
--- the edge names the dyndep file, or one above it does, by a chain that runs through no output which only a dyndep file names
+-- the command of edge i ended well, and told the path in its depfile
+pub record IsReported (B : Behaviour) (edges : List Edge) (steps : List Step) (old new : List Moment) (i : ℕ) (p : List ℕ) : Type 0 where
+  pub at : List Moment
+  pub ended : EndedAt i old new at
+  pub well : has_number (well_in steps) i ≡ true
+  pub told : has (listed (depfile_in B (edge_at edges i).act (view_of at))) p ≡ true
+
+-- what edge i reads in a build: its reading set, its recorded inputs in use, and what its command reports
+abbrev pub Matters : Behaviour → List Edge → (ℕ → List (List ℕ)) → List Step → List Moment → List Moment → ℕ → List ℕ → Type 0
+Matters B edges recorded steps old new i p =
+    IsRead edges (view_of new) i p ⊎ (has (recorded i) p ≡ true) ⊎ IsReported B edges steps old new i p
+
+-- the regular inputs of edge i, and of the phonies among them and below
+pub data IsWalked (edges : List Edge) (i : ℕ) : List ℕ → Type 0 where
+  Input : (p : List ℕ) → has (regular_inputs (edge_at edges i)) p ≡ true → IsWalked edges i p
+  Behind : (j : ℕ) (q p : List ℕ) → IsWalked edges i q → IsAlias edges q j → has (regular_inputs (edge_at edges j)) p ≡ true → IsWalked edges i p
+
+-- the edge names the dyndep file, or one above it does, by a chain that runs through no output which only a dyndep file names:
+-- `declared` are the edges as the build files have them, `edges` those with what the loaded dyndep files add
 abbrev pub IsBelowDyndep : List Edge → List Edge → (ℕ → List (List ℕ)) → List ℕ → ℕ → Type 0
 IsBelowDyndep declared edges recorded file i =
-    ((edge_at edges i).dyndep ≡ Some file)
-    ⊎ ((k : ℕ) × ((edge_at edges k).dyndep ≡ Some file) × IsAbove (needs edges recorded) (maker declared) k i)
+    ((edge_at declared i).dyndep ≡ Some file)
+    ⊎ ((k : ℕ) × ((edge_at declared k).dyndep ≡ Some file) × IsAbove (needs edges recorded) (maker declared) k i)
 
--- An output that only a dyndep file names is read only below that file: `declared` are the edges as the build files have
--- them, `edges` those with what the loaded dyndep files add.
-abbrev pub DyndepOutputsAreReadBelow : List Edge → List Edge → (ℕ → List (List ℕ)) → View → Type 0
-DyndepOutputsAreReadBelow declared edges recorded files =
-    (i j : ℕ) (p file : List ℕ) → (IsRead edges files i p ⊎ (has (recorded i) p ≡ true))
-    → maker edges p ≡ Some j → maker declared p ≡ None → (edge_at edges j).dyndep ≡ Some file
-    → IsBelowDyndep declared edges recorded file i
+-- who makes the path is known when edge i is judged: if only a dyndep file names it as an output, edge i is below that file
+abbrev pub IsKnown : List Edge → List Edge → (ℕ → List (List ℕ)) → ℕ → List ℕ → Type 0
+IsKnown declared edges recorded i p =
+    (j : ℕ) (file : List ℕ) → maker edges p ≡ Some j → maker declared p ≡ None → (edge_at declared j).dyndep ≡ Some file → IsBelowDyndep declared edges recorded file i
+
+-- edge f is above edge e by a chain of needed paths each of whose makers is known
+pub data IsKnownAbove (declared edges : List Edge) (recorded : ℕ → List (List ℕ)) : ℕ → ℕ → Type 0 where
+  ByOne : (f e : ℕ) (p : List ℕ) → has (needs edges recorded e) p ≡ true → maker edges p ≡ Some f → IsKnown declared edges recorded e p → IsKnownAbove declared edges recorded f e
+  ByMore : (f d e : ℕ) → IsKnownAbove declared edges recorded f d → IsKnownAbove declared edges recorded d e → IsKnownAbove declared edges recorded f e
+
+-- who makes what an edge walks, or has recorded, is known when it is judged
+abbrev pub InputsAreKnown : List Edge → List Edge → (ℕ → List (List ℕ)) → Type 0
+InputsAreKnown declared edges recorded =
+    (i : ℕ) (p : List ℕ) → IsCommand edges i → IsWalked edges i p ⊎ (has (recorded i) p ≡ true) → IsKnown declared edges recorded i p
+
+-- An output that only a dyndep file names is read only below that file; and what a command reports comes from above by makers
+-- that are known.
+pub record DyndepOutputsAreReadBelow (B : Behaviour) (declared edges : List Edge) (recorded : ℕ → List (List ℕ)) (steps : List Step) (old new : List Moment) : Type 0 where
+  pub inputs : InputsAreKnown declared edges recorded
+  pub reports : (i j : ℕ) (p : List ℕ) → IsReported B edges steps old new i p → maker edges p ≡ Some j → IsCommand edges j → IsKnownAbove declared edges recorded j i
 
 -- ---- commands have ended before the next move
 
@@ -165,12 +197,16 @@ pub record FilesAreKept (own : OwnFiles) (edges : List Edge) (old new : List Mom
 abbrev pub RecordedApart : OwnFiles → (ℕ → List (List ℕ)) → Type 0
 RecordedApart own recorded = (i : ℕ) (p : List ℕ) → has (recorded i) p ≡ true → own.set p ≡ false
 
--- what the contents of a clean build suppose
-pub record Premises (B : Behaviour) (own : OwnFiles) (declared edges : List Edge) (recorded : ℕ → List (List ℕ)) (steps : List Step) (old new : List Moment) : Type 0 where
+-- what is supposed of files, stamps and reports
+pub record FilesAndReports (B : Behaviour) (own : OwnFiles) (declared edges : List Edge) (recorded : ℕ → List (List ℕ)) (steps : List Step) (old new : List Moment) : Type 0 where
   pub kept : FilesAreKept own edges old new
   pub recorded_apart : RecordedApart own recorded
-  pub one_outcome : OneOutcome B edges steps (view_of new)
-  pub left_outcomes : LeaveOutcomes B edges steps old new
   pub stamps : StampsGrow old new
   pub reports : ReportsComeFromAbove B own edges recorded steps old new
-  pub dyndep : DyndepOutputsAreReadBelow declared edges recorded (view_of new)
+  pub dyndep : DyndepOutputsAreReadBelow B declared edges recorded steps old new
+
+-- what the contents of a clean build suppose: that, and that commands are functions of what they declare and report
+pub record Premises (B : Behaviour) (own : OwnFiles) (declared edges : List Edge) (recorded : ℕ → List (List ℕ)) (steps : List Step) (old new : List Moment) : Type 0 where
+  pub files : FilesAndReports B own declared edges recorded steps old new
+  pub one_outcome : OneOutcome B edges steps (view_of new)
+  pub left_outcomes : LeaveOutcomes B edges steps old new

@@ -1,6 +1,6 @@
 -- What the logs tell of earlier builds, and the inputs that commands discovered.
-use Rattle.std.specs.Prelude.{◌≡◌, ℕ, ◌==◌, ◌&&◌, Bool, false, if◌then◌else◌, List, [], ◌∷◌, ◌++◌, Option, Some, None, bytes_eq}
-use Rattle.std.specs.List.{list_all}
+use Rattle.std.specs.Prelude.{◌≡◌, ℕ, ◌≤◌, ◌==◌, ◌&&◌, Bool, true, false, if◌then◌else◌, List, [], ◌∷◌, ◌++◌, Option, Some, None, is_some, bytes_eq}
+use Rattle.std.specs.List.{AllByRecursion, list_all}
 use Rattle.model.specs.declared.act.Act.{Act}
 use Rattle.model.specs.declared.graph.Edge.{Edge}
 use Rattle.model.specs.declared.record.Record.{Record}
@@ -28,6 +28,44 @@ pub record OwnFiles : Type 0 where
   -- one set of paths that holds these and all depfiles and response files, the same for a whole history
   pub set : List ℕ → Bool
 
+-- the names of both logs, of the file that a tick touches, of the file to which a command's output goes without its number, and
+-- what stands behind the name of a log while it is replaced
+abbrev pub build_log_name : List ℕ
+build_log_name = 46 ∷ 110 ∷ 106 ∷ 95 ∷ 108 ∷ 111 ∷ 103 ∷ []
+
+abbrev pub deps_log_name : List ℕ
+deps_log_name = 46 ∷ 110 ∷ 106 ∷ 95 ∷ 100 ∷ 101 ∷ 112 ∷ 115 ∷ []
+
+abbrev pub tick_name : List ℕ
+tick_name = 46 ∷ 110 ∷ 106 ∷ 95 ∷ 116 ∷ 105 ∷ 99 ∷ 107 ∷ []
+
+abbrev pub output_name : List ℕ
+output_name = 46 ∷ 110 ∷ 106 ∷ 95 ∷ 111 ∷ 117 ∷ 116 ∷ 46 ∷ []
+
+abbrev pub new_suffix : List ℕ
+new_suffix = 46 ∷ 110 ∷ 101 ∷ 119 ∷ []
+
+-- the path of a name in a folder, which is a canonical path, or empty for the working folder
+abbrev pub file_in : List ℕ → List ℕ → List ℕ
+file_in [] name = name
+file_in (c ∷ []) name = if c == 47 then 47 ∷ name else c ∷ 47 ∷ name
+file_in (c ∷ d ∷ folder) name = (c ∷ d ∷ folder) ++ 47 ∷ name
+
+abbrev pub IsDigit : ℕ → Type 0
+IsDigit c = (48 ≤ c) × (c ≤ 57)
+
+-- The program's own files are those of this folder: .nj_log, .nj_deps and .nj_tick, what a log is replaced by before it gets its
+-- name, and the files .nj_out.N of running commands.
+pub record IsOwnIn (own : OwnFiles) (folder : List ℕ) : Type 0 where
+  pub build_log : own.build_log ≡ file_in folder build_log_name
+  pub deps_log : own.deps_log ≡ file_in folder deps_log_name
+  pub is_log : own.files (file_in folder build_log_name) ≡ true
+  pub is_deps : own.files (file_in folder deps_log_name) ≡ true
+  pub tick : own.files (file_in folder tick_name) ≡ true
+  pub new_log : own.files (file_in folder build_log_name ++ new_suffix) ≡ true
+  pub new_deps : own.files (file_in folder deps_log_name ++ new_suffix) ≡ true
+  pub outputs : (digits : List ℕ) → AllByRecursion IsDigit digits → own.files (file_in folder (output_name ++ digits)) ≡ true
+
 -- what is read of a log that is absent, damaged, or neither
 abbrev pub read_log : {A : Type 0} → (List ℕ → Option (List A)) → Option (List ℕ) → List A
 read_log reading None = []
@@ -53,12 +91,17 @@ in_force_from o held (Done outputs start act ∷ rs) = in_force_from o (if has o
 abbrev pub in_force : List Record → List ℕ → Option Made
 in_force records o = in_force_from o None records
 
-abbrev pub deps_from : List ℕ → Option DepsRecord → List DepsRecord → Option DepsRecord
-deps_from o held [] = held
-deps_from o held (r ∷ rs) = deps_from o (if has r.outputs o then Some r else held) rs
+-- what is known of what the command that made an output told: the start under which it ran, and the paths that it read
+pub record Told : Type 0 where
+  pub start : ℕ
+  pub paths : List (List ℕ)
 
--- the deps record of an output: the last one that names it (this project's own)
-abbrev pub deps_in_force : List DepsRecord → List ℕ → Option DepsRecord
+abbrev pub deps_from : List ℕ → Option Told → List DepsRecord → Option Told
+deps_from o held [] = held
+deps_from o held (r ∷ rs) = deps_from o (if has r.outputs o then Some (record { start = r.start; paths = r.paths }) else held) rs
+
+-- what is in force of the deps log for an output: what its last record that names it tells (this project's own)
+abbrev pub deps_in_force : List DepsRecord → List ℕ → Option Told
 deps_in_force deps o = deps_from o None deps
 
 -- ---- recorded inputs
@@ -69,15 +112,15 @@ is_same_act a b =
     bytes_eq a.command b.command && bytes_eq a.depfile b.depfile
     && bytes_eq a.response_path b.response_path && bytes_eq a.response_content b.response_content
 
-abbrev pub is_of_start : ℕ → Option DepsRecord → Bool
+abbrev pub is_of_start : ℕ → Option Told → Bool
 is_of_start start None = false
 is_of_start start (Some deps) = deps.start == start
 
-abbrev pub is_known : Act → Option Made → Option DepsRecord → Bool
+abbrev pub is_known : Act → Option Made → Option Told → Bool
 is_known act None deps = false
 is_known act (Some made) deps = is_same_act made.act act && is_of_start made.start deps
 
-abbrev pub paths_in : Option DepsRecord → List (List ℕ)
+abbrev pub paths_in : Option Told → List (List ℕ)
 paths_in None = []
 paths_in (Some deps) = deps.paths
 
@@ -91,9 +134,10 @@ abbrev pub recorded_of : Store → Edge → List (List ℕ)
 recorded_of store e =
     if list_all (λ o. is_known e.act (in_force store.records o) (deps_in_force store.deps o)) (outputs e) then all_paths_in store.deps (outputs e) else []
 
--- the recorded inputs in use of each command edge
+-- the recorded inputs in use of each command edge; none of one whose dyndep file is still to be loaded (this project's own)
 abbrev pub recorded_inputs : Store → List Edge → ℕ → List (List ℕ)
-recorded_inputs store edges i = if (edge_at edges i).phony then [] else recorded_of store (edge_at edges i)
+recorded_inputs store edges i =
+    if (edge_at edges i).phony then [] else (if is_some (edge_at edges i).dyndep then [] else recorded_of store (edge_at edges i))
 
 -- ---- what a record of reports lists
 

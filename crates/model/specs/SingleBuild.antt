@@ -3,7 +3,7 @@ use Rattle.std.specs.Prelude.{◌≡◌, ◌≢◌, ◌⊎◌, ℕ, ◌<◌, Boo
 use Rattle.std.specs.List.{AllByRecursion}
 use Rattle.model.specs.declared.act.Act.{Act}
 use Rattle.model.specs.declared.event.Event.{Event}
-use Rattle.model.specs.declared.event.Event.TheVariants.{Start}
+use Rattle.model.specs.declared.event.Event.TheVariants.{Start, Finish}
 use Rattle.model.specs.declared.event.Moment.{Moment}
 use Rattle.model.specs.declared.event.Moment.TheVariants.{Wrote, Happened}
 use Rattle.model.specs.declared.event.Writer.TheVariants.{Program, Command, Someone}
@@ -18,18 +18,22 @@ use Rattle.model.specs.Outcome.{Behaviour, depfile_in, is_accepted}
 use Rattle.model.specs.Clean.{clean_build}
 use Rattle.model.specs.Reading.{IsInCone, IsCycle, needs}
 use Rattle.model.specs.Records.{Store, LogFormat, OwnFiles, store_in, recorded_inputs}
-use Rattle.model.specs.OutOfDate.{IsVerdict, NothingIsMissing, IsMissingInput, IsFirstMissing}
-use Rattle.model.specs.Schedule.{Task, Step, Judged, IsLawful, IsSettled, AreEventsOf, AreFinishes, NoneMayBeJudged, NoneMayStart, done_in, started_in, ended_in, out_of_date_in, well_in, failed_in}
-use Rattle.model.specs.Premises.{FilesAreKept, Premises, NothingIsEdited, EndedAt}
+use Rattle.model.specs.OutOfDate.{IsVerdict, IsOutOfDate, IsMissingInput, IsFirstMissing}
+use Rattle.model.specs.Schedule.{Task, Step, Judged, Started, IsSettled, AreEventsOf, AreFinishes, NoneMayBeJudged, NoneMayStart, done_in, started_in, ended_in, out_of_date_in, well_in, failed_in, Ended, MayStart}
+use Rattle.model.specs.Phases.{Phase, steps_of, IsLawfulBuild, IsLoad, IsDueLoad, IsNextLoad, NoLoadIsDue, IsPointAfter, WasNothingMissing, WasNothingMissingIn}
+use Rattle.model.specs.Premises.{FilesAreKept, RecordedApart, Premises, NothingIsEdited, EndedAt, InputsAreKnown}
 
 -- ---- what a build was asked, and what it answers
 
 -- what a build was asked: the graph that it read, the canonical targets (an empty text for one without a canonical path),
--- and how many commands at once; `declared` are the edges as the build files have them, without what dyndep files add
+-- and how many commands at once; `declared` are the edges as the build files have them, `graph` has those of the end, with what
+-- the loaded dyndep files add
 pub record Asked : Type 0 where
   pub graph : BuildGraph
   pub declared : List Edge
   pub targets : List (List ℕ)
+  -- the folder of the logs, as a canonical path; empty for the working folder
+  pub folder : List ℕ
   pub jobs : ℕ
   pub keep : ℕ
 
@@ -67,6 +71,18 @@ IsSuccess (NoDyndepInput path) = ⊥
 IsSuccess Refused = ⊥
 IsSuccess (Fault fault) = ⊥
 
+abbrev pub is_fault : Answer → Bool
+is_fault (Success started) = false
+is_fault (Failed outputs) = false
+is_fault (Unknown path) = false
+is_fault (Cyclic paths) = false
+is_fault (MissingTarget path) = false
+is_fault (MissingInput path output) = false
+is_fault (MadeTwice path) = false
+is_fault (NoDyndepInput path) = false
+is_fault Refused = false
+is_fault (Fault fault) = true
+
 -- the build went on until nothing was left to do
 abbrev pub WentOn : Answer → Type 0
 WentOn (Success started) = Unit {0}
@@ -80,37 +96,78 @@ WentOn (NoDyndepInput path) = ⊥
 WentOn Refused = ⊥
 WentOn (Fault fault) = ⊥
 
+-- the graph as the build files have it: names and targets are those of it
+abbrev pub declared_graph : Asked → BuildGraph
+declared_graph asked = record { edges = asked.declared; pools = asked.graph.pools; defaults = asked.graph.defaults; builddir = asked.graph.builddir }
+
+-- what the build was asked, over other edges
+abbrev pub asked_with : Asked → List Edge → Asked
+asked_with asked edges = record {
+  graph = record { edges = edges; pools = asked.graph.pools; defaults = asked.graph.defaults; builddir = asked.graph.builddir };
+  declared = asked.declared;
+  targets = asked.targets;
+  folder = asked.folder;
+  jobs = asked.jobs;
+  keep = asked.keep;
+}
+
 -- the task of a build that found these records
 abbrev pub task_of : Asked → Store → Task
 task_of asked store = record {
   graph = asked.graph;
   recorded = recorded_inputs store asked.graph.edges;
-  targets = targets_of asked.graph asked.targets;
+  targets = targets_of (declared_graph asked) asked.targets;
   jobs = asked.jobs;
   keep = asked.keep;
 }
 
 abbrev pub InCone : Asked → Store → ℕ → Type 0
-InCone asked store i = IsInCone asked.graph.edges (recorded_inputs store asked.graph.edges) (targets_of asked.graph asked.targets) i
+InCone asked store i = IsInCone asked.graph.edges (recorded_inputs store asked.graph.edges) (targets_of (declared_graph asked) asked.targets) i
 
 -- ---- 1. the schedule
 
--- The site's own events grew by the starts and finishes of a lawful schedule, and after a fault or a refusal by finishes alone.
-pub record IsScheduled (asked : Asked) (store : Store) (steps : List Step) (old new : World) (answer : Answer) : Type 0 where
-  pub lawful : IsLawful (task_of asked store) steps
+-- The site's own events grew by the starts and finishes of a lawful schedule, and then, under a fault, by finishes alone; where a
+-- dyndep file was refused, running commands were taken in as usual.
+pub record IsScheduled (B : Behaviour) (texts : View) (asked : Asked) (store : Store) (steps : List Step) (old new : World) (answer : Answer) : Type 0 where
+  pub lawful : IsLawfulBuild B.dyndep texts asked.declared (task_of asked store) store steps
   pub first : List Event
   pub later : List Event
   pub grows : new.events ≡ old.events ++ (first ++ later)
   pub of_steps : AreEventsOf asked.graph.edges steps first
   pub finishes : AreFinishes (old.events ++ first) later
-  pub whole : WentOn answer → later ≡ []
+  pub whole : is_fault answer ≡ false → later ≡ []
+  pub went_on : WentOn answer → lawful.taken_in ≡ []
 
--- Each verdict is that of the table, and a command that ended well by itself failed just where its depfile is refused.
-pub record IsJudged (B : Behaviour) (asked : Asked) (store : Store) (steps : List Step) (old new : List Moment) : Type 0 where
+-- the command of edge i was taken in by this build
+pub record WasTakenIn (i : ℕ) (old new : World) : Type 0 where
+  pub ok : Bool
+  pub before : List Event
+  pub after : List Event
+  pub splits : new.events ≡ old.events ++ (before ++ Finish i ok ∷ after)
+
+-- The start or the taking in of edge i met the fault: it was judged out of date, and it was taken in by the last of the steps, or
+-- was next to start.
+pub record MetFault (task : Task) (steps : List Step) (old new : World) (answer : Answer) (i : ℕ) : Type 0 where
+  pub fault : is_fault answer ≡ true
+  pub under_way : ((before : List Step) × (well : Bool) × (steps ≡ before ++ Ended i well ∷ [])) ⊎ (NoneMayBeJudged task steps × MayStart task steps i)
+  pub stale : has_number (out_of_date_in steps) i ≡ true
+  pub taken_in : WasTakenIn i old new → has_number (ended_in steps) i ≡ true
+
+-- Each verdict is that of the table. A command that ended well by itself and whose depfile is not refused ended well, and no other
+-- did; of the one whose taking in met the fault, whose depfile may not have been read, the second is said alone.
+pub record IsJudged (B : Behaviour) (asked : Asked) (store : Store) (steps : List Step) (met : Option ℕ) (old new : List Moment) : Type 0 where
   pub verdicts : (before after : List Step) (i : ℕ) (out_of_date : Bool) → steps ≡ before ++ Judged i out_of_date ∷ after
       → IsVerdict asked.graph.edges store (well_in before) old new i out_of_date
-  pub depfiles : (i : ℕ) (at : List Moment) → EndedAt i old new at → has_number (ended_in steps) i ≡ true
+  pub well : (i : ℕ) (at : List Moment) → EndedAt i old new at → has_number (well_in steps) i ≡ true
+      → is_accepted (depfile_in B (edge_at asked.graph.edges i).act (view_of at)) ≡ true
+  pub depfiles : (i : ℕ) (at : List Moment) → EndedAt i old new at → has_number (ended_in steps) i ≡ true → (met ≡ Some i → ⊥)
       → has_number (well_in steps) i ≡ is_accepted (depfile_in B (edge_at asked.graph.edges i).act (view_of at))
+
+-- each command that was started was judged out of date before, and was so
+abbrev pub StartsOnlyStale : List Edge → Store → List Step → List Moment → List Moment → Type 0
+StartsOnlyStale edges store steps old new =
+    (before after : List Step) (i : ℕ) → steps ≡ before ++ Started i ∷ after
+    → (earlier later : List Step) × (before ≡ earlier ++ Judged i true ∷ later) × IsOutOfDate edges store (well_in earlier) old new i
 
 -- ---- 2. the answer
 
@@ -119,6 +176,7 @@ pub record HasEnded (asked : Asked) (store : Store) (steps : List Step) (new : W
   pub idle : IsIdle new.events
   pub judged : NoneMayBeJudged (task_of asked store) steps
   pub started : NoneMayStart (task_of asked store) steps
+  pub loaded : NoLoadIsDue (task_of asked store) steps
 
 -- a cycle as it is shown: it begins and ends at one path, and each path is made by an edge that needs the next
 abbrev pub IsChainOf : List Edge → (ℕ → List (List ℕ)) → List (List ℕ) → Type 0
@@ -137,7 +195,7 @@ pub record IsShownCycle (asked : Asked) (store : Store) (paths : List (List ℕ)
   pub lowest : (p : List ℕ) (i j : ℕ) → maker asked.graph.edges first ≡ Some i → has paths p ≡ true → maker asked.graph.edges p ≡ Some j → j < i → ⊥
 
 abbrev pub AllNamed : Asked → Type 0
-AllNamed asked = AllByRecursion (λ p. is_named asked.graph.edges p ≡ true) asked.targets
+AllNamed asked = AllByRecursion (λ p. is_named asked.declared p ≡ true) asked.targets
 
 abbrev pub HasNoCycle : Asked → Store → Type 0
 HasNoCycle asked store = (i : ℕ) → InCone asked store i → IsCycle asked.graph.edges (recorded_inputs store asked.graph.edges) i → ⊥
@@ -149,50 +207,78 @@ pub record NamesOther (edges : List Edge) (file : List ℕ) : Type 0 where
   pub other : has (inputs (edge_at edges edge)) file ≡ false
 
 -- all that is refused before the first start is in order
-pub record IsInOrder (tells : Bool) (own : OwnFiles) (asked : Asked) (store : Store) (old new : World) : Type 0 where
+pub record IsInOrder (tells : Bool) (own : OwnFiles) (asked : Asked) (store : Store) (phases : List Phase) (old new : World) : Type 0 where
   pub made_once : IsMadeOnce asked.graph.edges
-  pub dyndep : (file : List ℕ) → NamesOther asked.graph.edges file → ⊥
+  pub dyndep : (file : List ℕ) → NamesOther asked.declared file → ⊥
   pub named : AllNamed asked
   pub no_cycle : HasNoCycle asked store
   pub sources : IsTrue tells → FilesAreKept own asked.graph.edges old.history new.history
-      → NothingIsMissing asked.graph.edges store old.history (targets_of asked.graph asked.targets)
+      → WasNothingMissing (task_of asked store) store old.history new.history [] phases
 
--- a refusal has started nothing and written nothing, unless a dyndep file may have been loaded before it
-abbrev pub IsUntouched : Bool → Asked → World → World → Type 0
-IsUntouched tells asked old new = ((i : ℕ) → (edge_at asked.graph.edges i).dyndep ≡ None) → OnlyLooks tells old new
+-- Where a step was taken, all that is refused before it was in order, whatever the answer came to be.
+pub record WasInOrder (tells : Bool) (own : OwnFiles) (asked : Asked) (store : Store) (phases : List Phase) (last : List Step) (old new : World) : Type 0 where
+  pub made_once : IsMadeOnce asked.graph.edges
+  pub dyndep : (file : List ℕ) → NamesOther asked.declared file → ⊥
+  pub named : AllNamed asked
+  pub no_cycle : HasNoCycle asked store
+  pub sources : IsTrue tells → FilesAreKept own asked.graph.edges old.history new.history
+      → WasNothingMissingIn (task_of asked store) store old.history new.history [] phases last
 
--- each answer has its cause, and comes where its cause is; want of memory is shown by tests alone, and a refusal of another
--- part has its cause in that part's contract
-abbrev pub IsAnswer : Bool → OwnFiles → Asked → Store → List Step → World → World → Answer → Type 0
-IsAnswer tells own asked store steps old new (Success started) =
-    IsInOrder tells own asked store old new × HasEnded asked store steps new
+-- a refusal before the first step has written nothing
+abbrev pub IsUntouched : Bool → List Step → World → World → Type 0
+IsUntouched tells steps old new = steps ≡ [] → OnlyLooks tells old new
+
+-- what a refusal speaks of: what was asked at the beginning; or, where these steps were done, with what the next dyndep file adds
+abbrev pub IsWanted : Behaviour → View → Asked → Store → List Step → Asked → Type 0
+IsWanted B texts asked store done wanted =
+    ((wanted ≡ asked) × (done ≡ []))
+    ⊎ ((edges : List Edge) × (wanted ≡ asked_with asked edges) × IsLoad B.dyndep texts (task_of asked store) done edges)
+
+-- a missing source is told of where a phase begins, once the files that no edge makes are loaded
+pub record IsAsked (task : Task) (phases : List Phase) (done : List Step) : Type 0 where
+  pub at_once : done ≡ steps_of phases
+  pub loaded : (file : List ℕ) → IsDueLoad task done file → maker task.graph.edges file ≡ None → ⊥
+
+-- each answer has its cause; success, failure and what is missing come just where they should; want of memory is shown by tests alone, and a refusal of another
+-- part has its cause in that part's contract. `phases` ended with a load each; `done` are the steps up to a refusal.
+abbrev pub IsAnswer : Bool → Behaviour → OwnFiles → View → Asked → Store → List Phase → List Step → List Step → World → World → Answer → Type 0
+IsAnswer tells B own texts asked store phases done steps old new (Success started) =
+    IsInOrder tells own asked store phases old new × HasEnded asked store steps new
     × ((i : ℕ) → InCone asked store i → IsSettled asked.graph.edges (done_in steps) i)
     × (failed_in steps ≡ []) × (length (started_in steps) ≡ started)
-IsAnswer tells own asked store steps old new (Failed outputs) =
-    IsInOrder tells own asked store old new × HasEnded asked store steps new
+IsAnswer tells B own texts asked store phases done steps old new (Failed outputs) =
+    IsInOrder tells own asked store phases old new × HasEnded asked store steps new
     × (map (λ i. first_output (edge_at asked.graph.edges i)) (failed_in steps) ≡ outputs) × (failed_in steps ≢ [])
-IsAnswer tells own asked store steps old new (Unknown path) =
-    IsUntouched tells asked old new × (has asked.targets path ≡ true) × (is_named asked.graph.edges path ≡ false)
-IsAnswer tells own asked store steps old new (Cyclic paths) =
-    IsUntouched tells asked old new × AllNamed asked × IsShownCycle asked store paths
-IsAnswer tells own asked store steps old new (MissingTarget path) =
-    IsUntouched tells asked old new × AllNamed asked × HasNoCycle asked store
+IsAnswer tells B own texts asked store phases done steps old new (Unknown path) =
+    IsUntouched tells steps old new × (steps ≡ []) × (has asked.targets path ≡ true) × (is_named asked.declared path ≡ false)
+IsAnswer tells B own texts asked store phases done steps old new (Cyclic paths) =
+    IsUntouched tells steps old new × AllNamed asked × ((wanted : Asked) × IsWanted B texts asked store done wanted × IsShownCycle wanted store paths)
+IsAnswer tells B own texts asked store phases done steps old new (MissingTarget path) =
+    IsUntouched tells steps old new × AllNamed asked × HasNoCycle asked store × IsAsked (task_of asked store) phases done
     × (IsTrue tells → FilesAreKept own asked.graph.edges old.history new.history
-    → IsFirstMissing asked.graph.edges old.history (targets_of asked.graph asked.targets) path)
-IsAnswer tells own asked store steps old new (MissingInput path output) =
-    IsUntouched tells asked old new × AllNamed asked × HasNoCycle asked store
+    → (at : List Moment) × IsPointAfter done old.history new.history at × IsFirstMissing asked.graph.edges at (targets_of (declared_graph asked) asked.targets) path)
+IsAnswer tells B own texts asked store phases done steps old new (MissingInput path output) =
+    IsUntouched tells steps old new × AllNamed asked × HasNoCycle asked store × IsAsked (task_of asked store) phases done
     × (IsTrue tells → FilesAreKept own asked.graph.edges old.history new.history
     → (i : ℕ) × (output ≡ first_output (edge_at asked.graph.edges i))
-    × IsMissingInput asked.graph.edges store old.history (targets_of asked.graph asked.targets) i path)
-IsAnswer tells own asked store steps old new (MadeTwice path) =
-    IsUntouched tells asked old new × IsMadeTwice asked.graph.edges path
-IsAnswer tells own asked store steps old new (NoDyndepInput path) =
-    IsUntouched tells asked old new × NamesOther asked.graph.edges path
-IsAnswer tells own asked store steps old new Refused =
-    IsUntouched tells asked old new × IsIdle new.events
-IsAnswer tells own asked store steps old new (Fault Device) = old.failures < new.failures
-IsAnswer tells own asked store steps old new (Fault Stopped) = new.stopped ≡ true
-IsAnswer tells own asked store steps old new (Fault Memory) = Unit {0}
+    × ((at : List Moment) × IsPointAfter done old.history new.history at × IsMissingInput asked.graph.edges store done at (targets_of (declared_graph asked) asked.targets) i path))
+IsAnswer tells B own texts asked store phases done steps old new (MadeTwice path) =
+    IsUntouched tells steps old new × ((wanted : Asked) × IsWanted B texts asked store done wanted × IsMadeTwice wanted.graph.edges path)
+IsAnswer tells B own texts asked store phases done steps old new (NoDyndepInput path) =
+    IsUntouched tells steps old new × (steps ≡ []) × NamesOther asked.declared path
+IsAnswer tells B own texts asked store phases done steps old new Refused =
+    IsUntouched tells steps old new × ((done ≡ []) ⊎ ((file : List ℕ) × IsNextLoad (task_of asked store) done file))
+IsAnswer tells B own texts asked store phases done steps old new (Fault Device) = old.failures < new.failures
+IsAnswer tells B own texts asked store phases done steps old new (Fault Stopped) = new.stopped ≡ true
+IsAnswer tells B own texts asked store phases done steps old new (Fault Memory) = Unit {0}
+
+-- No fault is passed over: where a call was refused a fault is answered, and no command was started after it; that the site has
+-- stopped is answered where it has. (A call that found no memory and changed nothing shows nothing here.) Nothing was restarted.
+pub record PassesNoFault (old new : World) (answer : Answer) : Type 0 where
+  pub refused : is_fault answer ≡ false → new.failures ≡ old.failures
+  pub starts : (new.failures_at_start ≡ old.failures_at_start) ⊎ (new.failures_at_start ≡ old.failures)
+  pub stopped : new.stopped ≡ true → answer ≡ Fault Stopped
+  pub earlier : new.earlier ≡ old.earlier
 
 -- ---- 3. the frame
 
@@ -218,8 +304,18 @@ MayChange own edges steps p =
     ⊎ ((i : ℕ) × (has_number (out_of_date_in steps) i ≡ true) × (p ≡ (edge_at edges i).act.depfile))
     ⊎ ((i : ℕ) × (has_number (out_of_date_in steps) i ≡ true) × (p ≡ (edge_at edges i).act.response_path))
 
+-- where the act names a depfile it is absent, and where it names a response file that holds the act's content
+pub record IsReadyFor (act : Act) (files : View) : Type 0 where
+  pub depfile : act.depfile ≢ [] → files act.depfile ≡ None
+  pub response : act.response_path ≢ [] → files act.response_path ≡ Some act.response_content
+
+-- the path is an output of the edge, or the depfile that it names
+abbrev pub IsMadeBy : Edge → List ℕ → Type 0
+IsMadeBy e p = (has (outputs e) p ≡ true) ⊎ ((p ≢ []) × (p ≡ e.act.depfile))
+
 -- No file changes but outputs of started commands, depfiles and response files of edges judged out of date, and the
--- program's own files; and up to its start an edge's outputs are as at the entry.
+-- program's own files; up to its judgement an edge's outputs and its depfile are as at the entry, up to its start its outputs;
+-- and at its start there is no old depfile, and the response file is written.
 pub record IsFrame (own : OwnFiles) (edges : List Edge) (steps : List Step) (old new : List Moment) : Type 0 where
   pub more : List Moment
   pub grows : new ≡ old ++ more
@@ -228,6 +324,10 @@ pub record IsFrame (own : OwnFiles) (edges : List Edge) (steps : List Step) (old
   pub until_start : FilesAreKept own edges old new → (i stamp : ℕ) (act : Act) (o : List ℕ) (before after : List Moment)
       → more ≡ before ++ Happened (Start i act stamp) ∷ after → has (outputs (edge_at edges i)) o ≡ true
       → file_at (old ++ before) o ≡ file_at old o
+  pub until_judged : FilesAreKept own edges old new → (before after : List Step) (i : ℕ) (out_of_date : Bool) → steps ≡ before ++ Judged i out_of_date ∷ after
+      → (at : List Moment) × IsPointAfter before old new at × ((p : List ℕ) → IsMadeBy (edge_at edges i) p → file_at at p ≡ file_at old p)
+  pub at_start : FilesAreKept own edges old new → (i stamp : ℕ) (act : Act) (before after : List Moment)
+      → more ≡ before ++ Happened (Start i act stamp) ∷ after → IsReadyFor act (view_of (old ++ before))
 
 -- ---- 4. from nothing
 
@@ -250,10 +350,23 @@ pub record SingleBuild (tells : Bool) (B : Behaviour) (format : LogFormat) (own 
   -- the records that the build found; where the site tells its files, those of its logs
   pub store : Store
   pub logs : IsTrue tells → NothingIsEdited old.history new.history → store ≡ store_in format own (view_of old.history)
+  -- what the loaded dyndep files held
+  pub texts : View
+  pub held : IsTrue tells → FilesAreKept own asked.graph.edges old.history new.history
+      → (file content : List ℕ) → texts file ≡ Some content → view_of new.history file ≡ Some content
   pub steps : List Step
-  pub schedule : IsScheduled asked store steps old new answer
-  pub judged : IsTrue tells → FilesAreKept own asked.graph.edges old.history new.history → IsJudged B asked store steps old.history new.history
-  pub answers : IsAnswer tells own asked store steps old new answer
+  pub schedule : IsScheduled B texts asked store steps old new answer
+  -- the edge whose start or taking in met the fault, if one did
+  pub met : Option ℕ
+  pub met_fault : (i : ℕ) → met ≡ Some i → MetFault (task_of asked store) steps old new answer i
+  pub judged : IsTrue tells → FilesAreKept own asked.graph.edges old.history new.history → RecordedApart own (recorded_inputs store asked.graph.edges)
+      → InputsAreKnown asked.declared asked.graph.edges (recorded_inputs store asked.graph.edges)
+      → IsJudged B asked store steps met old.history new.history
+  pub answers : IsAnswer tells B own texts asked store schedule.lawful.earlier (steps_of schedule.lawful.earlier ++ schedule.lawful.last) steps old new answer
+  pub in_order : (steps ≡ []) ⊎ WasInOrder tells own asked store schedule.lawful.earlier schedule.lawful.last old new
+  pub faults : PassesNoFault old new answer
+  -- commands run at the exit under a fault alone
+  pub idle : is_fault answer ≡ false → IsIdle new.events
   pub frame : IsTrue tells → IsFrame own asked.graph.edges steps old.history new.history
   pub from_nothing : IsTrue tells → IsSuccess answer → IsFromNothing own asked.graph.edges (view_of old.history)
       → Premises B own asked.declared asked.graph.edges (recorded_inputs store asked.graph.edges) steps old.history new.history

@@ -3,7 +3,6 @@
 
 mod command;
 mod fault;
-mod idle;
 #[cfg(test)]
 mod language;
 mod print;

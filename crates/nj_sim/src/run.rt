@@ -1,10 +1,11 @@
 //! The run of a script.
 
 ghost use Rattle.std.specs.Prelude.{◌≡◌, ◌⊎◌, IfOk};
+ghost use Rattle.model.specs.World.{IsIdle};
+ghost use Rattle.site.specs.World.{world_of};
 
 use crate::command::{Command, Line, Unescaped};
 use crate::fault::ScriptFault;
-use crate::idle::is_idle;
 use crate::print::{print_events, print_file, print_report};
 use builder::{Options, build};
 use site::{Sim, Site, Toy};
@@ -151,23 +152,26 @@ impl Run {
     }
 
     /// Builds, and prints what happened in this build and how it ended.
-    ///
-    /// A command whose end found no memory in an earlier build runs still. No build begins then.
     fn build<W: Write>(
         &mut self,
         writer: &mut W,
         targets: Option<&str>,
     ) -> Result<(), ScriptFault> {
-        if !is_idle(self.alloc, self.site.events())? {
-            return Err(ScriptFault::Memory);
-        }
         let targets = words(self.alloc, targets)?;
+        start_again(&mut self.site);
         let before = self.site.events().len();
         let report = build(self.alloc, &mut self.site, &self.options, &targets);
         let events = self.site.events().get(before..).unwrap_or_default();
         print_events(self.alloc, writer, events).map_err(ScriptFault::of_writer)?;
         print_report(writer, &report).map_err(ScriptFault::of_writer)
     }
+}
+
+/// Starts the site again: commands that a fault left running have ended.
+fn start_again(site: &mut Sim<Toy>)
+    ensures { IsIdle (world_of site.new).events }
+{
+    site.restart();
 }
 
 /// The words of the targets; none where none are given.

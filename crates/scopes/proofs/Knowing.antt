@@ -18,7 +18,8 @@ use Rattle.scopes.specs.Known.{known_value, text_of, Learns}
 use Rattle.std.proofs.lemmas.List.{take_more, take_all}
 use Rattle.scopes.specs.Large.{IsTooLargeAtUse}
 use Rattle.scopes.proofs.Valuing.{order_at, large_whole, way_opened}
-use Rattle.scopes.proofs.Walking.{same_bytes, bytes_eq-same, has_cases}
+use Rattle.text.proofs.Plain.{same_bytes, bytes_eq-same}
+use Rattle.scopes.proofs.Walking.{has_cases}
 
 pub record Knows (scopes : Scopes) (at : Use) (asked : List ℕ) (known : Known) (done : List (List ℕ)) : Type 0 where
   pub scopes_are : known.scopes.now ≡ scopes

@@ -9,7 +9,8 @@ use Rattle.scopes.specs.declared.template.Part.TheVariants.{Text, Name}
 use Rattle.scopes.specs.Texts.{names, expansion, largest_value}
 use Rattle.scopes.specs.Use.{has, Names, Leads, Once, More, IsOnTheWay, HasCircle, Follows, IsOrder, IsOrderFrom, IsValueAtUse, Fixed, Opened}
 use Rattle.scopes.specs.Large.{IsTooLargeAtUse}
-use Rattle.scopes.proofs.Walking.{same_bytes, bytes_eq-same, has_cases, or_left, or_right', or_false}
+use Rattle.text.proofs.Plain.{same_bytes, bytes_eq-same, or_false}
+use Rattle.scopes.proofs.Walking.{has_cases, or_left, or_right'}
 
 -- a text reads only the names that it has
 same_expansion : (f g : List ℕ → List ℕ) (parts : List Part) → ((o : List ℕ) → names parts o ≡ true → f o ≡ g o) → expansion f parts ≡ expansion g parts

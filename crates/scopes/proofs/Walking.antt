@@ -4,7 +4,7 @@ use Rattle.std.specs.Map.{lookup}
 use Rattle.std.specs.Str.{bytes_eq}
 use Rattle.std.proofs.lemmas.Bool.{false≢true}
 use Rattle.std.proofs.lemmas.List.{reverse-append, append-nil}
-use Rattle.std.proofs.lemmas.Slice.Eq.{bytes_eq-Decides}
+use Rattle.text.proofs.Plain.{same_bytes, bytes_eq-same, or_false}
 use Rattle.scopes.specs.declared.template.Template.{Template}
 use Rattle.scopes.specs.declared.template.Part.{Part}
 use Rattle.scopes.specs.declared.template.Part.TheVariants.{Text, Name}
@@ -15,16 +15,6 @@ use Rattle.scopes.specs.Rule.{template_of}
 use Rattle.scopes.specs.Use.{opened, is_special, unless_bound, has, Names, Leads, Once, More, IsOnTheWay, HasCircle, Follows, IsOrder, IsOrderFrom}
 use Rattle.scopes.specs.Walk.{IsNamedInTurn, IsWalkAt, is_unseen, count_names}
 use Rattle.scopes.specs.Steps.{IsReady, IsNext, AllDone, Waits, IsWaiting}
-
-pub same_bytes : (a b : List ℕ) → bytes_eq a b ≡ true → a ≡ b
-same_bytes a b = (bytes_eq-Decides a b).0
-
-pub bytes_eq-same : (a : List ℕ) → bytes_eq a a ≡ true
-bytes_eq-same a = (bytes_eq-Decides a a).1 refl
-
-pub or_false : (a b : Bool) → (a || b) ≡ true → (a ≡ true) ⊎ (b ≡ true)
-or_false true b is = inl refl
-or_false false b is = inr is
 
 pub or_left : (a b : Bool) → a ≡ true → (a || b) ≡ true
 or_left true b is = refl

@@ -9,16 +9,11 @@ use Rattle.model.specs.declared.event.Writer.TheVariants.{Command}
 use Rattle.model.specs.declared.outcome.Write.{Write}
 use Rattle.model.specs.World.{File, written, file_after, file_from, file_at, content_of, view_of, latest, latest_from}
 use Rattle.model.specs.Calls.{content_or_empty}
-use Rattle.site.specs.History.{events_of, is_skipped, with_write, with_writes, IsLonger}
+use Rattle.site.specs.History.{is_skipped, with_write, with_writes, IsLonger}
 
 pub file_from-push : (p : List ℕ) (file : Option File) (h : List Moment) (m : Moment) → file_from p file (h ++ m ∷ []) ≡ file_after p (file_from p file h) m
 file_from-push p file [] m = refl
 file_from-push p file (x ∷ h) m = file_from-push p (file_after p file x) h m
-
-pub events_of-append : (h k : List Moment) → events_of (h ++ k) ≡ events_of h ++ events_of k
-events_of-append [] k = refl
-events_of-append (Wrote by path content stamp ∷ h) k = events_of-append h k
-events_of-append (Happened e ∷ h) k = λ i. e ∷ events_of-append h k i
 
 -- the file at a path, seen from the last moment backwards
 pub file_at-last : (p : List ℕ) (moment : Moment) (front rest all : List Moment) → rest ≡ front ++ moment ∷ [] → file_at rest p ≡ file_at all p → file_after p (file_at front p) moment ≡ file_at all p
@@ -48,22 +43,12 @@ latest_from-append n (Happened e ∷ h) k = latest_from-append n h k
 pub latest-wrote : (h : List Moment) (by : Writer) (path : List ℕ) (content : Option (List ℕ)) → latest (h ++ Wrote by path content (latest h + 1) ∷ []) ≡ latest h + 1
 latest-wrote h by path content = latest_from-append 0 h (Wrote by path content (latest h + 1) ∷ []) ∙ omega arith
 
-pub events_of-wrote : (h : List Moment) (by : Writer) (path : List ℕ) (content : Option (List ℕ)) (stamp : ℕ) → events_of (h ++ Wrote by path content stamp ∷ []) ≡ events_of h
-events_of-wrote h by path content stamp = events_of-append h (Wrote by path content stamp ∷ []) ∙ append-nil (events_of h)
-
-pub told_wrote : (events : List Event) (h new : List Moment) (by : Writer) (path : List ℕ) (content : Option (List ℕ)) (stamp : ℕ) → events ≡ events_of h → new ≡ h ++ Wrote by path content stamp ∷ [] → events ≡ events_of new
-told_wrote events h new by path content stamp told is = told ∙ sym (events_of-wrote h by path content stamp) ∙ sym (ap events_of is)
-
 pub clocked_wrote : (clock later : ℕ) (h new : List Moment) (by : Writer) (path : List ℕ) (content : Option (List ℕ)) → clock ≡ latest h → later ≡ clock + 1 → new ≡ h ++ Wrote by path content (clock + 1) ∷ [] → later ≡ latest new
 clocked_wrote clock later h new by path content clocked next is =
     next ∙ ap (λ (n : ℕ). n + 1) clocked ∙ sym (latest-wrote h by path content) ∙ sym (ap latest (is ∙ ap (λ (n : ℕ). h ++ Wrote by path content (n + 1) ∷ []) clocked))
 
-pub told_happened : (events told_now : List Event) (h new : List Moment) (event : Event) → events ≡ events_of h → told_now ≡ events ++ event ∷ [] → new ≡ h ++ Happened event ∷ [] → told_now ≡ events_of new
-told_happened events told_now h new event told more is =
-    more ∙ ap (λ (es : List Event). es ++ event ∷ []) told ∙ sym (events_of-append h (Happened event ∷ [])) ∙ sym (ap events_of is)
-
-pub clocked_happened : (clock : ℕ) (h new : List Moment) (event : Event) → clock ≡ latest h → new ≡ h ++ Happened event ∷ [] → clock ≡ latest new
-clocked_happened clock h new event clocked is = clocked ∙ sym (latest_from-append 0 h (Happened event ∷ [])) ∙ sym (ap latest is)
+pub latest-happened : (h new : List Moment) (event : Event) → new ≡ h ++ Happened event ∷ [] → latest new ≡ latest h
+latest-happened h new event is = ap latest is ∙ latest_from-append 0 h (Happened event ∷ [])
 
 -- ---- the writes of a command
 

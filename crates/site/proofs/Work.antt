@@ -3,7 +3,6 @@ use Rattle.std.proofs.Common.{◌≡◌, ℕ, ◌+◌, Bool, true, false, List, 
 use Rattle.std.specs.Option.{option_eq}
 use Rattle.std.proofs.lemmas.List.{append-nil}
 use Rattle.std.proofs.lemmas.Slice.Eq.{bytes_eq-Decides}
-use Rattle.model.specs.declared.act.Act.{Act}
 use Rattle.model.specs.declared.event.Event.{Event}
 use Rattle.model.specs.declared.event.Event.TheVariants.{Finish}
 use Rattle.model.specs.declared.event.Moment.{Moment}
@@ -13,24 +12,11 @@ use Rattle.model.specs.declared.outcome.Outcome.{Outcome}
 use Rattle.model.specs.declared.outcome.Write.{Write}
 use Rattle.model.specs.World.{View, World, written, file_at, content_of, view_of, latest, runs, IsRunning}
 use Rattle.model.specs.Calls.{AllByOthers, OthersWrote, Finishes}
-use Rattle.site.specs.History.{events_of, is_skipped, with_write, with_writes, after_write, after_writes}
-use Rattle.site.specs.Running.{IsLowestRunning, act_of}
-use Rattle.site.specs.World.{happened, worked, Ends}
-use Rattle.site.proofs.Views.{events_of-append, events_of-wrote, file_from-push}
-use Rattle.site.proofs.Steps.{world}
-
--- ---- events
-
-events_of-with_write : (job : ℕ) (write : Write) (h : List Moment) → events_of (with_write job write h) ≡ events_of h
-events_of-with_write job write h = by_test (is_skipped (view_of h) write)
-  where
-    by_test : (b : Bool) → events_of (cond b h (h ++ Wrote (Command job) write.path write.content (latest h + 1) ∷ [])) ≡ events_of h
-    by_test true = refl
-    by_test false = events_of-wrote h (Command job) write.path write.content (latest h + 1)
-
-pub events_of-with_writes : (job : ℕ) (writes : List Write) (h : List Moment) → events_of (with_writes job writes h) ≡ events_of h
-events_of-with_writes job [] h = refl
-events_of-with_writes job (write ∷ writes) h = events_of-with_writes job writes (with_write job write h) ∙ events_of-with_write job write h
+use Rattle.site.specs.History.{is_skipped, with_event, with_write, with_writes, after_write, after_writes}
+use Rattle.site.specs.World.{happened, worked}
+use Rattle.site.proofs.Views.{file_from-push}
+use Rattle.site.specs.Jobs.{Told, with_finish}
+use Rattle.site.specs.World.{world_with}
 
 -- ---- files
 
@@ -79,7 +65,7 @@ with_writes-view job (write ∷ writes) h path =
 
 -- ---- history
 
-append_all : (running : ℕ → Type 0) (h k : List Moment) → AllByOthers running h → AllByOthers running k → AllByOthers running (h ++ k)
+pub append_all : (running : ℕ → Type 0) (h k : List Moment) → AllByOthers running h → AllByOthers running k → AllByOthers running (h ++ k)
 append_all running [] k all_h all_k = all_k
 append_all running (m ∷ h) k all_h all_k = (all_h.0, append_all running h k all_h.1 all_k)
 
@@ -101,31 +87,31 @@ with_writes-others running job (write ∷ writes) h runs_job =
       all = append_all running first.more rest.more first.all rest.all;
     }
 
+pub others_then : (running : ℕ → Type 0) (h k l : List Moment) → OthersWrote running h k → OthersWrote running k l → OthersWrote running h l
+others_then running h k l first rest = record {
+  more = first.more ++ rest.more;
+  grows = rest.grows ∙ ap (λ (m : List Moment). m ++ rest.more) first.grows ∙ append_assoc h first.more rest.more;
+  all = append_all running first.more rest.more first.all rest.all;
+}
+
+pub nobody_wrote : (running : ℕ → Type 0) (h k : List Moment) → k ≡ h → OthersWrote running h k
+nobody_wrote running h k same = record { more = []; grows = same ∙ sym (append-nil h); all = tt }
+
+pub job_wrote : (job : ℕ) (writes : List Write) (h k : List Moment) (events : List Event) → runs job events ≡ true → k ≡ with_writes job writes h → OthersWrote (IsRunning events) h k
+job_wrote job writes h k events live is = subst (OthersWrote (IsRunning events) h) (sym is) (with_writes-others (IsRunning events) job writes h live)
+
 -- ---- the call
 
-pub ends_now : (outcome : Act → View → Outcome) (h new : List Moment) (tick failures job : ℕ) (act : Act) (given : Outcome) (output : List ℕ) (events : List Event)
-    → events ≡ events_of h → IsLowestRunning job events → act_of job events ≡ Some act → given ≡ outcome act (view_of h) → output ≡ []
-    → new ≡ with_writes job given.writes h ++ Happened (Finish job given.ok) ∷ []
-    → Ends outcome (record { job = job; ok = given.ok; output = output }) (world h tick failures) (world new tick failures)
-ends_now outcome h new tick failures job act given output events told lowest acts given_is silent is =
-    record {
-      lowest = subst (IsLowestRunning job) told lowest;
-      act = act;
-      acts = sym (ap (act_of job) told) ∙ acts;
-      ok = ap (λ (o : Outcome). o.ok) given_is;
-      output = silent;
-      world = ap (λ (moments : List Moment). world moments tick failures) (is ∙ by_outcome)
-          ∙ ap (λ (es : List Event). record (happened (Finish job given.ok) (worked job (outcome act (view_of h)) (world h tick failures))) { events = es }) (told_so (outcome act (view_of h)).writes);
-      view = λ path. ap (λ (moments : List Moment). view_of moments path) (is ∙ by_outcome)
-          ∙ ap content_of (file_from-push path None (with_writes job (outcome act (view_of h)).writes h) (Happened (Finish job given.ok)))
-          ∙ with_writes-view job (outcome act (view_of h)).writes h path;
-    }
-  where
-    by_outcome : with_writes job given.writes h ++ Happened (Finish job given.ok) ∷ [] ≡ with_writes job (outcome act (view_of h)).writes h ++ Happened (Finish job given.ok) ∷ []
-    by_outcome = ap (λ (o : Outcome). with_writes job o.writes h ++ Happened (Finish job given.ok) ∷ []) given_is
+pub ends_world : (job : ℕ) (given : Outcome) (h new : List Moment) (told after : Told) (tick failures at_start : ℕ) → after ≡ with_finish job given.ok told
+    → new ≡ with_event (Some (Finish job given.ok)) (with_writes job given.writes h)
+    → world_with new after tick failures at_start ≡ happened (Finish job given.ok) (worked job given (world_with h told tick failures at_start))
+ends_world job given h new told after tick failures at_start told_is is = λ i. world_with (is i) (told_is i) tick failures at_start
 
-    told_so : (writes : List Write) → events_of (with_writes job writes h ++ Happened (Finish job given.ok) ∷ []) ≡ events_of h ++ Finish job given.ok ∷ []
-    told_so writes = events_of-append (with_writes job writes h) (Happened (Finish job given.ok) ∷ []) ∙ ap (λ (es : List Event). es ++ Finish job given.ok ∷ []) (events_of-with_writes job writes h)
+pub ends_view : (job : ℕ) (given : Outcome) (h new : List Moment) (path : List ℕ) → new ≡ with_event (Some (Finish job given.ok)) (with_writes job given.writes h) → view_of new path ≡ after_writes (view_of h) given.writes path
+ends_view job given h new path is =
+    ap (λ (moments : List Moment). view_of moments path) is
+    ∙ ap content_of (file_from-push path None (with_writes job given.writes h) (Happened (Finish job given.ok)))
+    ∙ with_writes-view job given.writes h path
 
 pub finishes_now : (job : ℕ) (ok : Bool) (outcome : Outcome) (old new : World) → runs job old.events ≡ true → new ≡ happened (Finish job ok) (worked job outcome old) → Finishes true job ok old new
 finishes_now job ok outcome old new ran is =
@@ -134,6 +120,7 @@ finishes_now job ok outcome old new ran is =
       ran = ran;
       events = ap (λ (w : World). w.events) is;
       ticked = ap (λ (w : World). w.ticked) is;
+      at_start = ap (λ (w : World). w.failures_at_start) is;
       history = λ _. record {
         earlier = others.more;
         later = [];

@@ -1,5 +1,5 @@
--- What a history tells, and what the writes of a command add to it.
-use Rattle.std.specs.Prelude.{◌≡◌, ℕ, ◌+◌, Bool, if◌then◌else◌, List, [], ◌∷◌, ◌++◌, bytes_eq, ◌&&◌}
+-- What the writes of a command add to it.
+use Rattle.std.specs.Prelude.{◌≡◌, ℕ, ◌+◌, Bool, if◌then◌else◌, List, [], ◌∷◌, ◌++◌, Option, Some, None, bytes_eq, ◌&&◌}
 use Rattle.std.specs.Option.{option_eq}
 use denote.Ref.{Bor}
 use Rattle.model.specs.declared.event.Event.{Event}
@@ -9,15 +9,14 @@ use Rattle.model.specs.declared.event.Writer.TheVariants.{Command}
 use Rattle.model.specs.declared.outcome.Write.{Write}
 use Rattle.model.specs.World.{View, File, view_of, latest}
 
--- the starts and ends among the moments
-abbrev pub events_of : List Moment → List Event
-events_of [] = []
-events_of (Wrote by path content stamp ∷ moments) = events_of moments
-events_of (Happened event ∷ moments) = event ∷ events_of moments
-
 -- a file whose content is borrowed
 abbrev pub file_seen : Bor (List ℕ) × ℕ → File
 file_seen held = record { content = held.0.now; stamp = held.1 }
+
+-- with a start or an end, if there is one
+abbrev pub with_event : Option Event → List Moment → List Moment
+with_event None history = history
+with_event (Some event) history = history ++ Happened event ∷ []
 
 -- some moments more
 abbrev pub IsLonger : List Moment → List Moment → Type 0

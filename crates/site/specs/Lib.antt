@@ -1,6 +1,10 @@
+pub mod Faults
 pub mod History
 pub mod HistoryInside
+pub mod Jobs
+pub mod JobsInside
 pub mod Running
 pub mod World
+pub mod Sim
 pub mod Toy
 pub mod Alone

@@ -4,6 +4,8 @@ use Rattle.model.specs.declared.act.Act.{Act}
 use Rattle.model.specs.declared.event.Event.{Event}
 use Rattle.model.specs.declared.event.Event.TheVariants.{Start, Finish}
 use Rattle.model.specs.World.{runs}
+use Rattle.site.specs.declared.jobs.Order.{Order}
+use Rattle.site.specs.declared.jobs.Order.TheVariants.{First, Last}
 
 -- what the job runs after an event
 abbrev pub act_after : ℕ → Option Act → Event → Option Act
@@ -18,16 +20,12 @@ act_from j act (event ∷ events) = act_from j (act_after j act event) events
 abbrev pub act_of : ℕ → List Event → Option Act
 act_of j events = act_from j None events
 
--- the job runs, and none with a lower number
-pub record IsLowestRunning (job : ℕ) (events : List Event) : Type 0 where
+-- none of these is lower, or higher
+abbrev pub IsEnd : Order → ℕ → (ℕ → Type 0) → Type 0
+IsEnd First job among = (other : ℕ) → among other → job ≤ other
+IsEnd Last job among = (other : ℕ) → among other → other ≤ job
+
+-- the job runs, and is the lowest or the highest that does
+pub record IsNext (order : Order) (job : ℕ) (events : List Event) : Type 0 where
   pub running : runs job events ≡ true
-  pub lowest : (other : ℕ) → runs other events ≡ true → job ≤ other
-
--- not above the job
-abbrev pub IsUpTo : Option ℕ → ℕ → Type 0
-IsUpTo None job = ⊥
-IsUpTo (Some lowest) job = lowest ≤ job
-
-abbrev pub IsStartOf : ℕ → Event → Type 0
-IsStartOf j (Start job act stamp) = job ≡ j
-IsStartOf j (Finish job ok) = ⊥
+  pub end : IsEnd order job (λ other. runs other events ≡ true)

@@ -1,9 +1,9 @@
 //! What happened on a site in memory.
 
-ghost use Rattle.std.specs.Prelude.{◌≡◌, ◌+◌, ◌<◌, ◌++◌, ◌∷◌, ℕ, [], Some, vec_len, vec_capacity, option_copied, option_map, bytes_eq, IfOk, OnOk, OnErr};
+ghost use Rattle.std.specs.Prelude.{◌≡◌, ◌+◌, ◌<◌, ◌++◌, ◌∷◌, ℕ, [], Some, option_copied, option_map, bytes_eq, IfOk, OnOk, OnErr};
 ghost use Rattle.std.specs.Option.{option_eq};
 ghost use Rattle.model.specs.World.{view_of, file_at, stamp_of, latest};
-ghost use Rattle.site.specs.History.{events_of, file_seen, with_write, with_writes, IsLonger};
+ghost use Rattle.site.specs.History.{file_seen, with_event, with_write, with_writes, IsLonger};
 
 use model::{Event, Moment, Write, Writer};
 use std::alloc::{AllocError, Global};
@@ -15,8 +15,6 @@ use text::{Bytes, Items, Path};
 #[derive(Debug, Drop)]
 pub struct History {
     moments: Vec<Moment>,
-    /// The starts and ends among the moments.
-    events: Vec<Event>,
     /// The greatest stamp.
     clock: u64,
 }
@@ -41,7 +39,6 @@ impl History {
     {
         History {
             moments: Vec::new(alloc),
-            events: Vec::new(alloc),
             clock: 0,
         }
     }
@@ -73,13 +70,6 @@ impl History {
         self.clock
     }
 
-    /// The starts and ends of commands, oldest first.
-    pub fn events(&self) -> &[Event]
-        ensures { result.now ≡ events_of self.now }
-    {
-        &self.events
-    }
-
     /// Writes a file, or with no content deletes it, and gives the stamp. Where memory is refused, or no stamp is
     /// left, nothing has happened.
     pub fn write(
@@ -96,30 +86,21 @@ impl History {
         Ok(self.clock)
     }
 
-    /// Adds a start or an end of a command. Where memory is refused, nothing has happened.
-    pub fn happen(&mut self, event: Event) -> Result<(), AllocError>
-        ensures ok { OnOk result (self.new ≡ self.old ++ Moment.Happened event ∷ []) }
-        ensures err { OnErr result (self.new ≡ self.old) }
-    {
-        append_event(&mut self.moments, &mut self.events, event)?;
-        Ok(())
-    }
-
-    /// The job makes its writes, one after the other, and ends. Where memory is refused, nothing has happened.
-    pub fn finish(&mut self, job: usize, writes: Items<Write>, ok: bool) -> Result<(), AllocError>
-        ensures ok { OnOk result (self.new ≡ with_writes job writes self.old ++ Moment.Happened (Event.Finish job ok) ∷ []) }
+    /// What a command does: it is started, where there is a start, makes its writes, one after the other, and ends, where
+    /// there is an end. Where memory is refused, nothing has happened.
+    pub fn record(
+        &mut self,
+        job: usize,
+        start: Option<Event>,
+        writes: Items<Write>,
+        end: Option<Event>,
+    ) -> Result<(), AllocError>
+        ensures ok { OnOk result (self.new ≡ with_event end (with_writes job writes (with_event start self.old))) }
         ensures err { OnErr result (self.new ≡ self.old) }
     {
         let length = self.moments.len();
         let clock = self.clock;
-        match append_finish(
-            &mut self.moments,
-            &mut self.events,
-            &mut self.clock,
-            job,
-            writes,
-            ok,
-        ) {
+        match append_all(&mut self.moments, &mut self.clock, job, start, writes, end) {
             Ok(()) => Ok(()),
             Err(error) => {
                 self.moments.truncate(length);
@@ -179,55 +160,52 @@ fn append_write(
     Ok(())
 }
 
-/// Adds an event to both lists, or to none where memory is refused.
-fn append_event(
+/// A start, the writes of a job and an end. Where that fails, a beginning of it may stand.
+fn append_all(
     moments: &mut Vec<Moment>,
-    events: &mut Vec<Event>,
-    event: Event,
+    clock: &mut u64,
+    job: usize,
+    start: Option<Event>,
+    writes: Items<Write>,
+    end: Option<Event>,
 ) -> Result<(), AllocError>
-    ensures ok { OnOk result (moments.new.items ≡ moments.old.items ++ Moment.Happened event ∷ []) }
-    ensures told { OnOk result (events.new.items ≡ events.old.items ++ event ∷ []) }
-    ensures err { OnErr result (moments.new.items ≡ moments.old.items) }
-    ensures untold { OnErr result (events.new.items ≡ events.old.items) }
+    requires { clock.old ≡ latest moments.old.items }
+    ensures ok { OnOk result (moments.new.items ≡ with_event end (with_writes job writes (with_event start moments.old.items))) }
+    ensures stamp { OnOk result (clock.new ≡ latest moments.new.items) }
+    ensures err { OnErr result (IsLonger moments.old.items moments.new.items) }
 {
-    let told = event.clone()?;
-    events.reserve(1)?;
-    moments.push(Moment::Happened(event))?;
-    push_reserved(events, told);
+    append_event(moments, start)?;
+    append_writes(moments, clock, job, writes)?;
+    append_event(moments, end)
+}
+
+/// Adds a start or an end, if there is one. Where that fails, nothing has changed.
+fn append_event(moments: &mut Vec<Moment>, event: Option<Event>) -> Result<(), AllocError>
+    ensures ok { OnOk result (moments.new.items ≡ with_event event moments.old.items) }
+    ensures stamp { latest moments.new.items ≡ latest moments.old.items }
+    ensures longer { IsLonger moments.old.items moments.new.items }
+{
+    if let Some(event) = event {
+        moments.push(Moment::Happened(event))?;
+    }
     Ok(())
 }
 
-/// Adds an item to a vector that has room.
-fn push_reserved<T: Drop>(items: &mut Vec<T>, item: T)
-    requires { vec_len items.old < vec_capacity items.old }
-    ensures { items.new.items ≡ items.old.items ++ item ∷ [] }
-{
-    match items.push(item) {
-        Ok(()) => {}
-        Err(_) => unreachable!(),
-    }
-}
-
-/// The writes of a job and its end. Where that fails, a beginning of the writes may stand.
-fn append_finish(
+/// The writes of a job. Where that fails, a beginning of them may stand.
+fn append_writes(
     moments: &mut Vec<Moment>,
-    events: &mut Vec<Event>,
     clock: &mut u64,
     job: usize,
     writes: Items<Write>,
-    ok: bool,
 ) -> Result<(), AllocError>
     requires { clock.old ≡ latest moments.old.items }
-    ensures ok { OnOk result (moments.new.items ≡ with_writes job writes moments.old.items ++ Moment.Happened (Event.Finish job ok) ∷ []) }
-    ensures told { OnOk result (events.new.items ≡ events.old.items ++ Event.Finish job ok ∷ []) }
+    ensures ok { OnOk result (moments.new.items ≡ with_writes job writes moments.old.items) }
     ensures stamp { OnOk result (clock.new ≡ latest moments.new.items) }
-    ensures err { OnErr result (IsLonger moments.old.items moments.new.items) }
-    ensures untold { OnErr result (events.new.items ≡ events.old.items) }
+    ensures longer { IsLonger moments.old.items moments.new.items }
 {
     for write in writes.into_vec() {
         leave(moments, clock, job, write)?;
     }
-    append_event(moments, events, Event::Finish { job, ok })?;
     Ok(())
 }
 

@@ -2,8 +2,9 @@
 #![tactic(auto)]
 
 mod commands;
+mod faults;
 mod history;
-mod running;
+mod jobs;
 mod sim;
 mod site;
 #[cfg(test)]
@@ -11,8 +12,10 @@ mod tests;
 mod toy;
 
 pub use commands::Commands;
+pub use faults::{Call, Trouble};
 pub use history::History;
+pub use jobs::Order;
 pub use model::{Event, Finished, Moment, SiteFault, Writer};
-pub use sim::Sim;
+pub use sim::{Sim, Timing};
 pub use site::Site;
 pub use toy::Toy;

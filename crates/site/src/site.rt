@@ -1,16 +1,17 @@
 //! The site that a build works on.
 
-ghost use Rattle.std.specs.Prelude.{◌≡◌, ℕ, true, false, IsTrue, IfOk, OnOk, OnErr};
+ghost use Rattle.std.specs.Prelude.{◌≡◌, ◌++◌, ℕ, true, false, Some, None, IsTrue, IfOk, OnOk, OnErr};
 ghost use Rattle.model.specs.World.{View, file_at, stamp_of, runs};
-ghost use Rattle.model.specs.Calls.{OnlyLooks, HasCause, Sees, Ticks, TicksOrNot, Starts, StartsOrNot, Finishes};
+ghost use Rattle.model.specs.Calls.{OnlyLooks, HasCause, Sees, Ticks, TicksOrNot, Writes, WritesOrNot, SpoilsOrNot, Appends, AppendsOrNot, Starts, StartsOrNot, Finishes, IsRestart};
 
 use manifest::Texts;
 use model::{Act, Event, Finished, SiteFault};
 
 /// The files, the clock and the commands that a build works on.
 ///
-/// While commands run, they and others may write during any call. A call that answers `Device` has counted a failure.
-/// Once a call has answered `Stopped`, so does each later one, and nothing changes.
+/// While commands run, they and others may write during any call. Just the calls that answer `Device` count a failure,
+/// and the site has stopped just where a call answers `Stopped`; then so does each later one, and nothing changes, until
+/// it is started again. A call in which the site stops may have done its work.
 pub trait Site: Texts {
     ghost use Rattle.model.specs.declared.act.Act.{Act};
     ghost use Rattle.model.specs.declared.outcome.Outcome.{Outcome};
@@ -30,6 +31,31 @@ pub trait Site: Texts {
         ensures cause { HasCause (Self.world self.old) (Self.world self.new) result }
         ensures ticks { IfOk result (λ stamp. Ticks Self.tells path.now stamp (Self.world self.old) (Self.world self.new)) }
         ensures err { OnErr result (TicksOrNot Self.tells path.now (Self.world self.old) (Self.world self.new)) };
+
+    /// Puts the bytes behind what the file at the path holds. A file that is absent is made.
+    /// Where it fails, a beginning of them may stand there.
+    fn append(&mut self, path: &str, bytes: &[u8]) -> Result<(), SiteFault>
+        ensures cause { HasCause (Self.world self.old) (Self.world self.new) result }
+        ensures appends { OnOk result (Appends Self.tells path.now bytes.now (Self.world self.old) (Self.world self.new)) }
+        ensures err { OnErr result (AppendsOrNot Self.tells path.now bytes.now (Self.world self.old) (Self.world self.new)) };
+
+    /// Puts the content in the place of what the file at the path holds, whole or not at all.
+    fn replace(&mut self, path: &str, content: &[u8]) -> Result<(), SiteFault>
+        ensures cause { HasCause (Self.world self.old) (Self.world self.new) result }
+        ensures writes { OnOk result (Writes Self.tells path.now (Some content.now) (Self.world self.old) (Self.world self.new)) }
+        ensures err { OnErr result (WritesOrNot Self.tells path.now (Some content.now) (Self.world self.old) (Self.world self.new)) };
+
+    /// Writes the file at the path. Where it fails, the file may hold anything, under a new stamp.
+    fn write(&mut self, path: &str, content: &[u8]) -> Result<(), SiteFault>
+        ensures cause { HasCause (Self.world self.old) (Self.world self.new) result }
+        ensures writes { OnOk result (Writes Self.tells path.now (Some content.now) (Self.world self.old) (Self.world self.new)) }
+        ensures err { OnErr result (SpoilsOrNot Self.tells path.now (Self.world self.old) (Self.world self.new)) };
+
+    /// Deletes the file at the path; an absent one is no fault. Where it fails, the file is as it was, or gone.
+    fn remove(&mut self, path: &str) -> Result<(), SiteFault>
+        ensures cause { HasCause (Self.world self.old) (Self.world self.new) result }
+        ensures writes { OnOk result (Writes Self.tells path.now None (Self.world self.old) (Self.world self.new)) }
+        ensures err { OnErr result (WritesOrNot Self.tells path.now None (Self.world self.old) (Self.world self.new)) };
 
     /// Makes the folder and those above it, where they are absent. A folder is no file of the model.
     fn make_dirs(&mut self, path: &str) -> Result<(), SiteFault>
@@ -51,7 +77,17 @@ pub trait Site: Texts {
         ensures finishes { IfOk result (λ finished. Finishes Self.tells finished.job finished.ok (Self.world self.old) (Self.world self.new)) }
         ensures err { OnErr result (OnlyLooks Self.tells (Self.world self.old) (Self.world self.new)) };
 
-    /// All starts and finishes so far, oldest first.
+    /// Shows the text to the user. Nothing that contracts see tells what was shown.
+    fn show(&mut self, text: &[u8]) -> Result<(), SiteFault>
+        ensures looks { OnlyLooks Self.tells (Self.world self.old) (Self.world self.new) }
+        ensures cause { HasCause (Self.world self.old) (Self.world self.new) result };
+
+    /// Starts the site again: every command that was started has ended, and it has not stopped any more. Until they
+    /// ended, commands and others wrote.
+    fn restart(&mut self)
+        ensures { IsRestart Self.tells (Self.world self.old) (Self.world self.new) };
+
+    /// All starts and finishes so far, oldest first: those before the last restart, then those since.
     fn events(&self) -> &[Event]
-        ensures { result.now ≡ (Self.world self.now).events };
+        ensures { result.now ≡ (Self.world self.now).earlier ++ (Self.world self.now).events };
 }

@@ -31,7 +31,7 @@ impl<'a> Graph<'a> {
     pub fn cone(&self, alloc: Global, targets: &[Path]) -> Result<Cone, ConeFault>
         ensures marks { IfOk result (λ cone. vec_len cone.marks ≡ vec_len self.now.links.inputs) }
         ensures cone { IfOk result (λ cone. (whole : BuildGraph) (recorded : ℕ → List (List ℕ)) → IsGraphFor whole self.now → NothingRecorded recorded → IsConeFor whole recorded targets.now cone) }
-        ensures fault { IfErr result (λ fault. (asked : Asked) (store : Store) → IsGraphFor asked.graph self.now → asked.targets ≡ targets.now → NothingRecorded (recorded_inputs store asked.graph.edges) → IsNoCone asked store (paths_of self.now) fault) }
+        ensures fault { IfErr result (λ fault. (asked : Asked) (store : Store) → asked.declared ≡ asked.graph.edges → IsGraphFor asked.graph self.now → asked.targets ≡ targets.now → NothingRecorded (recorded_inputs store asked.graph.edges) → IsNoCone asked store (paths_of self.now) fault) }
     {
         if let Some(place) = self.first_unknown(targets) {
             return Err(ConeFault::Unknown(place));

@@ -9,10 +9,14 @@ pub parts-init : goal.parts-init
 parts-init c = record {
   parted = rw c.in_ok-fields.ensures.items (starts c.in-Some.front.now);
   line_feed = Lacks-front 10 c.in-Some.front.now _ (subst (Lacks 10) c.in-Some.ensures.found c.requires);
+  plain = λ yes. Lacks-front 92 c.in-Some.front.now _ (subst (Lacks 92) c.in-Some.ensures.found (c.is_plain-plain.ensures yes));
 }
 
 pub field_of-requires-clause-line_feed : goal.field_of-requires-clause-line_feed
 field_of-requires-clause-line_feed c = Lacks-front 10 c.in-Some-cut.field.now _ (subst (Lacks 10) c.in-Some-cut.ensures.found c.parts.invariant.line_feed)
+
+pub field_of-requires-clause-plain : goal.field_of-requires-clause-plain
+field_of-requires-clause-plain c = λ yes. Lacks-front 92 c.in-Some-cut.field.now _ (subst (Lacks 92) c.in-Some-cut.ensures.found (c.parts.invariant.plain yes))
 
 pub returns-in_default-2-clause-none : goal.returns-in_default-2-clause-none
 returns-in_default-2-clause-none c =
@@ -26,6 +30,7 @@ parts-preserved c =
     record {
       parted = rw c.in_ok-push.ensures.items (one_more c.in-Some.front.now c.parts.fields.items c.parts.rest.now c.in-Some-cut.field.now c.in-Some-cut.after.now c.in-Some-2.text c.parts.invariant.parted c.in-Some-cut.ensures.found c.in-Some-cut.ensures.first spelled utf8);
       line_feed = (Lacks-back 10 c.in-Some-cut.field.now _ (subst (Lacks 10) c.in-Some-cut.ensures.found c.parts.invariant.line_feed)).1;
+      plain = λ yes. (Lacks-back 92 c.in-Some-cut.field.now _ (subst (Lacks 92) c.in-Some-cut.ensures.found (c.parts.invariant.plain yes))).1;
     }
 
 pub returns-clause-none : goal.returns-clause-none

@@ -1,11 +1,11 @@
 use Rattle.std.proofs.Common.{◌≡◌, ◌<◌, ℕ, [], map, List, Bool, suc, get_or, length, sym, ◌∙◌, ap, subst, arith, take}
 use Rattle.std.proofs.lemmas.List.{get_or_read, take_all, length-set}
 use Rattle.model.specs.declared.graph.Edge.{Edge}
-use Rattle.model.specs.Graph.{edge_at, no_edge}
+use Rattle.model.specs.Graph.{no_edge}
 use Rattle.model.specs.Records.{recorded_inputs}
-use Rattle.laws.specs.Order.{no_records, AreMakersFirst}
+use Rattle.build_theory.specs.Order.{no_records, AreMakersFirst}
 use Rattle.builder.specs.Missing.{AreDue, is_due_edge}
-use Rattle.builder.proofs.Calls.{looks_then}
+use Rattle.builder.proofs.Calls.{looks_then, unrefused_call, unrefused_then}
 use Rattle.builder.proofs.Dues.{due_one_more}
 use Rattle.builder.proofs.Stays.{stays_parts}
 use Rattle.builder.proofs.due.due_edges.Goals as goal
@@ -22,7 +22,7 @@ loop-edge-preserved g c =
     let within : get_or order place 0 < length edges = (subst (λ (l : List _). get_or l place 0 < length edges) (sym c.as_slice-order.ensures.value) (c.requires.within place (omega arith))) in
     record {
       looks = looks_then g.S.Texts.tells (g.S.Texts.world c.args.site.now) (g.S.Texts.world c.loop-edge.site) (g.S.Texts.world c.is_due.new.site) c.loop-edge.invariant.looks c.is_due.ensures.looks;
-      failures = omega arith;
+      unrefused = unrefused_then (g.S.Texts.world c.args.site.now) (g.S.Texts.world c.loop-edge.site) (g.S.Texts.world c.is_due.new.site) c.loop-edge.invariant.unrefused (unrefused_call (g.S.Texts.world c.loop-edge.site) (g.S.Texts.world c.is_due.new.site) _ c.in_ok-due-2.ensures.cause);
       fits = length-set due (get_or order place 0) c.in_ok-due-2.field-0 ∙ c.loop-edge.invariant.fits;
       due = λ told files stays.
           let parts = stays_parts g.S.Texts.tells files (g.S.Texts.world c.args.site.now) (g.S.Texts.world c.loop-edge.site) (g.S.Texts.world c.is_due.new.site) c.loop-edge.invariant.looks c.is_due.ensures.looks told stays in

@@ -1,7 +1,7 @@
-use Rattle.std.proofs.Common.{◌≡◌, sym, ◌∙◌, ap, arith}
+use Rattle.std.proofs.Common.{◌∙◌, ap, arith}
 use Rattle.std.proofs.lemmas.List.{take_all}
 use Rattle.builder.specs.Missing.{is_absent}
-use Rattle.builder.proofs.Calls.{looks_then}
+use Rattle.builder.proofs.Calls.{looks_then, unrefused_call, unrefused_then}
 use Rattle.builder.proofs.Stays.{passed_by, found_one, none_found}
 use Rattle.builder.proofs.due.has_absent.Goals as goal
 
@@ -20,7 +20,7 @@ returns-then-branch-clause-has g c =
 pub loop-path-preserved : goal.loop-path-preserved
 loop-path-preserved g c = record {
   looks = looks_then g.S.Texts.tells (g.S.Texts.world c.args.site.now) (g.S.Texts.world c.loop-path.site) (g.S.Texts.world c.is_absent.new.site) c.loop-path.invariant.looks c.is_absent.ensures.looks;
-  failures = omega arith;
+  unrefused = unrefused_then (g.S.Texts.world c.args.site.now) (g.S.Texts.world c.loop-path.site) (g.S.Texts.world c.is_absent.new.site) c.loop-path.invariant.unrefused (unrefused_call (g.S.Texts.world c.loop-path.site) (g.S.Texts.world c.is_absent.new.site) _ c.in_ok-is_absent.ensures.cause);
   none = passed_by g.S.Texts.tells is_absent c.args.paths.now c.loop-path.path-index c.path-item.result (g.S.Texts.world c.args.site.now) (g.S.Texts.world c.loop-path.site) (g.S.Texts.world c.is_absent.new.site)
       c.loop-path.invariant.looks c.is_absent.ensures.looks (omega arith) c.loop-path.invariant.none c.in_ok-is_absent.field-0
       (λ told files stays. c.in_ok-is_absent.ensures.absent told files stays ∙ ap (is_absent files) (c.as_str.ensures ∙ c.path-item.is)) (cc);

@@ -1,6 +1,6 @@
 use Rattle.std.proofs.Common.{List, Bool, subst}
 use Rattle.model.specs.Records.{recorded_inputs}
-use Rattle.laws.specs.Order.{no_records}
+use Rattle.build_theory.specs.Order.{no_records}
 use Rattle.builder.specs.Missing.{IsFoundOfDue}
 use Rattle.builder.proofs.Calls.{looks_then}
 use Rattle.builder.proofs.Dues.{at_has}

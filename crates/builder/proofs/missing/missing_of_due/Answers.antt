@@ -3,7 +3,7 @@ use Rattle.std.proofs.lemmas.List.{get_or_read}
 use Rattle.model.specs.declared.graph.Edge.{Edge}
 use Rattle.model.specs.Graph.{first_output, no_edge}
 use Rattle.builder.specs.Missing.{AreThere}
-use Rattle.builder.proofs.Calls.{looks_then}
+use Rattle.builder.proofs.Calls.{looks_then, unrefused_call, unrefused_then}
 use Rattle.builder.proofs.Sources.{written_back, one_edge, first_edge, none_below, first_of_due}
 use Rattle.builder.proofs.missing.missing_of_due.Goals as goal
 
@@ -19,7 +19,7 @@ loop-number-preserved g c =
     let written = written_back c.loop-number.asked.items c.missing_of_edge.new.asked c.loop-number.asked.len (omega (arith, c.loop-number.asked.ok.0)) whole in
     record {
       looks = looks_then g.S.Texts.tells (g.S.Texts.world c.args.site.now) (g.S.Texts.world c.loop-number.site) (g.S.Texts.world c.missing_of_edge.new.site) c.loop-number.invariant.looks c.missing_of_edge.ensures.looks;
-      failures = omega arith;
+      unrefused = unrefused_then (g.S.Texts.world c.args.site.now) (g.S.Texts.world c.loop-number.site) (g.S.Texts.world c.missing_of_edge.new.site) c.loop-number.invariant.unrefused (unrefused_call (g.S.Texts.world c.loop-number.site) (g.S.Texts.world c.missing_of_edge.new.site) _ c.in_ok-path.ensures.cause);
       places = ap length written ∙ (whole ∙ c.loop-number.invariant.places);
       found = λ told files stays.
           let now = one_edge g.S.Texts.tells c.args.graph.now c.args.due.now c.loop-number.asked.items c.deref_mut.result.now c.missing_of_edge.new.asked c.loop-number.number

@@ -1,8 +1,7 @@
 use Rattle.std.proofs.Common.{◌≡◌, ◌+◌, ◌++◌, ◌∷◌, List, ℕ, true, sym, ◌∙◌, ap, subst, arith, take, drop}
-use Rattle.std.proofs.lemmas.Bool.{false≢true}
 use Rattle.std.proofs.lemmas.List.{take_all}
 use Rattle.model.specs.OutOfDate.{IsMissing, NoneIsMissing}
-use Rattle.builder.proofs.Calls.{looks_then}
+use Rattle.builder.proofs.Calls.{looks_then, unrefused_call, unrefused_then}
 use Rattle.builder.proofs.Slices.{split_at, all_one_more}
 use Rattle.builder.proofs.Stays.{stays_parts}
 use Rattle.builder.proofs.missing.missing_target.Goals as goal
@@ -29,7 +28,7 @@ returns-then-branch-clause-found g c whole is_graph told files stays =
 pub loop-target-preserved : goal.loop-target-preserved
 loop-target-preserved g c = record {
   looks = looks_then g.S.Texts.tells (g.S.Texts.world c.args.site.now) (g.S.Texts.world c.loop-target.site) (g.S.Texts.world c.is_missing.new.site) c.loop-target.invariant.looks c.is_missing.ensures.looks;
-  failures = omega arith;
+  unrefused = unrefused_then (g.S.Texts.world c.args.site.now) (g.S.Texts.world c.loop-target.site) (g.S.Texts.world c.is_missing.new.site) c.loop-target.invariant.unrefused (unrefused_call (g.S.Texts.world c.loop-target.site) (g.S.Texts.world c.is_missing.new.site) _ c.in_ok-is_missing.ensures.cause);
   none = λ whole is_graph told files stays.
       let parts = stays_parts g.S.Texts.tells files (g.S.Texts.world c.args.site.now) (g.S.Texts.world c.loop-target.site) (g.S.Texts.world c.is_missing.new.site) c.loop-target.invariant.looks c.is_missing.ensures.looks told stays in
       all_one_more (λ p. IsMissing whole.edges files p → ⊥) c.args.targets.now c.loop-target.target-index c.target-item.result (omega arith) (c.loop-target.invariant.none whole is_graph told files parts.0)

@@ -1,17 +1,19 @@
-use Rattle.std.proofs.Common.{ℕ, List, [], None, Ok, Err, OnOk, IsTrue, inl, inr, refl, sym, subst}
-use Rattle.manifest.specs.Answer.{ReadsFile, site_part}
+use Rattle.std.proofs.Common.{ℕ, List, None, Ok, inl, inr, refl, subst}
+use Rattle.model.specs.Outcome.{Behaviour}
+use Rattle.manifest.specs.Answer.{ReadsFile}
 use Rattle.manifest.specs.declared.fault.ReadError.TheVariants as error
-use Rattle.builder.specs.declared.report.Report.{Report}
-use Rattle.builder.specs.Answers.{Answers}
-use Rattle.builder.specs.Asked.{AreTargets}
+use Rattle.builder.specs.Answers.{Looked}
 use Rattle.builder.specs.Build.{Builds}
-use Rattle.manifest.proofs.Moments.{reads_longer}
-use Rattle.builder.proofs.Reports.{answers_after, answers_unread, idle_after, idle_of_answers}
-use Rattle.builder.proofs.Builds.{looked_nothing, any_own, builds_grow}
+use Rattle.builder.proofs.Calls.{unrefused_call}
+use Rattle.builder.proofs.Reports.{answers_after, idle_after}
+use Rattle.builder.proofs.Builds.{looked_nothing, any_own, own_in, builds_grow}
 use Rattle.builder.proofs.one_build.build.Goals as goal
 
 pub build_manifest-requires-clause-formed : goal.build_manifest-requires-clause-formed
 build_manifest-requires-clause-formed g c = c.in-Ok.ensures.graph
+
+pub build_manifest-requires-clause-running : goal.build_manifest-requires-clause-running
+build_manifest-requires-clause-running g c = c.in-Ok.ensures.cause.stopped
 
 pub returns-in-Ok-new-clause-answers : goal.returns-in-Ok-new-clause-answers
 returns-in-Ok-new-clause-answers g c = (
@@ -20,32 +22,32 @@ returns-in-Ok-new-clause-answers g c = (
       c.read.ensures.looks c.read.ensures.cause.grows c.build_manifest.ensures.answers,
 )
 
-pub returns-in-Ok-new-clause-idle : goal.returns-in-Ok-new-clause-idle
-returns-in-Ok-new-clause-idle g c =
-    idle_of_answers g.S.Texts.tells c.in-Ok.manifest.edges (g.S.Texts.world c.read.new.texts) (g.S.Texts.world c.build_manifest.new.site) c.build_manifest.result
-    (idle_after g.S.Texts.tells (g.S.Texts.world c.args.site.now) (g.S.Texts.world c.read.new.texts) c.read.ensures.looks c.requires) c.build_manifest.ensures.answers
-
 pub returns-in-Ok-new-clause-build : goal.returns-in-Ok-new-clause-build
-returns-in-Ok-new-clause-build g c = inr record {
-  graph = c.in-Ok.manifest;
-  formed = c.in-Ok.ensures.graph;
-  file = λ tell.
-      let later = builds_grow g.S.Texts.tells (record { outcome = g.S.Site.outcome; depfile = λ text. None }) any_own c.in-Ok.manifest c.in-Ok-new.targets.given.now c.in-Ok-new.targets.paths
-      (g.S.Texts.world c.read.new.texts) (g.S.Texts.world c.build_manifest.new.site) c.build_manifest.result
-      (c.build_manifest.ensures.builds (record { outcome = g.S.Site.outcome; depfile = λ text. None }) any_own (g.S.Texts.world c.read.new.texts) refl
-      (idle_after g.S.Texts.tells (g.S.Texts.world c.args.site.now) (g.S.Texts.world c.read.new.texts) c.read.ensures.looks c.requires)
-      (looked_nothing g.S.Texts.tells (g.S.Texts.world c.read.new.texts))) tell in
-      subst (λ (n : List ℕ). ReadsFile n (g.S.Texts.world c.args.site.now).history (g.S.Texts.world c.build_manifest.new.site).history (Ok c.in-Ok.manifest)) c.as_str.ensures
-      (reads_longer c.as_str.result.now (g.S.Texts.world c.args.site.now).history (g.S.Texts.world c.read.new.texts).history (g.S.Texts.world c.build_manifest.new.site).history later.0 (Ok c.in-Ok.manifest) later.1
-      (c.in-Ok.ensures.file tell));
-  targets = c.in-Ok-new.targets.paths;
-  canonical = c.in-Ok-new.ensures.paths;
-  builds = λ own depfile owned.
-      subst (λ (given : List (List ℕ)). Builds g.S.Texts.tells (record { outcome = g.S.Site.outcome; depfile = depfile }) own c.in-Ok.manifest given c.in-Ok-new.targets.paths
-      (g.S.Texts.world c.args.site.now) (g.S.Texts.world c.build_manifest.new.site) c.build_manifest.result) c.in-Ok-new.ensures.given
-      (c.build_manifest.ensures.builds (record { outcome = g.S.Site.outcome; depfile = depfile }) own (g.S.Texts.world c.args.site.now) owned c.requires
-      (record { looks = c.read.ensures.looks; failures = c.read.ensures.cause.grows }));
-}
+returns-in-Ok-new-clause-build g c =
+    let tells = g.S.Texts.tells in
+    let old = g.S.Texts.world c.args.site.now in
+    let mid = g.S.Texts.world c.read.new.texts in
+    let new = g.S.Texts.world c.build_manifest.new.site in
+    let asked = c.in-Ok-new.asked in
+    let looked : Looked tells old mid = record { looks = c.read.ensures.looks; unrefused = unrefused_call old mid _ c.in-Ok.ensures.cause } in
+    let any : Behaviour = record { outcome = g.S.Site.outcome; depfile = λ text. None; dyndep = λ text. None } in
+    inr record {
+      graph = c.in-Ok.manifest;
+      formed = c.in-Ok.ensures.graph;
+      file = λ tell.
+          let later = builds_grow tells any (any_own asked.folder) c.in-Ok.manifest asked.folder asked.given.now asked.targets mid new c.build_manifest.result
+          (c.build_manifest.ensures.builds any (any_own asked.folder) mid (own_in asked.folder) (idle_after tells old mid c.read.ensures.looks c.requires) (looked_nothing tells mid c.in-Ok.ensures.cause.stopped)) tell in
+          subst (λ (n : List ℕ). ReadsFile n old.history new.history (Ok c.in-Ok.manifest)) c.as_str.ensures
+          (c.reads_longer.ensures c.as_str.result.now old.history mid.history new.history later.0 (Ok c.in-Ok.manifest) later.1 (c.in-Ok.ensures.file tell));
+      targets = asked.targets;
+      canonical = c.in-Ok-new.ensures.targets;
+      folder = asked.folder;
+      in_folder = c.in-Ok-new.ensures.folder;
+      builds = λ own depfile dyndep owned.
+          subst (λ (given : List (List ℕ)). Builds tells (record { outcome = g.S.Site.outcome; depfile = depfile; dyndep = dyndep }) own c.in-Ok.manifest asked.folder given asked.targets old new c.build_manifest.result)
+          c.in-Ok-new.ensures.given
+          (c.build_manifest.ensures.builds (record { outcome = g.S.Site.outcome; depfile = depfile; dyndep = dyndep }) own old owned c.requires looked);
+    }
 
 pub returns-in-Ok-clause-build : goal.returns-in-Ok-clause-build
 returns-in-Ok-clause-build g c = inl record {

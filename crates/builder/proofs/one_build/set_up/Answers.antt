@@ -1,14 +1,12 @@
 use Rattle.std.proofs.Common.{refl}
 use Rattle.builder.specs.Build.{task_for}
 use Rattle.graph.specs.Linked.{paths_of}
-use Rattle.graph.proofs.GraphLinks.{links_of_graph}
-use Rattle.laws.proofs.Nothing.{recorded_nothing}
+use Rattle.build_theory.proofs.Nothing.{recorded_nothing}
 use Rattle.builder.proofs.Endings.{plain_task}
 use Rattle.builder.proofs.one_build.set_up.Goals as goal
 
 pub returns-clause-planned : goal.returns-clause-planned
-returns-clause-planned c targets cone =
-    let whole = c.args.manifest.now in
+returns-clause-planned c whole targets taken graph cone =
     let links = c.args.graph.now.links in
-    c.in_ok-plan.ensures.planned (task_for whole targets) (plain_task whole targets c.requires.taken) refl refl
-    (links_of_graph whole.edges (task_for whole targets).recorded (paths_of c.args.graph.now) links (λ i. recorded_nothing whole.edges i) c.requires.graph.linked) c.requires.graph.linked.phony cone.listed
+    c.in_ok-plan.ensures.planned (task_for whole targets) (plain_task whole targets taken) refl refl
+    (c.links_are_makers.ensures whole.edges (task_for whole targets).recorded (paths_of c.args.graph.now) links (λ i. recorded_nothing whole.edges i) graph.linked) graph.linked.phony cone.listed

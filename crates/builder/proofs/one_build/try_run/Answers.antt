@@ -7,6 +7,7 @@ use Rattle.builder.proofs.one_build.try_run.Goals as goal
 
 pub run-requires : goal.run-requires
 run-requires g c = record {
+  running = c.requires.running;
   at = (g.S.Texts.world c.args.site.now, c.requires.idle, at_entry c.args.edges.now c.args.plan.now.standings.items (g.S.Texts.world c.args.site.now) c.requires.fits c.requires.fresh);
   noted = subst (λ (l : List ℕ). IsNoted c.args.plan.now.standings.items l) (sym {A = List ℕ} c.new-failed.ensures.items) (noted_entry c.args.plan.now.standings.items c.requires.fresh);
 }

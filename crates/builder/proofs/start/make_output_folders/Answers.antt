@@ -1,5 +1,4 @@
-use Rattle.std.proofs.Common.{arith}
-use Rattle.builder.proofs.Calls.{looks_then}
+use Rattle.builder.proofs.Calls.{looks_then, unrefused_call, unrefused_then}
 use Rattle.builder.proofs.start.make_output_folders.Goals as goal
 
 pub returns-in_err-make_folder-clause-looks : goal.returns-in_err-make_folder-clause-looks
@@ -8,5 +7,5 @@ returns-in_err-make_folder-clause-looks g c = looks_then g.S.Texts.tells (g.S.Te
 pub loop-output-preserved : goal.loop-output-preserved
 loop-output-preserved g c = record {
   looks = looks_then g.S.Texts.tells (g.S.Texts.world c.args.site.now) (g.S.Texts.world c.loop-output.site) (g.S.Texts.world c.make_folder.new.site) c.loop-output.invariant.looks c.make_folder.ensures.looks;
-  failures = omega arith;
+  unrefused = unrefused_then (g.S.Texts.world c.args.site.now) (g.S.Texts.world c.loop-output.site) (g.S.Texts.world c.make_folder.new.site) c.loop-output.invariant.unrefused (unrefused_call (g.S.Texts.world c.loop-output.site) (g.S.Texts.world c.make_folder.new.site) _ c.in_ok-make_folder.ensures.cause);
 }

@@ -5,7 +5,7 @@ use Rattle.scopes.specs.Moves.{Enter, Leave}
 use Rattle.manifest.specs.Files.{fault_in, InScope, too_deep_at, inner_at}
 use Rattle.manifest.specs.Seen.{seen}
 use Rattle.manifest.specs.Places.{place_of}
-use Rattle.manifest.proofs.Looking.{looks_then, looks_none, caused_on, caused_none, covers_before, covers_after}
+use Rattle.manifest.proofs.Looking.{looks_then, looks_none, caused_on, caused_then, fine, covers_before, covers_after}
 use Rattle.manifest.proofs.ReadTo.{own_cause, own_stated, stop_cause, read_to_first, split_shorter, read_to_none, read_to_next, read_to_fault, read_to_end, always_ok}
 use Rattle.manifest.proofs.Including.{bytes_large, bytes_unread, bytes_say, bytes_formed, declaration_says, says_at, file_unopened, file_says, scope_fault, scope_reading, state_moved, stated_moved, formed_entered, formed_left}
 use Rattle.manifest.proofs.reader.+files.Goals as goal
@@ -96,7 +96,7 @@ read_lines-returns-in_err-read_group-clause-looks g t c = looks_then _ _ _ _ c.l
 pub read_lines-returns-in_err-read_group-clause-cause :
     goal.read_lines-returns-in_err-read_group-clause-cause
 read_lines-returns-in_err-read_group-clause-cause g t c = λ stated.
-    caused_on _ _ _ _ c.from_residual.result (c.loop-line.invariant.failures stated) (c.in_err-read_group.ensures.cause (c.loop-line.invariant.stated stated)) c.from_residual.ensures.1
+    caused_on _ _ _ _ c.from_residual.result (c.loop-line.invariant.failed stated) (c.in_err-read_group.ensures.cause (c.loop-line.invariant.stated stated)) c.from_residual.ensures.1
 
 pub read_lines-returns-in_err-read_group-clause-said :
     goal.read_lines-returns-in_err-read_group-clause-said
@@ -113,13 +113,13 @@ pub read_lines-loop-line-preserved : goal.read_lines-loop-line-preserved
 read_lines-loop-line-preserved g t c =
     read_to_next _ _ _ _ _ _ _ c.if_last.result _ c.in-Some.line.now c.in-Some.following.now c.split_block-in-Some.result.0.now c.split_block-in-Some.result.1.now _ _ _
     (read_to_first _ _ _ _ _ _ _ _ _ _ _ _ c.in-Some.ensures.cases.0 c.loop-line.invariant) c.split_block-in-Some.ensures c.if_last.ensures c.read_group.ensures.looks
-    (λ stated. (c.in_ok-read_group.ensures.cause stated).grows) c.in_ok-read_group.ensures.stated c.in_ok-read_group.ensures.said c.in_ok-read_group.ensures.scopes c.in_ok-read_group.ensures.formed
+    c.in_ok-read_group.ensures.cause c.in_ok-read_group.ensures.stated c.in_ok-read_group.ensures.said c.in_ok-read_group.ensures.scopes c.in_ok-read_group.ensures.formed
 
 pub read_lines-returns-clause-looks : goal.read_lines-returns-clause-looks
 read_lines-returns-clause-looks g t c = c.loop-line.invariant.looks
 
 pub read_lines-returns-clause-cause : goal.read_lines-returns-clause-cause
-read_lines-returns-clause-cause g t c = λ stated. stop_cause _ _ (option_map (fault_in c.args.file.now.value) c.args.fault) c.stop_at.result (c.loop-line.invariant.failures stated) c.stop_at.ensures
+read_lines-returns-clause-cause g t c = λ stated. stop_cause _ _ (option_map (fault_in c.args.file.now.value) c.args.fault) c.stop_at.result (c.loop-line.invariant.failed stated) c.stop_at.ensures
 
 pub read_lines-returns-clause-said : goal.read_lines-returns-clause-said
 read_lines-returns-clause-said g t c = read_to_end _ _ _ _ _ _ _ _ _ _ c.stop_at.result c.loop-line.invariant c.in_default.ensures.cases c.stop_at.ensures
@@ -174,14 +174,12 @@ read_scope-returns-clause-formed g t c = λ formed.
 pub read_scope-returns-in_err-read_bytes-clause-cause :
     goal.read_scope-returns-in_err-read_bytes-clause-cause
 read_scope-returns-in_err-read_bytes-clause-cause g t c = λ stated.
-    caused_on _ _ _ _ c.from_residual-in_err-read_bytes.result (c.open.ensures.cause stated).grows (c.in_err-read_bytes.ensures.cause (stated_moved _ _ Enter c.in_ok-enter.ensures.ok stated))
+    caused_on _ _ _ _ c.from_residual-in_err-read_bytes.result (c.in_ok-file.ensures.cause stated) (c.in_err-read_bytes.ensures.cause (stated_moved _ _ Enter c.in_ok-enter.ensures.ok stated))
     c.from_residual-in_err-read_bytes.ensures.1
 
 pub read_scope-returns-clause-cause : goal.read_scope-returns-clause-cause
 read_scope-returns-clause-cause g t c = λ stated.
-    let first = (c.open.ensures.cause stated).grows in
-    let more = (c.read_bytes.ensures.cause (stated_moved _ _ Enter c.in_ok-enter.ensures.ok stated)).grows in
-    caused_none _ _ (omega (arith, first, more))
+    caused_then _ _ _ fine (c.in_ok-file.ensures.cause stated) (c.in_ok-read_bytes.ensures.cause (stated_moved _ _ Enter c.in_ok-enter.ensures.ok stated))
 
 pub read_scope-returns-clause-stated : goal.read_scope-returns-clause-stated
 read_scope-returns-clause-stated g t c = λ stated.

@@ -33,7 +33,7 @@ pub returns-clause-cause : goal.returns-clause-cause
 returns-clause-cause g c =
     let stated = c.in_ok-read_bytes.ensures.stated (nothing, c.in_ok-declared.ensures) in
     main_cause _ _ _ _ _ c.finish.result c.read.ensures.cause c.in_ok-content.was
-    (answer_cause (g.R.Texts.world c.read.new.self) (g.R.Texts.world c.read_bytes.new.texts) (AtEnd stated.0) c.finish.result (c.read_bytes.ensures.cause (nothing, c.in_ok-declared.ensures)).grows (c.finish.ensures.said stated.0 stated.1))
+    (answer_cause (g.R.Texts.world c.read.new.self) (g.R.Texts.world c.read_bytes.new.texts) (AtEnd stated.0) c.finish.result (c.in_ok-read_bytes.ensures.cause (nothing, c.in_ok-declared.ensures)) (c.finish.ensures.said stated.0 stated.1))
 
 pub returns-clause-file : goal.returns-clause-file
 returns-clause-file g c = λ told.

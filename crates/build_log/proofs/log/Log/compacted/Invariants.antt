@@ -1,10 +1,8 @@
-use Rattle.std.proofs.Common.{◌≡◌, ◌++◌, List, ℕ, Option}
-use Rattle.std.specs.List.{flat_map}
+use Rattle.std.proofs.Common.{List}
 use Rattle.build_log.specs.declared.done.Done.{Done}
-use Rattle.build_log.specs.Kept.{by_bytes}
-use Rattle.build_log.specs.Log.{header, lines_text, HaveLines}
-use Rattle.build_log.specs.Written.{record_of}
+use Rattle.build_log.specs.Kept.{Saying, IsTableOf}
+use Rattle.build_log.proofs.InForce.{IsBegun}
 use Rattle.build_log.proofs.log.Log.compacted.Given as goal
 
-abbrev pub invariant-loop-output : goal.invariant-loop-output
-invariant-loop-output l = (front : List (List ℕ × Option Done)) × (front ++ by_bytes l.output-iterator ≡ l.self.entries) × (l.text.items ≡ header ++ lines_text (flat_map record_of front)) × HaveLines (flat_map record_of front)
+abbrev pub invariant-loop-number : goal.invariant-loop-number
+invariant-loop-number l = (all : List (Saying Done)) → IsTableOf all l.self → IsBegun all l.number l.text.items

@@ -13,8 +13,8 @@ returns-clause-cone c =
 
 pub returns-clause-fault : goal.returns-clause-fault
 returns-clause-fault c =
-    if_err_then c.of.result c.of.ensures.shown (λ fault shown asked store is same nothing.
-    no_cone_for asked store c.args.self.now is nothing c.deref.result.now
+    if_err_then c.of.result c.of.ensures.shown (λ fault shown asked store declared is same nothing.
+    no_cone_for asked store c.args.self.now declared is nothing c.deref.result.now
     (subst (λ (ts : List (List ℕ)). AreMakersOf asked.graph.edges (targets_of asked.graph ts) c.deref.result.now) (sym same)
     (subst (λ (l : List ℕ). AreMakersOf asked.graph.edges (targets_of asked.graph c.args.targets.now) l) (sym {A = List ℕ} c.deref.ensures.value) (c.in_ok-requested.ensures.makers asked.graph is)))
     (subst (λ (ts : List (List ℕ)). (k : ℕ) → k < length ts → has (paths_of c.args.self.now) (path_at ts k) ≡ true) (sym same) c.in_default.ensures) fault shown)

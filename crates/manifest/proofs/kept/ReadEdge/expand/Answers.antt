@@ -5,7 +5,7 @@ use Rattle.manifest.proofs.kept.ReadEdge.expand.Goals as goal
 
 pub returns-in-Ok : goal.returns-in-Ok
 returns-in-Ok c = λ past build of is.
-    expanded_use past build c.args.rule.now _ c.in-Ok.values (c.in-Ok.ensures.values past of) c.in-Ok.ensures.size
+    expanded_use past build c.args.rule.now c.values_are_unique.ensures.one_value c.values_are_unique.ensures.no_circle _ c.in-Ok.values (c.in-Ok.ensures.values past of) c.in-Ok.ensures.size
     (use_for _ c.args.self.now build c.args.rule.now is refl refl refl c.as_slice-inputs.ensures c.as_slice-outputs.ensures
     (c.words.ensures c.in_ok-quoted_inputs.ensures ∙ ap (map quoted) c.as_slice-inputs.ensures)
     (c.words-2.ensures c.in_ok-quoted_outputs.ensures ∙ ap (map quoted) c.as_slice-outputs.ensures))

@@ -1,14 +1,17 @@
-use Rattle.std.proofs.Common.{◌∙◌, ◌++◌, ◌∷◌, [], ap}
-use Rattle.model.specs.declared.act.Act.{Act}
-use Rattle.model.specs.declared.event.Event.TheVariants.{Start}
-use Rattle.model.specs.declared.event.Moment.TheVariants.{Happened}
-use Rattle.site.proofs.Steps.{happened_now, starts_now}
+use Rattle.std.proofs.Common.{inr, ap, subst}
+use Rattle.model.specs.World.{World}
+use Rattle.model.specs.Calls.{Starts}
+use Rattle.std.specs.Prelude.{true}
+use Rattle.site.specs.World.{world_of}
+use Rattle.site.proofs.Calls.{starts_launched, starts_then}
 use Rattle.site.proofs.sim.SimSite.start.Goals as goal
 
-pub returns-clause-adds : goal.returns-clause-adds
-returns-clause-adds g c =
-    happened_now c.args.self.now.history c.happen.new.self c.args.self.now.ticked c.args.self.now.failures (Start c.args.job c.args.act.now c.args.self.now.ticked)
-    (c.in_ok-happen.ensures.ok ∙ ap (λ (act : Act). c.args.self.now.history ++ Happened (Start c.args.job act c.args.self.now.ticked) ∷ []) c.in_ok-clone.ensures.cases)
-
 pub returns-clause-starts : goal.returns-clause-starts
-returns-clause-starts g c = starts_now c.args.job c.args.act.now _ _ (returns-clause-adds g c)
+returns-clause-starts g c = subst (λ (w : World). Starts true c.args.job c.args.act.now w (world_of c.launch.new.self)) (ap world_of c.in_ok-enter.ensures.called)
+    (starts_launched g.C.Commands.outcome c.args.job c.args.act.now c.enter.new.self c.launch.new.self c.in_ok-launch.ensures.ok)
+
+pub returns-then-stops-clause-err : goal.returns-then-stops-clause-err
+returns-then-stops-clause-err g c = inr (starts_then c.args.job c.args.act.now (world_of c.args.self.now) (world_of c.launch.new.self) (world_of c.halt.new.self)
+    (subst (λ (w : World). Starts true c.args.job c.args.act.now w (world_of c.launch.new.self)) (ap world_of c.in_ok-enter.ensures.called)
+    (starts_launched g.C.Commands.outcome c.args.job c.args.act.now c.enter.new.self c.launch.new.self c.in_ok-launch.ensures.ok))
+    c.halt.ensures.world c.halt.ensures.writes)

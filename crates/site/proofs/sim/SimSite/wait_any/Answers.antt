@@ -1,10 +1,15 @@
-use Rattle.site.proofs.Work.{ends_now, finishes_now}
+use Rattle.site.specs.declared.faults.Call.TheVariants.{WaitAny}
+use Rattle.site.specs.Sim.{given_by}
+use Rattle.site.proofs.Calls.{ends_now}
+use Rattle.site.proofs.Work.{ends_world, finishes_now}
 use Rattle.site.proofs.sim.SimSite.wait_any.Goals as goal
 
 pub returns-clause-ends : goal.returns-clause-ends
 returns-clause-ends g c =
-    ends_now g.C.Commands.outcome c.args.self.now.history c.finish.new.self c.args.self.now.ticked c.args.self.now.failures c.first_to_end-job.result.0 c.first_to_end-job.result.1.now c.in_ok-outcome.outcome c.new.result c.events.result.now
-    c.events.ensures c.first_to_end-job.ensures.lowest c.first_to_end-job.ensures.act c.in_ok-outcome.ensures c.new.ensures c.in_ok-finish.ensures.ok
+    ends_now g.C.Commands.outcome WaitAny c.pass.new.self c.args.self.now _ c.next-job.result.0 c.next-job.result.1.now c.in_ok-ok.field-0 c.new.result c.in_ok-pass.ensures.called c.next-job.ensures.next c.next-job.ensures.running c.next-job.ensures.act
+    c.in_ok-ok.ensures c.new.ensures
+    (ends_world c.next-job.result.0 c.in_ok-ok.field-0 c.pass.new.self.history c.record.new.self c.pass.new.self.jobs c.finish.new.self c.pass.new.self.ticked c.pass.new.self.failures c.pass.new.self.failures_at_start c.finish.ensures c.in_ok-record.ensures.ok)
+    c.in_ok-record.ensures.ok
 
 pub returns-clause-finishes : goal.returns-clause-finishes
-returns-clause-finishes g c = let ends = returns-clause-ends g c in finishes_now c.first_to_end-job.result.0 c.in_ok-outcome.outcome.ok (g.C.Commands.outcome ends.act _) _ _ ends.lowest.running ends.world
+returns-clause-finishes g c = let ends = returns-clause-ends g c in finishes_now c.next-job.result.0 c.in_ok-ok.field-0.ok (given_by g.C.Commands.outcome ends.one c.args.self.now.history) _ _ ends.next.running ends.world

@@ -1,7 +1,0 @@
-use Rattle.std.proofs.Common.{◌≡◌, ◌++◌, take}
-use Rattle.std.specs.List.{flat_map}
-use Rattle.build_log.specs.Line.{field_and_tab}
-use Rattle.build_log.proofs.line.push_line.Given as goal
-
-abbrev pub invariant-loop-text : goal.invariant-loop-text
-invariant-loop-text l = l.line.items ≡ l.initial.line.items ++ flat_map (λ text. field_and_tab text.now) (take l.text-index l.texts)

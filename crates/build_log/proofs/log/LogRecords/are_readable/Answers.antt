@@ -1,0 +1,5 @@
+use Rattle.build_log.proofs.Parts.{one_record, no_line_feed, other_lines}
+use Rattle.build_log.proofs.log.LogRecords.are_readable.Goals as goal
+
+pub returns : goal.returns
+returns c = record { one_record = one_record; one_line = no_line_feed; differ = other_lines }

@@ -1,0 +1,306 @@
+//! What is kept of the records of a log: outputs by number, and for each the record in force.
+
+ghost use Rattle.std.specs.Prelude.{◌≡◌, ◌<◌, ◌≤◌, ◌↔◌, ◌*◌, [], ◌∷◌, ◌++◌, List, ℕ, Option, Some, None, IsTrue, IfOk, IfSome, IfNone, OnOk, OnErr, length, slice_get, map, if◌then◌else◌};
+ghost use Rattle.std.specs.List.{list_any};
+ghost use Rattle.std.specs.Option.{option_copied, option_map};
+ghost use Rattle.model.specs.Graph.{has, has_number};
+ghost use Rattle.build_log.specs.Kept.{Saying, IsTableOf, AreDistinct, AreNumbersOf, told_of, place_of, is_place, tellings, in_force_of, left_to, outputs_at, joined, WantsCompaction};
+ghost use Rattle.build_log.specs.Steps.{IsFilled, IsGrown, IsSaid};
+
+use crate::field::Field;
+use indexmap::IndexSet;
+use std::alloc::{AllocError, Global};
+use std::marker::Model;
+use text::Items;
+
+/// Which record of each output is in force, where a record tells something (`T`) of several outputs at once, or says
+/// that from now on nothing is in force for them.
+///
+/// Each output is kept once, and each `T` once. A record that tells something has a number, its place among those that
+/// do, from 0.
+#[derive(Drop)]
+pub struct Kept<T> {
+    outputs: IndexSet<String>,
+    /// For each output the number of the record in force, if there is one.
+    in_force: Vec<Option<usize>>,
+    told: Vec<Told<T>>,
+    records: u64,
+}
+
+/// A record that tells something, with the numbers of its outputs.
+#[derive(Drop)]
+struct Told<T> {
+    outputs: Items<usize>,
+    told: T,
+}
+
+impl<T> Model for Told<T> {
+    ghost use Rattle.std.specs.Prelude.{ℕ, List};
+
+    ghost Value = { List ℕ × T };
+
+    ghost view = { λ told. (told.outputs, told.told) };
+}
+
+impl<T> Model for Kept<T> {
+    ghost use Rattle.build_log.specs.Kept.{Table, texts_of};
+
+    ghost Value = { Table T };
+
+    ghost view = { λ kept. record { outputs = texts_of kept.outputs.keys; in_force = kept.in_force.items; told = kept.told.items; records = kept.records } };
+}
+
+impl<T: Drop> Kept<T> {
+    /// What is kept of no records. It takes no memory.
+    pub fn new(alloc: Global) -> Kept<T>
+        ensures { IsTableOf [] result }
+    {
+        Kept {
+            outputs: IndexSet::new(alloc),
+            in_force: Vec::new(alloc),
+            told: Vec::new(alloc),
+            records: 0,
+        }
+    }
+
+    /// Puts a record at the end: what it tells of these outputs, or, by `None`, that nothing is in force for them. Where
+    /// memory is refused, what is kept stands for the same records as before.
+    pub fn put(
+        &mut self,
+        alloc: Global,
+        outputs: &[Field<'_>],
+        said: Option<T>,
+    ) -> Result<(), AllocError>
+        requires { AreDistinct outputs.now }
+        ensures ok { OnOk result ((all : List (Saying T)) → IsTableOf all self.old → IsTableOf (all ++ (outputs.now, said) ∷ []) self.new) }
+        ensures err { OnErr result ((all : List (Saying T)) → IsTableOf all self.old → IsTableOf all self.new) }
+    {
+        let records = self.records.checked_add(1).ok_or(AllocError)?;
+        let numbers = self.numbers(alloc, outputs)?;
+        self.say(numbers, said)?;
+        self.records = records;
+        Ok(())
+    }
+
+    /// The numbers of these outputs; those that have none get one.
+    fn numbers(&mut self, alloc: Global, outputs: &[Field<'_>]) -> Result<Items<usize>, AllocError>
+        ensures same { (all : List (Saying T)) → IsTableOf all self.old → IsTableOf all self.new }
+        ensures records { self.new.records ≡ self.old.records }
+        ensures numbers { IfOk result (λ numbers. AreNumbersOf self.new.outputs numbers outputs.now) }
+    {
+        let mut numbers = Vec::with_capacity(alloc, outputs.len())?;
+        for output in outputs {
+            let number = self.number(alloc, output.as_str())?;
+            numbers.push(number)?;
+        }
+        Ok(Items::from_vec(numbers))
+    }
+
+    /// The number of an output; if it has none, it gets one.
+    fn number(&mut self, alloc: Global, output: &str) -> Result<usize, AllocError>
+        ensures same { (all : List (Saying T)) → IsTableOf all self.old → IsTableOf all self.new }
+        ensures records { self.new.records ≡ self.old.records }
+        ensures grown { IsGrown self.old self.new }
+        ensures number { IfOk result (λ number. slice_get self.new.outputs number ≡ Some output.now) }
+    {
+        if let Some((number, _)) = self.outputs.get_full(output) {
+            return Ok(number);
+        }
+        let own = String::from_str(alloc, output)?;
+        self.in_force.reserve(1)?;
+        let (number, _) = self.outputs.insert_full(own)?;
+        self.in_force.push(None)?;
+        Ok(number)
+    }
+
+    /// Takes down what a record says of the outputs with these numbers. Where memory is refused, nothing changes.
+    fn say(&mut self, numbers: Items<usize>, said: Option<T>) -> Result<(), AllocError>
+        ensures ok { OnOk result (IsSaid self.old numbers said self.new) }
+        ensures err { OnErr result (self.new ≡ self.old) }
+    {
+        match said {
+            Some(told) => self.tell(numbers, told),
+            None => {
+                fill(self.in_force.as_mut_slice(), numbers.as_slice(), None);
+                Ok(())
+            }
+        }
+    }
+
+    /// Takes down what a record tells of the outputs with these numbers. Where memory is refused, nothing changes.
+    fn tell(&mut self, numbers: Items<usize>, told: T) -> Result<(), AllocError>
+        ensures ok { OnOk result (IsSaid self.old numbers (Some told) self.new) }
+        ensures err { OnErr result (self.new ≡ self.old) }
+    {
+        let place = self.told.len();
+        self.told.reserve(1)?;
+        fill(
+            self.in_force.as_mut_slice(),
+            numbers.as_slice(),
+            Some(place),
+        );
+        self.told.push(Told {
+            outputs: numbers,
+            told,
+        })?;
+        Ok(())
+    }
+
+    /// The number of the record in force for an output. It takes no memory.
+    pub fn find(&self, output: &str) -> Option<usize>
+        ensures { (all : List (Saying T)) → IsTableOf all self.now → result ≡ place_of all output.now }
+    {
+        let (number, _) = self.outputs.get_full(output)?;
+        self.place(number)
+    }
+
+    /// What the record with this number tells. It takes no memory.
+    pub fn at(&self, place: usize) -> Option<&T>
+        ensures { (all : List (Saying T)) → IsTableOf all self.now → option_copied result ≡ slice_get (map (λ t. t.1) (tellings all)) place }
+    {
+        let told = self.telling(place)?;
+        Some(&told.told)
+    }
+
+    /// What is in force for an output. It takes no memory.
+    pub fn lookup(&self, output: &str) -> Option<&T>
+        ensures { (all : List (Saying T)) → IsTableOf all self.now → option_copied result ≡ told_of all output.now }
+    {
+        self.at(self.find(output)?)
+    }
+
+    /// How many records there were.
+    pub fn records(&self) -> u64
+        ensures { (all : List (Saying T)) → IsTableOf all self.now → result ≡ length all }
+    {
+        self.records
+    }
+
+    /// How many records tell something: their numbers are those below.
+    pub fn tellings(&self) -> usize
+        ensures { (all : List (Saying T)) → IsTableOf all self.now → result ≡ length (tellings all) }
+    {
+        self.told.len()
+    }
+
+    /// How many records are in force, each for one of its outputs at least.
+    pub fn records_in_force(&self) -> usize
+        ensures { (all : List (Saying T)) → IsTableOf all self.now → result ≡ length (in_force_of all) }
+    {
+        let mut count = 0usize;
+        for place in 0..self.tellings() {
+            if self.is_in_force(place) {
+                count += 1;
+            }
+        }
+        count
+    }
+
+    /// Whether a log of these records is to be compacted: where it has at least 100 records, and more than half of them
+    /// are not in force.
+    pub fn wants_compaction(&self) -> bool
+        ensures { (all : List (Saying T)) → IsTableOf all self.now → IsTrue result ↔ WantsCompaction (length all) (length (in_force_of all)) }
+    {
+        let in_force = self.records_in_force() as u64;
+        self.records >= 100 && in_force < self.records.saturating_sub(in_force)
+    }
+
+    /// The outputs for which the record with this number is in force, in its order.
+    pub fn outputs_in_force(&self, alloc: Global, place: usize) -> Result<Vec<&str>, AllocError>
+        ensures { IfOk result (λ left. (all : List (Saying T)) → IsTableOf all self.now → map (λ o. o.now) left.items ≡ left_to all place (outputs_at (tellings all) place)) }
+    {
+        match self.telling(place) {
+            Some(told) => self.texts_in_force(alloc, place, told.outputs.as_slice()),
+            None => Ok(Vec::new(alloc)),
+        }
+    }
+
+    /// Those of the outputs with these numbers for which the record is in force.
+    fn texts_in_force(
+        &self,
+        alloc: Global,
+        place: usize,
+        outputs: &[usize],
+    ) -> Result<Vec<&str>, AllocError>
+        ensures { IfOk result (λ left. (all : List (Saying T)) (os : List (List ℕ)) → IsTableOf all self.now → AreNumbersOf self.now.outputs outputs.now os → map (λ o. o.now) left.items ≡ left_to all place os) }
+    {
+        let mut left = Vec::new(alloc);
+        for number in outputs {
+            self.push_in_force(&mut left, place, *number)?;
+        }
+        Ok(left)
+    }
+
+    /// Puts the output with this number at the end, if the record is in force for it.
+    fn push_in_force<'a>(
+        &'a self,
+        left: &mut Vec<&'a str>,
+        place: usize,
+        number: usize,
+    ) -> Result<(), AllocError>
+        ensures { OnOk result ((o : List ℕ) → slice_get self.now.outputs number ≡ Some o → map (λ o. o.now) left.new.items ≡ map (λ o. o.now) left.old.items ++ (if is_place place (joined (slice_get self.now.in_force number)) then o ∷ [] else [])) }
+    {
+        if !self.is_place(place, number) {
+            return Ok(());
+        }
+        if let Some(output) = self.text(number) {
+            left.push(output)?;
+        }
+        Ok(())
+    }
+
+    /// Whether the record with this number is in force for one of its outputs.
+    fn is_in_force(&self, place: usize) -> bool
+        ensures { (all : List (Saying T)) → IsTableOf all self.now → result ≡ list_any (λ o. is_place place (place_of all o)) (outputs_at (tellings all) place) }
+    {
+        match self.telling(place) {
+            Some(told) => self.has_in_force(place, told.outputs.as_slice()),
+            None => false,
+        }
+    }
+
+    /// Whether the record with this number is in force for one of the outputs with these numbers.
+    fn has_in_force(&self, place: usize, outputs: &[usize]) -> bool
+        ensures { result ≡ list_any (λ n. is_place place (joined (slice_get self.now.in_force n))) outputs.now }
+    {
+        outputs.iter().any(|number| self.is_place(place, *number))
+    }
+
+    /// Whether the record is in force for the output with this number.
+    fn is_place(&self, place: usize, number: usize) -> bool
+        ensures { result ≡ is_place place (joined (slice_get self.now.in_force number)) }
+    {
+        self.place(number) == Some(place)
+    }
+
+    fn text(&self, number: usize) -> Option<&str>
+        ensures { option_map (λ o. o.now) result ≡ slice_get self.now.outputs number }
+    {
+        let output = self.outputs.get_index(number)?;
+        Some(output.as_str())
+    }
+
+    fn telling(&self, place: usize) -> Option<&Told<T>>
+        ensures { option_copied result ≡ slice_get self.now.told place }
+    {
+        self.told.get(place)
+    }
+
+    /// The number of the record in force for the output with this number.
+    fn place(&self, number: usize) -> Option<usize>
+        ensures { result ≡ joined (slice_get self.now.in_force number) }
+    {
+        *self.in_force.get(number)?
+    }
+}
+
+/// Writes a value at each of these places that is there.
+fn fill(slots: &mut [Option<usize>], places: &[usize], value: Option<usize>)
+    ensures { IsFilled slots.old places.now value slots.new }
+{
+    for place in places {
+        if *place < slots.len() {
+            slots[*place] = value;
+        }
+    }
+}

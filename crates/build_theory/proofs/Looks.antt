@@ -1,0 +1,121 @@
+-- Calls that only look, before the first judgement.
+use Rattle.std.proofs.Common.{◌≡◌, inl, ℕ, Bool, IsTrue, List, [], ◌∷◌, ◌++◌, refl, sym, ◌∙◌, ap, subst, append_assoc}
+use Rattle.std.specs.List.{AllByRecursion}
+use Rattle.std.proofs.lemmas.List.{append-nil}
+use Rattle.std.proofs.lemmas.Bool.{false≢true}
+use Rattle.model.specs.declared.graph.Edge.{Edge}
+use Rattle.model.specs.declared.event.Event.{Event}
+use Rattle.model.specs.declared.event.Event.TheVariants.{Start}
+use Rattle.model.specs.declared.event.Moment.{Moment}
+use Rattle.model.specs.declared.event.Moment.TheVariants.{Wrote, Happened}
+use Rattle.model.specs.declared.event.Writer.TheVariants.{Program, Command, Someone}
+use Rattle.model.specs.World.{World, file_at, IsRunning, IsIdle}
+use Rattle.model.specs.Calls.{IsByOthers, AllByOthers, OthersWrote, OnlyLooks, Sees}
+use Rattle.model.specs.Records.{OwnFiles}
+use Rattle.model.specs.Premises.{FilesAreKept, NothingIsEdited, AllSince, IsNoEdit, IsWithinEdge}
+use Rattle.model.specs.Schedule.{Step, Judged}
+use Rattle.model.specs.SingleBuild.{IsOfBuild, IsFrame}
+use Rattle.build_theory.proofs.Lists.{same_rest, all_append, all_parts}
+use Rattle.build_theory.proofs.Files.{IsElsewhere, file_stays}
+
+-- ---- calls that only look
+
+pub looks_nothing : (tells : Bool) (world : World) → OnlyLooks tells world world
+looks_nothing tells world = record { events = refl; ticked = refl; at_start = refl; history = λ tell. record { more = []; grows = sym (append-nil world.history); all = tt } }
+
+-- one such call after another
+pub looks_then : (tells : Bool) (old mid new : World) → OnlyLooks tells old mid → OnlyLooks tells mid new → OnlyLooks tells old new
+looks_then tells old mid new a b = record {
+  events = b.events ∙ a.events;
+  ticked = b.ticked ∙ a.ticked;
+  at_start = b.at_start ∙ a.at_start;
+  history = λ tell.
+      let first = a.history tell in
+      let second = b.history tell in
+      record {
+        more = first.more ++ second.more;
+        grows = second.grows ∙ (ap (λ (l : List Moment). l ++ second.more) first.grows ∙ append_assoc old.history first.more second.more);
+        all = all_append (IsByOthers (IsRunning old.events)) first.more second.more first.all (subst (λ (l : List Event). AllByOthers (IsRunning l) second.more) a.events second.all);
+      };
+}
+
+-- ---- before the first judgement
+
+module _ (tells : Bool) (own : OwnFiles) (edges : List Edge) (old new : World) (idle : IsIdle old.events) (looks : OnlyLooks tells old new) where
+  by_someone : (ms : List Moment) → AllByOthers (IsRunning old.events) ms → AllByRecursion (IsOfBuild own edges []) ms
+  by_someone [] a = tt
+  by_someone (Wrote Program path content stamp ∷ ms) a = absurd a.0
+  by_someone (Wrote (Command job) path content stamp ∷ ms) a = absurd (false≢true (sym (idle job) ∙ a.0))
+  by_someone (Wrote Someone path content stamp ∷ ms) a = (tt, by_someone ms a.1)
+  by_someone (Happened event ∷ ms) a = absurd a.0
+
+  untouched : (p : List ℕ) (ms : List Moment) → AllByOthers (IsRunning old.events) ms → AllByRecursion IsNoEdit ms → AllByRecursion (IsElsewhere p) ms
+  untouched p [] a edits = tt
+  untouched p (Wrote Program path content stamp ∷ ms) a edits = absurd a.0
+  untouched p (Wrote (Command job) path content stamp ∷ ms) a edits = absurd (false≢true (sym (idle job) ∙ a.0))
+  untouched p (Wrote Someone path content stamp ∷ ms) a edits = absurd edits.0
+  untouched p (Happened event ∷ ms) a edits = absurd a.0
+
+  none_happened : (ms : List Moment) → AllByOthers (IsRunning old.events) ms → (before : List Moment) (event : Event) (after : List Moment) → ms ≡ before ++ Happened event ∷ after → ⊥
+  none_happened ms a before event after splits =
+      (all_parts (IsByOthers (IsRunning old.events)) before (Happened event ∷ after) (subst (λ (l : List Moment). AllByOthers (IsRunning old.events) l) splits a)).1.0
+
+  none_judged : (before : List Step) (step : Step) (after : List Step) → [] ≡ before ++ step ∷ after → ⊥
+  none_judged [] step after is = cc
+  none_judged (s ∷ before) step after is = cc
+
+  -- a build that has only looked, on a site that was idle, changes nothing
+  pub frame_of_looks : IsTrue tells → IsFrame own edges [] old.history new.history
+  frame_of_looks tell = record {
+    more = call.more;
+    grows = call.grows;
+    writes = by_someone call.more call.all;
+    unchanged = λ files p. inl (ap (λ (h : List Moment). file_at h p) call.grows ∙ file_stays p old.history call.more (untouched p call.more call.all (files.edits call.more call.grows)));
+    until_start = λ files i stamp act o before after splits is_output. absurd (none_happened call.more call.all before (Start i act stamp) after splits);
+    until_judged = λ files before after i out_of_date splits. absurd (none_judged before (Judged i out_of_date) after splits);
+    at_start = λ files i stamp act before after splits. absurd (none_happened call.more call.all before (Start i act stamp) after splits);
+  }
+    where
+      call : OthersWrote (IsRunning old.events) old.history new.history
+      call = looks.history tell
+
+-- ---- on an idle site that nobody edits
+
+-- what is kept up to the exit is kept up to each point before it
+all_before : (kind : Moment → Type 0) (old mid new later : List Moment) → new ≡ mid ++ later → AllSince kind old new → AllSince kind old mid
+all_before kind old mid new later grows all more is =
+    (all_parts kind more later (all (more ++ later) (grows ∙ (ap (λ (l : List Moment). l ++ later) is ∙ append_assoc old more later)))).0
+
+pub edits_before : (old mid new later : List Moment) → new ≡ mid ++ later → NothingIsEdited old new → NothingIsEdited old mid
+edits_before old mid new later grows edits = all_before IsNoEdit old mid new later grows edits
+
+pub kept_before : (own : OwnFiles) (edges : List Edge) (old mid new later : List Moment) → new ≡ mid ++ later → FilesAreKept own edges old new → FilesAreKept own edges old mid
+kept_before own edges old mid new later grows kept =
+    record { commands = all_before (IsWithinEdge edges) old mid new later grows kept.commands; own_files = kept.own_files; edits = edits_before old mid new later grows kept.edits }
+
+pub none_wrote : (running : ℕ → Type 0) (ms : List Moment) → ((job : ℕ) → running job → ⊥) → AllByOthers running ms → AllByRecursion IsNoEdit ms → ms ≡ []
+none_wrote running [] idle all edits = refl
+none_wrote running (Wrote Program path content stamp ∷ ms) idle all edits = absurd all.0
+none_wrote running (Wrote (Command job) path content stamp ∷ ms) idle all edits = absurd (idle job all.0)
+none_wrote running (Wrote Someone path content stamp ∷ ms) idle all edits = absurd edits.0
+none_wrote running (Happened event ∷ ms) idle all edits = absurd all.0
+
+-- a call that only looks leaves the history as it is
+pub looks_keep : (tells : Bool) (old new : World) → IsIdle old.events → OnlyLooks tells old new → IsTrue tells → NothingIsEdited old.history new.history → new.history ≡ old.history
+looks_keep tells old new idle looks tell edits =
+    let call = looks.history tell in
+    call.grows
+    ∙ (ap (λ (l : List Moment). old.history ++ l)
+    (none_wrote (IsRunning old.events) call.more (λ job runs. false≢true (sym (idle job) ∙ runs)) call.all (edits call.more call.grows))
+    ∙ append-nil old.history)
+
+-- an answer that was so at some moment of such a call was so at its beginning
+pub sees_so : {A : Type 0} (so : List Moment → A) (seen : A) (old new : List Moment) → new ≡ old → Sees so seen old new → seen ≡ so old
+sees_so so seen old new same sees = sees.is ∙ ap so (ap (λ (l : List Moment). old ++ l) none ∙ append-nil old)
+  where
+    nothing_left : (xs ys : List Moment) → xs ++ ys ≡ [] → xs ≡ []
+    nothing_left [] ys is = refl
+    nothing_left (x ∷ xs) ys is = cc
+
+    none : sees.earlier ≡ []
+    none = nothing_left sees.earlier sees.later (same_rest old (sees.earlier ++ sees.later) [] (sym sees.grows ∙ (same ∙ sym (append-nil old))))

@@ -1,0 +1,65 @@
+//! What a build is asked for.
+
+ghost use Rattle.std.specs.Prelude.{◌≡◌, IfOk};
+ghost use Rattle.builder.specs.Asked.{IsPathOf, AreTargets, IsFolder};
+
+use lexer::{ReadFault, canonical};
+use std::alloc::{AllocError, Global};
+use text::{Items, Path, Text};
+
+/// The targets of a build, and the folder of the program's own files.
+#[derive(Drop)]
+pub struct Asked<'a> {
+    /// The targets as they were given.
+    pub given: &'a [Text],
+    /// Their canonical paths; the empty path for the empty target, which has none.
+    pub targets: Items<Path>,
+    /// The canonical path of `builddir`; empty for the working folder.
+    pub folder: Path,
+}
+
+impl<'a> Asked<'a> {
+    pub fn new(alloc: Global, given: &'a [Text], builddir: &Text) -> Result<Asked<'a>, AllocError>
+        ensures given { IfOk result (λ asked. asked.given.now ≡ given.now) }
+        ensures targets { IfOk result (λ asked. AreTargets given.now asked.targets) }
+        ensures folder { IfOk result (λ asked. IsFolder builddir.now asked.folder) }
+    {
+        Ok(Asked {
+            given,
+            targets: canonical_paths(alloc, given)?,
+            folder: folder(alloc, builddir.as_str())?,
+        })
+    }
+}
+
+fn canonical_paths(alloc: Global, given: &[Text]) -> Result<Items<Path>, AllocError>
+    ensures { IfOk result (AreTargets given.now) }
+{
+    let mut paths = Items::new(alloc);
+    for target in given {
+        paths.push(canonical_path(alloc, target.as_str())?)?;
+    }
+    Ok(paths)
+}
+
+/// The folder that `builddir` names; the empty path is the working folder.
+fn folder(alloc: Global, builddir: &str) -> Result<Path, AllocError>
+    ensures { IfOk result (IsFolder builddir.now) }
+{
+    let path = canonical_path(alloc, builddir)?;
+    if path.as_str() == "." {
+        return Ok(Path::new(alloc));
+    }
+    Ok(path)
+}
+
+/// The canonical path of a text; the empty path for the empty text.
+fn canonical_path(alloc: Global, text: &str) -> Result<Path, AllocError>
+    ensures { IfOk result (IsPathOf text.now) }
+{
+    match canonical(alloc, text) {
+        Ok(path) => Ok(Path::from_string(path)),
+        Err(ReadFault::EmptyPath) => Ok(Path::new(alloc)),
+        Err(ReadFault::Memory) => Err(AllocError),
+    }
+}

@@ -1,0 +1,59 @@
+-- What some words ask for, computed.
+use Rattle.std.proofs.Common.{◌≡◌, ℕ, Bool, true, List, [], ◌∷◌, Option, refl, sym, ap, ◌∙◌, lit<, codes}
+use Rattle.std.proofs.lemmas.Fmt.{decimal_digit}
+use Rattle.clap.specs.Words.{fault_of, Text, matches_of, takes}
+use Rattle.clap.specs.declared.error.kind.ErrorKind.TheVariants.{DisplayHelp, UnknownArgument, ValueValidation}
+use Rattle.clap.proofs.OnLiterals.{clap_on_literals}
+use Rattle.command_line.specs.Options.{AreGiven, Options, nj}
+use Rattle.command_line.specs.Worked.{AskFor, no_words, many_words, many_options}
+
+abbrev options_of : Option Text → Text → ℕ → ℕ → Bool → List Text → Options
+options_of folder file jobs keep verbose targets = record { folder = folder; file = file; jobs = jobs; keep = keep; verbose = verbose; targets = targets }
+
+-- options with the same parts
+same_options : (a b : Options) → a.folder ≡ b.folder → a.file ≡ b.file → a.jobs ≡ b.jobs → a.keep ≡ b.keep → a.verbose ≡ b.verbose → a.targets ≡ b.targets → a ≡ b
+same_options a b folder file jobs keep verbose targets =
+    ap (λ (x : Option Text). options_of x a.file a.jobs a.keep a.verbose a.targets) folder
+    ∙ ap (λ (x : Text). options_of b.folder x a.jobs a.keep a.verbose a.targets) file
+    ∙ ap (λ (x : ℕ). options_of b.folder b.file x a.keep a.verbose a.targets) jobs
+    ∙ ap (λ (x : ℕ). options_of b.folder b.file b.jobs x a.verbose a.targets) keep
+    ∙ ap (λ (x : Bool). options_of b.folder b.file b.jobs b.keep x a.targets) verbose
+    ∙ ap (λ (x : List Text). options_of b.folder b.file b.jobs b.keep b.verbose x) targets
+
+defaults_are_taken : takes nj [] ≡ true
+unfolding clap_on_literals
+defaults_are_taken = refl
+
+defaults_only : (other : Options) → AreGiven (matches_of nj []) other → other ≡ no_words
+unfolding clap_on_literals
+defaults_only other given = same_options other no_words given.folder given.file given.jobs given.keep (given.verbose.1 refl) given.targets
+
+pub no_words_ask : AskFor [] no_words
+no_words_ask = record { taken = defaults_are_taken; only = λ other asked. defaults_only other asked.given }
+
+many_are_taken : takes nj many_words ≡ true
+unfolding clap_on_literals
+many_are_taken = refl
+
+many_only : (other : Options) → AreGiven (matches_of nj many_words) other → other ≡ many_options
+unfolding clap_on_literals
+many_only other given = same_options other many_options given.folder given.file (given.jobs 3 (lit< tt) (sym (decimal_digit 3 (lit< tt)))) (given.keep 0 (lit< tt) (sym (decimal_digit 0 (lit< tt)))) (given.verbose.0 refl) given.targets
+
+pub many_words_ask : AskFor many_words many_options
+many_words_ask = record { taken = many_are_taken; only = λ other asked. many_only other asked.given }
+
+pub no_number : fault_of nj (codes "-j" ∷ codes "x" ∷ []) ≡ ValueValidation ∷ []
+unfolding clap_on_literals
+no_number = refl
+
+pub too_large : fault_of nj (codes "-k4294967296" ∷ []) ≡ ValueValidation ∷ []
+unfolding clap_on_literals
+too_large = refl
+
+pub unknown : fault_of nj (codes "-q" ∷ []) ≡ UnknownArgument ∷ []
+unfolding clap_on_literals
+unknown = refl
+
+pub help : fault_of nj (codes "all" ∷ codes "--help" ∷ []) ≡ DisplayHelp ∷ []
+unfolding clap_on_literals
+help = refl

@@ -1,0 +1,77 @@
+-- What the words of a command line ask for (this project's own; the letters are those of Ninja).
+use Rattle.std.specs.Prelude.{◌≡◌, ◌<◌, ◌^◌, ℕ, Bool, true, false, pos, List, [], Option, Some, None, codes, decimal, unwrap_or}
+use Rattle.clap.specs.Words.{App, Row, Rule, Text, all_of, first_of, matches_of, new_app, new_rule, one_of, with_rule}
+use Rattle.clap.specs.Simple.{on_top}
+use Rattle.clap.specs.Lexer.{usize_max}
+use Rattle.clap.specs.declared.builder.action.ArgAction.TheVariants.{SetTrue}
+use Rattle.clap.specs.declared.builder.value_parser.ValueParser.TheVariants as vp
+
+-- ---- what the command takes, in the terms of clap
+
+-- `-C DIR`
+abbrev pub folder_rule : Rule
+folder_rule = record (new_rule (codes "folder")) { short = Some 67; value_names = 1 }
+
+-- `-f FILE`
+abbrev pub file_rule : Rule
+file_rule = record (new_rule (codes "file")) { short = Some 102; value_names = 1 }
+
+-- an option with a number below 2 to the 32
+abbrev pub number_rule : Text → ℕ → Rule
+number_rule id short = record (new_rule id) { short = Some short; value_names = 1; parser = Some (vp.Signed (pos 0) (pos 4294967295)) }
+
+-- `-j N`
+abbrev pub jobs_rule : Rule
+jobs_rule = number_rule (codes "jobs") 106
+
+-- `-k N`
+abbrev pub keep_rule : Rule
+keep_rule = number_rule (codes "keep") 107
+
+-- `-v`
+abbrev pub verbose_rule : Rule
+verbose_rule = record (new_rule (codes "verbose")) { short = Some 118; action = Some SetTrue }
+
+-- any number of targets
+abbrev pub targets_rule : Rule
+targets_rule = record (new_rule (codes "targets")) { value_names = 1; range = Some (record { start_inclusive = 0; end_inclusive = usize_max }) }
+
+-- all words are the command's, and of an option that is given twice the last counts
+abbrev pub bare : App
+bare = on_top (λ shape. record shape { no_binary_name = true; args_override_self = true }) (new_app (codes "nj"))
+
+abbrev pub nj : App
+nj = with_rule (with_rule (with_rule (with_rule (with_rule (with_rule bare folder_rule) file_rule) jobs_rule) keep_rule) verbose_rule) targets_rule
+
+-- ---- what it is asked for
+
+pub record Options : Type 0 where
+  pub folder : Option Text
+  pub file : Text
+  pub jobs : ℕ
+  pub keep : ℕ
+  pub verbose : Bool
+  pub targets : List Text
+
+-- the number that is given, else the default
+abbrev pub IsNumber : Option Text → ℕ → ℕ → Type 0
+IsNumber None default number = number ≡ default
+IsNumber (Some text) default number = (given : ℕ) → given < 2 ^ 32 → text ≡ decimal given → number ≡ given
+
+-- whether the flag is given
+abbrev pub IsFlag : Option Text → Bool → Type 0
+IsFlag None flag = flag ≡ false
+IsFlag (Some text) flag = (text ≡ codes "true" → flag ≡ true) × (text ≡ codes "false" → flag ≡ false)
+
+-- these options are those that the rows of the words give, else the defaults
+pub record AreGiven (rows : List Row) (options : Options) : Type 0 where
+  pub folder : options.folder ≡ first_of (codes "folder") rows
+  pub file : options.file ≡ unwrap_or (first_of (codes "file") rows) (codes "build.ninja")
+  pub jobs : IsNumber (one_of (codes "jobs") rows) 4 options.jobs
+  pub keep : IsNumber (one_of (codes "keep") rows) 1 options.keep
+  pub verbose : IsFlag (one_of (codes "verbose") rows) options.verbose
+  pub targets : options.targets ≡ unwrap_or (all_of (codes "targets") rows) []
+
+-- these options are what the words ask for
+pub record AreAsked (words : List Text) (options : Options) : Type 0 where
+  pub given : AreGiven (matches_of nj words) options

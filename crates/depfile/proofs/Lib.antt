@@ -1,0 +1,6 @@
+pub mod Cuts
+pub mod Escapes
+pub mod Fronts
+pub mod Parts
+pub mod Lines
+pub mod Once

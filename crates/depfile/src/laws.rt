@@ -1,0 +1,14 @@
+//! That a depfile says one thing.
+
+ghost use Rattle.std.specs.Prelude.{◌≡◌, ℕ, List, Result};
+ghost use Rattle.depfile.specs.Depfile.{IsRead};
+ghost use Rattle.depfile.specs.declared.fault.DepFault.{DepFault};
+
+use lexer::one_form;
+
+/// A law, which runs nothing: bytes say one list of inputs, or are refused for one reason, and never both.
+pub fn one_answer()
+    ensures { (bytes : List ℕ) (a b : Result (List (List ℕ)) DepFault) → IsRead bytes a → IsRead bytes b → a ≡ b }
+{
+    one_form();
+}

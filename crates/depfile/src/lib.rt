@@ -1,0 +1,15 @@
+//! Depfiles: which files a command has read beside those that its build line names.
+#![tactic(auto)]
+
+mod characters;
+mod fault;
+mod laws;
+mod pieces;
+mod reading;
+mod rules;
+mod separators;
+mod words;
+
+pub use fault::{DepFault, ReadError};
+pub use laws::one_answer;
+pub use reading::inputs;

@@ -1,0 +1,95 @@
+//! The words of a depfile and where rules end.
+
+ghost use Rattle.std.specs.Prelude.{◌≡◌, false, IfOk, IfSome, IfNone, string_bytes};
+ghost use Rattle.depfile.specs.Signs.{signs, spelled};
+ghost use Rattle.depfile.specs.Signs.Sign.{blank};
+ghost use Rattle.depfile.specs.Pieces.{NoWord, separator_of};
+ghost use Rattle.depfile.specs.Words.{IsWord, IsToken, IsBehindBlanks, front_word, is_at_blank};
+
+use crate::pieces::piece_at;
+use crate::separators::{Separator, separator_at};
+use std::alloc::{AllocError, Global};
+
+/// A word as it stands.
+#[derive(Clone, Copy, Debug)]
+pub struct Word<'a> {
+    /// The word, with its escapes.
+    pub written: &'a str,
+    /// The text from the word on.
+    pub from: &'a str,
+    /// It has no escape that is written otherwise than it is spelled.
+    pub is_plain: bool,
+    /// Its last character is a colon that is not escaped.
+    pub ends_with_colon: bool,
+}
+
+/// What a text is made of, between its blanks.
+#[derive(Clone, Copy, Debug)]
+pub enum Token<'a> {
+    Name(Word<'a>),
+    /// The end of a rule.
+    RuleEnd,
+}
+
+/// The word that stands first, and what stands behind it. None where no word stands.
+pub fn word_at(text: &str) -> Option<(Word<'_>, &str)>
+    ensures word { IfSome result (λ found. IsWord text.now found.0 found.1.now) }
+    ensures none { IfNone result (NoWord text.now) }
+{
+    let (first, mut at) = piece_at(text)?;
+    let mut is_plain = first.is_itself();
+    let mut ends_with_colon = first.is_colon();
+    'pieces: while let Some((piece, rest)) = piece_at(at) {
+        is_plain = is_plain && piece.is_itself();
+        ends_with_colon = piece.is_colon();
+        at = rest;
+    }
+    let (written, _) = text.split_at(text.len() - at.len());
+    let word = Word {
+        written,
+        from: text,
+        is_plain,
+        ends_with_colon,
+    };
+    Some((word, at))
+}
+
+/// What the word spells that stands first in the text.
+pub fn spelling(alloc: Global, text: &str) -> Result<String, AllocError>
+    ensures { IfOk result (λ word. string_bytes word ≡ spelled (front_word (signs text.now))) }
+{
+    let mut word = String::new(alloc);
+    let mut at = text;
+    'pieces: while let Some((piece, rest)) = piece_at(at) {
+        piece.push_onto(&mut word)?;
+        at = rest;
+    }
+    Ok(word)
+}
+
+/// What stands behind the blanks, of which there may be none.
+fn skip_blanks(text: &str) -> &str
+    ensures blanks { IsBehindBlanks text.now result.now }
+    ensures all { is_at_blank (separator_of result.now) ≡ false }
+{
+    let mut at = text;
+    'blanks: while let Some((Separator::Blank, rest)) = separator_at(at) {
+        at = rest;
+    }
+    at
+}
+
+/// The word or the end of a rule that stands first, and what stands behind it. The end of the text ends a
+/// rule.
+pub fn token_at(text: &str) -> (Token<'_>, &str)
+    ensures { IsToken text.now result.0 result.1.now }
+{
+    let start = skip_blanks(text);
+    if let Some((word, rest)) = word_at(start) {
+        return (Token::Name(word), rest);
+    }
+    match separator_at(start) {
+        Some((_, rest)) => (Token::RuleEnd, rest),
+        None => (Token::RuleEnd, start),
+    }
+}

@@ -1,0 +1,2 @@
+pub mod Dyndep
+pub mod Refused

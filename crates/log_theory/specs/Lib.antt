@@ -1,0 +1,6 @@
+pub mod Logged
+pub mod Judged
+pub mod Laws
+pub mod Histories
+pub mod Builds
+pub mod Driving

@@ -1,0 +1,177 @@
+//! The paths of all edges, in flat memory.
+
+ghost use Rattle.std.specs.Prelude.{◌≡◌, ◌<◌, ◌++◌, ◌∷◌, [], length, vec_len, IfOk, OnOk, OnErr};
+ghost use Rattle.paths.specs.Lists.{line_at, line_outputs, line_regular_inputs, line_inputs, line_paths, IsAppended, Extends};
+
+use crate::id::{EdgeId, PathId};
+use crate::line::Line;
+use std::alloc::{AllocError, Global};
+use std::marker::Model;
+
+/// Where the lists of an edge stand: each begins where the one before it ends.
+#[derive(Clone, Copy)]
+pub struct Row {
+    pub start: usize,
+    pub explicit_outputs: usize,
+    pub implicit_outputs: usize,
+    pub explicit_inputs: usize,
+    pub implicit_inputs: usize,
+    pub order_only_inputs: usize,
+    pub validations: usize,
+}
+
+/// The paths of edges, which contracts see as the list of their lines. An edge takes 56 bytes, and 4 for each path.
+#[derive(Drop)]
+pub struct Lines {
+    numbers: Vec<PathId>,
+    rows: Vec<Row>,
+}
+
+impl Model for Lines {
+    ghost use Rattle.std.specs.Prelude.{List, map, length};
+    ghost use Rattle.paths.specs.declared.line.Line.{Line};
+
+    ghost Value = { List Line };
+
+    ghost use Rattle.paths.specs.Lists.{line_of, AreRowsIn};
+
+    ghost view = { λ lines. map (line_of lines.numbers.items) lines.rows.items };
+
+    ghost invariant = { λ lines. AreRowsIn (length lines.numbers.items) lines.rows.items };
+}
+
+impl Lines {
+    /// No lines, which takes no memory.
+    pub fn new(alloc: Global) -> Lines
+        ensures { result ≡ [] }
+    {
+        Lines {
+            numbers: Vec::new(alloc),
+            rows: Vec::new(alloc),
+        }
+    }
+
+    /// How many there are.
+    pub fn len(&self) -> usize
+        ensures { result ≡ length self.now }
+    {
+        self.rows.len()
+    }
+
+    /// Puts a line behind the others. Where memory is refused, they stay as they were.
+    pub fn push(&mut self, line: &Line) -> Result<(), AllocError>
+        ensures ok { OnOk result (self.new ≡ self.old ++ line.now ∷ []) }
+        ensures err { OnErr result (self.new ≡ self.old) }
+    {
+        // what a refused line leaves at the end belongs to no line
+        let row = append_line(&mut self.numbers, line)?;
+        self.rows.push(row)?;
+        Ok(())
+    }
+
+    /// What the edge makes: its explicit outputs, then its implicit ones (manual: "Build outputs").
+    pub fn outputs(&self, edge: EdgeId) -> &[PathId]
+        requires { edge < length self.now }
+        ensures { result.now ≡ line_outputs (line_at self.now edge) }
+    {
+        let row = self.rows[edge.index()];
+        &self.numbers[row.start..row.implicit_outputs]
+    }
+
+    /// Its explicit outputs, which `$out` stands for.
+    pub fn explicit_outputs(&self, edge: EdgeId) -> &[PathId]
+        requires { edge < length self.now }
+        ensures { result.now ≡ (line_at self.now edge).explicit_outputs }
+    {
+        let row = self.rows[edge.index()];
+        &self.numbers[row.start..row.explicit_outputs]
+    }
+
+    /// Its inputs: the regular ones, then the order-only ones (manual: "Build dependencies").
+    pub fn inputs(&self, edge: EdgeId) -> &[PathId]
+        requires { edge < length self.now }
+        ensures { result.now ≡ line_inputs (line_at self.now edge) }
+    {
+        let row = self.rows[edge.index()];
+        &self.numbers[row.implicit_outputs..row.order_only_inputs]
+    }
+
+    /// The inputs whose contents count: its explicit ones, then its implicit ones.
+    pub fn regular_inputs(&self, edge: EdgeId) -> &[PathId]
+        requires { edge < length self.now }
+        ensures { result.now ≡ line_regular_inputs (line_at self.now edge) }
+    {
+        let row = self.rows[edge.index()];
+        &self.numbers[row.implicit_outputs..row.implicit_inputs]
+    }
+
+    /// Its explicit inputs, which `$in` stands for.
+    pub fn explicit_inputs(&self, edge: EdgeId) -> &[PathId]
+        requires { edge < length self.now }
+        ensures { result.now ≡ (line_at self.now edge).explicit_inputs }
+    {
+        let row = self.rows[edge.index()];
+        &self.numbers[row.implicit_outputs..row.explicit_inputs]
+    }
+
+    /// Its implicit inputs.
+    pub fn implicit_inputs(&self, edge: EdgeId) -> &[PathId]
+        requires { edge < length self.now }
+        ensures { result.now ≡ (line_at self.now edge).implicit_inputs }
+    {
+        let row = self.rows[edge.index()];
+        &self.numbers[row.explicit_inputs..row.implicit_inputs]
+    }
+
+    /// Its order-only inputs.
+    pub fn order_only_inputs(&self, edge: EdgeId) -> &[PathId]
+        requires { edge < length self.now }
+        ensures { result.now ≡ (line_at self.now edge).order_only_inputs }
+    {
+        let row = self.rows[edge.index()];
+        &self.numbers[row.implicit_inputs..row.order_only_inputs]
+    }
+
+    /// Its validations (manual: "Validations").
+    pub fn validations(&self, edge: EdgeId) -> &[PathId]
+        requires { edge < length self.now }
+        ensures { result.now ≡ (line_at self.now edge).validations }
+    {
+        let row = self.rows[edge.index()];
+        &self.numbers[row.order_only_inputs..row.validations]
+    }
+
+    /// All paths that it names: its outputs, its inputs, then its validations.
+    pub fn paths(&self, edge: EdgeId) -> &[PathId]
+        requires { edge < length self.now }
+        ensures { result.now ≡ line_paths (line_at self.now edge) }
+    {
+        let row = self.rows[edge.index()];
+        &self.numbers[row.start..row.validations]
+    }
+}
+
+/// Puts the lists of a line at the end, one behind the other.
+fn append_line(numbers: &mut Vec<PathId>, line: &Line) -> Result<Row, AllocError>
+    ensures ok { IfOk result (IsAppended numbers.old.items numbers.new.items line.now) }
+    ensures err { OnErr result (Extends numbers.old.items numbers.new.items) }
+{
+    Ok(Row {
+        start: numbers.len(),
+        explicit_outputs: append(numbers, line.explicit_outputs.as_slice())?,
+        implicit_outputs: append(numbers, line.implicit_outputs.as_slice())?,
+        explicit_inputs: append(numbers, line.explicit_inputs.as_slice())?,
+        implicit_inputs: append(numbers, line.implicit_inputs.as_slice())?,
+        order_only_inputs: append(numbers, line.order_only_inputs.as_slice())?,
+        validations: append(numbers, line.validations.as_slice())?,
+    })
+}
+
+/// Puts a list at the end, and gives the place behind it.
+fn append(numbers: &mut Vec<PathId>, list: &[PathId]) -> Result<usize, AllocError>
+    ensures ok { IfOk result (λ stop. (numbers.new.items ≡ numbers.old.items ++ list.now) × (stop ≡ vec_len numbers.new)) }
+    ensures err { OnErr result (numbers.new.items ≡ numbers.old.items) }
+{
+    numbers.extend_from_slice(list)?;
+    Ok(numbers.len())
+}

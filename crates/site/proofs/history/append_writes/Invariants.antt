@@ -1,0 +1,11 @@
+use Rattle.std.proofs.Common.{◌≡◌}
+use Rattle.model.specs.World.{latest}
+use Rattle.site.specs.History.{with_writes, IsLonger}
+use Rattle.site.proofs.history.append_writes.Given as goal
+
+abbrev pub invariant-loop-write : goal.invariant-loop-write
+invariant-loop-write l = record {
+  written : l.moments.items ≡ with_writes l.job l.yielded l.initial.moments.items;
+  longer : IsLonger l.initial.moments.items l.moments.items;
+  clocked : l.clock ≡ latest l.moments.items;
+}

@@ -1,0 +1,4 @@
+pub mod Pattern
+pub mod Line
+pub mod Ending
+pub mod Screen

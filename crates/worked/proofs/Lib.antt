@@ -1,0 +1,9 @@
+pub mod Lists
+pub mod Refused
+pub mod OneEdge
+pub mod OneBuild
+pub mod HistoriesMet
+pub mod ReadTooEarly
+pub mod ThreeEdges
+pub mod Grown
+pub mod DyndepMet

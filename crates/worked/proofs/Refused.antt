@@ -1,0 +1,276 @@
+-- The rows that are refused.
+use Rattle.std.proofs.Common.{◌≡◌, inl, inr, ℕ, zero, suc, ◌<◌, Bool, true, false, List, [], ◌∷◌, ◌++◌, Option, Some, None, refl, sym, ◌∙◌, ap, subst, bytes_eq, arith}
+use Rattle.std.proofs.lemmas.Bool.{false≢true}
+use Rattle.std.proofs.lemmas.List.{append_cancel_left}
+use Rattle.std.specs.Prelude.{codes}
+use Rattle.std.specs.List.{AllByRecursion}
+use Rattle.model.specs.declared.event.Moment.{Moment}
+use Rattle.model.specs.declared.moves.Move.{Move}
+use Rattle.model.specs.declared.moves.Move.TheVariants.{Write, Delete, Build}
+use Rattle.model.specs.World.{World, view_of}
+use Rattle.model.specs.Graph.{has, edge_at, inputs, outputs, IsCommand}
+use Rattle.model.specs.Outcome.{Behaviour, read_depfile, is_accepted}
+use Rattle.model.specs.Records.{LogFormat, OwnFiles, Told, in_force, deps_in_force, read_log}
+use Rattle.model.specs.Judgement.{start_of}
+use Rattle.model.specs.Schedule.{Step, Judged}
+use Rattle.model.specs.Premises.{IsWithinEdge, IsNoEdit, OwnFilesApart, LiesIn, SharesNone, FilesAreKept}
+use Rattle.model.specs.SingleBuild.{Answer, is_fault, IsFrame, IsReadyFor, PassesNoFault}
+use Rattle.model.specs.History.{Visit, Edited, Built, Unread, Restarted, IsHistoryFrom, IsEdit}
+use Rattle.model.specs.Driven.{CarriesOut, RestartsFrom, Does, is_restart, answers_in}
+use Rattle.worked.specs.Small.{edges, copies, words, done_under}
+use Rattle.worked.specs.Refused.{RefusedRecords, RefusedFaults, RefusedMoves, RefusedFiles, RefusedStarts, RefusedEnds, RefusedRows, refuses_depfiles, anything, own, with_both, start_of_both, response, old_depfile, starts_one, too_early}
+use Rattle.model.specs.Faithful.{IsFaithfulStore}
+use Rattle.worked.proofs.Lists.{all_has, bytes_same, none_some, no_more}
+
+-- ---- records
+
+some_none : {A : Type 0} (x : A) → Some x ≡ None → ⊥
+some_none x e = cc
+
+other_start : (stamp other : ℕ) → in_force (done_under other).records (codes "b") ≡ Some (record { act = (edge_at edges 1).act; start = stamp }) → other ≡ stamp
+other_start stamp other is = let same : Some other ≡ Some stamp = ap start_of is in cc
+
+records : RefusedRecords
+records = record {
+  of_a_refused_start = λ old new start keeps. elim (keeps.begun 1 (codes "b") refl refl refl).0 [ inl kept ↦ some_none _ kept | inr none ↦ some_none _ none ];
+  of_another_start = λ old new stamp other ran differs keeps. elim (keeps.well 1 stamp ran.1.0 (codes "b") refl ran.0 ran.1.1 refl) [
+    | inl recorded ↦ differs (other_start stamp other recorded.done)
+    | inr none ↦ some_none _ none.1
+  ];
+  of_a_failed_command = λ entry old new start keeps. some_none _ (keeps.others 1 (codes "b") refl refl refl);
+  of_a_running_command = λ entry old new start keeps. some_none _ (keeps.others 1 (codes "b") refl refl refl);
+  of_a_clean_edge = λ old new start keeps. some_none _ (keeps.kept (codes "b") (λ i h. (refl, λ met. none_some i met))).0;
+  none_of_a_good_run = λ old new stamp ran keeps. elim (keeps.well 1 stamp ran.1.0 (codes "b") refl ran.0 ran.1.1 refl) [
+    | inl recorded ↦ none_some _ recorded.done
+    | inr none ↦ none_some 1 none.0
+  ];
+}
+
+-- ---- faults
+
+fault_said : (old new : World) (answer : Answer) → is_fault answer ≡ false → old.failures < new.failures → PassesNoFault old new answer → ⊥
+fault_said old new answer none less faults = let same = faults.refused none in omega (arith, same, less)
+
+faults : RefusedFaults
+faults = record {
+  swallowed = λ tells B format all wanted old new answer none less build. fault_said old new answer none less build.faults;
+  swallowed_unread = λ tells old new answer none less cause. fault_said old new answer none less cause.faults;
+  went_on = λ tells B format all wanted old new answer before less build. elim build.faults.starts [
+    | inl same ↦ let eq = same in omega (arith, before, less, eq)
+    | inr same ↦ let eq = same in omega (arith, less, eq)
+  ];
+  stop_unsaid = λ tells B format all wanted old new answer stopped other build. other (build.faults.stopped stopped);
+  still_running = λ tells B format all wanted old new answer job none running build. false≢true (sym (build.idle none job) ∙ running);
+}
+
+-- ---- moves
+
+module _ (tells : Bool) (B : Behaviour) (format : LogFormat) where
+  abbrev Visits : Type 0
+  Visits = List (Visit tells B format)
+
+  as_the_move : (v : Visit tells B format) (move : Move) (rest : List Move) (first : Move) (moves : List Move) → (first ∷ moves) ≡ (move ∷ rest) → Does anything move v → Does anything first v
+  as_the_move v move rest first moves is does = let same : move ≡ first = cc in subst (λ (m : Move). Does anything m v) same does
+
+  -- a build that was asked for has an answer
+  answered : (targets : List (List ℕ)) (moves : List Move) (visits : Visits) → CarriesOut anything (Build targets ∷ moves) visits → RestartsFrom false visits → [] ≡ answers_in visits → ⊥
+  answered targets moves [] carries restarts none = cc
+  answered targets moves (Edited path content old new edit ∷ visits) (inl restart) restarts none = false≢true restart.0
+  answered targets moves (Edited path content old new edit ∷ visits) (inr does) restarts none = as_the_move (Edited path content old new edit) does.0 does.1 (Build targets) moves does.2 does.3
+  answered targets moves (Built wanted old new answer build ∷ visits) carries restarts none = cc
+  answered targets moves (Unread old new answer cause ∷ visits) carries restarts none = cc
+  answered targets moves (Restarted others old new restart ∷ visits) carries restarts none = false≢true (sym restarts.0)
+
+  -- without moves there are no visits, but restarts
+  nothing_done : (visits : Visits) → CarriesOut anything [] visits → answers_in visits ≡ []
+  nothing_done [] carries = refl
+  nothing_done (v ∷ visits) (inl restart) = absurd (restart.1 refl)
+  nothing_done (v ∷ visits) (inr does) = absurd (let no : ⊥ = cc in no)
+
+  one_move : (move : Move) (rest : List Move) (first : Move) → (first ∷ []) ≡ (move ∷ rest) → rest ≡ []
+  one_move move rest first is = cc
+
+  -- one build has one answer
+  one_answer : (targets : List (List ℕ)) (answer other : Answer) (answers : List Answer) (visits : Visits) → CarriesOut anything (Build targets ∷ []) visits → RestartsFrom false visits
+      → (answer ∷ other ∷ answers) ≡ answers_in visits → ⊥
+  one_answer targets answer other answers [] carries restarts is = cc
+  one_answer targets answer other answers (Edited path content old new edit ∷ visits) (inl restart) restarts is = false≢true restart.0
+  one_answer targets answer other answers (Edited path content old new edit ∷ visits) (inr does) restarts is = as_the_move (Edited path content old new edit) does.0 does.1 (Build targets) [] does.2 does.3
+  one_answer targets answer other answers (Built wanted old new said build ∷ visits) (inl restart) restarts is = false≢true restart.0
+  one_answer targets answer other answers (Built wanted old new said build ∷ visits) (inr does) restarts is =
+      let none = nothing_done visits (subst (λ (l : List Move). CarriesOut anything l visits) (one_move does.0 does.1 (Build targets) does.2) does.4) in cc
+  one_answer targets answer other answers (Unread old new said cause ∷ visits) (inl restart) restarts is = false≢true restart.0
+  one_answer targets answer other answers (Unread old new said cause ∷ visits) (inr does) restarts is =
+      let none = nothing_done visits (subst (λ (l : List Move). CarriesOut anything l visits) (one_move does.0 does.1 (Build targets) does.2) does.4) in cc
+  one_answer targets answer other answers (Restarted others old new restart ∷ visits) carries restarts is = false≢true (sym restarts.0)
+
+  no_move : (move : Move) (v : Visit tells B format) → is_restart v ≡ true → Does anything move v → ⊥
+  no_move move (Edited path content old new edit) is does = false≢true is
+  no_move move (Built wanted old new answer build) is does = false≢true is
+  no_move move (Unread old new answer cause) is does = false≢true is
+  no_move (Write path content) (Restarted others old new restart) is does = does
+  no_move (Delete path) (Restarted others old new restart) is does = does
+  no_move (Build targets) (Restarted others old new restart) is does = does
+
+  -- a move comes after a restart
+  not_last : (visits : Visits) (v : Visit tells B format) (moves : List Move) → is_restart v ≡ true → CarriesOut anything moves (visits ++ v ∷ []) → ⊥
+  not_last [] v moves is (inl restart) = restart.1 restart.2
+  not_last [] v moves is (inr does) = no_move does.0 v is does.3
+  not_last (w ∷ visits) v moves is (inl restart) = not_last visits v moves is restart.2
+  not_last (w ∷ visits) v moves is (inr does) = not_last visits v does.1 is does.4
+
+-- a site on which nothing was written
+module _ (B : Behaviour) (format : LogFormat) (path content : List ℕ) (world : World) (going : world.stopped ≡ false) where
+  not_edited : (p : List ℕ) (c : Option (List ℕ)) → IsEdit true p c world world → ⊥
+  not_edited p c edit = elim (edit.does refl) [
+    | inl written ↦ no_more world.history written.1.earlier written.1.later _ written.1.grows
+    | inr refused ↦ elim refused.0 [ inl less ↦ omega (arith, less) | inr stopped ↦ false≢true (sym going ∙ stopped) ]
+  ]
+
+  edited : (visits : List (Visit true B format)) → CarriesOut anything (Write path content ∷ []) visits → RestartsFrom false visits
+      → IsHistoryFrom [] visits world world → ⊥
+  edited [] carries restarts history = cc
+  edited (Edited p c old new edit ∷ visits) (inl restart) restarts history = false≢true restart.0
+  edited (Edited p c old new edit ∷ []) (inr does) restarts history =
+      not_edited p c (subst (λ (w : World). IsEdit true p c world w) (sym history.2) (subst (λ (w : World). IsEdit true p c w new) history.0 edit))
+  edited (Edited p c old new edit ∷ v ∷ visits) (inr does) restarts history = absurd (more does.4)
+    where
+      rest_none : does.1 ≡ []
+      rest_none = one_move true B format does.0 does.1 (Write path content) does.2
+
+      more : CarriesOut anything does.1 (v ∷ visits) → ⊥
+      more (inl restart) = restart.1 rest_none
+      more (inr next) = let no : [] ≡ next.0 ∷ next.1 = sym rest_none ∙ next.2 in cc
+  edited (Built wanted old new answer build ∷ visits) (inl restart) restarts history = false≢true restart.0
+  edited (Built wanted old new answer build ∷ visits) (inr does) restarts history = as_the_move true B format (Built wanted old new answer build) does.0 does.1 (Write path content) [] does.2 does.3
+  edited (Unread old new answer cause ∷ visits) (inl restart) restarts history = false≢true restart.0
+  edited (Unread old new answer cause ∷ visits) (inr does) restarts history = as_the_move true B format (Unread old new answer cause) does.0 does.1 (Write path content) [] does.2 does.3
+  edited (Restarted others old new restart ∷ visits) carries restarts history = false≢true (sym restarts.0)
+
+moves : RefusedMoves
+moves = record {
+  skipped_build = λ tells B format targets rest first last driven. answered tells B format targets rest driven.visits driven.carries driven.restarts driven.answered;
+  skipped_edit = λ B format path content world going driven. edited B format path content world going driven.visits driven.carries driven.restarts driven.history.1;
+  missing_restart = λ tells B format v w visits asks none restarts. false≢true (sym none ∙ restarts.1.0 ∙ asks);
+  needless_restart = λ tells B format v w visits none is restarts. false≢true (sym none ∙ sym restarts.1.0 ∙ is);
+  first_restart = λ tells B format v visits is restarts. false≢true (sym restarts.0 ∙ is);
+  last_restart = λ tells B format v visits rest is carries. not_last tells B format visits v rest is carries;
+  answer_of_nothing = λ tells B format answer answers first last driven.
+      let none = nothing_done tells B format driven.visits driven.carries in let same = driven.answered in cc;
+  second_answer = λ tells B format targets answer other answers first last driven.
+      one_answer tells B format targets answer other answers driven.visits driven.carries driven.restarts driven.answered;
+}
+
+-- ---- files
+
+of_inputs : (i : ℕ) (p : List ℕ) → has (inputs (edge_at with_both i)) p ≡ true → own.set p ≡ false
+of_inputs zero p h = absurd (false≢true h)
+of_inputs (suc zero) p h = all_has (λ q. own.set q ≡ false) (codes "a" ∷ []) p (refl, tt) h
+of_inputs (suc (suc i)) p h = absurd (false≢true h)
+
+of_outputs : (i : ℕ) (p : List ℕ) → has (outputs (edge_at with_both i)) p ≡ true → own.set p ≡ false
+of_outputs zero p h = absurd (false≢true h)
+of_outputs (suc zero) p h = all_has (λ q. own.set q ≡ false) (codes "b" ∷ []) p (refl, tt) h
+of_outputs (suc (suc i)) p h = absurd (false≢true h)
+
+of_depfiles : (i : ℕ) → IsCommand with_both i → LiesIn own (edge_at with_both i).act.depfile
+of_depfiles zero command = (refl, refl)
+of_depfiles (suc zero) command = (refl, refl)
+of_depfiles (suc (suc i)) command = (refl, refl)
+
+of_responses : (i : ℕ) → IsCommand with_both i → LiesIn own (edge_at with_both i).act.response_path
+of_responses zero command = (refl, refl)
+of_responses (suc zero) command = (refl, refl)
+of_responses (suc (suc i)) command = (refl, refl)
+
+only_one : (i : ℕ) → IsCommand with_both i → i ≡ 1
+only_one zero command = absurd (false≢true (sym command))
+only_one (suc zero) command = refl
+only_one (suc (suc i)) command = absurd (false≢true (sym command))
+
+d_is_not_r : codes "d" ≡ codes "r" → ⊥
+d_is_not_r same = false≢true (ap (λ (p : List ℕ). bytes_eq p (codes "r")) same)
+
+own_files : OwnFilesApart own with_both
+own_files = record {
+  within = λ p h. all_has (λ q. own.set q ≡ true) (codes "l" ∷ codes "m" ∷ codes "t" ∷ []) p (refl, (refl, (refl, tt))) h;
+  build_log = refl;
+  deps_log = refl;
+  inputs = of_inputs;
+  outputs = of_outputs;
+  depfiles = of_depfiles;
+  responses = of_responses;
+  both = λ i command. subst (λ (n : ℕ). SharesNone (edge_at with_both n).act.depfile (edge_at with_both n).act.response_path) (sym (only_one i command)) (λ some same. d_is_not_r same);
+  apart = λ i j command1 command2 other. absurd (other (only_one i command1 ∙ sym (only_one j command2)));
+}
+
+-- what came after these moments
+kept_after : (old added : List Moment) → AllByRecursion (IsWithinEdge with_both) added → AllByRecursion IsNoEdit added → FilesAreKept own with_both old (old ++ added)
+kept_after old added within edits = record {
+  commands = λ more is. subst (AllByRecursion (IsWithinEdge with_both)) (append_cancel_left old added more is) within;
+  own_files = own_files;
+  edits = λ more is. subst (AllByRecursion IsNoEdit) (append_cancel_left old added more is) edits;
+}
+
+-- the frame of a build that did just this
+ready_at : (old before after : List Moment) → FilesAreKept own with_both old (old ++ (before ++ start_of_both ∷ after)) → IsFrame own with_both starts_one old (old ++ (before ++ start_of_both ∷ after))
+    → IsReadyFor (edge_at with_both 1).act (view_of (old ++ before))
+ready_at old before after kept frame = frame.at_start kept 1 9 (edge_at with_both 1).act before after (append_cancel_left old frame.more (before ++ start_of_both ∷ after) (sym frame.grows))
+
+kept_alone : FilesAreKept own with_both [] (start_of_both ∷ [])
+kept_alone = kept_after [] (start_of_both ∷ []) (tt, tt) (tt, tt)
+
+kept_behind : FilesAreKept own with_both old_depfile (old_depfile ++ response ∷ start_of_both ∷ [])
+kept_behind = kept_after old_depfile (response ∷ start_of_both ∷ []) (tt, (tt, tt)) (tt, (tt, tt))
+
+-- the deps log is read as the world has it
+no_future : (all : OwnFiles) → IsFaithfulStore copies words all [] (too_early all) → ⊥
+no_future all faithful =
+    let holds : view_of (too_early all).history all.deps_log ≡ Some (codes "future") = rw (bytes_same all.deps_log) refl in
+    let told : Option Told = deps_in_force (read_log words.deps (view_of (too_early all).history all.deps_log)) (codes "b") in
+    let is : told ≡ Some (record { start = 10; paths = codes "a" ∷ [] }) = ap (λ (held : Option (List ℕ)). deps_in_force (read_log words.deps held) (codes "b")) holds in
+    let late = faithful.deps (codes "b") (record { start = 10; paths = codes "a" ∷ [] }) is in
+    omega (arith, late)
+
+files : RefusedFiles
+files = record {
+  future = λ all faithful. absurd (no_future all faithful);
+  one_for_both = λ all apart. apart.both 1 refl (λ none. let no : ⊥ = cc in no) refl;
+  log_as_input = λ all recorded apart has_log recorded_apart. false≢true (sym (recorded_apart 1 all.build_log has_log) ∙ apart.within all.build_log apart.build_log);
+  no_response_file = (kept_alone, λ frame. none_some _ ((ready_at [] [] [] kept_alone frame).response (λ none. let no : ⊥ = cc in no)));
+  depfile_left = (kept_behind, λ frame. some_none _ ((ready_at old_depfile (response ∷ []) [] kept_behind frame).depfile (λ none. let no : ⊥ = cc in no)));
+}
+
+-- ---- starts
+
+judged_before : (b : Bool) (earlier later : List Step) → (Judged 1 b ∷ []) ≡ earlier ++ Judged 1 true ∷ later → b ≡ true
+judged_before b [] later is = cc
+judged_before b (step ∷ []) later is = cc
+judged_before b (step ∷ other ∷ earlier) later is = cc
+
+none_before : (earlier later : List Step) → [] ≡ earlier ++ Judged 1 true ∷ later → ⊥
+none_before [] later is = cc
+none_before (step ∷ earlier) later is = cc
+
+starts : RefusedStarts
+starts = record {
+  clean = λ store old new stale. let first = stale (Judged 1 false ∷ []) [] 1 refl in false≢true (judged_before false first.0 first.1 first.2);
+  unjudged = λ store old new stale. let first = stale [] [] 1 refl in none_before first.0 first.1 first.2;
+  clean_step = λ lawful. false≢true lawful.1.0.1.stale;
+  unjudged_step = λ lawful. false≢true lawful.0.1.stale;
+  twice = λ lawful. false≢true (sym lawful.1.1.1.0.1.once);
+}
+
+-- ---- ends
+
+refused_depfile : (held : Option (List ℕ)) (content : List ℕ) → held ≡ Some content → is_accepted (read_depfile refuses_depfiles.depfile held) ≡ false
+refused_depfile held content is = ap (λ (h : Option (List ℕ)). is_accepted (read_depfile refuses_depfiles.depfile h)) is
+
+ends : RefusedEnds
+ends = record {
+  failed = λ store old new at ended judged. false≢true (judged.depfiles 1 at ended refl (λ met. none_some 1 met));
+  well = λ store old new at content ended held judged. false≢true (sym (refused_depfile _ content held) ∙ judged.well 1 at ended refl);
+}
+
+pub refused_rows : RefusedRows
+refused_rows = record { records = records; faults = faults; moves = moves; files = files; starts = starts; ends = ends }

@@ -1,0 +1,4 @@
+pub mod Small
+pub mod Refused
+pub mod Histories
+pub mod Dyndep

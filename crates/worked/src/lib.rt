@@ -1,0 +1,29 @@
+//! Worked rows of the definitions of builds and of histories: what they call lawful, and what they refuse. Each function has
+//! an empty body: its contract says what the rows show.
+#![tactic(auto)]
+
+ghost use Rattle.worked.specs.Refused.{RefusedRows};
+ghost use Rattle.worked.specs.Histories.{HistoriesAreMet};
+ghost use Rattle.worked.specs.Dyndep.{DyndepRows};
+
+/// The definitions refuse these: records made up or dropped, a fault passed over, moves skipped, restarts that are missing or
+/// needless, answers that no build gave, a deps record of a start to come, one path for a depfile and a response file, a
+/// start that is not prepared or of a command that was judged clean, an end that is told wrong, and commands that run after
+/// an answer.
+pub fn refused_rows()
+    ensures { RefusedRows }
+{}
+
+/// The premises of the headline over histories can be met, by worlds written out: an edit, a build whose command fails, an
+/// edit, a build in which the site stops while the command runs, a restart, and a build that succeeds are visits that carry
+/// out a list of moves, each build with its record of a single build, and all premises are kept.
+pub fn histories_met()
+    ensures { HistoriesAreMet }
+{}
+
+/// Builds with a dyndep file that is made in the build: the steps before and after its load are lawful, and so are the
+/// answers of one that succeeds and of those that are refused; and the premise on outputs that only a dyndep file names
+/// excludes three graphs in which such an output is read too early.
+pub fn dyndep_rows()
+    ensures { DyndepRows }
+{}
