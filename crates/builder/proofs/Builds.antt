@@ -33,6 +33,7 @@ use Rattle.graph.specs.declared.cone.ConeFault.{ConeFault}
 use Rattle.graph.specs.declared.cone.ConeFault.TheVariants as cone_fault
 use Rattle.graph.specs.declared.graph.GraphFault.{GraphFault}
 use Rattle.graph.specs.declared.graph.GraphFault.TheVariants as graph_fault
+use Rattle.builder.specs.declared.asked.Limits.{Limits}
 use Rattle.builder.specs.declared.report.Missing.{Missing}
 use Rattle.builder.specs.declared.report.Report.{Report}
 use Rattle.builder.specs.declared.report.Report.TheVariants.{Success, Failed, Refused, Fault}
@@ -121,8 +122,8 @@ passes_after tells entry old new answer looked passes = record {
 abbrev pub none_loaded : View
 none_loaded file = None
 
-module _ (tells : Bool) (B : Behaviour) (own : OwnFiles) (graph : BuildGraph) (folder : List ℕ) (given targets : List (List ℕ)) (entry now : World) (idle : IsIdle entry.events) where
-  abbrev nothing_scheduled : OnlyLooks tells entry now → (answer : Answer) → IsScheduled B none_loaded (asked_of graph folder targets) no_records [] entry now answer
+module _ (tells : Bool) (B : Behaviour) (own : OwnFiles) (graph : BuildGraph) (folder : List ℕ) (limits : Limits) (given targets : List (List ℕ)) (entry now : World) (idle : IsIdle entry.events) where
+  abbrev nothing_scheduled : OnlyLooks tells entry now → (answer : Answer) → IsScheduled B none_loaded (asked_of graph folder limits targets) no_records [] entry now answer
   nothing_scheduled looks answer = record {
     lawful = record { earlier = []; last = []; taken_in = []; whole = refl; begins = refl; phases = tt; lawful = record { lawful = tt; unloaded = tt }; rest = tt; cause = inl refl };
     first = [];
@@ -136,7 +137,7 @@ module _ (tells : Bool) (B : Behaviour) (own : OwnFiles) (graph : BuildGraph) (f
 
   -- a build that has only looked
   built_looking : OnlyLooks tells entry now → (answer : Answer) → (IsSuccess answer → ⊥) → PassesNoFault entry now answer
-      → IsAnswer tells B own none_loaded (asked_of graph folder targets) no_records [] [] [] entry now answer → SingleBuild tells B no_logs own (asked_of graph folder targets) entry now answer
+      → IsAnswer tells B own none_loaded (asked_of graph folder limits targets) no_records [] [] [] entry now answer → SingleBuild tells B no_logs own (asked_of graph folder limits targets) entry now answer
   built_looking looks answer failed passes is = record {
     store = no_records;
     logs = λ tell edits. nothing_told own (view_of entry.history);
@@ -159,32 +160,32 @@ module _ (tells : Bool) (B : Behaviour) (own : OwnFiles) (graph : BuildGraph) (f
     from_nothing = λ tell success. absurd (failed success);
   }
 
-  built_fault : {T : Type 0} → OnlyLooks tells entry now → (fault : SiteFault) → HasCause {T = T} entry now (Err fault) → SingleBuild tells B no_logs own (asked_of graph folder targets) entry now (answer.Fault fault)
+  built_fault : {T : Type 0} → OnlyLooks tells entry now → (fault : SiteFault) → HasCause {T = T} entry now (Err fault) → SingleBuild tells B no_logs own (asked_of graph folder limits targets) entry now (answer.Fault fault)
   built_fault looks Device cause = built_looking looks (answer.Fault Device) (λ h. h) (passes_fault tells entry now looks Device cause) (seen_of entry now (Err Device) cause)
   built_fault looks Stopped cause = built_looking looks (answer.Fault Stopped) (λ h. h) (passes_fault tells entry now looks Stopped cause) (seen_of entry now (Err Stopped) cause)
   built_fault looks Memory cause = built_looking looks (answer.Fault Memory) (λ h. h) (passes_fault tells entry now looks Memory cause) tt
 
-  built_memory : Looked tells entry now → SingleBuild tells B no_logs own (asked_of graph folder targets) entry now (answer.Fault Memory)
+  built_memory : Looked tells entry now → SingleBuild tells B no_logs own (asked_of graph folder limits targets) entry now (answer.Fault Memory)
   built_memory looked = built_looking looked.looks (answer.Fault Memory) (λ h. h) (passes_looking tells entry now looked (answer.Fault Memory)) tt
 
   -- a refusal
-  built_refusal : Looked tells entry now → (answer : Answer) → (IsSuccess answer → ⊥) → IsAnswer tells B own none_loaded (asked_of graph folder targets) no_records [] [] [] entry now answer
-      → SingleBuild tells B no_logs own (asked_of graph folder targets) entry now answer
+  built_refusal : Looked tells entry now → (answer : Answer) → (IsSuccess answer → ⊥) → IsAnswer tells B own none_loaded (asked_of graph folder limits targets) no_records [] [] [] entry now answer
+      → SingleBuild tells B no_logs own (asked_of graph folder limits targets) entry now answer
   built_refusal looked answer failed is = built_looking looked.looks answer failed (passes_looking tells entry now looked answer) is
 
   -- ---- something is not taken yet
 
   pub builds_not_taken : Looked tells entry now → (path : List ℕ) → IsFirstNotTaken graph.edges path → (report : Report) → (report ≡ Refused (refusal.NotTaken path)) ⊎ (report ≡ Fault Memory)
-      → Builds tells B own graph folder given targets entry now report
+      → Builds tells B own graph folder limits given targets entry now report
   builds_not_taken looked path first report (inl is) =
-      subst (λ (r : Report). Builds tells B own graph folder given targets entry now r) (sym {A = Report} is) record {
+      subst (λ (r : Report). Builds tells B own graph folder limits given targets entry now r) (sym {A = Report} is) record {
         taken = inr record { path = path; first = first; says = inl refl; looks = looked.looks };
         answer = answer.Refused;
         said = (refl, first);
         build = built_refusal looked answer.Refused (λ h. h) ((λ none. looked.looks), inl refl);
       }
   builds_not_taken looked path first report (inr is) =
-      subst (λ (r : Report). Builds tells B own graph folder given targets entry now r) (sym {A = Report} is) record {
+      subst (λ (r : Report). Builds tells B own graph folder limits given targets entry now r) (sym {A = Report} is) record {
         taken = inr record { path = path; first = first; says = inr refl; looks = looked.looks };
         answer = answer.Fault Memory;
         said = refl;
@@ -194,24 +195,24 @@ module _ (tells : Bool) (B : Behaviour) (own : OwnFiles) (graph : BuildGraph) (f
   module _ (formed : IsGraph graph) (taken : IsTaken graph.edges) where
     -- ---- refusals and faults before the first judgement
 
-    pub builds_fault : {T : Type 0} → OnlyLooks tells entry now → (fault : SiteFault) → HasCause {T = T} entry now (Err fault) → Builds tells B own graph folder given targets entry now (Fault fault)
+    pub builds_fault : {T : Type 0} → OnlyLooks tells entry now → (fault : SiteFault) → HasCause {T = T} entry now (Err fault) → Builds tells B own graph folder limits given targets entry now (Fault fault)
     builds_fault looks fault cause = record { taken = inl taken; answer = answer.Fault fault; said = refl; build = built_fault looks fault cause }
 
-    builds_memory : Looked tells entry now → Builds tells B own graph folder given targets entry now (Fault Memory)
+    builds_memory : Looked tells entry now → Builds tells B own graph folder limits given targets entry now (Fault Memory)
     builds_memory looked = record { taken = inl taken; answer = answer.Fault Memory; said = refl; build = built_memory looked }
 
-    pub builds_ungraphed : Looked tells entry now → (fault : GraphFault) → IsFaultOf graph.edges fault → Builds tells B own graph folder given targets entry now (ungraphed fault)
+    pub builds_ungraphed : Looked tells entry now → (fault : GraphFault) → IsFaultOf graph.edges fault → Builds tells B own graph folder limits given targets entry now (ungraphed fault)
     builds_ungraphed looked graph_fault.Memory is = builds_memory looked
     builds_ungraphed looked (graph_fault.MadeTwice path) is = record {
       taken = inl taken;
       answer = answer.MadeTwice path;
       said = refl;
-      build = built_refusal looked (answer.MadeTwice path) (λ h. h) ((λ none. looked.looks), (asked_of graph folder targets, inl (refl, refl), is.0));
+      build = built_refusal looked (answer.MadeTwice path) (λ h. h) ((λ none. looked.looks), (asked_of graph folder limits targets, inl (refl, refl), is.0));
     }
     builds_ungraphed looked (graph_fault.NoDyndepInput path) is =
         record { taken = inl taken; answer = answer.NoDyndepInput path; said = refl; build = built_refusal looked (answer.NoDyndepInput path) (λ h. h) ((λ none. looked.looks), refl, is.0) }
 
-    pub builds_unknown : Looked tells entry now → (place : ℕ) → IsFirstUnknown graph.edges targets place → Builds tells B own graph folder given targets entry now (Refused (refusal.UnknownTarget (path_at given place)))
+    pub builds_unknown : Looked tells entry now → (place : ℕ) → IsFirstUnknown graph.edges targets place → Builds tells B own graph folder limits given targets entry now (Refused (refusal.UnknownTarget (path_at given place)))
     builds_unknown looked place first = record {
       taken = inl taken;
       answer = answer.Unknown (path_at targets place);
@@ -219,35 +220,35 @@ module _ (tells : Bool) (B : Behaviour) (own : OwnFiles) (graph : BuildGraph) (f
       build = built_refusal looked (answer.Unknown (path_at targets place)) (λ h. h) ((λ none. looked.looks), refl, path_has targets place first.within, first.unknown);
     }
 
-    pub builds_cycle : Looked tells entry now → (paths : List (List ℕ)) → answer.AllNamed (asked_of graph folder targets) → IsShownCycle (asked_of graph folder targets) no_records paths
-        → Builds tells B own graph folder given targets entry now (Refused (refusal.Cycle paths))
+    pub builds_cycle : Looked tells entry now → (paths : List (List ℕ)) → answer.AllNamed (asked_of graph folder limits targets) → IsShownCycle (asked_of graph folder limits targets) no_records paths
+        → Builds tells B own graph folder limits given targets entry now (Refused (refusal.Cycle paths))
     builds_cycle looked paths named cycle = record {
       taken = inl taken;
       answer = answer.Cyclic paths;
       said = refl;
-      build = built_refusal looked (answer.Cyclic paths) (λ h. h) ((λ none. looked.looks), named, (asked_of graph folder targets, inl (refl, refl), cycle));
+      build = built_refusal looked (answer.Cyclic paths) (λ h. h) ((λ none. looked.looks), named, (asked_of graph folder limits targets, inl (refl, refl), cycle));
     }
 
-    of_memory : Looked tells entry now → (report : Report) → report ≡ Fault Memory → Builds tells B own graph folder given targets entry now report
-    of_memory looked report is = subst (λ (r : Report). Builds tells B own graph folder given targets entry now r) (sym {A = Report} is) (builds_memory looked)
+    of_memory : Looked tells entry now → (report : Report) → report ≡ Fault Memory → Builds tells B own graph folder limits given targets entry now report
+    of_memory looked report is = subst (λ (r : Report). Builds tells B own graph folder limits given targets entry now r) (sym {A = Report} is) (builds_memory looked)
 
-    pub builds_uncut : Looked tells entry now → (paths : List (List ℕ)) (fault : ConeFault) (report : Report) → IsNoCone (asked_of graph folder targets) no_records paths fault → Uncut given paths fault report
-        → Builds tells B own graph folder given targets entry now report
+    pub builds_uncut : Looked tells entry now → (paths : List (List ℕ)) (fault : ConeFault) (report : Report) → IsNoCone (asked_of graph folder limits targets) no_records paths fault → Uncut given paths fault report
+        → Builds tells B own graph folder limits given targets entry now report
     builds_uncut looked paths cone_fault.Memory report none is = of_memory looked report is
     builds_uncut looked paths (cone_fault.Unknown place) report none (inl is) =
-        subst (λ (r : Report). Builds tells B own graph folder given targets entry now r) (sym {A = Report} is) (builds_unknown looked place none)
+        subst (λ (r : Report). Builds tells B own graph folder limits given targets entry now r) (sym {A = Report} is) (builds_unknown looked place none)
     builds_uncut looked paths (cone_fault.Unknown place) report none (inr is) = of_memory looked report is
     builds_uncut looked paths (cone_fault.Cycle numbers) report none (inl is) =
-        subst (λ (r : Report). Builds tells B own graph folder given targets entry now r) (sym {A = Report} is) (builds_cycle looked (map (path_at paths) numbers) none.0 none.1)
+        subst (λ (r : Report). Builds tells B own graph folder limits given targets entry now r) (sym {A = Report} is) (builds_cycle looked (map (path_at paths) numbers) none.0 none.1)
     builds_uncut looked paths (cone_fault.Cycle numbers) report none (inr is) = of_memory looked report is
 
     -- ---- a build that has run commands
 
     -- no edge names a dyndep file, so the schedule has one phase
-    abbrev scheduled : (steps : List Done) → IsLawful (task_for graph targets) steps → (answer : Answer) (first later : List Event) → now.events ≡ entry.events ++ (first ++ later)
-        → AreEventsOf graph.edges steps first → AreFinishes (entry.events ++ first) later → (is_fault answer ≡ false → later ≡ []) → IsScheduled B none_loaded (asked_of graph folder targets) no_records steps entry now answer
+    abbrev scheduled : (steps : List Done) → IsLawful (task_for graph limits targets) steps → (answer : Answer) (first later : List Event) → now.events ≡ entry.events ++ (first ++ later)
+        → AreEventsOf graph.edges steps first → AreFinishes (entry.events ++ first) later → (is_fault answer ≡ false → later ≡ []) → IsScheduled B none_loaded (asked_of graph folder limits targets) no_records steps entry now answer
     scheduled steps lawful answer first later grows of_steps finishes whole = record {
-      lawful = one_phase B.dyndep none_loaded graph.edges (task_for graph targets) no_records steps refl (no_dyndep graph.edges taken) lawful;
+      lawful = one_phase B.dyndep none_loaded graph.edges (task_for graph limits targets) no_records steps refl (no_dyndep graph.edges taken) lawful;
       first = first;
       later = later;
       grows = grows;
@@ -257,12 +258,12 @@ module _ (tells : Bool) (B : Behaviour) (own : OwnFiles) (graph : BuildGraph) (f
       went_on = λ on. refl;
     }
 
-    built_running : (steps : List Done) (lawful : IsLawful (task_for graph targets) steps) (rest : IsRunOrRest tells own (task_for graph targets) steps entry now) → clean_in steps ≡ [] → IsMadeOnce graph.edges
+    built_running : (steps : List Done) (lawful : IsLawful (task_for graph limits targets) steps) (rest : IsRunOrRest tells own (task_for graph limits targets) steps entry now) → clean_in steps ≡ [] → IsMadeOnce graph.edges
         → (answer : Answer) (first later : List Event) → now.events ≡ entry.events ++ (first ++ later) → AreEventsOf graph.edges steps first → AreFinishes (entry.events ++ first) later → (is_fault answer ≡ false → later ≡ [])
-        → IsAnswer tells B own none_loaded (asked_of graph folder targets) no_records [] steps steps entry now answer
-        → (IsSuccess answer → (i : ℕ) → InCone (asked_of graph folder targets) no_records i → IsSettled graph.edges (done_in steps) i)
-        → WasInOrder tells own (asked_of graph folder targets) no_records [] steps entry now → PassesNoFault entry now answer → (is_fault answer ≡ false → IsIdle now.events)
-        → SingleBuild tells B no_logs own (asked_of graph folder targets) entry now answer
+        → IsAnswer tells B own none_loaded (asked_of graph folder limits targets) no_records [] steps steps entry now answer
+        → (IsSuccess answer → (i : ℕ) → InCone (asked_of graph folder limits targets) no_records i → IsSettled graph.edges (done_in steps) i)
+        → WasInOrder tells own (asked_of graph folder limits targets) no_records [] steps entry now → PassesNoFault entry now answer → (is_fault answer ≡ false → IsIdle now.events)
+        → SingleBuild tells B no_logs own (asked_of graph folder limits targets) entry now answer
     built_running steps lawful rest stale once answer first later grows of_steps finishes whole is settled ordered passes ended = record {
       store = no_records;
       logs = λ tell edits. nothing_told own (view_of entry.history);
@@ -272,23 +273,23 @@ module _ (tells : Bool) (B : Behaviour) (own : OwnFiles) (graph : BuildGraph) (f
       schedule = scheduled steps lawful answer first later grows of_steps finishes whole;
       met = None;
       met_fault = λ i is. absurd (none_met i is);
-      judged = λ tell kept apart known. judged_of_nothing tells own (asked_of graph folder targets) steps entry now idle rest lawful B tell stale (have_outputs graph formed) (λ i h. no_depfile graph.edges taken i);
+      judged = λ tell kept apart known. judged_of_nothing tells own (asked_of graph folder limits targets) steps entry now idle rest lawful B tell stale (have_outputs graph formed) (λ i h. no_depfile graph.edges taken i);
       answers = is;
       in_order = inr ordered;
       faults = passes;
       idle = ended;
-      frame = λ tell. frame_of_run tells own (asked_of graph folder targets) no_records steps entry now tell idle rest once
-          (ready_of_none tells own (task_for graph targets) steps entry now rest tell (λ i h. (no_depfile graph.edges taken i, no_response graph.edges taken i)));
-      from_nothing = λ tell success nothing premises. clean_at_success tells own (asked_of graph folder targets) no_records steps entry now tell idle rest once stale B
-          (loads_come_first B none_loaded (asked_of graph folder targets) no_records steps entry.history now.history
-          (one_phase B.dyndep none_loaded graph.edges (task_for graph targets) no_records steps refl (no_dyndep graph.edges taken) lawful) once once (names_no_other graph.edges taken) premises.files.dyndep).2
+      frame = λ tell. frame_of_run tells own (asked_of graph folder limits targets) no_records steps entry now tell idle rest once
+          (ready_of_none tells own (task_for graph limits targets) steps entry now rest tell (λ i h. (no_depfile graph.edges taken i, no_response graph.edges taken i)));
+      from_nothing = λ tell success nothing premises. clean_at_success tells own (asked_of graph folder limits targets) no_records steps entry now tell idle rest once stale B
+          (loads_come_first B none_loaded (asked_of graph folder limits targets) no_records steps entry.history now.history
+          (one_phase B.dyndep none_loaded graph.edges (task_for graph limits targets) no_records steps refl (no_dyndep graph.edges taken) lawful) once once (names_no_other graph.edges taken) premises.files.dyndep).2
           (settled success) premises;
     }
 
     module _ (the_cone : Cone) (is_cone : IsConeFor graph (recorded_inputs no_records graph.edges) targets the_cone) where
       -- a source is missing
       pub builds_missing : Looked tells entry now → (missing : Missing) → (IsTrue tells → NothingIsEdited entry.history now.history → IsFound graph.edges (targets_of graph targets) entry.history (Some missing))
-          → Builds tells B own graph folder given targets entry now (Refused (refusal.Missing missing))
+          → Builds tells B own graph folder limits given targets entry now (Refused (refusal.Missing missing))
       builds_missing looked missing found = record { taken = inl taken; answer = missing_answer missing.path missing.needed_by; said = refl; build = by_needed missing.needed_by found }
         where
           -- the entry, before the first start
@@ -297,11 +298,11 @@ module _ (tells : Bool) (B : Behaviour) (own : OwnFiles) (graph : BuildGraph) (f
               let call = looked.looks.history tell in
               record { so_far = []; later = call.more; is = sym (append-nil entry.history); grows = call.grows; happened = refl; entry = λ none. refl }
 
-          at_once : IsAsked (task_for graph targets) [] []
-          at_once = record { at_once = refl; loaded = λ file due source. none_is_due (task_for graph targets) [] (no_dyndep graph.edges taken) file due }
+          at_once : IsAsked (task_for graph limits targets) [] []
+          at_once = record { at_once = refl; loaded = λ file due source. none_is_due (task_for graph limits targets) [] (no_dyndep graph.edges taken) file due }
 
           by_needed : (needed : Option (List ℕ)) → (IsTrue tells → NothingIsEdited entry.history now.history → IsMissingFor graph.edges (targets_of graph targets) entry.history missing.path needed)
-              → SingleBuild tells B no_logs own (asked_of graph folder targets) entry now (missing_answer missing.path needed)
+              → SingleBuild tells B no_logs own (asked_of graph folder limits targets) entry now (missing_answer missing.path needed)
           by_needed None so =
               built_refusal looked (answer.MissingTarget missing.path) (λ h. h) ((λ none. looked.looks), is_cone.named, is_cone.acyclic, at_once, λ tell kept. (entry.history, at_entry tell, so tell kept.edits))
           by_needed (Some output) so =
@@ -314,7 +315,7 @@ module _ (tells : Bool) (B : Behaviour) (own : OwnFiles) (graph : BuildGraph) (f
               )
 
       module _ (once : IsMadeOnce graph.edges) (sources : IsTrue tells → FilesAreKept own graph.edges entry.history now.history → NothingIsMissing graph.edges no_records [] entry.history (targets_of graph targets)) where
-        in_order : IsInOrder tells own (asked_of graph folder targets) no_records [] entry now
+        in_order : IsInOrder tells own (asked_of graph folder limits targets) no_records [] entry now
         in_order = record {
           made_once = once;
           dyndep = names_no_other graph.edges taken;
@@ -324,7 +325,7 @@ module _ (tells : Bool) (B : Behaviour) (own : OwnFiles) (graph : BuildGraph) (f
         }
 
         -- whatever steps were taken then
-        was_in_order : (steps : List Done) → WasInOrder tells own (asked_of graph folder targets) no_records [] steps entry now
+        was_in_order : (steps : List Done) → WasInOrder tells own (asked_of graph folder limits targets) no_records [] steps entry now
         was_in_order steps = record {
           made_once = once;
           dyndep = names_no_other graph.edges taken;
@@ -333,36 +334,36 @@ module _ (tells : Bool) (B : Behaviour) (own : OwnFiles) (graph : BuildGraph) (f
           sources = λ tell kept. by_steps steps (in_order.sources tell kept);
         }
           where
-            by_steps : (steps : List Done) → WasNothingMissing (task_for graph targets) no_records entry.history now.history [] [] → WasNothingMissingIn (task_for graph targets) no_records entry.history now.history [] [] steps
+            by_steps : (steps : List Done) → WasNothingMissing (task_for graph limits targets) no_records entry.history now.history [] [] → WasNothingMissingIn (task_for graph limits targets) no_records entry.history now.history [] [] steps
             by_steps [] none = tt
             by_steps (step ∷ steps) none = none
 
-        in_cone : (i : ℕ) (n : ℕ) → suc n ≡ i → InCone (asked_of graph folder targets) no_records (suc n) → InCone (asked_of graph folder targets) no_records i
-        in_cone i n is h = subst (λ (k : ℕ). InCone (asked_of graph folder targets) no_records k) is h
+        in_cone : (i : ℕ) (n : ℕ) → suc n ≡ i → InCone (asked_of graph folder limits targets) no_records (suc n) → InCone (asked_of graph folder limits targets) no_records i
+        in_cone i n is h = subst (λ (k : ℕ). InCone (asked_of graph folder limits targets) no_records k) is h
 
-        all_settled : (steps : List Done) → HasEnded (asked_of graph folder targets) no_records steps now → running_in steps ≡ [] → failed_in steps ≡ []
-            → (i : ℕ) → InCone (asked_of graph folder targets) no_records i → IsSettled graph.edges (done_in steps) i
+        all_settled : (steps : List Done) → HasEnded (asked_of graph folder limits targets) no_records steps now → running_in steps ≡ [] → failed_in steps ≡ []
+            → (i : ℕ) → InCone (asked_of graph folder limits targets) no_records i → IsSettled graph.edges (done_in steps) i
         all_settled steps ended none fine i within =
-            settled_at_end (task_for graph targets) steps ended.judged ended.started none fine (map suc the_cone.order.items) is_cone.listed.ordered
+            settled_at_end (task_for graph limits targets) steps ended.judged ended.started none fine (map suc the_cone.order.items) is_cone.listed.ordered
             (λ k listed. let place = suc_has the_cone.order.items k listed in in_cone k place.0 place.1 (is_cone.listed.within place.0 place.2))
             i (is_cone.listed.all i within)
 
-        all_well : (steps : List Done) → IsRun tells own (task_for graph targets) steps entry now → running_in steps ≡ [] → failed_in steps ≡ [] → length (started_in steps) ≡ length (well_in steps)
+        all_well : (steps : List Done) → IsRun tells own (task_for graph limits targets) steps entry now → running_in steps ≡ [] → failed_in steps ≡ [] → length (started_in steps) ≡ length (well_in steps)
         all_well steps run none fine =
-            let a = started_length (task_for graph targets) steps run.lawful in
+            let a = started_length (task_for graph limits targets) steps run.lawful in
             let b = ended_length steps in
             let c = ap length none in
             let d = ap length fine in
             omega (arith, a, b, c, d)
 
-        ended_so : (steps : List Done) → (run : IsRun tells own (task_for graph targets) steps entry now) → now.events ≡ entry.events ++ (run.events ++ [])
+        ended_so : (steps : List Done) → (run : IsRun tells own (task_for graph limits targets) steps entry now) → now.events ≡ entry.events ++ (run.events ++ [])
         ended_so steps run = run.grows ∙ ap (λ (l : List Event). entry.events ++ l) (sym (append-nil run.events))
 
-        pub builds_run : (report : Report) → HasRun tells own (task_for graph targets) entry now report → PassesNoFault entry now (run_answer report) → Builds tells B own graph folder given targets entry now report
+        pub builds_run : (report : Report) → HasRun tells own (task_for graph limits targets) entry now report → PassesNoFault entry now (run_answer report) → Builds tells B own graph folder limits given targets entry now report
         builds_run (Success started) ran passes =
             let run = ran.ends.0 in
             let over = ran.ends.1 in
-            let ended = has_ended tells own (asked_of graph folder targets) no_records ran.steps entry now idle run over.2 over.0 over.1 (none_is_due (task_for graph targets) ran.steps (no_dyndep graph.edges taken)) in
+            let ended = has_ended tells own (asked_of graph folder limits targets) no_records ran.steps entry now idle run over.2 over.0 over.1 (none_is_due (task_for graph limits targets) ran.steps (no_dyndep graph.edges taken)) in
             let settled = all_settled ran.steps ended over.2 over.3 in
             record {
               taken = inl taken;
@@ -374,7 +375,7 @@ module _ (tells : Bool) (B : Behaviour) (own : OwnFiles) (graph : BuildGraph) (f
         builds_run (Failed outputs) ran passes =
             let run = ran.ends.0 in
             let over = ran.ends.1 in
-            let ended = has_ended tells own (asked_of graph folder targets) no_records ran.steps entry now idle run over.2 over.0 over.1 (none_is_due (task_for graph targets) ran.steps (no_dyndep graph.edges taken)) in
+            let ended = has_ended tells own (asked_of graph folder limits targets) no_records ran.steps entry now idle run over.2 over.0 over.1 (none_is_due (task_for graph limits targets) ran.steps (no_dyndep graph.edges taken)) in
             record {
               taken = inl taken;
               answer = answer.Failed outputs;
@@ -385,8 +386,8 @@ module _ (tells : Bool) (B : Behaviour) (own : OwnFiles) (graph : BuildGraph) (f
         builds_run (Refused r) ran passes = absurd ran.ends
         builds_run (Fault fault) ran passes = by_fault fault ran.ends passes
           where
-            of_fault : (fault : SiteFault) → IsAnswer tells B own none_loaded (asked_of graph folder targets) no_records [] ran.steps ran.steps entry now (answer.Fault fault) → PassesNoFault entry now (answer.Fault fault)
-                → Builds tells B own graph folder given targets entry now (Fault fault)
+            of_fault : (fault : SiteFault) → IsAnswer tells B own none_loaded (asked_of graph folder limits targets) no_records [] ran.steps ran.steps entry now (answer.Fault fault) → PassesNoFault entry now (answer.Fault fault)
+                → Builds tells B own graph folder limits given targets entry now (Fault fault)
             of_fault fault is passes = record {
               taken = inl taken;
               answer = answer.Fault fault;
@@ -395,7 +396,7 @@ module _ (tells : Bool) (B : Behaviour) (own : OwnFiles) (graph : BuildGraph) (f
                   (λ success. absurd success) (was_in_order ran.steps) passes (λ fine. absurd (false≢true (sym fine)));
             }
 
-            by_fault : (fault : SiteFault) → IsSeen entry now fault → PassesNoFault entry now (answer.Fault fault) → Builds tells B own graph folder given targets entry now (Fault fault)
+            by_fault : (fault : SiteFault) → IsSeen entry now fault → PassesNoFault entry now (answer.Fault fault) → Builds tells B own graph folder limits given targets entry now (Fault fault)
             by_fault Device seen passes = of_fault Device seen passes
             by_fault Stopped seen passes = of_fault Stopped seen passes
             by_fault Memory seen passes = of_fault Memory tt passes
@@ -430,6 +431,6 @@ any_own folder = record { build_log = file_in folder build_log_name; deps_log = 
 pub own_in : (folder : List ℕ) → IsOwnIn (any_own folder) folder
 own_in folder = record { build_log = refl; deps_log = refl; is_log = refl; is_deps = refl; tick = refl; new_log = refl; new_deps = refl; outputs = λ digits are. refl }
 
-pub builds_grow : (tells : Bool) (B : Behaviour) (own : OwnFiles) (graph : BuildGraph) (folder : List ℕ) (given targets : List (List ℕ)) (old new : World) (report : Report)
-    → Builds tells B own graph folder given targets old new report → IsTrue tells → (later : List Moment) × (new.history ≡ old.history ++ later)
-builds_grow tells B own graph folder given targets old new report builds tell = let frame = builds.build.frame tell in (frame.more, frame.grows)
+pub builds_grow : (tells : Bool) (B : Behaviour) (own : OwnFiles) (graph : BuildGraph) (folder : List ℕ) (limits : Limits) (given targets : List (List ℕ)) (old new : World) (report : Report)
+    → Builds tells B own graph folder limits given targets old new report → IsTrue tells → (later : List Moment) × (new.history ≡ old.history ++ later)
+builds_grow tells B own graph folder limits given targets old new report builds tell = let frame = builds.build.frame tell in (frame.more, frame.grows)

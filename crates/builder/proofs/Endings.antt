@@ -18,6 +18,7 @@ use Rattle.builder.specs.declared.plan.End.TheVariants as ending
 use Rattle.builder.specs.declared.report.Report.{Report}
 use Rattle.builder.specs.declared.report.Report.TheVariants.{Success, Failed, Refused, Fault}
 use Rattle.builder.specs.Answers.{IsSeen, Reports}
+use Rattle.builder.specs.declared.asked.Limits.{Limits}
 use Rattle.builder.specs.Build.{task_for}
 use Rattle.builder.specs.Ended.{ReportsSteps, HasRun}
 use Rattle.builder.specs.PlanOf.{IsPlanOf}
@@ -75,5 +76,5 @@ module _ (tells : Bool) (own : OwnFiles) (task : Task) (entry now : World) where
   ran_over plan failed standings ending.Failed (Refused refusal) over reports says = absurd reports
   ran_over plan failed standings ending.Failed (Fault fault) over reports says = absurd reports
 
-pub plain_task : (graph : BuildGraph) (targets : List (List ℕ)) → IsTaken graph.edges → IsPlain (task_for graph targets)
-plain_task graph targets taken = record { pools = no_pool graph.edges taken; aliases = λ i phony. recorded_nothing graph.edges i }
+pub plain_task : (graph : BuildGraph) (limits : Limits) (targets : List (List ℕ)) → IsTaken graph.edges → IsPlain (task_for graph limits targets)
+plain_task graph limits targets taken = record { pools = no_pool graph.edges taken; aliases = λ i phony. recorded_nothing graph.edges i }

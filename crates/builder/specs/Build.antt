@@ -18,6 +18,8 @@ use Rattle.manifest.specs.declared.fault.ReadError.{ReadError}
 use Rattle.build_theory.specs.Order.{no_records}
 use Rattle.builder.specs.declared.report.Refusal.TheVariants.{File, MadeTwice, NoDyndepInput, NotTaken, UnknownTarget, Cycle, Missing}
 use Rattle.builder.specs.declared.report.Report.{Report}
+use Rattle.builder.specs.declared.report.Options.{Options}
+use Rattle.builder.specs.declared.asked.Limits.{Limits}
 use Rattle.builder.specs.declared.report.Report.TheVariants.{Success, Failed, Refused, Fault}
 use Rattle.builder.specs.Answers.{Looked, unread}
 use Rattle.builder.specs.Asked.{AreTargets, IsFolder}
@@ -30,13 +32,17 @@ use Rattle.manifest.specs.Answer.{IsGraph}
 abbrev pub no_logs : LogFormat
 no_logs = record { records = λ text. None; deps = λ text. None }
 
--- these canonical targets are built, one command at a time, and nothing is started after a failed one; own files lie in this folder
-abbrev pub asked_of : BuildGraph → List ℕ → List (List ℕ) → Asked
-asked_of graph folder targets = record { graph = graph; declared = graph.edges; targets = targets; folder = folder; jobs = 1; keep = 1 }
+-- the limits of these options
+abbrev pub limits_of : Options → Limits
+limits_of options = record { jobs = options.jobs; keep = options.keep }
+
+-- these canonical targets are built within these limits; own files lie in this folder
+abbrev pub asked_of : BuildGraph → List ℕ → Limits → List (List ℕ) → Asked
+asked_of graph folder limits targets = record { graph = graph; declared = graph.edges; targets = targets; folder = folder; jobs = limits.jobs; keep = limits.keep }
 
 -- what is to be built, wherever own files lie
-abbrev pub task_for : BuildGraph → List (List ℕ) → Task
-task_for graph targets = task_of (asked_of graph [] targets) no_records
+abbrev pub task_for : BuildGraph → Limits → List (List ℕ) → Task
+task_for graph limits targets = task_of (asked_of graph [] limits targets) no_records
 
 abbrev pub missing_answer : List ℕ → Option (List ℕ) → Answer
 missing_answer path None = answer.MissingTarget path
@@ -71,17 +77,17 @@ pub record IsNotTaken (tells : Bool) (edges : List Edge) (old new : World) (repo
   pub looks : OnlyLooks tells old new
 
 -- the graph was built, and the report says how
-pub record Builds (tells : Bool) (B : Behaviour) (own : OwnFiles) (graph : BuildGraph) (folder : List ℕ) (given targets : List (List ℕ)) (old new : World) (report : Report) : Type 0 where
+pub record Builds (tells : Bool) (B : Behaviour) (own : OwnFiles) (graph : BuildGraph) (folder : List ℕ) (limits : Limits) (given targets : List (List ℕ)) (old new : World) (report : Report) : Type 0 where
   pub taken : IsTaken graph.edges ⊎ IsNotTaken tells graph.edges old new report
   pub answer : Answer
   pub said : Says graph.edges given targets report answer
-  pub build : SingleBuild tells B no_logs own (asked_of graph folder targets) old new answer
+  pub build : SingleBuild tells B no_logs own (asked_of graph folder limits targets) old new answer
 
 -- it was built from an entry on, since which there was only looked, for any own files of the program that lie in this folder
-abbrev pub BuildsFor : Bool → BuildGraph → List ℕ → List (List ℕ) → List (List ℕ) → World → World → Report → Type 0
-BuildsFor tells graph folder given targets old new report =
+abbrev pub BuildsFor : Bool → BuildGraph → List ℕ → Limits → List (List ℕ) → List (List ℕ) → World → World → Report → Type 0
+BuildsFor tells graph folder limits given targets old new report =
     (B : Behaviour) (own : OwnFiles) (entry : World) → IsOwnIn own folder → IsIdle entry.events → Looked tells entry old
-    → Builds tells B own graph folder given targets entry new report
+    → Builds tells B own graph folder limits given targets entry new report
 
 -- the files were not read, or there was no memory for what was asked: the site was only looked at, and the report is of the
 -- reader's error, or of such a one
@@ -94,7 +100,7 @@ pub record IsUnread (tells : Bool) (name : List ℕ) (old new : World) (report :
 
 -- The file of this name was read, and the graph that it declares was built: for any own files of the program that lie in the
 -- folder which `builddir` names, and whatever depfiles and dyndep files say, as no edge has one.
-pub record IsBuilt (tells : Bool) (outcome : Act → View → Outcome) (name : List ℕ) (given : List (List ℕ)) (old new : World) (report : Report) : Type 0 where
+pub record IsBuilt (tells : Bool) (outcome : Act → View → Outcome) (name : List ℕ) (limits : Limits) (given : List (List ℕ)) (old new : World) (report : Report) : Type 0 where
   pub graph : BuildGraph
   pub formed : IsGraph graph
   pub file : IsTrue tells → ReadsFile name old.history new.history (Ok graph)
@@ -104,7 +110,7 @@ pub record IsBuilt (tells : Bool) (outcome : Act → View → Outcome) (name : L
   pub folder : List ℕ
   pub in_folder : IsFolder graph.builddir folder
   pub builds : (own : OwnFiles) (depfile : List ℕ → Option (List (List ℕ))) (dyndep : List ℕ → Option (List Addition)) → IsOwnIn own folder
-      → Builds tells (record { outcome = outcome; depfile = depfile; dyndep = dyndep }) own graph folder given targets old new report
+      → Builds tells (record { outcome = outcome; depfile = depfile; dyndep = dyndep }) own graph folder limits given targets old new report
 
-abbrev pub IsBuild : Bool → (Act → View → Outcome) → List ℕ → List (List ℕ) → World → World → Report → Type 0
-IsBuild tells outcome name given old new report = IsUnread tells name old new report ⊎ IsBuilt tells outcome name given old new report
+abbrev pub IsBuild : Bool → (Act → View → Outcome) → List ℕ → Limits → List (List ℕ) → World → World → Report → Type 0
+IsBuild tells outcome name limits given old new report = IsUnread tells name old new report ⊎ IsBuilt tells outcome name limits given old new report

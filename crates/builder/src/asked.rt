@@ -2,12 +2,21 @@
 
 ghost use Rattle.std.specs.Prelude.{◌≡◌, IfOk};
 ghost use Rattle.builder.specs.Asked.{IsPathOf, AreTargets, IsFolder};
+ghost use Rattle.builder.specs.Build.{limits_of};
 
+use crate::report::Options;
 use lexer::{ReadFault, canonical};
 use std::alloc::{AllocError, Global};
 use text::{Items, Path, Text};
 
-/// The targets of a build, and the folder of the program's own files.
+/// How many commands may run at once, and after how many failed ones nothing more is started; 0 is no limit.
+#[derive(Clone, Copy, Debug)]
+pub struct Limits {
+    pub jobs: u32,
+    pub keep: u32,
+}
+
+/// The targets of a build, its limits, and the folder of the program's own files.
 #[derive(Drop)]
 pub struct Asked<'a> {
     /// The targets as they were given.
@@ -16,18 +25,29 @@ pub struct Asked<'a> {
     pub targets: Items<Path>,
     /// The canonical path of `builddir`; empty for the working folder.
     pub folder: Path,
+    pub limits: Limits,
 }
 
 impl<'a> Asked<'a> {
-    pub fn new(alloc: Global, given: &'a [Text], builddir: &Text) -> Result<Asked<'a>, AllocError>
+    pub fn new(
+        alloc: Global,
+        options: &Options,
+        given: &'a [Text],
+        builddir: &Text,
+    ) -> Result<Asked<'a>, AllocError>
         ensures given { IfOk result (λ asked. asked.given.now ≡ given.now) }
         ensures targets { IfOk result (λ asked. AreTargets given.now asked.targets) }
         ensures folder { IfOk result (λ asked. IsFolder builddir.now asked.folder) }
+        ensures limits { IfOk result (λ asked. asked.limits ≡ limits_of options.now) }
     {
         Ok(Asked {
             given,
             targets: canonical_paths(alloc, given)?,
             folder: folder(alloc, builddir.as_str())?,
+            limits: Limits {
+                jobs: options.jobs,
+                keep: options.keep,
+            },
         })
     }
 }

@@ -16,12 +16,12 @@ ghost use Rattle.graph.specs.Targets.{IsConeFor};
 ghost use Rattle.builder.specs.Run.{IsAt, IsNoted, Suits, IsCut};
 ghost use Rattle.builder.specs.Answers.{Answers, Looked, Reports, unread, ungraphed, Uncut};
 ghost use Rattle.builder.specs.Cut.{Cuts, IsLeft, report_of};
-ghost use Rattle.builder.specs.Build.{task_for, BuildsFor, IsBuild};
+ghost use Rattle.builder.specs.Build.{task_for, limits_of, BuildsFor, IsBuild};
 ghost use Rattle.builder.specs.Ended.{ReportsSteps, HasRun, run_answer};
 ghost use Rattle.builder.specs.Taken.{IsTaken};
 ghost use Rattle.manifest.specs.Answer.{IsGraph};
 
-use crate::asked::Asked;
+use crate::asked::{Asked, Limits};
 use crate::cut::Cut;
 use crate::missing::{first_missing, first_output, first_outputs};
 use crate::plan::{End, Plan};
@@ -46,10 +46,10 @@ const TICK: &str = ".nj_tick";
 pub fn build<S: Site>(alloc: Global, site: &mut S, options: &Options, targets: &[Text]) -> Report
     requires { IsIdle (S.world site.old).events }
     ensures answers { (edges : List Edge) × Answers S.tells edges (S.world site.old) (S.world site.new) result }
-    ensures build { IsBuild S.tells S.outcome options.now.file targets.now (S.world site.old) (S.world site.new) result }
+    ensures build { IsBuild S.tells S.outcome options.now.file (limits_of options.now) targets.now (S.world site.old) (S.world site.new) result }
 {
     match manifest::read(alloc, site, options.file.as_str()) {
-        Ok(manifest) => match Asked::new(alloc, targets, &manifest.builddir) {
+        Ok(manifest) => match Asked::new(alloc, options, targets, &manifest.builddir) {
             Ok(asked) => {
                 reads_longer();
                 build_manifest(alloc, site, &manifest, &asked)
@@ -82,7 +82,7 @@ fn build_manifest<S: Site>(
     requires running { (S.world site.old).stopped ≡ false }
     requires formed { IsGraph manifest.now }
     ensures answers { Answers S.tells manifest.now.edges (S.world site.old) (S.world site.new) result }
-    ensures builds { BuildsFor S.tells manifest.now asked.now.folder asked.now.given.now asked.now.targets (S.world site.old) (S.world site.new) result }
+    ensures builds { BuildsFor S.tells manifest.now asked.now.folder asked.now.limits asked.now.given.now asked.now.targets (S.world site.old) (S.world site.new) result }
 {
     match first_not_taken(manifest.edges.as_slice()) {
         Some(edge) => not_taken(alloc, edge),
@@ -112,7 +112,7 @@ fn build_taken<S: Site>(
     requires formed { IsGraph manifest.now }
     requires taken { IsTaken manifest.now.edges }
     ensures answers { Answers S.tells manifest.now.edges (S.world site.old) (S.world site.new) result }
-    ensures builds { BuildsFor S.tells manifest.now asked.now.folder asked.now.given.now asked.now.targets (S.world site.old) (S.world site.new) result }
+    ensures builds { BuildsFor S.tells manifest.now asked.now.folder asked.now.limits asked.now.given.now asked.now.targets (S.world site.old) (S.world site.new) result }
 {
     match Graph::build(alloc, manifest) {
         Ok(graph) => build_graph(alloc, site, manifest, &graph, asked),
@@ -145,7 +145,7 @@ fn build_graph<S: Site>(
     requires taken { IsTaken manifest.now.edges }
     requires graph { IsGraphFor manifest.now graph.now }
     ensures answers { Answers S.tells manifest.now.edges (S.world site.old) (S.world site.new) result }
-    ensures builds { BuildsFor S.tells manifest.now asked.now.folder asked.now.given.now asked.now.targets (S.world site.old) (S.world site.new) result }
+    ensures builds { BuildsFor S.tells manifest.now asked.now.folder asked.now.limits asked.now.given.now asked.now.targets (S.world site.old) (S.world site.new) result }
 {
     match graph.cone(alloc, asked.targets.as_slice()) {
         Ok(cone) => build_cone(alloc, site, manifest, graph, &cone, asked),
@@ -202,16 +202,24 @@ fn build_cone<S: Site>(
     requires graph { IsGraphFor manifest.now graph.now }
     requires cone { IsConeFor manifest.now (recorded_inputs no_records manifest.now.edges) asked.now.targets cone.now }
     ensures answers { Answers S.tells manifest.now.edges (S.world site.old) (S.world site.new) result }
-    ensures builds { BuildsFor S.tells manifest.now asked.now.folder asked.now.given.now asked.now.targets (S.world site.old) (S.world site.new) result }
+    ensures builds { BuildsFor S.tells manifest.now asked.now.folder asked.now.limits asked.now.given.now asked.now.targets (S.world site.old) (S.world site.new) result }
 {
     match first_missing(alloc, site, manifest, graph, cone, asked.targets.as_slice()) {
-        Ok(None) => run_cone(alloc, site, manifest, graph, cone, &asked.folder),
+        Ok(None) => run_cone(
+            alloc,
+            site,
+            manifest,
+            graph,
+            cone,
+            &asked.folder,
+            asked.limits,
+        ),
         Ok(Some(missing)) => Report::Refused(Refusal::Missing(missing)),
         Err(fault) => Report::Fault(fault),
     }
 }
 
-/// Runs the commands of a cone. Until many commands run at once, one runs, and nothing is started after a failure.
+/// Runs the commands of a cone, within these limits.
 fn run_cone<S: Site>(
     alloc: Global,
     site: &mut S,
@@ -219,6 +227,7 @@ fn run_cone<S: Site>(
     graph: &Graph<'_>,
     cone: &Cone,
     folder: &Path,
+    limits: Limits,
 ) -> Report
     requires idle { IsIdle (S.world site.old).events }
     requires running { (S.world site.old).stopped ≡ false }
@@ -226,11 +235,11 @@ fn run_cone<S: Site>(
     requires graph { IsGraphFor manifest.now graph.now }
     requires cone { (targets : List (List ℕ)) × IsConeFor manifest.now (recorded_inputs no_records manifest.now.edges) targets cone.now }
     ensures answers { Answers S.tells manifest.now.edges (S.world site.old) (S.world site.new) result }
-    ensures ran { (targets : List (List ℕ)) (own : OwnFiles) (entry : World) → IsConeFor manifest.now (recorded_inputs no_records manifest.now.edges) targets cone.now → IsOwnIn own folder.now → IsIdle entry.events → Looked S.tells entry (S.world site.old) → HasRun S.tells own (task_for manifest.now targets) entry (S.world site.new) result }
+    ensures ran { (targets : List (List ℕ)) (own : OwnFiles) (entry : World) → IsConeFor manifest.now (recorded_inputs no_records manifest.now.edges) targets cone.now → IsOwnIn own folder.now → IsIdle entry.events → Looked S.tells entry (S.world site.old) → HasRun S.tells own (task_for manifest.now limits targets) entry (S.world site.new) result }
     ensures faults { PassesNoFault (S.world site.old) (S.world site.new) (run_answer result) }
 {
     let edges = manifest.edges.as_slice();
-    match set_up(alloc, graph, cone, folder) {
+    match set_up(alloc, graph, cone, folder, limits) {
         Ok((tick, mut plan)) => report_of(run_plan(alloc, site, edges, tick.as_str(), &mut plan)),
         Err(_) => Report::Fault(SiteFault::Memory),
     }
@@ -252,15 +261,22 @@ fn set_up<'a>(
     graph: &'a Graph<'_>,
     cone: &Cone,
     folder: &Path,
+    limits: Limits,
 ) -> Result<(String, Plan<'a>), AllocError>
     requires { length cone.now.marks.items ≡ length graph.now.links.inputs.items }
     ensures fits { IfOk result (λ found. length found.1.standings.items ≡ length graph.now.links.inputs.items) }
     ensures fresh { IfOk result (λ found. IsFresh found.1.standings.items) }
     ensures tick { IfOk result (λ found. string_bytes found.0 ≡ file_in folder.now tick_name) }
-    ensures planned { IfOk result (λ found. (whole : BuildGraph) (targets : List (List ℕ)) → IsTaken whole.edges → IsGraphFor whole graph.now → IsConeFor whole (recorded_inputs no_records whole.edges) targets cone.now → IsPlanOf (task_for whole targets) found.1 []) }
+    ensures planned { IfOk result (λ found. (whole : BuildGraph) (targets : List (List ℕ)) → IsTaken whole.edges → IsGraphFor whole graph.now → IsConeFor whole (recorded_inputs no_records whole.edges) targets cone.now → IsPlanOf (task_for whole limits targets) found.1 []) }
 {
     let tick = tick_path(alloc, folder.as_str())?;
-    let plan = Plan::new(alloc, &graph.links, cone, 1, 1)?;
+    let plan = Plan::new(
+        alloc,
+        &graph.links,
+        cone,
+        limits.jobs as usize,
+        limits.keep as usize,
+    )?;
     links_are_makers();
     Ok((tick, plan))
 }

@@ -2,6 +2,7 @@ use Rattle.std.proofs.Common.{ℕ, List, None, Ok, inl, inr, refl, subst}
 use Rattle.model.specs.Outcome.{Behaviour}
 use Rattle.manifest.specs.Answer.{ReadsFile}
 use Rattle.manifest.specs.declared.fault.ReadError.TheVariants as error
+use Rattle.builder.specs.declared.asked.Limits.{Limits}
 use Rattle.builder.specs.Answers.{Looked}
 use Rattle.builder.specs.Build.{Builds}
 use Rattle.builder.proofs.Calls.{unrefused_call}
@@ -35,7 +36,7 @@ returns-in-Ok-new-clause-build g c =
       graph = c.in-Ok.manifest;
       formed = c.in-Ok.ensures.graph;
       file = λ tell.
-          let later = builds_grow tells any (any_own asked.folder) c.in-Ok.manifest asked.folder asked.given.now asked.targets mid new c.build_manifest.result
+          let later = builds_grow tells any (any_own asked.folder) c.in-Ok.manifest asked.folder asked.limits asked.given.now asked.targets mid new c.build_manifest.result
           (c.build_manifest.ensures.builds any (any_own asked.folder) mid (own_in asked.folder) (idle_after tells old mid c.read.ensures.looks c.requires) (looked_nothing tells mid c.in-Ok.ensures.cause.stopped)) tell in
           subst (λ (n : List ℕ). ReadsFile n old.history new.history (Ok c.in-Ok.manifest)) c.as_str.ensures
           (c.reads_longer.ensures c.as_str.result.now old.history mid.history new.history later.0 (Ok c.in-Ok.manifest) later.1 (c.in-Ok.ensures.file tell));
@@ -44,9 +45,11 @@ returns-in-Ok-new-clause-build g c =
       folder = asked.folder;
       in_folder = c.in-Ok-new.ensures.folder;
       builds = λ own depfile dyndep owned.
-          subst (λ (given : List (List ℕ)). Builds tells (record { outcome = g.S.Site.outcome; depfile = depfile; dyndep = dyndep }) own c.in-Ok.manifest asked.folder given asked.targets old new c.build_manifest.result)
+          subst (λ (l : Limits). Builds tells (record { outcome = g.S.Site.outcome; depfile = depfile; dyndep = dyndep }) own c.in-Ok.manifest asked.folder l c.args.targets.now asked.targets old new c.build_manifest.result)
+          c.in-Ok-new.ensures.limits
+          (subst (λ (given : List (List ℕ)). Builds tells (record { outcome = g.S.Site.outcome; depfile = depfile; dyndep = dyndep }) own c.in-Ok.manifest asked.folder asked.limits given asked.targets old new c.build_manifest.result)
           c.in-Ok-new.ensures.given
-          (c.build_manifest.ensures.builds (record { outcome = g.S.Site.outcome; depfile = depfile; dyndep = dyndep }) own old owned c.requires looked);
+          (c.build_manifest.ensures.builds (record { outcome = g.S.Site.outcome; depfile = depfile; dyndep = dyndep }) own old owned c.requires looked));
     }
 
 pub returns-in-Ok-clause-build : goal.returns-in-Ok-clause-build

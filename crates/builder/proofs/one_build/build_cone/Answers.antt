@@ -34,9 +34,9 @@ returns-in-Ok-None-clause-builds g c B own entry owned idle looked =
     let mid = g.S.Texts.world c.first_missing.new.site in
     let exit = g.S.Texts.world c.run_cone.new.site in
     let here : Looked tells entry mid = looked_more tells entry old mid looked c.first_missing.ensures.looks (unrefused_call old mid _ c.in-Ok-None.ensures.cause) in
-    builds_run tells B own whole asked.folder asked.given.now targets entry exit idle c.requires.formed c.requires.taken c.args.cone.now c.requires.cone c.requires.graph.once
+    builds_run tells B own whole asked.folder asked.limits asked.given.now targets entry exit idle c.requires.formed c.requires.taken c.args.cone.now c.requires.cone c.requires.graph.once
     (λ tell kept.
-    let later = run_grows tells own (task_for whole targets) mid exit c.run_cone.result
+    let later = run_grows tells own (task_for whole asked.limits targets) mid exit c.run_cone.result
     (c.run_cone.ensures.ran targets own mid c.requires.cone owned (idle_after tells old mid c.first_missing.ensures.looks c.requires.idle) (looked_nothing tells mid c.in-Ok-None.ensures.cause.stopped)) tell in
     subst (λ (o : Option Missing). IsFound whole.edges (targets_of whole targets) entry.history o) c.in-Ok-None.field-0-is
     (subst (λ (l : List (List ℕ)). IsFound whole.edges (targets_of whole l) entry.history c.in-Ok-None.field-0) c.as_slice.ensures
@@ -54,7 +54,7 @@ returns-in-Ok-Some-clause-builds g c B own entry owned idle looked =
     let targets = asked.targets in
     let old = g.S.Texts.world c.args.site.now in
     let mid = g.S.Texts.world c.first_missing.new.site in
-    builds_missing tells B own whole asked.folder asked.given.now targets entry mid idle c.requires.formed c.requires.taken c.args.cone.now c.requires.cone
+    builds_missing tells B own whole asked.folder asked.limits asked.given.now targets entry mid idle c.requires.formed c.requires.taken c.args.cone.now c.requires.cone
     (looked_more tells entry old mid looked c.first_missing.ensures.looks (unrefused_call old mid _ c.in-Ok-Some.ensures.cause)) c.in-Ok-Some.missing
     (λ tell edits.
     subst (λ (o : Option Missing). IsFound whole.edges (targets_of whole targets) entry.history o) c.in-Ok-Some.field-0-is
@@ -68,6 +68,6 @@ returns-in-Err-clause-builds g c B own entry owned idle looked =
     let asked = c.args.asked.now in
     let old = g.S.Texts.world c.args.site.now in
     let mid = g.S.Texts.world c.first_missing.new.site in
-    builds_fault tells B own c.args.manifest.now asked.folder asked.given.now asked.targets entry mid idle c.requires.formed c.requires.taken
+    builds_fault tells B own c.args.manifest.now asked.folder asked.limits asked.given.now asked.targets entry mid idle c.requires.formed c.requires.taken
     (looks_then tells entry old mid looked.looks c.first_missing.ensures.looks) c.in-Err.fault
     (cause_then entry old mid (Err c.in-Err.fault) looked.unrefused c.in-Err.ensures.cause)

@@ -21,7 +21,7 @@ returns-in-Err-clause-answers g c =
 
 pub returns-in-Err-clause-builds : goal.returns-in-Err-clause-builds
 returns-in-Err-clause-builds g c B own entry owned idle looked =
-    builds_uncut g.S.Texts.tells B own c.args.manifest.now c.args.asked.now.folder c.args.asked.now.given.now c.args.asked.now.targets entry (g.S.Texts.world c.args.site.now) idle c.requires.formed c.requires.taken
+    builds_uncut g.S.Texts.tells B own c.args.manifest.now c.args.asked.now.folder c.args.asked.now.limits c.args.asked.now.given.now c.args.asked.now.targets entry (g.S.Texts.world c.args.site.now) idle c.requires.formed c.requires.taken
     looked (paths_of c.args.graph.now) c.in-Err.fault c.no_cone.result
-    (c.in-Err.ensures.fault (asked_of c.args.manifest.now c.args.asked.now.folder c.args.asked.now.targets) no_records refl c.requires.graph (sym {A = List (List ℕ)} c.as_slice.ensures) (λ i. recorded_nothing c.args.manifest.now.edges i))
+    (c.in-Err.ensures.fault (asked_of c.args.manifest.now c.args.asked.now.folder c.args.asked.now.limits c.args.asked.now.targets) no_records refl c.requires.graph (sym {A = List (List ℕ)} c.as_slice.ensures) (λ i. recorded_nothing c.args.manifest.now.edges i))
     c.no_cone.ensures

@@ -13,5 +13,5 @@ returns-in-Some-clause-answers g c =
 
 pub returns-in-Some-clause-builds : goal.returns-in-Some-clause-builds
 returns-in-Some-clause-builds g c B own entry owned idle looked =
-    builds_not_taken g.S.Texts.tells B own c.args.manifest.now c.args.asked.now.folder c.args.asked.now.given.now c.args.asked.now.targets entry (g.S.Texts.world c.args.site.now) idle looked
+    builds_not_taken g.S.Texts.tells B own c.args.manifest.now c.args.asked.now.folder c.args.asked.now.limits c.args.asked.now.given.now c.args.asked.now.targets entry (g.S.Texts.world c.args.site.now) idle looked
     (first_output c.in-Some.edge.now) (subst (λ (l : List Edge). IsFirstNotTaken l (first_output c.in-Some.edge.now)) c.as_slice.ensures c.in-Some.ensures) c.not_taken.result c.not_taken.ensures

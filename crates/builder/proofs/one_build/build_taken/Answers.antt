@@ -13,6 +13,6 @@ returns-in-Err-clause-answers g c =
 
 pub returns-in-Err-clause-builds : goal.returns-in-Err-clause-builds
 returns-in-Err-clause-builds g c B own entry owned idle looked =
-    subst (λ (r : Report). Builds g.S.Texts.tells B own c.args.manifest.now c.args.asked.now.folder c.args.asked.now.given.now c.args.asked.now.targets entry (g.S.Texts.world c.args.site.now) r) (sym {A = Report} c.no_graph.ensures)
-    (builds_ungraphed g.S.Texts.tells B own c.args.manifest.now c.args.asked.now.folder c.args.asked.now.given.now c.args.asked.now.targets entry (g.S.Texts.world c.args.site.now) idle c.requires.formed c.requires.taken
+    subst (λ (r : Report). Builds g.S.Texts.tells B own c.args.manifest.now c.args.asked.now.folder c.args.asked.now.limits c.args.asked.now.given.now c.args.asked.now.targets entry (g.S.Texts.world c.args.site.now) r) (sym {A = Report} c.no_graph.ensures)
+    (builds_ungraphed g.S.Texts.tells B own c.args.manifest.now c.args.asked.now.folder c.args.asked.now.limits c.args.asked.now.given.now c.args.asked.now.targets entry (g.S.Texts.world c.args.site.now) idle c.requires.formed c.requires.taken
     looked c.in-Err.fault c.in-Err.ensures.fault)

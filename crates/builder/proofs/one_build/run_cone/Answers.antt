@@ -15,8 +15,8 @@ run_plan-requires-clause-fits g c = c.in-Ok.ensures.fits ∙ (c.requires.graph.l
 
 pub returns-in-Err-clause-ran : goal.returns-in-Err-clause-ran
 returns-in-Err-clause-ran g c targets own entry cone owned idle looked =
-    ran_cut g.S.Texts.tells own (task_for c.args.manifest.now targets) entry (g.S.Texts.world c.args.site.now) Memory
-    (cut_begins g.S.Texts.tells own (task_for c.args.manifest.now targets) entry (g.S.Texts.world c.args.site.now) looked.looks) tt
+    ran_cut g.S.Texts.tells own (task_for c.args.manifest.now c.args.limits targets) entry (g.S.Texts.world c.args.site.now) Memory
+    (cut_begins g.S.Texts.tells own (task_for c.args.manifest.now c.args.limits targets) entry (g.S.Texts.world c.args.site.now) looked.looks) tt
 
 pub returns-in-Err-clause-faults : goal.returns-in-Err-clause-faults
 returns-in-Err-clause-faults g c =
