@@ -20,8 +20,8 @@ show b
 show c
 ",
         "start cat b a
-end cat b a
 start cat c a
+end cat b a
 end cat c a
 success 2
 b=x
@@ -64,10 +64,10 @@ write b y
 build
 ",
         "start cat q b
-end cat q b
 start keep s b
-end keep s b
 start cat p a
+end cat q b
+end keep s b
 end cat p a
 success 3
 ",
@@ -91,8 +91,8 @@ build
 show qa
 ",
         "start cat qa b
-end cat qa b
 start cat s a
+end cat qa b
 end cat s a
 success 2
 qa=y
@@ -121,10 +121,10 @@ build
 show d
 ",
         "start cat b a
+start cat c a
 end cat b a
 start cat d b
 end cat d b
-start cat c a
 end cat c a
 success 3
 d=x
@@ -146,8 +146,8 @@ build
 end cat more source
 success 1
 start cat more source
-end cat more source
 start cat b a
+end cat more source
 end cat b a
 success 2
 ",
@@ -169,8 +169,8 @@ write c z
 build
 ",
         "start cat b b.source c
-end cat b b.source c
 start keep e a
+end cat b b.source c
 end keep e a
 success 2
 ",
@@ -190,8 +190,8 @@ write a x
 build
 ",
         "start cat b a
-end cat b a
 start keep c a
+end cat b a
 end keep c a
 success 2
 ",
@@ -215,8 +215,8 @@ end cat 'it'\\''s' +a-b_c/d.e
 success 1
 refused N30: unknown target 'a$'
 start cat 'it'\\''s' +a-b_c/d.e
-end cat 'it'\\''s' +a-b_c/d.e
 start cat 'a b' 'f:g'
+end cat 'it'\\''s' +a-b_c/d.e
 fail cat 'a b' 'f:g'
 failed a b
 ",
@@ -302,8 +302,8 @@ write a x
 build
 ",
         "start cat b a
-end cat b a
 start keep c a
+end cat b a
 end keep c a
 success 2
 ",

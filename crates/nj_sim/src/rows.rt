@@ -208,8 +208,8 @@ build c
 ",
         "refused N32: 'a' is missing and no rule makes it
 start cat b a
-end cat b a
 start cat d a
+end cat b a
 end cat d a
 success 2
 start cat c a
@@ -233,8 +233,8 @@ write a x
 build
 ",
         "start cat c a
-end cat c a
 start cat d a
+end cat c a
 end cat d a
 success 2
 ",
@@ -249,8 +249,8 @@ build
 build c
 ",
         "start cat b a
-end cat b a
 start cat v a
+end cat b a
 end cat v a
 success 2
 refused N31: dependency cycle: c -> c
@@ -340,8 +340,8 @@ write s x
 build
 ",
         "start cat n a
-end cat n a
 start cat m s
+end cat n a
 end cat m s
 start cat o a
 end cat o a
@@ -378,9 +378,11 @@ build b
 show b
 ",
         "start fail v a
+start cat b a
 fail fail v a
+end cat b a
 failed v
-b absent
+b=x
 ",
     ),
     // It may need what it validates.
@@ -405,8 +407,8 @@ write a x
 build c
 ",
         "start cat b a
-end cat b a
 start cat c a
+end cat b a
 end cat c a
 success 2
 ",
@@ -424,14 +426,14 @@ write a x
 build c
 ",
         "start cat b a
+start cat v a
+start cat w a
+start cat u a
 end cat b a
 start cat c b
 end cat c b
-start cat v a
 end cat v a
-start cat w a
 end cat w a
-start cat u a
 end cat u a
 success 5
 ",
@@ -478,8 +480,8 @@ write a x
 build p
 ",
         "start cat b a
-end cat b a
 start fail v a
+end cat b a
 fail fail v a
 failed v
 ",
@@ -504,10 +506,10 @@ build
 end cat b a
 success 1
 start cat b a
-end cat b a
 start cat c a
-end cat c a
+end cat b a
 start cat d b
+end cat c a
 end cat d b
 success 3
 ",
