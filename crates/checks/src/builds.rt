@@ -73,7 +73,7 @@ fn two_commands_run_in_order(rt: HostRuntime) -> Result<(), Fail> {
 fn nothing_starts_after_a_failure(rt: HostRuntime) -> Result<(), Fail> {
     let (report, site) = build_once(
         rt.alloc(),
-        "build b: fail a\nbuild c: cat b\nbuild d: cat a\n",
+        "build b: fail a\nbuild c: cat b\nbuild e: cat a\nbuild d: cat e\n",
         Some("a"),
     )?;
     match report {
@@ -83,6 +83,8 @@ fn nothing_starts_after_a_failure(rt: HostRuntime) -> Result<(), Fail> {
         }
         other => panic!(rt; "{other:?}"),
     }
+    // what runs by then is taken in
+    assert!(rt; site.content("e").is_some());
     assert!(rt; site.content("d").is_none());
     Ok(())
 }

@@ -20,7 +20,7 @@ pub const RULES: &str = "file build.ninja
 ";
 
 /// Commands that are run.
-pub const COMMANDS: [(&str, &str); 4] = [
+pub const COMMANDS: [(&str, &str); 7] = [
     (
         "|build b: cat a
 |build c: cat b a
@@ -90,6 +90,60 @@ d=xxx
 build
 ",
         "start cat o \nfail cat o \nfailed o\n",
+    ),
+    // Two run at once, and one more starts where one has ended.
+    (
+        "|build b: cat a
+|build c: cat a
+|build d: cat a
+write a x
+-j 2
+build
+",
+        "start cat b a
+start cat c a
+end cat b a
+start cat d a
+end cat c a
+end cat d a
+success 3
+",
+    ),
+    // Nothing starts after two failures.
+    (
+        "|build f1: fail a
+|build f2: fail a
+|build f3: fail a
+write a x
+-j 1
+-k 2
+build
+",
+        "start fail f1 a
+fail fail f1 a
+start fail f2 a
+fail fail f2 a
+failed f1 f2
+",
+    ),
+    // No number of failures stops a build.
+    (
+        "|build f1: fail a
+|build f2: fail a
+|build f3: fail a
+write a x
+-j 0
+-k 0
+build
+",
+        "start fail f1 a
+start fail f2 a
+start fail f3 a
+fail fail f1 a
+fail fail f2 a
+fail fail f3 a
+failed f1 f2 f3
+",
     ),
 ];
 
