@@ -6,3 +6,4 @@ pub mod Calls
 pub mod Counts
 pub mod Listed
 pub mod Index
+pub mod Naming
