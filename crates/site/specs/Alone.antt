@@ -5,7 +5,7 @@ use Rattle.model.specs.World.{View}
 use Rattle.model.specs.Calls.{AgreeOn}
 use Rattle.site.specs.declared.toy.Kind.{Kind}
 use Rattle.site.specs.declared.toy.Kind.TheVariants.{Cat, Keep, Both, Scan, Args, Fail}
-use Rattle.site.specs.Toy.{words, joined, contents, gathered, copied, halved, doubled, doubled_reads, gathered_from, told, named_in, all_named, scanned, scanned_reads, replied, given, given_reads, does, does_read, kind_of, toy_outcome, toy_reads}
+use Rattle.site.specs.Toy.{words, joined, contents, gathered, copied, halved, doubled, doubled_reads, gathered_from, told, named_in, all_named, scanned, scanned_reads, given, given_reads, does, does_read, kind_of, toy_outcome, toy_reads}
 
 same_contents : (u v : View) (paths : List (List ℕ)) → AgreeOn paths u v → contents u paths ≡ contents v paths
 same_contents u v [] same = refl

@@ -1,9 +1,9 @@
 //! What happened on a site in memory.
 
-ghost use Rattle.std.specs.Prelude.{◌≡◌, ◌+◌, ◌<◌, ◌++◌, ◌∷◌, ℕ, [], Some, option_copied, option_map, bytes_eq, IfOk, OnOk, OnErr};
+ghost use Rattle.std.specs.Prelude.{◌≡◌, ◌+◌, ◌<◌, ◌++◌, ◌∷◌, ℕ, [], Some, option_copied, bytes_eq, IfOk, OnOk, OnErr};
 ghost use Rattle.std.specs.Option.{option_eq};
 ghost use Rattle.model.specs.World.{view_of, file_at, stamp_of, latest};
-ghost use Rattle.site.specs.History.{file_seen, with_event, with_write, with_writes, IsLonger};
+ghost use Rattle.site.specs.History.{with_event, with_write, with_writes, IsLonger};
 
 use crate::moments::Moments;
 use model::{Event, Moment, Write, Writer};

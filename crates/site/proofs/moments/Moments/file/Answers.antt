@@ -1,4 +1,4 @@
-use Rattle.std.proofs.Common.{◌∙◌, ap, Some, None, ◌≡◌, Option, ℕ, List}
+use Rattle.std.proofs.Common.{◌∙◌, ap, Some, None, List}
 use Rattle.model.specs.declared.event.Moment.{Moment}
 use Rattle.model.specs.World.{file_at}
 use Rattle.site.specs.Places.{left_at}

@@ -1,6 +1,5 @@
-use Rattle.std.proofs.Common.{◌≡◌, ◌++◌, ◌∷◌, [], ◌∙◌, ap, List}
+use Rattle.std.proofs.Common.{◌++◌, ◌∷◌, [], ◌∙◌, ap}
 use Rattle.model.specs.declared.event.Moment.{Moment}
-use Rattle.model.specs.declared.event.Moment.TheVariants.{Wrote, Happened}
 use Rattle.site.specs.Places.{place_of}
 use Rattle.site.proofs.Index.{indexed_back, indexed_event, is_listed}
 use Rattle.site.proofs.moments.Moments.take_back.Goals as goal
