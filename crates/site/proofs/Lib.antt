@@ -5,3 +5,5 @@ pub mod Work
 pub mod Calls
 pub mod Counts
 pub mod Listed
+pub mod Index
+pub mod Naming

@@ -5,8 +5,8 @@ use Rattle.model.specs.World.{latest}
 use Rattle.site.specs.declared.history.History.TheInside.{Inside}
 
 abbrev pub moments_of : Inside → List Moment
-moments_of history = history.moments.items
+moments_of history = history.moments
 
 -- the clock is the greatest stamp
 abbrev pub IsSound : Inside → Type 0
-IsSound history = history.clock ≡ latest history.moments.items
+IsSound history = history.clock ≡ latest history.moments

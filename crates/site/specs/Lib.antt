@@ -1,6 +1,8 @@
 pub mod Faults
 pub mod History
 pub mod HistoryInside
+pub mod Places
+pub mod MomentsInside
 pub mod Jobs
 pub mod JobsInside
 pub mod Running

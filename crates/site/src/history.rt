@@ -1,10 +1,11 @@
 //! What happened on a site in memory.
 
-ghost use Rattle.std.specs.Prelude.{◌≡◌, ◌+◌, ◌<◌, ◌++◌, ◌∷◌, ℕ, [], Some, option_copied, option_map, bytes_eq, IfOk, OnOk, OnErr};
+ghost use Rattle.std.specs.Prelude.{◌≡◌, ◌+◌, ◌<◌, ◌++◌, ◌∷◌, ℕ, [], Some, option_copied, bytes_eq, IfOk, OnOk, OnErr};
 ghost use Rattle.std.specs.Option.{option_eq};
 ghost use Rattle.model.specs.World.{view_of, file_at, stamp_of, latest};
-ghost use Rattle.site.specs.History.{file_seen, with_event, with_write, with_writes, IsLonger};
+ghost use Rattle.site.specs.History.{with_event, with_write, with_writes, IsLonger};
 
+use crate::moments::Moments;
 use model::{Event, Moment, Write, Writer};
 use std::alloc::{AllocError, Global};
 use std::marker::Model;
@@ -14,7 +15,7 @@ use text::{Bytes, Items, Path};
 /// as its stamp.
 #[derive(Debug, Drop)]
 pub struct History {
-    moments: Vec<Moment>,
+    moments: Moments,
     /// The greatest stamp.
     clock: u64,
 }
@@ -38,7 +39,7 @@ impl History {
         ensures { result ≡ [] }
     {
         History {
-            moments: Vec::new(alloc),
+            moments: Moments::new(alloc),
             clock: 0,
         }
     }
@@ -47,7 +48,7 @@ impl History {
     pub fn content(&self, path: &str) -> Option<&Bytes>
         ensures { option_copied result ≡ view_of self.now path.now }
     {
-        match file_in(&self.moments, path) {
+        match self.moments.file(path) {
             Some((content, _)) => Some(content),
             None => None,
         }
@@ -57,7 +58,7 @@ impl History {
     pub fn stamp(&self, path: &str) -> Option<u64>
         ensures { result ≡ stamp_of (file_at self.now path.now) }
     {
-        match file_in(&self.moments, path) {
+        match self.moments.file(path) {
             Some((_, stamp)) => Some(stamp),
             None => None,
         }
@@ -111,42 +112,17 @@ impl History {
     }
 }
 
-/// The content and the stamp of the file at the path: what the last write there left.
-fn file_in<'a>(moments: &'a [Moment], path: &str) -> Option<(&'a Bytes, u64)>
-    ensures { option_map file_seen result ≡ file_at moments.now path.now }
-{
-    let mut rest = moments;
-    while let Some((moment, front)) = rest.split_last() {
-        if let Moment::Wrote {
-            path: written,
-            content,
-            stamp,
-            ..
-        } = moment
-        {
-            if written.as_str() == path {
-                return match content {
-                    Some(content) => Some((content, *stamp)),
-                    None => None,
-                };
-            }
-        }
-        rest = front;
-    }
-    None
-}
-
 /// Adds a write under the next stamp. Where that fails, nothing has changed.
 fn append_write(
-    moments: &mut Vec<Moment>,
+    moments: &mut Moments,
     clock: &mut u64,
     by: Writer,
     path: Path,
     content: Option<Bytes>,
 ) -> Result<(), AllocError>
-    ensures ok { OnOk result (moments.new.items ≡ moments.old.items ++ Moment.Wrote by path content (clock.old + 1) ∷ []) }
+    ensures ok { OnOk result (moments.new ≡ moments.old ++ Moment.Wrote by path content (clock.old + 1) ∷ []) }
     ensures stamp { OnOk result (clock.new ≡ clock.old + 1) }
-    ensures err { OnErr result (moments.new.items ≡ moments.old.items) }
+    ensures err { OnErr result (moments.new ≡ moments.old) }
     ensures still { OnErr result (clock.new ≡ clock.old) }
 {
     let stamp = clock.checked_add(1).ok_or(AllocError)?;
@@ -162,17 +138,17 @@ fn append_write(
 
 /// A start, the writes of a job and an end. Where that fails, a beginning of it may stand.
 fn append_all(
-    moments: &mut Vec<Moment>,
+    moments: &mut Moments,
     clock: &mut u64,
     job: usize,
     start: Option<Event>,
     writes: Items<Write>,
     end: Option<Event>,
 ) -> Result<(), AllocError>
-    requires { clock.old ≡ latest moments.old.items }
-    ensures ok { OnOk result (moments.new.items ≡ with_event end (with_writes job writes (with_event start moments.old.items))) }
-    ensures stamp { OnOk result (clock.new ≡ latest moments.new.items) }
-    ensures err { OnErr result (IsLonger moments.old.items moments.new.items) }
+    requires { clock.old ≡ latest moments.old }
+    ensures ok { OnOk result (moments.new ≡ with_event end (with_writes job writes (with_event start moments.old))) }
+    ensures stamp { OnOk result (clock.new ≡ latest moments.new) }
+    ensures err { OnErr result (IsLonger moments.old moments.new) }
 {
     append_event(moments, start)?;
     append_writes(moments, clock, job, writes)?;
@@ -180,10 +156,10 @@ fn append_all(
 }
 
 /// Adds a start or an end, if there is one. Where that fails, nothing has changed.
-fn append_event(moments: &mut Vec<Moment>, event: Option<Event>) -> Result<(), AllocError>
-    ensures ok { OnOk result (moments.new.items ≡ with_event event moments.old.items) }
-    ensures stamp { latest moments.new.items ≡ latest moments.old.items }
-    ensures longer { IsLonger moments.old.items moments.new.items }
+fn append_event(moments: &mut Moments, event: Option<Event>) -> Result<(), AllocError>
+    ensures ok { OnOk result (moments.new ≡ with_event event moments.old) }
+    ensures stamp { latest moments.new ≡ latest moments.old }
+    ensures longer { IsLonger moments.old moments.new }
 {
     if let Some(event) = event {
         moments.push(Moment::Happened(event))?;
@@ -193,15 +169,15 @@ fn append_event(moments: &mut Vec<Moment>, event: Option<Event>) -> Result<(), A
 
 /// The writes of a job. Where that fails, a beginning of them may stand.
 fn append_writes(
-    moments: &mut Vec<Moment>,
+    moments: &mut Moments,
     clock: &mut u64,
     job: usize,
     writes: Items<Write>,
 ) -> Result<(), AllocError>
-    requires { clock.old ≡ latest moments.old.items }
-    ensures ok { OnOk result (moments.new.items ≡ with_writes job writes moments.old.items) }
-    ensures stamp { OnOk result (clock.new ≡ latest moments.new.items) }
-    ensures longer { IsLonger moments.old.items moments.new.items }
+    requires { clock.old ≡ latest moments.old }
+    ensures ok { OnOk result (moments.new ≡ with_writes job writes moments.old) }
+    ensures stamp { OnOk result (clock.new ≡ latest moments.new) }
+    ensures longer { IsLonger moments.old moments.new }
 {
     for write in writes.into_vec() {
         leave(moments, clock, job, write)?;
@@ -210,16 +186,11 @@ fn append_writes(
 }
 
 /// What a write of a job leaves. Where that fails, nothing has changed.
-fn leave(
-    moments: &mut Vec<Moment>,
-    clock: &mut u64,
-    job: usize,
-    write: Write,
-) -> Result<(), AllocError>
-    requires { clock.old ≡ latest moments.old.items }
-    ensures ok { OnOk result (moments.new.items ≡ with_write job write moments.old.items) }
-    ensures stamp { OnOk result (clock.new ≡ latest moments.new.items) }
-    ensures err { OnErr result (moments.new.items ≡ moments.old.items) }
+fn leave(moments: &mut Moments, clock: &mut u64, job: usize, write: Write) -> Result<(), AllocError>
+    requires { clock.old ≡ latest moments.old }
+    ensures ok { OnOk result (moments.new ≡ with_write job write moments.old) }
+    ensures stamp { OnOk result (clock.new ≡ latest moments.new) }
+    ensures err { OnErr result (moments.new ≡ moments.old) }
 {
     let Write {
         path,
@@ -234,10 +205,10 @@ fn leave(
 }
 
 /// Whether the path holds just this.
-fn holds(moments: &[Moment], path: &Path, content: &Option<Bytes>) -> bool
+fn holds(moments: &Moments, path: &Path, content: &Option<Bytes>) -> bool
     ensures { result ≡ option_eq bytes_eq (view_of moments.now path.now) content.now }
 {
-    let held = match file_in(moments, path.as_str()) {
+    let held = match moments.file(path.as_str()) {
         Some((held, _)) => Some(held),
         None => None,
     };

@@ -5,6 +5,7 @@ mod commands;
 mod faults;
 mod history;
 mod jobs;
+mod moments;
 mod sim;
 mod site;
 #[cfg(test)]

@@ -1,4 +1,4 @@
-//! A site in memory, whose commands do their work when they end.
+//! A site in memory, whose commands do their work when they start or when they end.
 
 ghost use Rattle.std.specs.Prelude.{◌≡◌, ◌⊎◌, ◌+◌, ◌++◌, ℕ, List, [], take, IsErr, true, false, Some, None, option_copied, option_map, IsTrue, IsErrOf, IfOk, IfErr, OnOk, OnErr};
 ghost use Rattle.model.specs.World.{view_of, file_at, latest};
@@ -21,8 +21,10 @@ use std::collections::BTreeMap;
 use std::mem;
 use text::{Bytes, Items, Path};
 
-/// A site in memory, for tests and scripts. Its commands write when they end, in the view of that moment. It fails
-/// only where memory is refused or no stamp is left, and a call that fails has changed nothing.
+/// A site in memory, for tests and scripts. Its commands write when they start or when they end, in the view of that
+/// moment. The device refuses just the calls that `fail` and `gate` name, and the site stops just in those that `stop_at`
+/// names; else a call fails only where memory is refused or no stamp or count is left. A call that is refused, or that
+/// finds no memory, has changed nothing. No call goes through what happened before to find a file or a command.
 #[derive(Drop)]
 pub struct Sim<C> {
     alloc: Global,
@@ -98,7 +100,7 @@ impl<C: Commands> Sim<C> {
         Ok(())
     }
 
-    /// From now on this running command ends next.
+    /// From now on, of the running commands this one ends next.
     pub fn order(&mut self, order: Order)
         ensures { self.new ≡ record self.old { order = order } }
     {
@@ -516,7 +518,7 @@ impl<C: Commands> Site for Sim<C> {
         Ok(())
     }
 
-    /// Takes the running job with the lowest number.
+    /// Takes in the running command that is next in the order that was chosen. It printed nothing.
     fn wait_any(&mut self) -> Result<Finished, SiteFault>
         requires { (job : ℕ) × (runs job (world_of self.old).events ≡ true) }
         ensures cause { HasCause (world_of self.old) (world_of self.new) result }

@@ -25,11 +25,23 @@ fn two_files(alloc: Global) -> Result<Sim<Toy>, SiteFault>
 fn run(alloc: Global, sim: &mut Sim<Toy>, command: &str) -> Result<bool, SiteFault>
     requires { IsIdle (world_of sim.old).events }
 {
+    run_with(alloc, sim, command, "")
+}
+
+/// The same, with a response content.
+fn run_with(
+    alloc: Global,
+    sim: &mut Sim<Toy>,
+    command: &str,
+    response: &str,
+) -> Result<bool, SiteFault>
+    requires { IsIdle (world_of sim.old).events }
+{
     let act = Act {
         command: Text::from_str(alloc, command)?,
         depfile: Text::new(alloc),
         response_path: Text::new(alloc),
-        response_content: Text::new(alloc),
+        response_content: Text::from_str(alloc, response)?,
     };
     sim.start(1, &act, false)?;
     Ok(sim.wait_any()?.ok)
@@ -80,6 +92,64 @@ fn both_get_it(rt: HostRuntime) -> Result<(), Fail> {
     assert!(rt; run(rt.alloc(), &mut sim, "both c d b more")?);
     assert_eq!(rt; held(&sim, "c"), Some(b"y".as_slice()));
     assert_eq!(rt; held(&sim, "d"), Some(b"y".as_slice()));
+    Ok(())
+}
+
+#[test]
+fn scan_tells_what_it_read(rt: HostRuntime) -> Result<(), Fail> {
+    let mut sim = two_files(rt.alloc())?;
+    sim.put("s", b"use b\nnone\nuse a\nuse b")?;
+    assert!(rt; run(rt.alloc(), &mut sim, "scan c c.d s more")?);
+    assert_eq!(rt; held(&sim, "c"), Some(b"yxy".as_slice()));
+    assert_eq!(rt; held(&sim, "c.d"), Some(b"c: b a b\n".as_slice()));
+    Ok(())
+}
+
+#[test]
+fn scan_of_nothing(rt: HostRuntime) -> Result<(), Fail> {
+    let mut sim = two_files(rt.alloc())?;
+    assert!(rt; run(rt.alloc(), &mut sim, "scan c c.d a")?);
+    assert_eq!(rt; held(&sim, "c"), Some(b"".as_slice()));
+    assert_eq!(rt; held(&sim, "c.d"), Some(b"c: \n".as_slice()));
+    Ok(())
+}
+
+#[test]
+fn scan_needs_what_is_named(rt: HostRuntime) -> Result<(), Fail> {
+    let mut sim = two_files(rt.alloc())?;
+    sim.put("s", b"use a\nuse h\n")?;
+    assert!(rt; !run(rt.alloc(), &mut sim, "scan c c.d s")?);
+    assert_eq!(rt; held(&sim, "c"), None);
+    assert_eq!(rt; held(&sim, "c.d"), None);
+    Ok(())
+}
+
+#[test]
+fn scan_needs_a_text(rt: HostRuntime) -> Result<(), Fail> {
+    let mut sim = two_files(rt.alloc())?;
+    sim.put("s", b"use a\n\xff")?;
+    assert!(rt; !run(rt.alloc(), &mut sim, "scan c c.d s")?);
+    assert_eq!(rt; held(&sim, "c"), None);
+    Ok(())
+}
+
+#[test]
+fn args_write_the_response(rt: HostRuntime) -> Result<(), Fail> {
+    let mut sim = two_files(rt.alloc())?;
+    assert!(rt; run_with(rt.alloc(), &mut sim, "args c", "a b\n")?);
+    assert_eq!(rt; held(&sim, "c"), Some(b"a b\n".as_slice()));
+    Ok(())
+}
+
+#[test]
+fn a_deleted_file_is_gone(rt: HostRuntime) -> Result<(), Fail> {
+    let mut sim = two_files(rt.alloc())?;
+    sim.remove("a")?;
+    assert_eq!(rt; held(&sim, "a"), None);
+    assert_eq!(rt; sim.stat("a")?, None);
+    sim.append("a", b"z")?;
+    assert_eq!(rt; held(&sim, "a"), Some(b"z".as_slice()));
+    assert_eq!(rt; sim.stat("a")?, Some(4));
     Ok(())
 }
 

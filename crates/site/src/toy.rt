@@ -1,8 +1,9 @@
 //! Commands for tests and scripts.
 
-ghost use Rattle.std.specs.Prelude.{◌≡◌, Option, List, map, option_copied, option_map, codes, IfOk};
+ghost use Rattle.std.specs.Prelude.{◌≡◌, ◌==◌, ◌++◌, ◌∷◌, Option, Some, List, map, option_copied, option_map, codes, IfOk, OnOk};
+ghost use Rattle.std.specs.List.{slice_split, filter_map, flat_map};
 ghost use Rattle.model.specs.World.{view_of};
-ghost use Rattle.site.specs.Toy.{words, contents, nothing, writing, gathered, copied, halved, doubled, given, does, kind_of};
+ghost use Rattle.site.specs.Toy.{words, contents, nothing, writing, gathered, copied, halved, doubled, scanned, named_in, named, behind, spaced, depfile, replied, given, does, kind_of};
 
 use crate::commands::Commands;
 use crate::history::History;
@@ -12,8 +13,15 @@ use text::{Bytes, Items, Path};
 
 /// Commands that are cut at single spaces, the first word being the kind and every other a path as it stands:
 /// `cat OUT IN..` joins the contents of the INs, `keep OUT IN..` does the same but does not write an OUT that holds
-/// just that, `both OUT1 OUT2 IN` copies IN to both, and `fail OUT IN..` leaves `half` and fails. An unknown kind, too
-/// few words or an absent IN make a command fail and write nothing.
+/// just that, `both OUT1 OUT2 IN` copies IN to both, `args OUT` writes the act's response content, and `fail OUT IN..`
+/// leaves `half` and fails.
+///
+/// `scan OUT DEP IN` reads IN: each of its lines that begins with `use ` names the path that is the rest of it, and the
+/// other lines say nothing. It joins the contents of the named paths in OUT, and writes a depfile to DEP: OUT, a colon and
+/// a space, the named paths with a space between, and a newline.
+///
+/// An unknown kind, too few words, an absent IN, or a named path that is absent make a command fail and write nothing; so
+/// does an IN of `scan` that is not UTF-8. Words beyond those that `both`, `scan` and `args` take are passed over.
 #[derive(Clone, Copy, Debug)]
 pub struct Toy;
 
@@ -23,6 +31,8 @@ enum Kind {
     Cat,
     Keep,
     Both,
+    Scan,
+    Args,
     Fail,
 }
 
@@ -39,7 +49,7 @@ impl Commands for Toy {
     fn run(&self, alloc: Global, act: &Act, history: &History) -> Result<Outcome, AllocError> {
         let words = words_of(alloc, act.command.as_str())?;
         match words.as_slice() {
-            [kind, out, words @ ..] => give(alloc, kind_of(kind), out, words, history),
+            [kind, out, words @ ..] => give(alloc, kind_of(kind), act, out, words, history),
             _ => Ok(fails(alloc)),
         }
     }
@@ -58,6 +68,8 @@ fn kind_of(word: &str) -> Option<Kind>
         "cat" => Some(Kind::Cat),
         "keep" => Some(Kind::Keep),
         "both" => Some(Kind::Both),
+        "scan" => Some(Kind::Scan),
+        "args" => Some(Kind::Args),
         "fail" => Some(Kind::Fail),
         _ => None,
     }
@@ -67,16 +79,19 @@ fn kind_of(word: &str) -> Option<Kind>
 fn give(
     alloc: Global,
     kind: Option<Kind>,
+    act: &Act,
     out: &str,
     words: &[&str],
     history: &History,
 ) -> Result<Outcome, AllocError>
-    ensures { IfOk result (λ outcome. outcome ≡ given kind out.now (map (λ word. word.now) words.now) (view_of history.now)) }
+    ensures { IfOk result (λ outcome. outcome ≡ given kind act.now.response_content out.now (map (λ word. word.now) words.now) (view_of history.now)) }
 {
     match kind {
         Some(Kind::Cat) => gather(alloc, out, words, false, history),
         Some(Kind::Keep) => gather(alloc, out, words, true, history),
         Some(Kind::Both) => double(alloc, out, words, history),
+        Some(Kind::Scan) => scan(alloc, out, words, history),
+        Some(Kind::Args) => reply(alloc, out, act.response_content.as_str()),
         Some(Kind::Fail) => halve(alloc, out, words, history),
         None => Ok(fails(alloc)),
     }
@@ -126,6 +141,119 @@ fn double(
     Ok(Outcome {
         ok: true,
         writes: Items::from_vec(vec![in alloc; first, second]?),
+    })
+}
+
+/// The contents of the paths that a file names go to `out`, and what they are to a depfile.
+fn scan(alloc: Global, out: &str, words: &[&str], history: &History) -> Result<Outcome, AllocError>
+    ensures { IfOk result (λ outcome. outcome ≡ scanned out.now (map (λ word. word.now) words.now) (view_of history.now)) }
+{
+    let [dep, from, ..] = words else {
+        return Ok(fails(alloc));
+    };
+    let Some(naming) = history.content(from) else {
+        return Ok(fails(alloc));
+    };
+    let Some(paths) = named_in(alloc, naming.as_slice())? else {
+        return Ok(fails(alloc));
+    };
+    let Some(content) = join(alloc, &paths, history)? else {
+        return Ok(fails(alloc));
+    };
+    let first = write(alloc, out, content.as_slice())?;
+    let told = depfile(alloc, out, &paths)?;
+    let second = write(alloc, dep, told.as_slice())?;
+    Ok(Outcome {
+        ok: true,
+        writes: Items::from_vec(vec![in alloc; first, second]?),
+    })
+}
+
+/// The paths that the bytes of a file name, or nothing where they are not UTF-8.
+fn named_in(alloc: Global, content: &[u8]) -> Result<Option<Vec<&str>>, AllocError>
+    ensures { IfOk result (λ paths. option_map (λ paths. map (λ path. path.now) paths.items) paths ≡ named_in (Some content.now)) }
+{
+    match str::from_utf8(content) {
+        Ok(text) => Ok(Some(named(alloc, text)?)),
+        Err(_) => Ok(None),
+    }
+}
+
+/// The paths that the lines of a text name.
+fn named(alloc: Global, text: &str) -> Result<Vec<&str>, AllocError>
+    ensures { IfOk result (λ paths. map (λ path. path.now) paths.items ≡ named text.now) }
+{
+    let lines = lines_of(alloc, text)?;
+    used_in(alloc, &lines)
+}
+
+/// The paths that these lines name.
+fn used_in<'a>(alloc: Global, lines: &[&'a str]) -> Result<Vec<&'a str>, AllocError>
+    ensures { IfOk result (λ paths. map (λ path. path.now) paths.items ≡ filter_map (behind (codes "use ")) (map (λ line. line.now) lines.now)) }
+{
+    let mut paths = Vec::new(alloc);
+    for line in lines {
+        if let Some(path) = used(line) {
+            paths.push(path)?;
+        }
+    }
+    Ok(paths)
+}
+
+fn lines_of(alloc: Global, text: &str) -> Result<Vec<&str>, AllocError>
+    ensures { IfOk result (λ lines. map (λ line. line.now) lines.items ≡ slice_split (λ b. b == 10) text.now) }
+{
+    text.split('\n').collect(alloc)
+}
+
+/// The path that a line names, if it names one.
+fn used(line: &str) -> Option<&str>
+    ensures { option_map (λ path. path.now) result ≡ behind (codes "use ") line.now }
+{
+    line.strip_prefix("use ")
+}
+
+/// What a depfile holds that tells these inputs of `out`.
+fn depfile(alloc: Global, out: &str, paths: &[&str]) -> Result<Bytes, AllocError>
+    ensures { IfOk result (λ content. content ≡ depfile out.now (map (λ path. path.now) paths.now)) }
+{
+    let mut text = Vec::from_slice(alloc, out.as_bytes())?;
+    text.extend_from_slice(b": ")?;
+    append_spaced(&mut text, paths)?;
+    text.push(b'\n')?;
+    Ok(Bytes::from_vec(text))
+}
+
+/// Appends the paths, with a space between.
+fn append_spaced(text: &mut Vec<u8>, paths: &[&str]) -> Result<(), AllocError>
+    ensures { OnOk result (text.new.items ≡ text.old.items ++ spaced (map (λ path. path.now) paths.now)) }
+{
+    if let [first, others @ ..] = paths {
+        text.extend_from_slice(first.as_bytes())?;
+        append_others(text, others)?;
+    }
+    Ok(())
+}
+
+/// Appends the paths, each with a space before it.
+fn append_others(text: &mut Vec<u8>, paths: &[&str]) -> Result<(), AllocError>
+    ensures { OnOk result (text.new.items ≡ text.old.items ++ flat_map (λ path. 32 ∷ path) (map (λ path. path.now) paths.now)) }
+{
+    for path in paths {
+        text.push(b' ')?;
+        text.extend_from_slice(path.as_bytes())?;
+    }
+    Ok(())
+}
+
+/// The response content of the act goes to `out`.
+fn reply(alloc: Global, out: &str, response: &str) -> Result<Outcome, AllocError>
+    ensures { IfOk result (λ outcome. outcome ≡ replied response.now out.now) }
+{
+    let write = write(alloc, out, response.as_bytes())?;
+    Ok(Outcome {
+        ok: true,
+        writes: Items::from_vec(vec![in alloc; write]?),
     })
 }
 

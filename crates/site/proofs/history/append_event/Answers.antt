@@ -2,4 +2,4 @@ use Rattle.site.proofs.Views.{latest-happened}
 use Rattle.site.proofs.history.append_event.Goals as goal
 
 pub returns-in_ok-push-clause-stamp : goal.returns-in_ok-push-clause-stamp
-returns-in_ok-push-clause-stamp c = latest-happened c.args.moments.now.items c.push.new.self.items c.in-Some.event c.in_ok-push.ensures.items
+returns-in_ok-push-clause-stamp c = latest-happened c.args.moments.now c.push.new.self c.in-Some.event c.in_ok-push.ensures.ok

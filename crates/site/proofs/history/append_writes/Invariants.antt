@@ -5,7 +5,7 @@ use Rattle.site.proofs.history.append_writes.Given as goal
 
 abbrev pub invariant-loop-write : goal.invariant-loop-write
 invariant-loop-write l = record {
-  written : l.moments.items ≡ with_writes l.job l.yielded l.initial.moments.items;
-  longer : IsLonger l.initial.moments.items l.moments.items;
-  clocked : l.clock ≡ latest l.moments.items;
+  written : l.moments ≡ with_writes l.job l.yielded l.initial.moments;
+  longer : IsLonger l.initial.moments l.moments;
+  clocked : l.clock ≡ latest l.moments;
 }

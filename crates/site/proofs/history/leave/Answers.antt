@@ -4,4 +4,4 @@ use Rattle.site.proofs.history.leave.Goals as goal
 
 pub returns-clause-stamp : goal.returns-clause-stamp
 returns-clause-stamp c =
-    clocked_wrote c.args.clock.now c.append_write.new.clock c.args.moments.now.items c.append_write.new.moments.items (Command c.args.job) c.args.write.path c.args.write.content c.requires c.in_ok-append_write.ensures.stamp c.in_ok-append_write.ensures.ok
+    clocked_wrote c.args.clock.now c.append_write.new.clock c.args.moments.now c.append_write.new.moments (Command c.args.job) c.args.write.path c.args.write.content c.requires c.in_ok-append_write.ensures.stamp c.in_ok-append_write.ensures.ok
