@@ -80,6 +80,7 @@ fn fresh(alloc: Global, case: (&str, &str, &str), timing: Timing) -> Result<Sim<
     site.put("a", b"x")?;
     site.put("i", b"y")?;
     site.timing(timing);
+    start_again(&mut site);
     Ok(site)
 }
 
