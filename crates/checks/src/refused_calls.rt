@@ -146,26 +146,48 @@ fn meets(
     let mut site = fresh(alloc, case, place.timing)?;
     name(&mut site, place)?;
     let report = build_all(alloc, &mut site)?;
-    let Report::Fault(fault) = report else {
-        assert!(rt;
-            given(alloc, &report, &site, case.2)?.as_slice() == expected,
-            "{place:?}"
-        );
+    let Some(fault) = fault_in(&report) else {
+        is_given(rt, alloc, &report, &site, case.2, place, expected)?;
         return Ok(false);
     };
-    assert_eq!(rt; fault, fault_of(place.trouble), "{place:?}");
-    // A refused wait ends the build with commands running; after any other refused call they are taken in.
-    if fault == SiteFault::Device {
-        let waits = matches!(place.call, Call::WaitAny);
-        assert_eq!(rt; running(site.events()) > 0, waits, "{place:?}");
-    }
+    is_expected(rt, place, fault, site.events());
     start_again(&mut site);
     let report = build_all(alloc, &mut site)?;
-    assert!(rt;
-        given(alloc, &report, &site, case.2)?.as_slice() == expected,
-        "{place:?}"
-    );
+    is_given(rt, alloc, &report, &site, case.2, place, expected)?;
     Ok(true)
+}
+
+/// The fault that is answered, if one is.
+fn fault_in(report: &Report) -> Option<SiteFault> {
+    match report {
+        Report::Fault(fault) => Some(*fault),
+        _ => None,
+    }
+}
+
+/// This was given, whatever went wrong before.
+fn is_given(
+    rt: &impl Abort,
+    alloc: Global,
+    report: &Report,
+    site: &Sim<Toy>,
+    outputs: &str,
+    place: Place,
+    expected: &[u8],
+) -> Result<(), Fail> {
+    let given = given(alloc, report, site, outputs)?;
+    assert!(rt; given.as_slice() == expected, "{place:?}");
+    Ok(())
+}
+
+/// The fault is that of the place. A refused wait ends the build with commands running; after any other refused call they
+/// are taken in.
+fn is_expected(rt: &impl Abort, place: Place, fault: SiteFault, events: &[Event]) {
+    assert_eq!(rt; fault, fault_of(place.trouble), "{place:?}");
+    if fault == SiteFault::Device {
+        let waits = matches!(place.call, Call::WaitAny);
+        assert_eq!(rt; running(events) > 0, waits, "{place:?}");
+    }
 }
 
 /// The fault that a build answers.
