@@ -1,5 +1,8 @@
 //! The lines of a script.
 
+use site::{Call, Order, Timing};
+use std::str::FromStr;
+
 /// A line of a script, without its newline.
 #[derive(Drop)]
 pub enum Line<'a> {
@@ -33,7 +36,25 @@ pub enum Command<'a> {
     Jobs(u32),
     /// `-k N`: from now on nothing is started after so many failed commands; 0 is no limit.
     Keep(u32),
-    /// `show PATH`: what the file holds is printed.
+    /// `finish first`, `finish last`: from now on the running command with the lowest, or the highest, number ends next.
+    Finish(Order),
+    /// `early`, `late`: from now on commands write when they start, or when they end.
+    Writes(Timing),
+    /// `gate N`: in the next build the first wait is refused where fewer commands run.
+    Gate(usize),
+    /// `fault KIND N`: in the next build the device refuses the call of this kind and number.
+    Fault {
+        call: Call,
+        number: u64,
+    },
+    /// `stop KIND N B`: in the next build the site stops in the call of this kind and number. An append has put down so
+    /// many bytes by then, and none where the line does not say.
+    Stop {
+        call: Call,
+        number: u64,
+        bytes: usize,
+    },
+    /// `show PATH`: what the file holds is printed, in one line.
     Show {
         path: &'a str,
     },
@@ -73,8 +94,57 @@ impl<'a> Command<'a> {
             ("show", Some(rest)) => Some(Command::Show {
                 path: lone_path(rest)?,
             }),
+            (word, rest) => Command::parse_site(word, rest),
+        }
+    }
+
+    /// Reads a line that says how the site goes on.
+    fn parse_site(word: &str, rest: Option<&[u8]>) -> Option<Command<'a>> {
+        match (word, rest) {
+            ("finish", Some(b"first")) => Some(Command::Finish(Order::First)),
+            ("finish", Some(b"last")) => Some(Command::Finish(Order::Last)),
+            ("early", None) => Some(Command::Writes(Timing::Early)),
+            ("late", None) => Some(Command::Writes(Timing::Late)),
+            ("gate", Some(rest)) => Some(Command::Gate(number(rest)?)),
+            ("fault", Some(rest)) => match call_and_number(rest)? {
+                (call, number, None) => Some(Command::Fault { call, number }),
+                _ => None,
+            },
+            ("stop", Some(rest)) => {
+                let (call, at, bytes) = call_and_number(rest)?;
+                Some(Command::Stop {
+                    call,
+                    number: at,
+                    bytes: number_or_zero(bytes)?,
+                })
+            }
             _ => None,
         }
+    }
+}
+
+/// The kind of a call, its number among those of its kind, and what stands behind.
+fn call_and_number(rest: &[u8]) -> Option<(Call, u64, Option<&[u8]>)> {
+    let (kind, rest) = first_word(rest);
+    let (at, rest) = first_word(rest?);
+    Some((call_of(kind)?, number(at)?, rest))
+}
+
+/// The kind of call of this name.
+fn call_of(kind: &[u8]) -> Option<Call> {
+    match kind {
+        b"read" => Some(Call::Read),
+        b"stat" => Some(Call::Stat),
+        b"tick" => Some(Call::Tick),
+        b"append" => Some(Call::Append),
+        b"replace" => Some(Call::Replace),
+        b"write" => Some(Call::Write),
+        b"remove" => Some(Call::Remove),
+        b"make_dirs" => Some(Call::MakeDirs),
+        b"start" => Some(Call::Start),
+        b"wait_any" => Some(Call::WaitAny),
+        b"show" => Some(Call::Show),
+        _ => None,
     }
 }
 
@@ -103,11 +173,22 @@ fn words(rest: &[u8]) -> Option<&str> {
 }
 
 /// A number of decimal digits alone.
-fn number(word: &[u8]) -> Option<u32> {
+fn number<N: FromStr>(word: &[u8]) -> Option<N>
+where
+    N::Err: Drop,
+{
     if !word.iter().all(|byte| byte.is_ascii_digit()) {
         return None;
     }
-    str::from_utf8(word).ok()?.parse::<u32>().ok()
+    str::from_utf8(word).ok()?.parse::<N>().ok()
+}
+
+/// A number, or 0 where there is no word.
+fn number_or_zero(word: Option<&[u8]>) -> Option<usize> {
+    match word {
+        Some(word) => number(word),
+        None => Some(0),
+    }
 }
 
 /// The bytes that a text stands for: `\n` is a newline and `\\` a backslash. Before anything else a backslash stands.

@@ -3,6 +3,7 @@
 
 mod command;
 mod fault;
+mod idle;
 #[cfg(test)]
 mod language;
 mod print;
@@ -11,6 +12,8 @@ mod refusals;
 #[cfg(test)]
 mod rows;
 mod run;
+#[cfg(test)]
+mod stops;
 #[cfg(test)]
 mod tests;
 

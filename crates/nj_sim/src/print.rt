@@ -47,14 +47,25 @@ pub fn print_report<W: Write>(writer: &mut W, report: &Report) -> io::Result<()>
     }
 }
 
-/// Prints what a file holds.
+/// Prints what a file holds, in one line.
 pub fn print_file<W: Write>(writer: &mut W, path: &str, content: Option<&Bytes>) -> io::Result<()> {
     match content {
         Some(content) => {
             write!(writer, "{path}=")?;
-            writer.write_all(content.as_slice())?;
+            for byte in content.as_slice().chunks(1) {
+                writer.write_all(escaped(byte))?;
+            }
             writeln!(writer, "")
         }
         None => writeln!(writer, "{path} absent"),
+    }
+}
+
+/// A byte as a text has it that `write` takes: a newline is `\n` and a backslash `\\`.
+fn escaped(byte: &[u8]) -> &[u8] {
+    match byte {
+        b"\n" => b"\\n",
+        b"\\" => b"\\\\",
+        plain => plain,
     }
 }

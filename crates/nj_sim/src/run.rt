@@ -1,14 +1,12 @@
 //! The run of a script.
 
 ghost use Rattle.std.specs.Prelude.{◌≡◌, ◌⊎◌, IfOk};
-ghost use Rattle.model.specs.World.{IsIdle};
-ghost use Rattle.site.specs.World.{world_of};
 
 use crate::command::{Command, Line, Unescaped};
 use crate::fault::ScriptFault;
+use crate::idle::IdleSite;
 use crate::print::{print_events, print_file, print_report};
-use builder::{Options, build};
-use site::{Sim, Site, Toy};
+use builder::Options;
 use std::alloc::{AllocError, Global};
 use std::io::{BufRead, BufReader, BufWriter, Read, Write};
 use text::Text;
@@ -57,7 +55,7 @@ fn run_lines<R: BufRead + Drop, W: Write>(
 #[derive(Drop)]
 struct Run {
     alloc: Global,
-    site: Sim<Toy>,
+    site: IdleSite,
     options: Options,
     /// The file whose content lines are being read.
     begun: Option<BegunFile>,
@@ -74,7 +72,7 @@ impl Run {
     fn new(alloc: Global) -> Result<Run, AllocError> {
         Ok(Run {
             alloc,
-            site: Sim::new(alloc, Toy),
+            site: IdleSite::new(alloc),
             options: Options {
                 file: Text::from_str(alloc, "build.ninja")?,
                 jobs: 4,
@@ -108,6 +106,15 @@ impl Run {
             Command::Build { targets } => self.build(writer, targets)?,
             Command::Jobs(jobs) => self.options.jobs = jobs,
             Command::Keep(keep) => self.options.keep = keep,
+            Command::Finish(order) => self.site.order(order),
+            Command::Writes(timing) => self.site.timing(timing),
+            Command::Gate(commands) => self.site.gate(commands),
+            Command::Fault { call, number } => self.site.fail(call, number)?,
+            Command::Stop {
+                call,
+                number,
+                bytes,
+            } => self.site.stop_at(call, number, bytes)?,
             Command::Show { path } => print_file(writer, path, self.site.content(path)).map_err(
                 ScriptFault::of_writer,
             )?,
@@ -143,10 +150,12 @@ impl Run {
 
     /// Writes the text to a file, or what the file holds. A file that is absent holds nothing.
     fn write(&mut self, path: &str, text: Option<&[u8]>) -> Result<(), AllocError> {
-        let content = match (text, self.site.content(path)) {
-            (Some(text), _) => Unescaped(text).collect(self.alloc)?,
-            (None, Some(content)) => Vec::from_slice(self.alloc, content.as_slice())?,
-            (None, None) => Vec::new(self.alloc),
+        let content = match text {
+            Some(text) => Unescaped(text).collect(self.alloc)?,
+            None => match self.site.content(path) {
+                Some(content) => Vec::from_slice(self.alloc, content.as_slice())?,
+                None => Vec::new(self.alloc),
+            },
         };
         self.site.put(path, content.as_slice())
     }
@@ -158,20 +167,12 @@ impl Run {
         targets: Option<&str>,
     ) -> Result<(), ScriptFault> {
         let targets = words(self.alloc, targets)?;
-        start_again(&mut self.site);
         let before = self.site.events().len();
-        let report = build(self.alloc, &mut self.site, &self.options, &targets);
+        let report = self.site.build(&self.options, &targets);
         let events = self.site.events().get(before..).unwrap_or_default();
         print_events(self.alloc, writer, events).map_err(ScriptFault::of_writer)?;
         print_report(writer, &report).map_err(ScriptFault::of_writer)
     }
-}
-
-/// Starts the site again: commands that a fault left running have ended.
-fn start_again(site: &mut Sim<Toy>)
-    ensures { IsIdle (world_of site.new).events }
-{
-    site.restart();
 }
 
 /// The words of the targets; none where none are given.

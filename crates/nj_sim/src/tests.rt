@@ -3,8 +3,9 @@ use crate::language::{BUILD_FILE, SCOPES};
 use crate::refusals::{FAULTS, GRAPHS};
 use crate::rows::{COMMANDS, PHONY, RULES, TARGETS, VALIDATIONS};
 use crate::run::script;
+use crate::stops::STOPS;
 use std::alloc::Global;
-use std::io::{self, ErrorKind, Read};
+use std::io::{self, ErrorKind, Read, Write};
 use std::process::Abort;
 use std::test::Fail;
 
@@ -27,14 +28,19 @@ c=xx
 ";
 
 /// Scripts with what they print. Each ends with status 0.
-const ROWS: [(&str, &str); 3] = [
+const ROWS: [(&str, &str); 4] = [
     ("", ""),
+    // What is printed of a file is a text that writes the same.
+    (
+        "file a\n|\\n\nshow a\nwrite a \\\\n\\n\nshow a\nwrite a \\\\\nshow a\n",
+        "a=\\\\n\\n\na=\\\\n\\n\na=\\\\\n",
+    ),
     ("file build.ninja\nbuild\n", "success 0\n"),
     (TWO_COMMANDS, TWO_COMMANDS_PRINTED),
 ];
 
 /// Lines that are no command.
-const BAD_LINES: [&[u8]; 18] = [
+const BAD_LINES: [&[u8]; 46] = [
     b"",
     b" ",
     b"|x",
@@ -53,6 +59,34 @@ const BAD_LINES: [&[u8]; 18] = [
     b"write ",
     b"delete \xff",
     b"file a\r\n|x\nbuild\r",
+    b"lines",
+    b"finish",
+    b"finish ",
+    b"finish middle",
+    b"finish first ",
+    b"finish first last",
+    b"early ",
+    b"early 1",
+    b"late\r",
+    b"gate",
+    b"gate ",
+    b"gate -1",
+    b"gate 1 2",
+    b"gate 18446744073709551616",
+    b"fault",
+    b"fault start",
+    b"fault start ",
+    b"fault start one",
+    b"fault start 1 ",
+    b"fault start 1 2",
+    b"fault  start 1",
+    b"fault end 1",
+    b"fault start 18446744073709551616",
+    b"stop",
+    b"stop start",
+    b"stop append 1 B",
+    b"stop append 1 ",
+    b"stop append 1 2 3",
 ];
 
 /// Runs each script behind what all of them begin with, and compares all that it prints.
@@ -93,12 +127,17 @@ fn graphs_are_built(rt: HostRuntime) -> Result<(), Fail> {
 }
 
 #[test]
+fn builds_meet_faults_and_stops(rt: HostRuntime) -> Result<(), Fail> {
+    check(&rt, rt.alloc(), RULES, &STOPS)
+}
+
+#[test]
 fn content_need_not_be_text(rt: HostRuntime) -> Result<(), Fail> {
     let mut printed = Vec::new(rt.alloc());
     let mut reader = b"file a\n|\xff\nshow a".as_slice();
     let status = script(rt.alloc(), &mut reader, &mut printed)?;
     assert_eq!(rt; status, 0);
-    assert_eq!(rt; printed.as_slice(), b"a=\xff\n\n".as_slice());
+    assert_eq!(rt; printed.as_slice(), b"a=\xff\\n\n".as_slice());
     Ok(())
 }
 
@@ -165,5 +204,26 @@ fn refused_memory_is_told(rt: HostRuntime) -> Result<(), Fail> {
         }
         Err(fault) => assert_eq!(rt; fault, ScriptFault::Memory),
     }
+    Ok(())
+}
+
+/// How many files the long script writes, and then shows.
+const FILES: usize = 10_000;
+
+#[test]
+fn a_long_script_comes_to_its_end(rt: HostRuntime) -> Result<(), Fail> {
+    let mut lines = Vec::new(rt.alloc());
+    let mut expected = Vec::new(rt.alloc());
+    for number in 0..FILES {
+        write!(&mut lines, "write f{number} x\\n{number}\n")?;
+        write!(&mut expected, "f{number}=x\\n{number}\n")?;
+    }
+    for number in 0..FILES {
+        write!(&mut lines, "show f{number}\n")?;
+    }
+    let mut printed = Vec::new(rt.alloc());
+    let status = script(rt.alloc(), &mut lines.as_slice(), &mut printed)?;
+    assert_eq!(rt; status, 0);
+    assert!(rt; printed == expected);
     Ok(())
 }
