@@ -116,7 +116,8 @@ module _ {T : Type 0} where
     | inr r ↦ ap (λ (m : ℕ). has (outputs_at (tellings all) m) o) (let at = r.1 in let same : k ≡ r.0 = omega arith in same) ∙ r.2
   ]
 
-  told_kept : (all : List (Saying T)) (o : List ℕ) → told_of (map (λ (t : Telling T). (t.0, Some t.1)) (in_force_of all)) o ≡ told_of all o
+  -- the records in force tell what all tell
+  pub told_kept : (all : List (Saying T)) (o : List ℕ) → told_of (map (λ (t : Telling T). (t.0, Some t.1)) (in_force_of all)) o ≡ told_of all o
   told_kept all o = picks all o 0 (tellings all) None (all_named all o) ∙ (picked (place_of all o) (tellings all) ∙ sym (told_place all o))
 
 same_sayings : (ts : List (Telling Done)) → map saying (map done_record ts) ≡ map (λ (t : Telling Done). (t.0, Some t.1)) ts

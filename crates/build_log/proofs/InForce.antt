@@ -1,6 +1,5 @@
 -- What is in force in the build log, in the words of the model.
 use Rattle.std.proofs.Common.{◌≡◌, ◌<◌, ◌≤◌, ◌+◌, ℕ, zero, suc, Bool, true, false, cond, List, [], ◌∷◌, ◌++◌, length, map, Option, Some, None, slice_get, refl, sym, ap, ◌∙◌, subst, arith, append_assoc, append-nil}
-use Rattle.std.specs.List.{AllByRecursion}
 use Rattle.std.specs.Option.{option_map, option_and_then}
 use Rattle.std.proofs.lemmas.List.{map-append}
 use Rattle.std.proofs.lemmas.List.Concat.{flat_map-append}
@@ -12,11 +11,10 @@ use Rattle.build_log.specs.declared.done.Done.{Done}
 use Rattle.build_log.specs.declared.form.Version.TheVariants.{Two}
 use Rattle.build_log.specs.Form.{record_line, lines_text, HaveLines, IsAppended}
 use Rattle.build_log.specs.Text.{header}
-use Rattle.build_log.specs.Kept.{Saying, Telling, AreDistinct, tellings, told_from, told_of, place_of, is_place, left_to, outputs_at, some_of, in_force_of, Table, IsTableOf}
+use Rattle.build_log.specs.Kept.{Saying, Telling, tellings, told_from, told_of, place_of, left_to, outputs_at, some_of, in_force_of, Table, IsTableOf}
 use Rattle.build_log.specs.Record.{forms, outputs_of}
 use Rattle.build_log.specs.Log.{made_of, saying, done_record, Keeps, makings, IsLog}
 use Rattle.build_log.specs.Written.{left_of, written_of, IsWritten}
-use Rattle.build_log.proofs.Distinct.{distinct-filter}
 use Rattle.build_log.proofs.Lookups.{got, tolds, told_place, first_in_force, first_next, first_all}
 use Rattle.build_log.proofs.LawLemmas.{HaveLines-append}
 
@@ -64,22 +62,6 @@ said_outputs (Begun os) said e = ap (λ (s : Saying Done). s.0) e
 said_outputs (DoneRecord os start act) said e = ap (λ (s : Saying Done). s.0) e
 
 -- ---- compaction
-
-distinct_at : (all : List (Saying Done)) (n : ℕ) → AllByRecursion (λ (s : Saying Done). AreDistinct s.0) all → AreDistinct (outputs_at (tellings all) n)
-distinct_at [] n once = none
-  where
-    none : AreDistinct []
-    none p twice = elim_none twice.before twice.splits
-      where
-        elim_none : (before : List (List ℕ)) → [] ≡ before ++ p ∷ twice.after → ⊥
-        elim_none [] e = cc
-        elim_none (b ∷ before) e = cc
-distinct_at ((os, None) ∷ all) n once = distinct_at all n once.1
-distinct_at ((os, Some x) ∷ all) zero once = once.0
-distinct_at ((os, Some x) ∷ all) (suc n) once = distinct_at all n once.1
-
-pub left_distinct : (all : List (Saying Done)) (table : Table Done) (n : ℕ) (outputs : List (List ℕ)) → IsTableOf all table → outputs ≡ left_to all n (outputs_at (tellings all) n) → AreDistinct outputs
-left_distinct all table n outputs is e = subst AreDistinct (sym e) (distinct-filter (λ o. is_place n (place_of all o)) (outputs_at (tellings all) n) (distinct_at all n is.once))
 
 record_of-some : (outputs : List (List ℕ)) (done : Done) → 0 < length outputs → map done_record (some_of outputs done) ≡ DoneRecord outputs done.start done.act ∷ []
 record_of-some [] done lt = absurd (omega arith)

@@ -2,12 +2,12 @@
 use Rattle.std.proofs.Common.{◌≡◌, ◌+◌, ℕ, zero, suc, Bool, true, false, cond, ◌||◌, ◌⊎◌, eqb, List, [], ◌∷◌, ◌++◌, length, Option, Some, None, slice_get, refl, sym, ap, ◌∙◌, subst, inl, inr, arith, String, string_bytes}
 use Rattle.std.specs.List.{AllByRecursion, list_any, find}
 use Rattle.std.specs.Str.{bytes_eq}
-use Rattle.std.proofs.lemmas.List.{length-append, map-append}
+use Rattle.std.proofs.lemmas.List.{length-append, map-append, append-nil, append_assoc}
 use Rattle.std.proofs.lemmas.Option.{slice_get_within, slice_get_past}
 use Rattle.std.proofs.lemmas.Bool.{false≢true, cases_Bool, or_cases, or_parts, false_from_ne_true, eqb-true, eq-eqb}
 use Rattle.model.specs.Graph.{has, has_number}
 use Rattle.build_log.specs.Kept.{Saying, Telling, AreDistinct, tellings, place_from, place_of, Table, joined, AreNumbersOf, AreTold, IsTableOf, texts_of}
-use Rattle.build_log.specs.Steps.{IsSaid, next_place, told_also}
+use Rattle.build_log.specs.Steps.{IsSaid, IsGrown, next_place, told_also}
 use Rattle.build_log.proofs.Distinct.{same_bytes, bytes_same, bytes_differ, distinct_push, has-push, has_at, one_place}
 
 -- ---- numbers of outputs
@@ -28,6 +28,19 @@ numbers_push xs [] [] n t are is = (is, tt)
 numbers_push xs [] (u ∷ ts) n t are is = absurd are
 numbers_push xs (m ∷ ns) [] n t are is = absurd are
 numbers_push xs (m ∷ ns) (u ∷ ts) n t are is = (are.0, numbers_push xs ns ts n t are.1 is)
+
+-- the texts are the old ones and more
+pub grown_none : {T : Type 0} (table : Table T) → IsGrown table table
+grown_none table = record { more = []; outputs = sym (append-nil table.outputs) }
+
+pub grown_by_none : {T : Type 0} (old new : Table T) → new.outputs ≡ old.outputs → IsGrown old new
+grown_by_none old new same = record { more = []; outputs = same ∙ sym (append-nil old.outputs) }
+
+pub grown_more : {T : Type 0} {old mid new : Table T} → IsGrown old mid → IsGrown mid new → IsGrown old new
+grown_more {old = old} first then = record {
+  more = first.more ++ then.more;
+  outputs = then.outputs ∙ (ap (λ (xs : List (List ℕ)). xs ++ then.more) first.outputs ∙ append_assoc old.outputs first.more then.more);
+}
 
 -- an output that has a number stands among the texts
 numbers_have : (xs : List (List ℕ)) (ns : List ℕ) (ts : List (List ℕ)) (o : List ℕ) → AreNumbersOf xs ns ts → has ts o ≡ true → has xs o ≡ true

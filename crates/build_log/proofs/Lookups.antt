@@ -1,13 +1,32 @@
 -- What is found in what is kept.
 use Rattle.std.proofs.Common.{◌≡◌, ◌<◌, ◌≤◌, ◌+◌, ℕ, zero, suc, Bool, true, false, cond, ◌||◌, ◌⊎◌, List, [], ◌∷◌, ◌++◌, length, map, filter, take, get_or, Option, Some, None, slice_get, refl, sym, ap, ◌∙◌, subst, inl, inr, arith, append_assoc, Result, Ok, Err, Vec, Global, Bor}
-use Rattle.std.specs.List.{list_any}
+use Rattle.std.specs.List.{list_any, AllByRecursion}
 use Rattle.std.specs.Prelude.{IfOk}
 use Rattle.std.proofs.lemmas.List.{length-append, append-nil, take_all}
 use Rattle.std.proofs.lemmas.Bool.{cases_Bool}
 use Rattle.model.specs.Graph.{has}
-use Rattle.build_log.specs.Kept.{Saying, Telling, tellings, told_from, told_of, place_from, place_of, is_place, left_to, outputs_at, some_of, in_force_from, in_force_of, Table, joined, AreNumbersOf, AreTold, IsTableOf}
+use Rattle.build_log.specs.Kept.{Saying, Telling, AreDistinct, texts_at, if_some, tellings, told_from, told_of, place_from, place_of, is_place, left_to, outputs_at, some_of, in_force_from, in_force_of, Table, joined, AreNumbersOf, AreTold, IsTableOf}
+use Rattle.build_log.specs.Found.{texts_in, IsNamed}
+use Rattle.build_log.proofs.Bytes.{take_more}
+use Rattle.build_log.proofs.Distinct.{distinct_of_once, distinct-filter}
 
 -- ---- what is in force
+
+texts_at-push : (xs : List (List ℕ)) (ns : List ℕ) (n : ℕ) → texts_at xs (ns ++ n ∷ []) ≡ texts_at xs ns ++ if_some (slice_get xs n)
+texts_at-push xs [] n = append-nil (if_some (slice_get xs n))
+texts_at-push xs (m ∷ ns) n = ap (λ (l : List (List ℕ)). if_some (slice_get xs m) ++ l) (texts_at-push xs ns n) ∙ sym (append_assoc (if_some (slice_get xs m)) (texts_at xs ns) (if_some (slice_get xs n)))
+
+pub texts_next : (xs : List (List ℕ)) (ns : List ℕ) (i : ℕ) (old new : List (List ℕ)) → i < length ns → old ≡ texts_at xs (take i ns) → new ≡ old ++ if_some (slice_get xs (get_or ns i 0)) → new ≡ texts_at xs (take (i + 1) ns)
+texts_next xs ns i old new lt e step =
+    step ∙ (ap (λ (l : List (List ℕ)). l ++ if_some (slice_get xs (get_or ns i 0))) e ∙ (sym (texts_at-push xs (take i ns) (get_or ns i 0)) ∙ ap (texts_at xs) (sym (take_more ns i 0 lt))))
+
+all_push : {A : Type 0} (P : A → Type 0) (xs : List A) (x : A) → AllByRecursion P xs → P x → AllByRecursion P (xs ++ x ∷ [])
+all_push P [] x are is = (is, tt)
+all_push P (y ∷ xs) x are is = (are.0, all_push P xs x are.1 is)
+
+some_named : (os : List (Bor (List ℕ))) → 0 < length os → 0 < length (texts_in os)
+some_named [] some = some
+some_named (o ∷ os) some = omega arith
 
 abbrev pub got : {T : Type 0} → List T → Option ℕ → Option T
 got xs None = None
@@ -187,3 +206,25 @@ module _ {T : Type 0} where
       → IfOk left (λ texts. (all : List (Saying T)) → IsTableOf all table → map (λ o. o.now) texts.items ≡ left_to all place (outputs_at (tellings all) place))
   left_from (Ok texts) table place k e has = λ all is. has all (outputs_at (tellings all) place) is (outputs_told table.outputs table.told (tellings all) place k is.told e)
   left_from (Err x) table place k e has = tt
+
+  distinct_at : (all : List (Saying T)) (n : ℕ) → AllByRecursion (λ (s : Saying T). AreDistinct s.0) all → AreDistinct (outputs_at (tellings all) n)
+  distinct_at [] n once = distinct_of_once [] tt
+  distinct_at ((os, None) ∷ all) n once = distinct_at all n once.1
+  distinct_at ((os, Some x) ∷ all) zero once = once.0
+  distinct_at ((os, Some x) ∷ all) (suc n) once = distinct_at all n once.1
+
+  -- none of them stands twice
+  pub left_distinct : (all : List (Saying T)) (table : Table T) (n : ℕ) (outputs : List (List ℕ)) → IsTableOf all table → outputs ≡ left_to all n (outputs_at (tellings all) n) → AreDistinct outputs
+  left_distinct all table n outputs is e = subst AreDistinct (sym e) (distinct-filter (λ o. is_place n (place_of all o)) (outputs_at (tellings all) n) (distinct_at all n is.once))
+
+  pub left_once : {E : Type 0} (left : Result (Vec (Bor (List ℕ)) Global) E) (table : Table T) (place : ℕ)
+      → IfOk left (λ texts. (all : List (Saying T)) → IsTableOf all table → map (λ o. o.now) texts.items ≡ left_to all place (outputs_at (tellings all) place))
+      → IfOk left (λ texts. (all : List (Saying T)) → IsTableOf all table → AreDistinct (map (λ o. o.now) texts.items))
+  left_once (Ok texts) table place left = λ all is. left_distinct all table place (map (λ o. o.now) texts.items) is (left all is)
+  left_once (Err x) table place left = tt
+
+  -- ---- records in force as they are handed out
+
+  pub named_push : (found : List (List (Bor (List ℕ)) × Bor T)) (os outputs : List (Bor (List ℕ))) (t : Bor T) → os ≡ outputs → 0 < length outputs → AreDistinct (texts_in outputs) → AllByRecursion IsNamed found → AllByRecursion IsNamed (found ++ (os, t) ∷ [])
+  named_push found os outputs t same some once are =
+      all_push IsNamed found (os, t) are (subst (λ (xs : List (Bor (List ℕ))). 0 < length (texts_in xs)) (sym same) (some_named outputs some), subst (λ (xs : List (Bor (List ℕ))). AreDistinct (texts_in xs)) (sym same) once)

@@ -108,20 +108,22 @@ text_after_not a b e = (bytes_eq-Decides a b).0 (not-false (bytes_eq a b) (sym e
 
 -- ---- a count and as many outputs
 
-pub not_zero : (first : List ℕ) (rest outputs after : List (List ℕ)) (n : ℕ) → first ≡ decimal n → n ≡ 0 → HasRoomFor Two outputs → first ∷ rest ≡ counted outputs ++ after → ⊥
-not_zero first rest outputs after n is zero_is room e =
-    let count : decimal (length outputs) ≡ first = cc in
-    let same = decimal_injective (length outputs) 0 room.1 (omega arith) (count ∙ (is ∙ ap decimal zero_is)) in
+-- a list of no texts is none that has some
+pub not_empty : (fields texts behind outputs after : List (List ℕ)) → fields ≡ counted texts ++ behind → length texts < 18446744073709551616 → length texts ≡ 0 → HasRoomFor Two outputs → fields ≡ counted outputs ++ after → ⊥
+not_empty fields texts behind outputs after is lt none room e =
+    let both : decimal (length texts) ∷ (texts ++ behind) ≡ decimal (length outputs) ∷ (outputs ++ after) = sym is ∙ e in
+    let count : decimal (length outputs) ≡ decimal (length texts) = cc in
+    let same = decimal_injective (length outputs) (length texts) room.1 lt count in
     let some = room.0 in
     omega arith
 
-pub too_few : {A : Type 0} (found : Option A) (fields : List (List ℕ)) (first : List ℕ) (rest : List (List ℕ)) (n : ℕ) → fields ≡ first ∷ rest → first ≡ decimal n → n < 18446744073709551616 → IfNone found (length rest < n) → IfNone found ((outputs after : List (List ℕ)) → HasRoomFor Two outputs → fields ≡ counted outputs ++ after → ⊥)
-too_few None fields first rest n cons is lt few = λ outputs after room e.
-    let both : first ∷ rest ≡ decimal (length outputs) ∷ (outputs ++ after) = sym cons ∙ e in
-    let count : decimal (length outputs) ≡ first = cc in
-    let others : rest ≡ outputs ++ after = cc in
-    let same = decimal_injective (length outputs) n room.1 lt (count ∙ is) in
-    let len = ap length others ∙ length-append outputs after in
+pub too_few : {A : Type 0} (found : Option A) (fields : List (List ℕ)) (first : List ℕ) (rest : List (List ℕ)) (n : ℕ) → fields ≡ first ∷ rest → first ≡ decimal n → n < 18446744073709551616 → IfNone found (length rest < n) → IfNone found ((texts after : List (List ℕ)) → length texts < 18446744073709551616 → fields ≡ counted texts ++ after → ⊥)
+too_few None fields first rest n cons is lt few = λ texts after room e.
+    let both : first ∷ rest ≡ decimal (length texts) ∷ (texts ++ after) = sym cons ∙ e in
+    let count : decimal (length texts) ≡ first = cc in
+    let others : rest ≡ texts ++ after = cc in
+    let same = decimal_injective (length texts) n room lt (count ∙ is) in
+    let len = ap length others ∙ length-append texts after in
     absurd (omega arith)
 too_few (Some x) fields first rest n cons is lt few = tt
 

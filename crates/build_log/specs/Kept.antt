@@ -64,7 +64,15 @@ in_force_from all n (t ∷ rest) = some_of (left_to all n t.0) t.1 ++ in_force_f
 abbrev pub in_force_of : {T : Type 0} → List (Saying T) → List (Telling T)
 in_force_of all = in_force_from all 0 (tellings all)
 
--- what is kept: outputs by number, the number of the record in force for each, the records that tell something with
+-- these records, each of which tells something
+abbrev pub sayings_of : {T : Type 0} → List (Telling T) → List (Saying T)
+sayings_of tells = map (λ t. (t.0, Some t.1)) tells
+
+-- the records in force tell of each output what all records tell
+abbrev pub InForceKeeps : Type 0 → Type 0
+InForceKeeps T = (all : List (Saying T)) (o : List ℕ) → told_of (sayings_of (in_force_of all)) o ≡ told_of all o
+
+-- what is kept: outputs and other texts by number, the number of the record in force for each, the records that tell something with
 -- numbers in place of outputs, and how many records there were
 pub record Table (T : Type 0) : Type 0 where
   pub outputs : List (List ℕ)
@@ -82,6 +90,15 @@ AreNumbersOf texts [] [] = Unit {0}
 AreNumbersOf texts [] (t ∷ ts) = ⊥
 AreNumbersOf texts (n ∷ ns) [] = ⊥
 AreNumbersOf texts (n ∷ ns) (t ∷ ts) = (slice_get texts n ≡ Some t) × AreNumbersOf texts ns ts
+
+abbrev pub if_some : Option (List ℕ) → List (List ℕ)
+if_some None = []
+if_some (Some t) = t ∷ []
+
+-- the texts with these numbers; a number that is no text's gives none
+abbrev pub texts_at : List (List ℕ) → List ℕ → List (List ℕ)
+texts_at texts [] = []
+texts_at texts (n ∷ ns) = if_some (slice_get texts n) ++ texts_at texts ns
 
 -- these are the records that tell something, with numbers in place of outputs
 abbrev pub AreTold : {T : Type 0} → List (List ℕ) → List (List ℕ × T) → List (Telling T) → Type 0

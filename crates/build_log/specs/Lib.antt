@@ -4,6 +4,7 @@ pub mod Form
 pub mod Text
 pub mod Laws
 pub mod Kept
+pub mod Found
 pub mod Steps
 pub mod Record
 pub mod Log

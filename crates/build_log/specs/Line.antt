@@ -1,5 +1,5 @@
 -- A line of a log: fields with a tab behind each, and a dot.
-use Rattle.std.specs.Prelude.{◌≡◌, ℕ, List, [], ◌∷◌, ◌++◌, ◌==◌, if◌then◌else◌, decimal, length}
+use Rattle.std.specs.Prelude.{◌≡◌, ◌<◌, ℕ, List, [], ◌∷◌, ◌++◌, ◌==◌, if◌then◌else◌, decimal, length}
 use Rattle.std.specs.List.{flat_map, AllByRecursion}
 use Rattle.std.specs.Str.{IsUtf8}
 use Rattle.text.specs.Marks.{Lacks}
@@ -35,3 +35,8 @@ IsPlain text = Lacks 92 text × Lacks 9 text × Lacks 10 text
 -- the bytes are no text's field
 abbrev pub SpellsNothing : List ℕ → Type 0
 SpellsNothing field = (text : List ℕ) → IsUtf8 text → field ≡ field_text text → ⊥
+
+-- the text begins with a digit from 1 to 9
+abbrev pub Leads : List ℕ → Type 0
+Leads [] = ⊥
+Leads (byte ∷ rest) = (48 < byte) × (byte < 58)

@@ -10,7 +10,7 @@ use memchr::memchr3;
 use std::alloc::{AllocError, Global};
 use std::marker::Model;
 use std::str::from_utf8;
-use text::cut;
+use text::{Path, cut};
 
 /// The text that a field spells. It borrows from the line where nothing in the field is escaped, and contracts see it
 /// as the list of its bytes.
@@ -59,6 +59,17 @@ impl<'a> Field<'a> {
             unescaped: Some(text),
         }
     }
+}
+
+/// These paths as fields, which borrow from them.
+pub fn plain_fields<'a>(alloc: Global, paths: &'a [Path]) -> Result<Vec<Field<'a>>, AllocError>
+    ensures { IfOk result (λ fields. fields.items ≡ paths.now) }
+{
+    let mut fields = Vec::with_capacity(alloc, paths.len())?;
+    for path in paths {
+        fields.push(Field::plain(path.as_str()))?;
+    }
+    Ok(fields)
 }
 
 /// Writes the field of a text at the end of a line. Where memory is refused, a part of it may stand there.

@@ -1,10 +1,11 @@
 //! What is kept of the records of a log: outputs by number, and for each the record in force.
 
 ghost use Rattle.std.specs.Prelude.{◌≡◌, ◌<◌, ◌≤◌, ◌↔◌, ◌*◌, [], ◌∷◌, ◌++◌, List, ℕ, Option, Some, None, IsTrue, IfOk, IfSome, IfNone, OnOk, OnErr, length, slice_get, map, if◌then◌else◌};
-ghost use Rattle.std.specs.List.{list_any};
+ghost use Rattle.std.specs.List.{list_any, AllByRecursion};
 ghost use Rattle.std.specs.Option.{option_copied, option_map};
 ghost use Rattle.model.specs.Graph.{has, has_number};
-ghost use Rattle.build_log.specs.Kept.{Saying, IsTableOf, AreDistinct, AreNumbersOf, told_of, place_of, is_place, tellings, in_force_of, left_to, outputs_at, joined, WantsCompaction};
+ghost use Rattle.build_log.specs.Kept.{Saying, IsTableOf, AreDistinct, AreNumbersOf, told_of, place_of, is_place, tellings, in_force_of, left_to, outputs_at, some_of, texts_at, if_some, joined, WantsCompaction};
+ghost use Rattle.build_log.specs.Found.{tellings_in, IsNamed};
 ghost use Rattle.build_log.specs.Steps.{IsFilled, IsGrown, IsSaid};
 
 use crate::field::Field;
@@ -17,7 +18,7 @@ use text::Items;
 /// that from now on nothing is in force for them.
 ///
 /// Each output is kept once, and each `T` once. A record that tells something has a number, its place among those that
-/// do, from 0.
+/// do, from 0. Texts that a `T` names can be given numbers beside the outputs, so that each is kept once too.
 #[derive(Drop)]
 pub struct Kept<T> {
     outputs: IndexSet<String>,
@@ -26,6 +27,9 @@ pub struct Kept<T> {
     told: Vec<Told<T>>,
     records: u64,
 }
+
+/// A record in force: the outputs for which it is, and what it tells.
+pub type InForce<'a, T> = (Items<&'a str>, &'a T);
 
 /// A record that tells something, with the numbers of its outputs.
 #[derive(Drop)]
@@ -74,6 +78,7 @@ impl<T: Drop> Kept<T> {
         requires { AreDistinct outputs.now }
         ensures ok { OnOk result ((all : List (Saying T)) → IsTableOf all self.old → IsTableOf (all ++ (outputs.now, said) ∷ []) self.new) }
         ensures err { OnErr result ((all : List (Saying T)) → IsTableOf all self.old → IsTableOf all self.new) }
+        ensures grown { IsGrown self.old self.new }
     {
         let records = self.records.checked_add(1).ok_or(AllocError)?;
         let numbers = self.numbers(alloc, outputs)?;
@@ -82,15 +87,21 @@ impl<T: Drop> Kept<T> {
         Ok(())
     }
 
-    /// The numbers of these outputs; those that have none get one.
-    fn numbers(&mut self, alloc: Global, outputs: &[Field<'_>]) -> Result<Items<usize>, AllocError>
+    /// The numbers of these texts; those that have none get one, which stays theirs. What is kept stands for the same
+    /// records as before.
+    pub fn numbers(
+        &mut self,
+        alloc: Global,
+        texts: &[Field<'_>],
+    ) -> Result<Items<usize>, AllocError>
         ensures same { (all : List (Saying T)) → IsTableOf all self.old → IsTableOf all self.new }
         ensures records { self.new.records ≡ self.old.records }
-        ensures numbers { IfOk result (λ numbers. AreNumbersOf self.new.outputs numbers outputs.now) }
+        ensures grown { IsGrown self.old self.new }
+        ensures numbers { IfOk result (λ numbers. AreNumbersOf self.new.outputs numbers texts.now) }
     {
-        let mut numbers = Vec::with_capacity(alloc, outputs.len())?;
-        for output in outputs {
-            let number = self.number(alloc, output.as_str())?;
+        let mut numbers = Vec::with_capacity(alloc, texts.len())?;
+        for text in texts {
+            let number = self.number(alloc, text.as_str())?;
             numbers.push(number)?;
         }
         Ok(Items::from_vec(numbers))
@@ -207,12 +218,64 @@ impl<T: Drop> Kept<T> {
 
     /// The outputs for which the record with this number is in force, in its order.
     pub fn outputs_in_force(&self, alloc: Global, place: usize) -> Result<Vec<&str>, AllocError>
-        ensures { IfOk result (λ left. (all : List (Saying T)) → IsTableOf all self.now → map (λ o. o.now) left.items ≡ left_to all place (outputs_at (tellings all) place)) }
+        ensures left { IfOk result (λ left. (all : List (Saying T)) → IsTableOf all self.now → map (λ o. o.now) left.items ≡ left_to all place (outputs_at (tellings all) place)) }
+        ensures once { IfOk result (λ left. (all : List (Saying T)) → IsTableOf all self.now → AreDistinct (map (λ o. o.now) left.items)) }
     {
         match self.telling(place) {
             Some(told) => self.texts_in_force(alloc, place, told.outputs.as_slice()),
             None => Ok(Vec::new(alloc)),
         }
+    }
+
+    /// The records in force in their order: the outputs for which each is in force, one at least, and what it tells.
+    pub fn in_force(&self, alloc: Global) -> Result<Vec<InForce<'_, T>>, AllocError>
+        ensures found { IfOk result (λ found. (all : List (Saying T)) → IsTableOf all self.now → tellings_in found.items ≡ in_force_of all) }
+        ensures named { IfOk result (λ found. (all : List (Saying T)) → IsTableOf all self.now → AllByRecursion IsNamed found.items) }
+    {
+        let mut found = Vec::new(alloc);
+        for place in 0..self.tellings() {
+            self.push_record(alloc, &mut found, place)?;
+        }
+        Ok(found)
+    }
+
+    /// Puts the record with this number at the end, if it is in force for one of its outputs.
+    fn push_record<'a>(
+        &'a self,
+        alloc: Global,
+        found: &mut Vec<InForce<'a, T>>,
+        place: usize,
+    ) -> Result<(), AllocError>
+        ensures found { OnOk result ((all : List (Saying T)) (told : T) → IsTableOf all self.now → slice_get (map (λ t. t.1) (tellings all)) place ≡ Some told → tellings_in found.new.items ≡ tellings_in found.old.items ++ some_of (left_to all place (outputs_at (tellings all) place)) told) }
+        ensures named { OnOk result ((all : List (Saying T)) → IsTableOf all self.now → AllByRecursion IsNamed found.old.items → AllByRecursion IsNamed found.new.items) }
+    {
+        let outputs = self.outputs_in_force(alloc, place)?;
+        match self.at(place) {
+            Some(told) if !outputs.is_empty() => found.push((Items::from_vec(outputs), told))?,
+            _ => {}
+        }
+        Ok(())
+    }
+
+    /// The texts with these numbers.
+    pub fn texts(&self, alloc: Global, numbers: &[usize]) -> Result<Vec<&str>, AllocError>
+        ensures { IfOk result (λ texts. map (λ o. o.now) texts.items ≡ texts_at self.now.outputs numbers.now) }
+    {
+        let mut texts = Vec::with_capacity(alloc, numbers.len())?;
+        for number in numbers {
+            self.push_text(&mut texts, *number)?;
+        }
+        Ok(texts)
+    }
+
+    /// Puts the text with this number at the end, if there is one.
+    fn push_text<'a>(&'a self, texts: &mut Vec<&'a str>, number: usize) -> Result<(), AllocError>
+        ensures { OnOk result (map (λ o. o.now) texts.new.items ≡ map (λ o. o.now) texts.old.items ++ if_some (slice_get self.now.outputs number)) }
+    {
+        if let Some(text) = self.text(number) {
+            texts.push(text)?;
+        }
+        Ok(())
     }
 
     /// Those of the outputs with these numbers for which the record is in force.
@@ -273,7 +336,8 @@ impl<T: Drop> Kept<T> {
         self.place(number) == Some(place)
     }
 
-    fn text(&self, number: usize) -> Option<&str>
+    /// The text with this number. It takes no memory.
+    pub fn text(&self, number: usize) -> Option<&str>
         ensures { option_map (λ o. o.now) result ≡ slice_get self.now.outputs number }
     {
         let output = self.outputs.get_index(number)?;

@@ -1,6 +1,7 @@
 //! What holds of the text of each log. These functions do nothing: their contracts are the laws.
 
 ghost use Rattle.build_log.specs.Laws.{OneReading, OneSpelling, LineGrowsLog, FrontOfLog, FrontOfLines};
+ghost use Rattle.build_log.specs.Kept.{InForceKeeps};
 ghost use Rattle.build_log.specs.Log.{CompactionKeeps};
 
 use crate::form::Records;
@@ -39,6 +40,11 @@ pub fn front_of_lines<L: Records>()
 {
     L::are_readable();
 }
+
+/// The records in force, each with those of its outputs for which it is in force, tell of each output what all tell.
+pub fn in_force_keeps<T>()
+    ensures { InForceKeeps T }
+{}
 
 /// A compaction keeps what is in force for each output.
 pub fn compaction_keeps()

@@ -10,20 +10,23 @@ mod laws;
 mod line;
 mod log;
 mod number;
+mod outputs;
 mod read;
 mod record;
 mod tail;
 
 pub use done::Done;
-pub use field::{Field, field_text, push_field};
+pub use field::{Field, field_text, plain_fields, push_field};
 pub use form::{Records, Version};
-pub use kept::Kept;
+pub use kept::{InForce, Kept};
 pub use laws::{
-    compaction_keeps, front_of_lines, front_of_log, line_grows_log, one_reading, one_spelling,
+    compaction_keeps, front_of_lines, front_of_log, in_force_keeps, line_grows_log, one_reading,
+    one_spelling,
 };
 pub use line::{end_line, fields, push_list, push_number, push_text};
 pub use log::Log;
 pub use number::number_of;
+pub use outputs::{are_distinct, split_counted, split_outputs};
 pub use read::parse;
 pub use record::{begun_line, done_line};
 pub use tail::Tail;

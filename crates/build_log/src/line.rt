@@ -1,6 +1,6 @@
 //! Lines of fields.
 
-ghost use Rattle.std.specs.Prelude.{◌≡◌, [], ◌∷◌, ◌++◌, List, ℕ, IfOk, OnOk, IfSome, IfNone, map, decimal};
+ghost use Rattle.std.specs.Prelude.{◌≡◌, [], ◌∷◌, ◌++◌, List, ℕ, IfOk, OnOk, IfSome, IfNone, IsTrue, IsFalse, map, decimal};
 ghost use Rattle.std.specs.List.{flat_map};
 ghost use Rattle.std.specs.Str.{IsUtf8};
 ghost use Rattle.text.specs.Marks.{Lacks};
@@ -22,23 +22,45 @@ pub fn fields<'a>(alloc: Global, line: &'a [u8]) -> Result<Option<Vec<Field<'a>>
     ensures texts { IfOk result (λ found. IfSome found (λ fields. AreTexts fields.items)) }
     ensures none { IfOk result (λ found. IfNone found ((texts : List (List ℕ)) → AreTexts texts → line.now ≡ line_text texts → ⊥)) }
 {
+    let mut fields = room_for_fields(alloc)?;
+    if take_fields(alloc, line, &mut fields)? {
+        Ok(Some(fields))
+    } else {
+        Ok(None)
+    }
+}
+
+/// No fields, and room for those of a line.
+pub(crate) fn room_for_fields<'a>(alloc: Global) -> Result<Vec<Field<'a>>, AllocError> {
+    Vec::with_capacity(alloc, USUAL_FIELDS)
+}
+
+/// Makes the list that of the fields of a line, if it is one, and says whether it is; the fields that stood there are
+/// let go. A caller with many lines hands in one list for all of them.
+pub(crate) fn take_fields<'a>(
+    alloc: Global,
+    line: &'a [u8],
+    fields: &mut Vec<Field<'a>>,
+) -> Result<bool, AllocError>
+    requires { Lacks 10 line.now }
+    ensures found { IfOk result (λ is_line. IsTrue is_line → line.now ≡ line_text fields.new.items) }
+    ensures texts { IfOk result (λ is_line. IsTrue is_line → AreTexts fields.new.items) }
+    ensures none { IfOk result (λ is_line. IsFalse is_line → (texts : List (List ℕ)) → AreTexts texts → line.now ≡ line_text texts → ⊥) }
+{
     let Some(front) = without_dot(line) else {
-        return Ok(None);
+        return Ok(false);
     };
     let plain = is_plain(line);
-    let mut fields = Vec::with_capacity(alloc, USUAL_FIELDS)?;
+    fields.clear();
     let mut rest = front;
     'parts: while let Some((field, after)) = cut(rest, b'\t') {
         let Some(text) = field_of(alloc, field, plain)? else {
-            return Ok(None);
+            return Ok(false);
         };
         fields.push(text)?;
         rest = after;
     }
-    if rest.is_empty() {
-        return Ok(Some(fields));
-    }
-    Ok(None)
+    Ok(rest.is_empty())
 }
 
 /// What stands before the dot that ends a line.

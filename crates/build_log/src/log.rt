@@ -11,7 +11,7 @@ ghost use Rattle.build_log.specs.Record.{IsRecord, forms};
 ghost use Rattle.build_log.specs.Log.{Keeps, IsLog, compaction, made_of, makings};
 
 use crate::done::Done;
-use crate::field::Field;
+use crate::field::{Field, plain_fields};
 use crate::form::{Records, Version};
 use crate::kept::Kept;
 use crate::record::{done_line, said_by};
@@ -109,7 +109,7 @@ impl Log {
         ensures ok { OnOk result ((all : List (Saying Done)) → IsTableOf all self.old → IsTableOf (all ++ (outputs.now, said) ∷ []) self.new) }
         ensures err { OnErr result ((all : List (Saying Done)) → IsTableOf all self.old → IsTableOf all self.new) }
     {
-        let fields = fields_of(alloc, outputs)?;
+        let fields = plain_fields(alloc, outputs)?;
         self.kept.put(alloc, fields.as_slice(), said)
     }
 
@@ -185,15 +185,4 @@ impl Log {
             _ => Ok(()),
         }
     }
-}
-
-/// These paths as fields.
-fn fields_of<'a>(alloc: Global, paths: &'a [Path]) -> Result<Vec<Field<'a>>, AllocError>
-    ensures { IfOk result (λ fields. fields.items ≡ paths.now) }
-{
-    let mut fields = Vec::with_capacity(alloc, paths.len())?;
-    for path in paths {
-        fields.push(Field::plain(path.as_str()))?;
-    }
-    Ok(fields)
 }

@@ -1,21 +1,26 @@
 //! Decimal numbers without leading zeros.
 
-ghost use Rattle.std.specs.Prelude.{◌≡◌, ◌<◌, ◌^◌, ℕ, IfSome, IfNone, decimal};
-
-use itoa::Buffer;
+ghost use Rattle.std.specs.Prelude.{◌≡◌, ◌<◌, ◌^◌, ℕ, IfSome, IfNone, IsTrue, IsFalse, decimal};
+ghost use Rattle.build_log.specs.Line.{Leads};
 
 /// The number below 2 to the 64 that the text spells in decimal without a leading zero, if it spells one.
 pub fn number_of(text: &str) -> Option<u64>
     ensures found { IfSome result (λ n. text.now ≡ decimal n) }
     ensures none { IfNone result ((n : ℕ) → n < 2 ^ 64 → text.now ≡ decimal n → ⊥) }
 {
-    if text == "1" {
-        return Some(1);
+    if text == "0" {
+        return Some(0);
     }
-    let n = text.parse::<u64>().ok()?;
-    let mut buffer = Buffer::new();
-    if buffer.format(n) != text {
+    if !leads(text) {
         return None;
     }
-    Some(n)
+    text.parse::<u64>().ok()
+}
+
+/// Whether the text begins with a digit that is not zero.
+fn leads(text: &str) -> bool
+    ensures yes { IsTrue result → Leads text.now }
+    ensures no { IsFalse result → Leads text.now → ⊥ }
+{
+    matches!(text.as_bytes(), [b'1'..=b'9', ..])
 }

@@ -6,8 +6,9 @@ ghost use Rattle.build_log.specs.Line.{line_text};
 ghost use Rattle.build_log.specs.Form.{HasLine, HaveLines, lines_text};
 ghost use Rattle.build_log.specs.Text.{IsRead};
 
+use crate::field::Field;
 use crate::form::{Records, Version};
-use crate::line::fields;
+use crate::line::{room_for_fields, take_fields};
 use crate::tail::{Tail, split_tail, tail_behind, tail_of_header};
 use std::alloc::{AllocError, Global};
 use text::cut;
@@ -59,9 +60,10 @@ fn put_lines<L: Records>(
     ensures none { IfOk result (λ are. IsFalse are → (records : List L.Record) → HaveLines (L.forms version) records → lines.now ≡ lines_text (L.forms version) records → ⊥) }
 {
     L::are_readable();
+    let mut fields = room_for_fields(alloc)?;
     let mut rest = lines;
     'lines: while let Some((line, after)) = cut(rest, b'\n') {
-        if !put_line(alloc, version, line, log)? {
+        if !put_line(alloc, version, line, &mut fields, log)? {
             return Ok(false);
         }
         rest = after;
@@ -69,19 +71,21 @@ fn put_lines<L: Records>(
     Ok(rest.is_empty())
 }
 
-/// Puts the record of a line, which is handed in without its line feed, at the end, if it is one's.
-fn put_line<L: Records>(
+/// Puts the record of a line, which is handed in without its line feed, at the end, if it is one's. What the list of
+/// fields holds before and after is nothing that counts: it lends its room.
+fn put_line<'a, L: Records>(
     alloc: Global,
     version: Version,
-    line: &[u8],
+    line: &'a [u8],
+    fields: &mut Vec<Field<'a>>,
     log: &mut L,
 ) -> Result<bool, AllocError>
     requires { Lacks 10 line.now }
     ensures put { IfOk result (λ is_put. IsTrue is_put → (r : L.Record) × (line.now ≡ line_text ((L.forms version).fields r)) × HasLine (L.forms version) r × ((records : List L.Record) → L.Keeps records log.old → L.Keeps (records ++ r ∷ []) log.new)) }
     ensures none { IfOk result (λ is_put. IsFalse is_put → (r : L.Record) → HasLine (L.forms version) r → line.now ≡ line_text ((L.forms version).fields r) → ⊥) }
 {
-    match fields(alloc, line)? {
-        Some(fields) => log.put_fields(alloc, version, fields.as_slice()),
-        None => Ok(false),
+    if !take_fields(alloc, line, fields)? {
+        return Ok(false);
     }
+    log.put_fields(alloc, version, fields.as_slice())
 }

@@ -5,8 +5,8 @@ ghost use Rattle.build_log.specs.declared.form.Version.TheVariants.{Two};
 ghost use Rattle.build_log.specs.Form.{IsAppended};
 ghost use Rattle.build_log.specs.Kept.{AreDistinct};
 ghost use Rattle.std.specs.List.{flat_map};
-ghost use Rattle.build_log.specs.Line.{counted, field_and_tab, AreTexts};
-ghost use Rattle.build_log.specs.Record.{act_fields, done_fields, output_fields, HasRoomFor, IsRecord, IsNoRecord, fields_of, forms};
+ghost use Rattle.build_log.specs.Line.{field_and_tab, AreTexts};
+ghost use Rattle.build_log.specs.Record.{act_fields, done_fields, IsRecord, IsNoRecord, fields_of, forms};
 ghost use Rattle.build_log.specs.Log.{saying};
 
 use crate::done::Done;
@@ -14,7 +14,7 @@ use crate::field::Field;
 use crate::form::Version;
 use crate::line::{end_line, push_list, push_number, push_text};
 use crate::number::number_of;
-use indexmap::IndexSet;
+use crate::outputs::{are_distinct, split_outputs};
 use model::{Act, Record};
 use std::alloc::{AllocError, Global};
 use text::Text;
@@ -50,64 +50,6 @@ pub(crate) fn said_by<'f, 'a>(
         Some(done) => Ok(Some((outputs, Some(done)))),
         None => Ok(None),
     }
-}
-
-/// The outputs that these fields begin with, and the fields behind them.
-fn split_outputs<'f, 'a>(
-    version: Version,
-    fields: &'f [Field<'a>],
-) -> Option<(&'f [Field<'a>], &'f [Field<'a>])>
-    ensures found { IfSome result (λ parts. (fields.now ≡ output_fields version parts.0.now ++ parts.1.now) × HasRoomFor version parts.0.now) }
-    ensures none { IfNone result ((outputs after : List (List ℕ)) → HasRoomFor version outputs → fields.now ≡ output_fields version outputs ++ after → ⊥) }
-{
-    match version {
-        Version::One => split_front(fields, 1),
-        Version::Two => split_counted(fields),
-    }
-}
-
-/// As many fields as the first of them says, one at least, and the fields behind them.
-fn split_counted<'f, 'a>(fields: &'f [Field<'a>]) -> Option<(&'f [Field<'a>], &'f [Field<'a>])>
-    ensures found { IfSome result (λ parts. (fields.now ≡ counted parts.0.now ++ parts.1.now) × HasRoomFor Two parts.0.now) }
-    ensures none { IfNone result ((outputs after : List (List ℕ)) → HasRoomFor Two outputs → fields.now ≡ counted outputs ++ after → ⊥) }
-{
-    let (first, rest) = fields.split_first()?;
-    let count = number_of(first.as_str())?;
-    if count == 0 {
-        return None;
-    }
-    split_front(rest, count as usize)
-}
-
-/// As many fields from the front, and those behind them.
-fn split_front<'f, 'a>(
-    fields: &'f [Field<'a>],
-    count: usize,
-) -> Option<(&'f [Field<'a>], &'f [Field<'a>])>
-    ensures found { IfSome result (λ parts. (fields.now ≡ parts.0.now ++ parts.1.now) × (length parts.0.now ≡ count)) }
-    ensures none { IfNone result (length fields.now < count) }
-{
-    if fields.len() < count {
-        return None;
-    }
-    Some(fields.split_at(count))
-}
-
-/// Whether no output stands twice among these. One alone takes no memory.
-fn are_distinct(alloc: Global, outputs: &[Field<'_>]) -> Result<bool, AllocError>
-    ensures distinct { IfOk result (λ are. IsTrue are → AreDistinct outputs.now) }
-    ensures twice { IfOk result (λ are. IsFalse are → AreDistinct outputs.now → ⊥) }
-{
-    if outputs.len() < 2 {
-        return Ok(true);
-    }
-    let mut seen = IndexSet::new(alloc);
-    for output in outputs {
-        if !seen.insert(output.as_str())? {
-            return Ok(false);
-        }
-    }
-    Ok(true)
 }
 
 /// What the fields behind the outputs tell of a command that finished well.

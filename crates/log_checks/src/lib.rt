@@ -2,6 +2,10 @@
 #![tactic(auto)]
 
 #[cfg(test)]
+mod deps;
+#[cfg(test)]
+mod deps_sweeps;
+#[cfg(test)]
 mod examples;
 #[cfg(test)]
 mod judgements;

@@ -1,6 +1,6 @@
 use Rattle.std.proofs.Common.{◌≡◌, take, map}
 use Rattle.build_log.specs.Kept.{AreDistinct}
-use Rattle.build_log.proofs.record.are_distinct.Given as goal
+use Rattle.build_log.proofs.outputs.are_distinct.Given as goal
 
 abbrev pub invariant-loop-output : goal.invariant-loop-output
 invariant-loop-output l = record {

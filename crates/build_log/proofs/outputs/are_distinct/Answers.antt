@@ -6,7 +6,7 @@ use Rattle.build_log.specs.Kept.{AreDistinct}
 use Rattle.build_log.proofs.Bytes.{take_more}
 use Rattle.build_log.proofs.Distinct.{distinct_push}
 use Rattle.build_log.proofs.Parts.{seen_has, stands_before}
-use Rattle.build_log.proofs.record.are_distinct.Goals as goal
+use Rattle.build_log.proofs.outputs.are_distinct.Goals as goal
 
 pub returns-then-not-branch-clause-twice : goal.returns-then-not-branch-clause-twice
 returns-then-not-branch-clause-twice c = λ no distinct.

@@ -1,13 +1,13 @@
-use Rattle.std.proofs.Common.{sym, subst, ap, length}
+use Rattle.std.proofs.Common.{sym, subst, ap, length, ◌∙◌}
 use Rattle.std.proofs.lemmas.Bool.{eqb-false}
 use Rattle.text.specs.Marks.{Lacks}
 use Rattle.build_log.proofs.Bytes.{Lacks-front, Lacks-back}
 use Rattle.build_log.proofs.Lines.{starts, one_more, stops_at_field, stops_at_end}
-use Rattle.build_log.proofs.line.fields.Goals as goal
+use Rattle.build_log.proofs.line.take_fields.Goals as goal
 
 pub parts-init : goal.parts-init
 parts-init c = record {
-  parted = rw c.in_ok-fields.ensures.items (starts c.in-Some.front.now);
+  parted = rw c.clear.ensures.items (starts c.in-Some.front.now);
   line_feed = Lacks-front 10 c.in-Some.front.now _ (subst (Lacks 10) c.in-Some.ensures.found c.requires);
   plain = λ yes. Lacks-front 92 c.in-Some.front.now _ (subst (Lacks 92) c.in-Some.ensures.found (c.is_plain-plain.ensures yes));
 }
@@ -21,7 +21,7 @@ field_of-requires-clause-plain c = λ yes. Lacks-front 92 c.in-Some-cut.field.no
 pub returns-in_default-2-clause-none : goal.returns-in_default-2-clause-none
 returns-in_default-2-clause-none c =
     let none = rw c.in_default-2.is at c.in_ok-text.ensures.none in
-    stops_at_field c.args.line.now c.in-Some.front.now c.parts.fields.items c.parts.rest.now c.in-Some-cut.field.now c.in-Some-cut.after.now c.in-Some.ensures.found c.parts.invariant.parted c.in-Some-cut.ensures.found c.in-Some-cut.ensures.first none
+    λ no. stops_at_field c.args.line.now c.in-Some.front.now c.parts.fields.items c.parts.rest.now c.in-Some-cut.field.now c.in-Some-cut.after.now c.in-Some.ensures.found c.parts.invariant.parted c.in-Some-cut.ensures.found c.in-Some-cut.ensures.first none
 
 pub parts-preserved : goal.parts-preserved
 parts-preserved c =
@@ -35,4 +35,4 @@ parts-preserved c =
 
 pub returns-clause-none : goal.returns-clause-none
 returns-clause-none c =
-    stops_at_end c.args.line.now c.in-Some.front.now c.parts.fields.items c.parts.rest.now c.in-Some.ensures.found c.parts.invariant.parted c.in_default-cut.ensures.none (λ e. eqb-false _ 0 (sym c.if-is_empty.ensures) (ap length e))
+    λ no. stops_at_end c.args.line.now c.in-Some.front.now c.parts.fields.items c.parts.rest.now c.in-Some.ensures.found c.parts.invariant.parted c.in_default-cut.ensures.none (λ e. eqb-false _ 0 (sym c.is_empty.ensures ∙ no) (ap length e))

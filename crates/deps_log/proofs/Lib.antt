@@ -1,0 +1,4 @@
+pub mod Fields
+pub mod Sayings
+pub mod Keeping
+pub mod Writing

@@ -1,0 +1,5 @@
+use Rattle.deps_log.proofs.Fields.{one_record, no_line_feed, other_lines}
+use Rattle.deps_log.proofs.log.LogRecords.are_readable.Goals as goal
+
+pub returns : goal.returns
+returns c = record { one_record = one_record; one_line = no_line_feed; differ = other_lines }

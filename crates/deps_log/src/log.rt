@@ -1,0 +1,182 @@
+//! What is kept of the deps log.
+
+ghost use Rattle.std.specs.Prelude.{◌≡◌, ◌↔◌, [], ◌∷◌, ◌++◌, List, ℕ, IfOk, IsTrue, OnOk, OnErr, length, slice_get};
+ghost use Rattle.std.specs.Option.{option_map, option_copied};
+ghost use Rattle.model.specs.declared.record.DepsRecord.{DepsRecord};
+ghost use Rattle.model.specs.Records.{deps_in_force};
+ghost use Rattle.build_log.specs.declared.form.Version.TheVariants.{Two};
+ghost use Rattle.build_log.specs.Form.{IsAppended};
+ghost use Rattle.build_log.specs.Kept.{AreDistinct, WantsCompaction};
+ghost use Rattle.build_log.specs.Text.{IsRead};
+ghost use Rattle.build_log.specs.Found.{IsNamed};
+ghost use Rattle.deps_log.specs.Record.{IsRecord, forms};
+ghost use Rattle.deps_log.specs.Log.{Keeps, IsLog, compaction, told_in, record_in};
+
+use crate::deps::Deps;
+use crate::record::{record_line, said_by};
+use build_log::{Field, InForce, Kept, Records, Tail, Version, plain_fields};
+use model::DepsRecord;
+use std::alloc::{AllocError, Global};
+use std::marker::Model;
+
+/// Which record of each output is in force. The text of each output and path is kept once.
+#[derive(Drop)]
+pub struct Log {
+    kept: Kept<Deps>,
+}
+
+impl Model for Log {
+    ghost use Rattle.std.specs.Prelude.{List};
+    ghost use Rattle.build_log.specs.Kept.{Table, Saying, IsTableOf};
+    ghost use Rattle.deps_log.specs.declared.deps.Deps.{Deps};
+
+    ghost Value = { Table Deps };
+
+    ghost view = { λ log. log.kept };
+
+    ghost invariant = { λ log. (all : List (Saying Deps)) × IsTableOf all log.kept };
+}
+
+impl Records for Log {
+    ghost use Rattle.deps_log.specs.Record.{forms};
+    ghost use Rattle.deps_log.specs.Log.{Keeps};
+
+    type Record = DepsRecord;
+
+    ghost forms = { forms };
+
+    ghost Keeps = { Keeps };
+
+    fn new(alloc: Global) -> Log {
+        Log {
+            kept: Kept::new(alloc),
+        }
+    }
+
+    fn first_line(version: Version) -> &'static [u8] {
+        match version {
+            Version::One => b"nj-deps 1",
+            Version::Two => b"nj-deps 2",
+        }
+    }
+
+    fn put_fields(
+        &mut self,
+        alloc: Global,
+        version: Version,
+        fields: &[Field<'_>],
+    ) -> Result<bool, AllocError> {
+        let Some((outputs, start, paths)) = said_by(alloc, version, fields)? else {
+            return Ok(false);
+        };
+        self.put(alloc, outputs, start, paths)?;
+        Ok(true)
+    }
+
+    fn are_readable() {}
+}
+
+impl Log {
+    /// What the text of a log tells, and how it ends. A damaged one tells nothing.
+    ///
+    /// Each byte is looked at a fixed number of times. The text of an output or path is copied where it stands for the
+    /// first time, and looked up once wherever it stands.
+    pub fn parse(alloc: Global, bytes: &[u8]) -> Result<(Log, Tail), AllocError>
+        ensures { IfOk result (λ read. (records : List DepsRecord) × IsRead forms bytes.now records read.1 × Keeps records read.0) }
+    {
+        build_log::parse::<Log>(alloc, bytes)
+    }
+
+    /// Puts a record at the end. Where memory is refused, the log stands for the same records as before.
+    pub fn apply(&mut self, alloc: Global, added: &DepsRecord) -> Result<(), AllocError>
+        requires { IsRecord Two added.now }
+        ensures ok { OnOk result ((records : List DepsRecord) → Keeps records self.old → Keeps (records ++ added.now ∷ []) self.new) }
+        ensures err { OnErr result ((records : List DepsRecord) → Keeps records self.old → Keeps records self.new) }
+    {
+        let outputs = plain_fields(alloc, added.outputs.as_slice())?;
+        let paths = plain_fields(alloc, added.paths.as_slice())?;
+        self.put(alloc, outputs.as_slice(), added.start, paths.as_slice())
+    }
+
+    /// Puts the record of these outputs, this start and these paths at the end.
+    fn put(
+        &mut self,
+        alloc: Global,
+        outputs: &[Field<'_>],
+        start: u64,
+        paths: &[Field<'_>],
+    ) -> Result<(), AllocError>
+        requires { AreDistinct outputs.now }
+        ensures ok { OnOk result ((records : List DepsRecord) → Keeps records self.old → Keeps (records ++ record { outputs = outputs.now; start = start; paths = paths.now } ∷ []) self.new) }
+        ensures err { OnErr result ((records : List DepsRecord) → Keeps records self.old → Keeps records self.new) }
+    {
+        let paths = self.kept.numbers(alloc, paths)?;
+        self.kept.put(alloc, outputs, Some(Deps { start, paths }))
+    }
+
+    /// What is in force for an output: the start of the command, and the numbers of the paths that it read. It takes no
+    /// memory.
+    pub fn lookup(&self, output: &str) -> Option<&Deps>
+        ensures { (records : List DepsRecord) → Keeps records self.now → option_map (told_in self.now.outputs) (option_copied result) ≡ deps_in_force records output.now }
+    {
+        self.kept.lookup(output)
+    }
+
+    /// The path with this number. It takes no memory.
+    pub fn path(&self, number: usize) -> Option<&str>
+        ensures { option_map (λ path. path.now) result ≡ slice_get self.now.outputs number }
+    {
+        self.kept.text(number)
+    }
+
+    /// How many records there were.
+    pub fn records(&self) -> u64
+        ensures { (records : List DepsRecord) → Keeps records self.now → result ≡ length records }
+    {
+        self.kept.records()
+    }
+
+    /// How many records are in force, each for one of its outputs at least.
+    pub fn records_in_force(&self) -> usize
+        ensures { (records : List DepsRecord) → Keeps records self.now → result ≡ length (compaction records) }
+    {
+        self.kept.records_in_force()
+    }
+
+    /// Whether the log is to be compacted before something is appended: where it has at least 100 records, and more than
+    /// half of them are not in force.
+    pub fn wants_compaction(&self) -> bool
+        ensures { (records : List DepsRecord) → Keeps records self.now → IsTrue result ↔ WantsCompaction (length records) (length (compaction records)) }
+    {
+        self.kept.wants_compaction()
+    }
+
+    /// The text of a log, in version 2, with the records in force in their order, each with those of its outputs for
+    /// which it is in force, and no others.
+    pub fn compacted(&self, alloc: Global) -> Result<Vec<u8>, AllocError>
+        ensures { IfOk result (λ text. (records : List DepsRecord) → Keeps records self.now → IsLog text.items (compaction records)) }
+    {
+        let found = self.kept.in_force(alloc)?;
+        let mut text = Vec::from_slice(alloc, Log::first_line(Version::Two))?;
+        text.push(b'\n')?;
+        for telling in found.as_slice() {
+            self.push_record(alloc, &mut text, telling)?;
+        }
+        Ok(text)
+    }
+
+    /// Writes the line of a record at the end.
+    fn push_record(
+        &self,
+        alloc: Global,
+        text: &mut Vec<u8>,
+        telling: &InForce<'_, Deps>,
+    ) -> Result<(), AllocError>
+        requires { IsNamed telling.now }
+        ensures { OnOk result (IsAppended (forms Two) (record_in self.now.outputs telling.now) text.old.items text.new.items) }
+    {
+        let (outputs, deps) = telling;
+        let paths = self.kept.texts(alloc, deps.paths.as_slice())?;
+        record_line(text, outputs.as_slice(), deps.start, paths.as_slice())
+    }
+}

@@ -1,0 +1,78 @@
+//! The records of the deps log and their lines.
+
+ghost use Rattle.std.specs.Prelude.{◌≡◌, ◌<◌, ◌^◌, ◌∷◌, [], ◌++◌, List, ℕ, IfSome, IfNone, IfOk, OnOk, length, decimal};
+ghost use Rattle.build_log.specs.declared.form.Version.TheVariants.{Two};
+ghost use Rattle.build_log.specs.Line.{counted};
+ghost use Rattle.build_log.specs.Form.{IsAppended};
+ghost use Rattle.build_log.specs.Found.{texts_in};
+ghost use Rattle.build_log.specs.Kept.{AreDistinct};
+ghost use Rattle.deps_log.specs.Record.{fields_of, told_fields, IsRecord, IsNoRecord, forms};
+
+use build_log::{
+    Field, Version, are_distinct, end_line, number_of, push_list, push_number, push_text,
+    split_counted, split_outputs,
+};
+use std::alloc::{AllocError, Global};
+
+/// What a record says: the outputs that it names, the start, and the paths.
+pub(crate) type Said<'f, 'a> = (&'f [Field<'a>], u64, &'f [Field<'a>]);
+
+/// What the record of these fields says, if they are one's.
+pub(crate) fn said_by<'f, 'a>(
+    alloc: Global,
+    version: Version,
+    fields: &'f [Field<'a>],
+) -> Result<Option<Said<'f, 'a>>, AllocError>
+    ensures found { IfOk result (λ found. IfSome found (λ said. (fields.now ≡ fields_of version (record { outputs = said.0.now; start = said.1; paths = said.2.now })) × IsRecord version (record { outputs = said.0.now; start = said.1; paths = said.2.now }))) }
+    ensures none { IfOk result (λ found. IfNone found (IsNoRecord version fields.now)) }
+{
+    let Some((kind, rest)) = fields.split_first() else {
+        return Ok(None);
+    };
+    if kind.as_str() != "r" {
+        return Ok(None);
+    }
+    let Some((outputs, after)) = split_outputs(version, rest) else {
+        return Ok(None);
+    };
+    let Some((start, paths)) = told_by(after) else {
+        return Ok(None);
+    };
+    if !are_distinct(alloc, outputs)? {
+        return Ok(None);
+    }
+    Ok(Some((outputs, start, paths)))
+}
+
+/// The start and the paths that the fields behind the outputs tell, if they tell some.
+fn told_by<'f, 'a>(fields: &'f [Field<'a>]) -> Option<(u64, &'f [Field<'a>])>
+    ensures found { IfSome result (λ told. (fields.now ≡ told_fields told.0 told.1.now) × (told.0 < 2 ^ 64) × (length told.1.now < 2 ^ 64)) }
+    ensures none { IfNone result ((start : ℕ) (paths : List (List ℕ)) → start < 2 ^ 64 → length paths < 2 ^ 64 → fields.now ≡ told_fields start paths → ⊥) }
+{
+    let (start, rest) = fields.split_first()?;
+    let start = number_of(start.as_str())?;
+    let (paths, after) = split_counted(rest)?;
+    if !after.is_empty() {
+        return None;
+    }
+    Some((start, paths))
+}
+
+/// Writes the line, with its line feed, of a record that says that the command of these outputs, which was started under
+/// this stamp, read these paths, at the end of a text. Where memory is refused, a part of it may stand there.
+pub fn record_line(
+    text: &mut Vec<u8>,
+    outputs: &[&str],
+    start: u64,
+    paths: &[&str],
+) -> Result<(), AllocError>
+    requires some { 0 < length outputs.now }
+    requires once { AreDistinct (texts_in outputs.now) }
+    ensures { OnOk result (IsAppended (forms Two) (record { outputs = texts_in outputs.now; start = start; paths = texts_in paths.now }) text.old.items text.new.items) }
+{
+    push_text(text, "r")?;
+    push_list(text, outputs)?;
+    push_number(text, start)?;
+    push_list(text, paths)?;
+    end_line(text)
+}
