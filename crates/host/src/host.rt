@@ -1,6 +1,6 @@
 //! The site of real files and real commands.
 
-ghost use Rattle.std.specs.Prelude.{◌≡◌, ◌×◌, ℕ, true, false, IfOk, OnOk, OnErr, Ok};
+ghost use Rattle.std.specs.Prelude.{◌≡◌, ℕ, true, false, IfOk, OnOk, OnErr, IsErr, Ok};
 ghost use Rattle.model.specs.World.{runs};
 ghost use Rattle.model.specs.Calls.{HasCause, OnlyLooks};
 ghost use Rattle.host.specs.World.{world_of, fresh};
@@ -66,6 +66,7 @@ impl<'a, W: Write> Host<'a, W> {
         ensures looks { OnlyLooks false (world_of self.old) (world_of self.new) }
         ensures ok { OnOk result (world_of self.new ≡ world_of self.old) }
         ensures done { IfOk result (λ value. done ≡ Ok value) }
+        ensures err { IsErr result → IsErr done }
     {
         match done {
             Ok(done) => Ok(done),
@@ -94,12 +95,6 @@ impl<'a, W: Write> Host<'a, W> {
         let file = self.noted(path.as_str(), opened)?;
         Ok(Some(Printed { path, file }))
     }
-
-    /// Shows a text at once.
-    fn put_on_screen(&mut self, text: &[u8]) -> io::Result<()> {
-        self.screen.write_all(text)?;
-        self.screen.flush()
-    }
 }
 
 impl<'a, W: Drop> Host<'a, W> {
@@ -107,6 +102,12 @@ impl<'a, W: Drop> Host<'a, W> {
     pub fn into_trouble(self) -> Option<Trouble> {
         self.trouble
     }
+}
+
+/// Shows a text at once.
+fn show<W: Write>(screen: &mut W, text: &[u8]) -> io::Result<()> {
+    screen.write_all(text)?;
+    screen.flush()
 }
 
 /// What was refused at this path, unless there is no memory for it.
@@ -189,7 +190,7 @@ impl<'a, W: Write> Site for Host<'a, W> {
     }
 
     fn show(&mut self, text: &[u8]) -> Result<(), SiteFault> {
-        let shown = self.put_on_screen(text);
+        let shown = show(&mut self.screen, text);
         self.noted(OUTPUT, shown)
     }
 

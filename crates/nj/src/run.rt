@@ -1,5 +1,9 @@
 //! The run of the program.
 
+ghost use Rattle.std.specs.Prelude.{◌≡◌, ◌≤◌, IfOk, true, false, map};
+ghost use Rattle.clap.specs.Words.{takes};
+ghost use Rattle.command_line.specs.Options.{nj};
+
 use crate::told;
 use builder::{Options, Report, build};
 use command_line::{Options as Asked, options};
@@ -20,7 +24,10 @@ pub fn run<S: AsStr, W: Write, E: Write>(
     _pattern: Option<&str>,
     out: &mut W,
     err: &mut E,
-) -> u8 {
+) -> u8
+    ensures range { result ≤ 2 }
+    ensures refused { result ≡ 2 → takes nj (map S.text words.entry.now) ≡ false }
+{
     let told = match options(rt.alloc(), words) {
         Ok(asked) => build_asked(rt, &asked, out, err),
         Err(error) => told::words(&error, out, err),
@@ -34,7 +41,9 @@ fn build_asked<W: Write, E: Write>(
     asked: &Asked<'_>,
     out: &mut W,
     err: &mut E,
-) -> io::Result<u8> {
+) -> io::Result<u8>
+    ensures { IfOk result (λ status. status ≤ 1) }
+{
     if let Some(folder) = asked.folder {
         if let Err(reason) = env::set_current_dir(rt, folder) {
             return told::folder(folder, &reason, err);

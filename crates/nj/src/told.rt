@@ -1,5 +1,9 @@
 //! What the program tells when it ends, and its status.
 
+ghost use Rattle.std.specs.Prelude.{◌≡◌, ◌≢◌, ◌≤◌, IfOk};
+ghost use Rattle.clap.specs.Words.{kind_of};
+ghost use Rattle.nj.specs.Status.{status_of};
+
 use builder::Report;
 use clap::Error;
 use clap::error::ErrorKind;
@@ -15,7 +19,10 @@ pub fn report<W: Write, E: Write>(
     trouble: Option<&Trouble>,
     out: &mut W,
     err: &mut E,
-) -> io::Result<u8> {
+) -> io::Result<u8>
+    ensures status { IfOk result (λ status. status ≡ status_of report.now) }
+    ensures range { IfOk result (λ status. status ≤ 1) }
+{
     match report {
         Report::Success { started } => {
             success(*started, out)?;
@@ -54,7 +61,9 @@ fn failed_site<E: Write>(trouble: Option<&Trouble>, err: &mut E) -> io::Result<(
 }
 
 /// Tells that the folder in which to build cannot be gone to. The status is 1.
-pub fn folder<E: Write>(folder: &str, reason: &io::Error, err: &mut E) -> io::Result<u8> {
+pub fn folder<E: Write>(folder: &str, reason: &io::Error, err: &mut E) -> io::Result<u8>
+    ensures { IfOk result (λ status. status ≡ 1) }
+{
     writeln!(err, "nj: error: N60: the site failed")?;
     writeln!(err, "nj: {folder}: {reason}")?;
     err.flush()?;
@@ -63,7 +72,10 @@ pub fn folder<E: Write>(folder: &str, reason: &io::Error, err: &mut E) -> io::Re
 
 /// Tells what words came to that ask for no build: on the standard output help, with the status 0, and on the standard
 /// error what is wrong with them, with the status 2, or that memory was refused, with the status 1.
-pub fn words<W: Write, E: Write>(error: &Error, out: &mut W, err: &mut E) -> io::Result<u8> {
+pub fn words<W: Write, E: Write>(error: &Error, out: &mut W, err: &mut E) -> io::Result<u8>
+    ensures range { IfOk result (λ status. status ≤ 2) }
+    ensures refused { IfOk result (λ status. status ≡ 2 → kind_of error.now ≢ ErrorKind.OutOfMemory) }
+{
     if error.kind() == ErrorKind::OutOfMemory {
         memory(err)?;
         err.flush()?;
