@@ -40,6 +40,19 @@ fn refuses_build_files(rt: HostRuntime) -> Result<(), Fail> {
     Ok(())
 }
 
+/// A build file that a command of another one has written, and that is no text.
+#[test]
+fn refuses_what_is_no_text(rt: HostRuntime) -> Result<(), Fail> {
+    let build = "rule r\n  command = printf '\\377' > $out\nbuild bad.ninja: r\n";
+    let folder = Folder::new(&rt, "bytes", build)?;
+    assert_eq!(rt; folder.run(&[])?.status, 0);
+    let ran = folder.run(&["-f", "bad.ninja"])?;
+    assert_eq!(rt; ran.status, 1);
+    assert_eq!(rt; ran.err.as_str(), "nj: error: N1: bad.ninja:1: not UTF-8\n");
+    folder.close()?;
+    Ok(())
+}
+
 /// Folders in the place of files, and a file in the place of a folder: the second line says where, and why.
 #[test]
 fn tells_where_the_site_failed(rt: HostRuntime) -> Result<(), Fail> {
