@@ -58,7 +58,7 @@ impl<'a> Folder<'a> {
     }
 
     /// Runs the program there, with these words behind `-C` and the folder.
-    pub fn run(&self, words: &[&str]) -> io::Result<Ran> {
+    pub fn run<'b>(&'b self, words: &[&'b str]) -> io::Result<Ran> {
         let alloc = self.rt.alloc();
         let mut all = vec![in alloc; "-C", self.path.as_str()]?;
         all.extend_from_slice(words)?;
