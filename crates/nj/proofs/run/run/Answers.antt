@@ -1,6 +1,3 @@
-use Rattle.std.proofs.Common.{◌≡◌, true, false, map}
-use Rattle.clap.specs.Words.{takes}
-use Rattle.command_line.specs.Options.{nj}
 use Rattle.nj.proofs.Ends.{built, explained}
 use Rattle.nj.proofs.run.run.Goals as goal
 use Rattle.nj.proofs.run.run.Goals.{in-Ok, in-Err+in-Some-1, in-Err+in-None-1}
