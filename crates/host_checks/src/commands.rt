@@ -1,9 +1,15 @@
 //! Tests of commands.
 
+ghost use Rattle.std.specs.Prelude.{◌≡◌, true, false, OnOk};
+ghost use Rattle.host.specs.World.{world_of};
+ghost use Rattle.model.specs.World.{runs};
+
 use crate::place::{act, go_to, leave};
 use host::Host;
-use site::Site;
+use model::Act;
+use site::{Site, SiteFault};
 use std::fs;
+use std::io::Write;
 use std::test::Fail;
 
 /// Waits up to twenty seconds for a file, and fails where it does not come.
@@ -12,6 +18,15 @@ const FIRST: &str =
 
 const SECOND: &str =
     "n=0; while test ! -e two && test $n -lt 2000; do sleep 0.01; n=$((n+1)); done; test -e two";
+
+/// Starts the command of this job, which then runs.
+fn start<W: Write>(host: &mut Host<'_, W>, job: usize, act: &Act) -> Result<(), SiteFault>
+    requires { runs job (world_of host.old).events ≡ false }
+    ensures { OnOk result (runs job (world_of host.new).events ≡ true) }
+{
+    host.start(job, act, false)?;
+    Ok(())
+}
 
 /// Of two commands the one is taken in that has ended, be it the first or the second: no fixed order of waiting ends here
 /// with both well.
@@ -25,7 +40,7 @@ fn takes_in_whichever_has_ended(rt: HostRuntime) -> Result<(), Fail> {
         let first = act(alloc, FIRST)?;
         let second = act(alloc, SECOND)?;
         host.start(1, &first, false)?;
-        host.start(2, &second, false)?;
+        start(&mut host, 2, &second)?;
         fs::write(&rt, early, "")?;
         let finished = host.wait_any()?;
         assert_eq!(rt; finished.job, job);
@@ -48,7 +63,7 @@ fn takes_what_is_printed(rt: HostRuntime) -> Result<(), Fail> {
     let mut screen: Vec<u8> = Vec::new(alloc);
     let mut host = Host::new(alloc, &rt, &mut screen);
     let command = act(alloc, "echo one; echo two >&2; cat; ls .nj_out.7; exit 5")?;
-    host.start(7, &command, false)?;
+    start(&mut host, 7, &command)?;
     let finished = host.wait_any()?;
     assert_eq!(rt; finished.job, 7);
     assert!(rt; !finished.ok);
