@@ -1,0 +1,211 @@
+//! Real files, as a site needs them.
+
+use std::alloc::{AllocError, Global};
+use std::fs::{File, Metadata, OpenOptions};
+use std::io::{ErrorKind, Write};
+use std::os::unix::fs::{FileExt, MetadataExt};
+use std::{fs, io};
+use text::Bytes;
+
+/// How many files that are appended to are kept open.
+const MOST_KEPT: usize = 4;
+
+const NANOS: u64 = 1_000_000_000;
+
+/// The files of the system. Those that get stamps and those that are appended to are kept open.
+#[derive(Drop)]
+pub struct Disk<'a> {
+    rt: &'a HostRuntime,
+    alloc: Global,
+    /// The file of the last tick.
+    tick: Option<Kept>,
+    /// Files that were appended to, the last one opened behind.
+    appended: Vec<Kept>,
+}
+
+/// A file that is kept open.
+#[derive(Drop)]
+struct Kept {
+    path: String,
+    file: File,
+}
+
+impl<'a> Disk<'a> {
+    /// No file is open. This takes no memory.
+    pub fn new(alloc: Global, rt: &'a HostRuntime) -> Disk<'a> {
+        Disk {
+            rt,
+            alloc,
+            tick: None,
+            appended: Vec::new(alloc),
+        }
+    }
+
+    /// What the file at the path holds, or nothing where there is no file.
+    pub fn read(&self, path: &str) -> io::Result<Option<Bytes>> {
+        match unless_absent(fs::read(self.rt, path))? {
+            Some(content) => Ok(Some(Bytes::from_vec(content))),
+            None => Ok(None),
+        }
+    }
+
+    /// The stamp of the file at the path, or nothing where there is no file.
+    pub fn stamp(&self, path: &str) -> io::Result<Option<u64>> {
+        match unless_absent(fs::metadata(self.rt, path))? {
+            Some(metadata) => Ok(Some(stamp_of(&metadata))),
+            None => Ok(None),
+        }
+    }
+
+    /// Touches the file at the path, and answers a stamp that it got in this call: later than what was written before,
+    /// and earlier than what is written after, where the file system tells such writes apart. The file holds one byte more,
+    /// or the same bytes but for the first.
+    ///
+    /// A file is touched by a write to it, since a time that is set is not in line with those of writes. One touch often has
+    /// the time of the write before it or behind it. So there are three, and the second counts.
+    pub fn tick(&mut self, path: &str) -> io::Result<u64> {
+        let kept = match self.tick.take() {
+            Some(kept) if kept.path.as_str() == path => kept,
+            _ => {
+                let how = touching();
+                open_kept(self.alloc, self.rt, &how, path)?
+            }
+        };
+        touch(&kept.file)?;
+        let stamp = touch(&kept.file)?;
+        touch(&kept.file)?;
+        self.tick = Some(kept);
+        Ok(stamp)
+    }
+
+    /// Puts the bytes behind what the file at the path holds. Where it fails, a beginning of them may stand there.
+    pub fn append(&mut self, path: &str, bytes: &[u8]) -> io::Result<()> {
+        let mut kept = match self.take_appended(path) {
+            Some(kept) => kept,
+            None => {
+                let how = appending();
+                open_kept(self.alloc, self.rt, &how, path)?
+            }
+        };
+        if self.appended.len() >= MOST_KEPT {
+            self.appended.clear();
+        }
+        self.appended.reserve(1)?;
+        kept.file.write_all(bytes)?;
+        self.appended.push(kept).map_err(AllocError::from)?;
+        Ok(())
+    }
+
+    /// Puts the content in the place of what the file at the path holds, whole or not at all: it is written under the path
+    /// with `.new` behind it, and gets its name then.
+    pub fn replace(&mut self, path: &str, content: &[u8]) -> io::Result<()> {
+        self.close(path);
+        let new = format!(in self.alloc; "{path}.new")?;
+        fs::write(self.rt, new.as_str(), content)?;
+        fs::rename(self.rt, new.as_str(), path)
+    }
+
+    /// Writes the file at the path. Where it fails, the file may hold anything.
+    pub fn write(&mut self, path: &str, content: &[u8]) -> io::Result<()> {
+        self.close(path);
+        fs::write(self.rt, path, content)
+    }
+
+    /// Deletes the file at the path, if it is there.
+    pub fn remove(&mut self, path: &str) -> io::Result<()> {
+        self.close(path);
+        unless_absent(fs::remove_file(self.rt, path))?;
+        Ok(())
+    }
+
+    /// Makes the folder and those above it, where they are absent.
+    pub fn make_dirs(&self, path: &str) -> io::Result<()> {
+        fs::create_dir_all(self.rt, path)
+    }
+
+    /// The path of the file for what a job prints: beside the file of the last tick, and so beside the logs.
+    pub fn output_path(&self, job: usize) -> Result<String, AllocError> {
+        match self.folder() {
+            Some(folder) => format!(in self.alloc; "{folder}/.nj_out.{job}"),
+            None => format!(in self.alloc; ".nj_out.{job}"),
+        }
+    }
+
+    /// The folder of the file of the last tick, if it is named.
+    fn folder(&self) -> Option<&str> {
+        let (folder, _) = self.tick.as_ref()?.path.as_str().rsplit_once('/')?;
+        Some(folder)
+    }
+
+    /// A new and empty file for what a job prints. What was left under its path, perhaps with a command that still
+    /// writes into it, is removed.
+    pub fn output_file(&mut self, path: &str) -> io::Result<File> {
+        self.remove(path)?;
+        OpenOptions::new()
+            .read(true)
+            .append(true)
+            .create_new(true)
+            .open(self.rt, path)
+    }
+
+    /// Closes the file at the path, where it is open, as it is about to be another file.
+    fn close(&mut self, path: &str) {
+        let _ = self.take_appended(path);
+    }
+
+    fn take_appended(&mut self, path: &str) -> Option<Kept> {
+        let place = self
+            .appended
+            .iter()
+            .position(|kept| kept.path.as_str() == path)?;
+        Some(self.appended.remove(place))
+    }
+}
+
+/// How a file is opened that gets stamps.
+fn touching() -> OpenOptions {
+    let mut how = OpenOptions::new();
+    how.write(true).create(true);
+    how
+}
+
+/// How a file is opened that is appended to.
+fn appending() -> OpenOptions {
+    let mut how = OpenOptions::new();
+    how.append(true).create(true);
+    how
+}
+
+fn open_kept(alloc: Global, rt: &HostRuntime, how: &OpenOptions, path: &str) -> io::Result<Kept> {
+    Ok(Kept {
+        path: String::from_str(alloc, path)?,
+        file: how.open(rt, path)?,
+    })
+}
+
+/// Writes one byte in place, and answers the stamp of that.
+fn touch(file: &File) -> io::Result<u64> {
+    file.write_all_at(b".", 0)?;
+    Ok(stamp_of(&file.metadata()?))
+}
+
+/// When a file was written last, in nanoseconds since 1970: 0 where that lies before, and the greatest number where it lies
+/// past that.
+fn stamp_of(metadata: &Metadata) -> u64 {
+    let Ok(seconds) = u64::try_from(metadata.mtime()) else {
+        return 0;
+    };
+    let nanos = u64::try_from(metadata.mtime_nsec()).unwrap_or(0);
+    seconds.saturating_mul(NANOS).saturating_add(nanos)
+}
+
+/// What was found, or nothing where there is no such file.
+fn unless_absent<T>(found: io::Result<T>) -> io::Result<Option<T>> {
+    match found {
+        Ok(found) => Ok(Some(found)),
+        Err(error) => match error.kind() {
+            ErrorKind::NotFound | ErrorKind::NotADirectory => Ok(None),
+            _ => Err(error),
+        },
+    }
+}

@@ -1,0 +1,139 @@
+//! The starts and ends of real commands, and which run.
+
+ghost use Rattle.std.specs.Prelude.{◌≡◌, ◌+◌, ◌<◌, ◌≤◌, ℕ, ◌++◌, ◌∷◌, [], true, false, IfOk, OnOk, OnErr, length, vec_capacity, vec_len};
+ghost use Rattle.model.specs.World.{runs};
+ghost use Rattle.host.specs.Told.{nothing_told, with_start, with_finish, restarted};
+
+use crate::commands;
+use crate::commands::{Printed, Running};
+use crate::waiting::{wait_all, wait_first};
+use model::{Act, Event, Finished};
+use std::alloc::{AllocError, Global};
+use std::marker::Model;
+use std::{io, mem};
+
+/// All starts and ends of commands, where the last restart was among them, and the commands that run.
+#[derive(Drop)]
+pub struct Jobs {
+    alloc: Global,
+    events: Vec<Event>,
+    /// How many of them came before the last restart.
+    before: usize,
+    /// The jobs that run. There is room for the end of each.
+    jobs: Vec<usize>,
+    /// Their commands, in the same order.
+    commands: Vec<Running>,
+}
+
+impl Model for Jobs {
+    ghost use Rattle.host.specs.Told.{Told};
+    ghost use Rattle.host.specs.Inside.{told_by, IsSound};
+
+    ghost Value = { Told };
+
+    ghost view = { told_by };
+
+    ghost invariant = { IsSound };
+}
+
+impl Jobs {
+    /// No command was started. This takes no memory.
+    pub fn new(alloc: Global) -> Jobs
+        ensures { result ≡ nothing_told }
+    {
+        Jobs {
+            alloc,
+            events: Vec::new(alloc),
+            before: 0,
+            jobs: Vec::new(alloc),
+            commands: Vec::new(alloc),
+        }
+    }
+
+    /// All starts and ends, oldest first: those before the last restart, then those since.
+    pub fn all(&self) -> &[Event]
+        ensures { result.now ≡ self.now.earlier ++ self.now.events }
+    {
+        &self.events
+    }
+
+    /// Starts a command. Where it fails, it was not started.
+    pub fn start(
+        &mut self,
+        rt: &HostRuntime,
+        job: usize,
+        act: &Act,
+        stamp: u64,
+        printed: Option<Printed>,
+    ) -> io::Result<()>
+        requires { runs job self.old.events ≡ false }
+        ensures ok { OnOk result (self.new ≡ with_start job act.now stamp self.old) }
+        ensures err { OnErr result (self.new ≡ self.old) }
+    {
+        let event = started(job, act, stamp)?;
+        reserve(&mut self.events, self.jobs.len() + 2)?;
+        reserve(&mut self.jobs, 1)?;
+        reserve(&mut self.commands, 1)?;
+        let command = commands::start(self.alloc, rt, act.command.as_str(), printed)?;
+        push_reserved(&mut self.events, event);
+        push_reserved(&mut self.jobs, job);
+        push_reserved(&mut self.commands, command);
+        Ok(())
+    }
+
+    /// Waits until a command has ended, and takes it in. Where it fails, none is taken in.
+    pub fn wait_any(&mut self, rt: &HostRuntime) -> io::Result<Finished>
+        requires { (job : ℕ) × (runs job self.old.events ≡ true) }
+        ensures ran { IfOk result (λ finished. runs finished.job self.old.events ≡ true) }
+        ensures ok { IfOk result (λ finished. self.new ≡ with_finish finished.job finished.ok self.old) }
+        ensures err { OnErr result (self.new ≡ self.old) }
+    {
+        let (place, ok) = wait_first(rt, &mut self.commands)?;
+        let output = self.commands[place].read_printed(self.alloc)?;
+        self.commands.remove(place).close(rt);
+        let job = self.jobs.remove(place);
+        push_reserved(&mut self.events, Event::Finish { job, ok });
+        Ok(Finished { job, ok, output })
+    }
+
+    /// Waits until all commands have ended. What was told so far is told of before, and no command runs.
+    pub fn restart(&mut self, rt: &HostRuntime)
+        ensures { self.new ≡ restarted self.old }
+    {
+        wait_all(rt, mem::replace(&mut self.commands, Vec::new(self.alloc)));
+        self.jobs = Vec::new(self.alloc);
+        self.before = self.events.len();
+    }
+}
+
+/// The start of a command.
+fn started(job: usize, act: &Act, stamp: u64) -> Result<Event, AllocError>
+    ensures { IfOk result (λ event. event ≡ Event.Start job act.now stamp) }
+{
+    Ok(Event::Start {
+        job,
+        act: act.clone()?,
+        stamp,
+    })
+}
+
+/// Makes room for so many items more.
+fn reserve<T>(items: &mut Vec<T>, more: usize) -> Result<(), AllocError>
+    ensures items { items.new.items ≡ items.old.items }
+    ensures ok { OnOk result (length items.new.items + more ≤ vec_capacity items.new) }
+    ensures grows { vec_capacity items.old ≤ vec_capacity items.new }
+{
+    items.reserve(more)
+}
+
+/// Adds an item to a list that has room.
+fn push_reserved<T>(items: &mut Vec<T>, item: T)
+    requires { length items.old.items < vec_capacity items.old }
+    ensures items { items.new.items ≡ items.old.items ++ item ∷ [] }
+    ensures grows { vec_capacity items.old ≤ vec_capacity items.new }
+{
+    match items.push(item) {
+        Ok(()) => {}
+        Err(_) => unreachable!(),
+    }
+}

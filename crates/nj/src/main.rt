@@ -1,0 +1,36 @@
+//! The program: builds what build files describe, with real files and real commands.
+#![tactic(auto)]
+
+mod run;
+#[cfg(test)]
+mod tests;
+mod told;
+
+use run::run;
+use std::io::{BufWriter, ErrorKind};
+use std::process::ExitCode;
+use std::{env, io};
+
+fn main(rt: HostRuntime) -> ExitCode {
+    match run_words(&rt) {
+        Ok(status) => ExitCode::from(status),
+        Err(error) => {
+            let _ = match error.kind() {
+                ErrorKind::OutOfMemory => eprintln!(rt; "nj: error: N61: out of memory"),
+                _ => eprintln!(rt; "nj: {error}"),
+            };
+            ExitCode::FAILURE
+        }
+    }
+}
+
+/// Runs the program on the words of its command line.
+fn run_words(rt: &HostRuntime) -> io::Result<u8> {
+    let alloc = rt.alloc();
+    let words: Vec<String> = env::args(rt)?.skip(1).collect(alloc)?;
+    let pattern = env::var(rt, "NINJA_STATUS").ok();
+    let mut out = BufWriter::new(alloc, rt.stdout())?;
+    let mut err = BufWriter::new(alloc, rt.stderr())?;
+    let pattern = pattern.as_ref().map(|pattern| pattern.as_str());
+    Ok(run(rt, words.as_slice(), pattern, &mut out, &mut err))
+}

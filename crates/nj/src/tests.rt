@@ -1,0 +1,5 @@
+//! Runs of the program in folders of their own.
+
+mod builds;
+mod folder;
+mod refusals;

@@ -1,0 +1,85 @@
+//! A folder in which the program is run.
+
+use crate::run::run;
+use std::{env, fs, io, process};
+
+/// A folder of a test's own.
+#[derive(Drop)]
+pub struct Folder<'a> {
+    rt: &'a HostRuntime,
+    pub path: String,
+}
+
+/// What a run came to.
+#[derive(Debug, PartialEq, Drop)]
+pub struct Ran {
+    pub status: u8,
+    pub out: String,
+    pub err: String,
+}
+
+impl<'a> Folder<'a> {
+    /// An empty folder with this build file.
+    pub fn new(rt: &'a HostRuntime, name: &str, build: &str) -> io::Result<Folder<'a>> {
+        let number = process::id(rt.process());
+        let temp = env::temp_dir(rt)?;
+        let temp = temp.display();
+        let path = format!(in rt.alloc(); "{temp}/nj_{name}_{number}")?;
+        let _ = fs::remove_dir_all(rt, path.as_str());
+        fs::create_dir_all(rt, path.as_str())?;
+        let folder = Folder { rt, path };
+        folder.write("build.ninja", build)?;
+        Ok(folder)
+    }
+
+    fn whole(&self, path: &str) -> io::Result<String> {
+        let folder = self.path.as_str();
+        Ok(format!(in self.rt.alloc(); "{folder}/{path}")?)
+    }
+
+    pub fn write(&self, path: &str, content: &str) -> io::Result<()> {
+        fs::write(self.rt, self.whole(path)?.as_str(), content)
+    }
+
+    pub fn make_dir(&self, path: &str) -> io::Result<()> {
+        fs::create_dir_all(self.rt, self.whole(path)?.as_str())
+    }
+
+    pub fn remove_dir(&self, path: &str) -> io::Result<()> {
+        fs::remove_dir_all(self.rt, self.whole(path)?.as_str())
+    }
+
+    pub fn has(&self, path: &str) -> io::Result<bool> {
+        fs::exists(self.rt, self.whole(path)?.as_str())
+    }
+
+    pub fn read(&self, path: &str) -> io::Result<String> {
+        fs::read_to_string(self.rt, self.whole(path)?.as_str())
+    }
+
+    /// Runs the program there, with these words behind `-C` and the folder.
+    pub fn run<'b>(&'b self, words: &[&'b str]) -> io::Result<Ran> {
+        let alloc = self.rt.alloc();
+        let mut all = vec![in alloc; "-C", self.path.as_str()]?;
+        all.extend_from_slice(words)?;
+        run_words(self.rt, all.as_slice())
+    }
+
+    /// Removes the folder and what it holds.
+    pub fn close(self) -> io::Result<()> {
+        fs::remove_dir_all(self.rt, self.path.as_str())
+    }
+}
+
+/// Runs the program.
+pub fn run_words(rt: &HostRuntime, words: &[&str]) -> io::Result<Ran> {
+    let alloc = rt.alloc();
+    let mut out = Vec::new(alloc);
+    let mut err = Vec::new(alloc);
+    let status = run(rt, words, None, &mut out, &mut err);
+    Ok(Ran {
+        status,
+        out: String::from_utf8_lossy(alloc, out.as_slice())?,
+        err: String::from_utf8_lossy(alloc, err.as_slice())?,
+    })
+}
