@@ -33,7 +33,7 @@ pub record IsConeFor (graph : Graph) (recorded : ℕ → List (List ℕ)) (targe
   pub named : AllByRecursion (λ p. is_named (declared_by graph).edges p ≡ true) targets
   pub acyclic : (i : ℕ) → IsInCone (declared_by graph).edges recorded (targets_of (declared_by graph) targets) i → IsCycle (declared_by graph).edges recorded i → ⊥
   -- the numbers of what is built
-  pub targets : texts_at graph.manifest.paths cone.targets.items ≡ targets_of (declared_by graph) targets
+  pub numbers : texts_at graph.manifest.paths cone.targets.items ≡ targets_of (declared_by graph) targets
 
 -- why what was asked for has no cone: a target that is unknown, or paths that lead round a cycle
 abbrev pub IsNoCone : Asked → Store → List (List ℕ) → ConeFault → Type 0

@@ -1,6 +1,6 @@
 //! Which edge makes each path.
 
-ghost use Rattle.std.specs.Prelude.{◌≡◌, ◌<◌, ◌≤◌, ◌++◌, ℕ, All, length, get_or, None, IfOk, IfErr, OnOk, IfSome, MatchOption};
+ghost use Rattle.std.specs.Prelude.{◌≡◌, ◌<◌, ◌≤◌, ◌++◌, ℕ, true, All, length, get_or, None, IfOk, IfErr, OnOk, IfSome, MatchOption};
 ghost use Rattle.model.specs.Graph.{has_number};
 ghost use Rattle.paths.specs.Lists.{line_at, line_inputs};
 ghost use Rattle.paths.specs.Commands.{no_action};
