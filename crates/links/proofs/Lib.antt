@@ -4,3 +4,4 @@ pub mod ConesOf
 pub mod Repeats
 pub mod Lists
 pub mod Texts
+pub mod Makes
