@@ -5,3 +5,8 @@ pub mod Repeats
 pub mod Lists
 pub mod Texts
 pub mod Makes
+pub mod Sets
+pub mod GraphIs
+pub mod ReadThrough
+pub mod Spaces
+pub mod Turns

@@ -1,5 +1,5 @@
 -- Lists in flat memory that have room to grow.
-use Rattle.std.specs.Prelude.{◌≡◌, ◌≢◌, ◌⊎◌, ℕ, ◌+◌, ◌≤◌, ◌<◌, List, length, get_or}
+use Rattle.std.specs.Prelude.{◌≡◌, ◌≢◌, ◌⊎◌, ℕ, ◌+◌, ◌≤◌, ◌<◌, List, ◌++◌, length, get_or}
 use Rattle.paths.specs.Lists.{between}
 use Rattle.links.specs.declared.users.Room.{Room}
 
@@ -18,6 +18,12 @@ AreApart one other = (one.end ≤ other.start) ⊎ (other.end ≤ one.start)
 -- a room of no place
 abbrev pub no_room : Room
 no_room = record { start = 0; stop = 0; end = 0 }
+
+-- the list stands behind the others now, and ends here
+pub record IsMoved (old new list : List ℕ) (stop : ℕ) : Type 0 where
+  pub more : List ℕ
+  pub grows : new ≡ old ++ (list ++ more)
+  pub at : stop ≡ length old + length list
 
 -- no two rooms share a place
 pub record AreRooms (items : List ℕ) (rooms : List Room) : Type 0 where

@@ -4,6 +4,7 @@ ghost use Rattle.std.specs.Prelude.{◌≡◌, ◌<◌, ℕ, List, [], length, I
 ghost use Rattle.std.proofs.Math.ListN.{replicate};
 ghost use Rattle.model.specs.Graph.{IsMadeOnce};
 ghost use Rattle.model.specs.SingleBuild.{NamesOther};
+ghost use Rattle.paths.specs.Numbers.{HaveOnePlace};
 ghost use Rattle.paths.specs.Told.{graph_of};
 ghost use Rattle.links.specs.Held.{AreUsers};
 ghost use Rattle.links.specs.Linked.{IsFaultOf};
@@ -43,7 +44,8 @@ impl Graph {
 
 /// For each path the edges that name it.
 fn users_of(alloc: Global, manifest: &Manifest) -> Result<Users, AllocError>
-    ensures { IfOk result (AreUsers manifest.now (replicate (length manifest.now.lines) [])) }
+    ensures users { IfOk result (AreUsers manifest.now (replicate (length manifest.now.lines) [])) }
+    ensures apart { OnOk result (HaveOnePlace manifest.now.paths) }
 {
     let mut users = Users::none(alloc, manifest.paths.len())?;
     for place in 0..manifest.lines.len() {

@@ -1,5 +1,6 @@
 //! The build graph in numbers.
 
+ghost use Rattle.paths.specs.Numbers.{HaveOnePlace};
 ghost use Rattle.links.specs.Held.{AreMakers, DyndepsAreInputs, AreRecorded, AreUsers};
 
 use crate::recorded::Recorded;
@@ -17,6 +18,7 @@ pub struct Graph {
     pub makers: Vec<Option<EdgeId>>,
     pub recorded: Recorded,
     pub users: Users,
+    ghost apart: { HaveOnePlace manifest.paths },
     ghost making: { AreMakers manifest makers.items },
     ghost dyndeps: { DyndepsAreInputs manifest },
     ghost recording: { AreRecorded manifest recorded },

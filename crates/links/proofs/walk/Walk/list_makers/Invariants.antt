@@ -9,5 +9,5 @@ invariant-loop-path l = record {
   empty : length l.self.stack.items ≡ 0;
   keeps : Keeps l.fn.self.marks.items l.self.marks.items;
   grows : Grows l.fn.self.order.items l.self.order.items;
-  seen : HasSeenMakers (links_of l.fn.self.graph.now) l.self.marks.items l.edge l.path-index;
+  seen : HasSeenMakers (links_of l.fn.self.graph.now) l.self.marks.items l.fn.edge l.path-index;
 }

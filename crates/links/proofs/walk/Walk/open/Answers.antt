@@ -1,4 +1,4 @@
-use Rattle.std.proofs.Common.{ℕ, List, arith, sym, subst}
+use Rattle.std.proofs.Common.{ℕ, ◌++◌, ◌∷◌, [], List, arith, sym, subst}
 use Rattle.std.proofs.Math.ListN.{set}
 use Rattle.links.specs.Links.{links_of}
 use Rattle.links.specs.declared.cone.Mark.TheVariants.{Open}
@@ -12,6 +12,6 @@ returns-clause-walk c =
     record {
       same = c.requires.at.same;
       asked = c.requires.at.asked;
-      at = subst (λ (l : List ℕ). IsWalkAt (links_of walk.graph.now) walk.requested.now walk.order.items (set walk.marks.items c.args.edge Open) walk.left.items l) (sym {A = List ℕ} c.in_ok-push.ensures.items)
-          (walk_open (links_of walk.graph.now) walk.requested.now walk.order.items walk.marks.items walk.left.items walk.stack.items c.requires.at.at c.args.edge (omega arith) c.requires.unseen c.requires.needed c.requires.awaited);
+      at = subst (λ (l : List ℕ). IsWalkAt (links_of walk.graph.now) walk.requested.now walk.order.items (set walk.marks.items c.index.result Open) walk.left.items l) (sym {A = List ℕ} c.in_ok-push.ensures.items)
+          (subst (λ (n : ℕ). IsWalkAt (links_of walk.graph.now) walk.requested.now walk.order.items (set walk.marks.items n Open) walk.left.items (walk.stack.items ++ c.args.edge ∷ [])) (sym {A = ℕ} c.index.ensures.place) (walk_open (links_of walk.graph.now) walk.requested.now walk.order.items walk.marks.items walk.left.items walk.stack.items c.requires.at.at c.args.edge (omega arith) c.requires.unseen c.requires.needed c.requires.awaited));
     }

@@ -1,0 +1,21 @@
+use Rattle.std.proofs.Common.{rules, ◌≡◌, ◌<◌, ◌≤◌, ◌++◌, ℕ, true, All, length, get_or, None, IfOk, IfErr, OnOk, IfSome, MatchOption, ◌+◌, ◌-◌, ◌*◌, ◌/◌, ◌%◌, Bool, false, nat_eq, nat_lt, List, [], ◌∷◌, slice_set, bit_and, bit_or, Fits, w8, w32, w64, Bor, MutBor}
+use Rattle.model.specs.Graph.{has_number}
+use Rattle.paths.specs.Lists.{line_at, line_inputs}
+use Rattle.paths.specs.Commands.{no_action}
+use Rattle.paths.specs.Told.{graph_of, text_at}
+use Rattle.links.specs.Held.{AreMakers, DyndepsAreInputs, dyndep_of}
+use Rattle.links.specs.Linked.{IsFaultOf}
+use Rattle.links.specs.Making.{IsFirstFlaw, HaveClaimed, IsClaimedTwice, IsOtherDyndep, IsFaultFor}
+use Rattle.links.proofs.makers.fault_of.Goals as goal
+
+-- src/makers.rt:47:13
+pub text-requires : goal.text-requires
+text-requires c = ?
+
+-- src/makers.rt:40:1
+pub returns-in_ok-from_str-in-MadeTwice : goal.returns-in_ok-from_str-in-MadeTwice
+returns-in_ok-from_str-in-MadeTwice c = ?
+
+-- src/makers.rt:40:1
+pub returns-in_ok-from_str-in-NoDyndepInput : goal.returns-in_ok-from_str-in-NoDyndepInput
+returns-in_ok-from_str-in-NoDyndepInput c = ?
