@@ -10,3 +10,5 @@ pub mod GraphIs
 pub mod ReadThrough
 pub mod Spaces
 pub mod Turns
+pub mod Parts
+pub mod Flaws

@@ -271,9 +271,9 @@ module _ (lines : List Line) (old new : List (Option ℕ)) (e : ℕ) (lt : e < l
       by None is some = absurd (false≢true some)
       by (Some d) is some = let was = below.made p d is in has_below lines e d p was.0 was.1
 
-pub makers_whole : (manifest : Manifest) (makers : List (Option ℕ)) (count : ℕ) → count ≡ length manifest.lines → length makers ≡ manifest.named → AreMakersBelow manifest.lines makers count → AreMakers manifest makers
+pub makers_whole : (manifest : Manifest) (makers : List (Option ℕ)) (count : ℕ) → count ≡ length manifest.lines → length makers ≡ length manifest.paths → AreMakersBelow manifest.lines makers count → AreMakers manifest makers
 makers_whole manifest makers count whole fits below = record {
-  fits = omega (arith, fits, manifest.names);
+  fits = omega (arith, fits);
   made = λ p e is. (below.made p e is).1;
   all = λ p e h. elim (cases_lt e count) [
     | inl low ↦ below.all p e low h

@@ -1,9 +1,9 @@
 -- Lists in flat memory, with room to grow.
-use Rattle.std.proofs.Common.{◌≡◌, ◌≢◌, ◌⊎◌, inl, inr, ℕ, zero, suc, ◌+◌, ◌-◌, ◌<◌, ◌≤◌, List, [], ◌∷◌, ◌++◌, map, length, take, drop, get_or, refl, sym, ◌∙◌, ap, subst, arith, length-append}
+use Rattle.std.proofs.Common.{◌≡◌, ◌≢◌, ◌⊎◌, inl, inr, ℕ, zero, suc, ◌+◌, ◌-◌, ◌<◌, ◌≤◌, List, [], ◌∷◌, ◌++◌, map, length, take, drop, get_or, refl, sym, ◌∙◌, ap, subst, arith, length-append, append_assoc}
 use Rattle.std.proofs.Math.ListN.{set, replicate}
 use Rattle.std.proofs.Math.Seq.{drop-append_seam, take-suc}
 use Rattle.std.specs.List.{AllByRecursion}
-use Rattle.std.proofs.lemmas.List.{take-append-le, drop-append-le, drop-set-lt, drop-set-add, take-set-le, get_or-set_same, get_or-set_other, length-set, get_or-map, length-map, length-drop, length-take-le, get_or-drop, get_or_past, append_assoc}
+use Rattle.std.proofs.lemmas.List.{take-append-le, drop-append-le, drop-set-lt, drop-set-add, take-set-le, get_or-set_same, get_or-set_other, length-set, get_or-map, length-map, length-drop, length-take-le, get_or-drop, get_or_default}
 use Rattle.paths.specs.Lists.{between, Extends}
 use Rattle.links.specs.declared.recorded.Span.{Span}
 use Rattle.links.specs.declared.users.Room.{Room}
@@ -250,3 +250,70 @@ module _ (items : List ℕ) (rooms : List Room) (are : AreRooms items rooms) whe
                   (subst (λ (r : Room). AreApart (get_or rooms j no_room) r) (sym (was k k_else)) (are.apart j k differ))
             ]
           ]
+
+-- ---- views
+
+abbrev room_made : ℕ → ℕ → ℕ → Room
+room_made start stop end = record { start = start; stop = stop; end = end }
+
+view_length : (items : List ℕ) (rooms : List Room) (view : List (List ℕ)) → map (room_of items) rooms ≡ view → length view ≡ length rooms
+view_length items rooms view is = ap length (sym is) ∙ length-map rooms (room_of items)
+
+module _ (items : List ℕ) (rooms : List Room) (are : AreRooms items rooms) (view : List (List ℕ)) (is : map (room_of items) rooms ≡ view) (path place : ℕ) (same : place ≡ path) (lt : path < length view) (room : Room) (at : room ≡ get_or rooms place room) where
+  in_rooms : place < length rooms
+  in_rooms = let long = view_length items rooms view is in omega (arith, same, lt, long)
+
+  at_none : room ≡ get_or rooms place no_room
+  at_none = at ∙ get_or_default rooms place room no_room in_rooms
+
+  pub lies_in : IsRoomIn (length items) room
+  lies_in = subst (IsRoomIn (length items)) (sym at_none) (are.within place)
+
+  pub push_view : (e : ℕ) → room.stop < room.end → map (room_of (set items room.stop e)) (set rooms place (room_made room.start (room.stop + 1) room.end)) ≡ push_at view path e
+  push_view e free =
+      let next : room.stop + 1 ≡ suc room.stop = omega arith in
+      ap (λ (n : ℕ). map (room_of (set items room.stop e)) (set rooms place (room_made room.start n room.end))) next
+      ∙ (pushed_in items rooms are place in_rooms room at_none e free ∙ (ap (λ (v : List (List ℕ)). push_at v place e) is ∙ ap (λ (n : ℕ). push_at view n e) same))
+
+  pub pop_view : map (room_of items) (set rooms place (room_made room.start (room.stop - 1) room.end)) ≡ set view path (take (length (list_at view path) - 1) (list_at view path))
+  pop_view =
+      popped items rooms are place in_rooms room at_none
+      ∙ (ap (λ (v : List (List ℕ)). set v place (take (length (list_at v place) - 1) (list_at v place))) is ∙ ap (λ (n : ℕ). set view n (take (length (list_at view n) - 1) (list_at view n))) same)
+
+  pub unpop_view : room.stop ≤ room.start → view ≡ set view path (take (length (list_at view path) - 1) (list_at view path))
+  unpop_view empty =
+      sym is ∙ (unpopped items rooms are place in_rooms room at_none empty
+      ∙ (ap (λ (v : List (List ℕ)). set v place (take (length (list_at v place) - 1) (list_at v place))) is ∙ ap (λ (n : ℕ). set view n (take (length (list_at view n) - 1) (list_at view n))) same))
+
+  module _ (new : List ℕ) (e start stop end : ℕ) (moved : IsMoved items new (between items room.start room.stop ++ e ∷ []) stop) (from : start ≡ length items) (to : end ≡ length new) where
+    next_is : room_made start stop end ≡ room_made (length items) stop (length new)
+    next_is = ap (λ (n : ℕ). room_made n stop end) from ∙ ap (λ (n : ℕ). room_made (length items) stop n) to
+
+    pub move_view : map (room_of new) (set rooms place (room_made start stop end)) ≡ push_at view path e
+    move_view =
+        moved_lists items rooms are place in_rooms room at_none new e stop moved (room_made start stop end) next_is
+        ∙ (ap (λ (v : List (List ℕ)). push_at v place e) is ∙ ap (λ (n : ℕ). push_at view n e) same)
+
+    pub move_rooms : AreRooms new (set rooms place (room_made start stop end))
+    move_rooms = moved_rooms items rooms are place in_rooms room at_none new e stop moved (room_made start stop end) next_is
+
+-- what a refused move leaves
+pub kept_view : (items new : List ℕ) (rooms : List Room) (view : List (List ℕ)) → AreRooms items rooms → map (room_of items) rooms ≡ view → Extends items new → map (room_of new) rooms ≡ view
+kept_view items new rooms view are is extends = rooms_kept items rooms are new extends ∙ is
+
+-- a move, one step after the other
+pub moved_by : (old one two three list more : List ℕ) (e stop : ℕ) → one ≡ old ++ list → two ≡ one ++ e ∷ [] → three ≡ two ++ more → stop ≡ length two → IsMoved old three (list ++ e ∷ []) stop
+moved_by old one two three list more e stop a b d at = record {
+  more = more;
+  grows = d ∙ (ap (λ (l : List ℕ). l ++ more) second ∙ append_assoc old (list ++ e ∷ []) more);
+  at = at ∙ (ap length second ∙ length-append old (list ++ e ∷ []));
+}
+  where
+    second : two ≡ old ++ (list ++ e ∷ [])
+    second = b ∙ (ap (λ (l : List ℕ). l ++ e ∷ []) a ∙ append_assoc old list (e ∷ []))
+
+pub extends_one : (old new more : List ℕ) → new ≡ old ++ more → Extends old new
+extends_one old new more is = record { more = more; grows = is }
+
+pub extends_two : (old one new first more : List ℕ) → one ≡ old ++ first → new ≡ one ++ more → Extends old new
+extends_two old one new first more a b = record { more = first ++ more; grows = b ∙ (ap (λ (l : List ℕ). l ++ more) a ∙ append_assoc old first more) }

@@ -115,6 +115,12 @@ impl Graph {
         ensures makes { IfSome result (λ edge. has_number ((links_of self.now).outputs edge) path ≡ true) }
         ensures text { path < length self.now.manifest.paths → maker (declared_by self.now).edges (text_at self.now.manifest.paths path) ≡ later_number result }
     {
+        self.stored_maker(path)
+    }
+
+    fn stored_maker(&self, path: PathId) -> Option<EdgeId>
+        ensures { result ≡ (links_of self.now).maker path }
+    {
         self.makers.get(path.index()).copied().flatten()
     }
 

@@ -29,7 +29,7 @@ pub fn makers_of(alloc: Global, manifest: &Manifest) -> Result<Vec<Option<EdgeId
     ensures dyndeps { OnOk result (DyndepsAreInputs manifest.now) }
     ensures fault { IfErr result (IsFaultOf (graph_of manifest.now).edges) }
 {
-    let mut makers = vec![in alloc; None; manifest.named]?;
+    let mut makers = vec![in alloc; None; manifest.paths.len()]?;
     match claim_all(manifest, &mut makers) {
         Ok(()) => Ok(makers),
         Err(flaw) => Err(fault_of(alloc, manifest, flaw)?),
@@ -55,7 +55,7 @@ fn fault_of(alloc: Global, manifest: &Manifest, flaw: Flaw) -> Result<GraphFault
 
 /// Makes each edge the maker of its outputs; stops at the first flaw.
 fn claim_all(manifest: &Manifest, makers: &mut [Option<EdgeId>]) -> Result<(), Flaw>
-    requires fits { length makers.old ≡ manifest.now.named }
+    requires fits { length makers.old ≡ length manifest.now.paths }
     requires none { All (λ maker. maker ≡ None) makers.old }
     ensures makers { OnOk result (AreMakers manifest.now makers.new) }
     ensures dyndeps { OnOk result (DyndepsAreInputs manifest.now) }

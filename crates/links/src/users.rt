@@ -1,7 +1,9 @@
 //! For each path the edges that name it, in flat memory.
 
-ghost use Rattle.std.specs.Prelude.{◌≡◌, ◌<◌, ◌++◌, ◌∷◌, ◌-◌, ℕ, List, All, [], length, take, slice_set, IfOk, OnOk, OnErr};
+ghost use Rattle.std.specs.Prelude.{◌≡◌, ◌<◌, ◌++◌, ◌∷◌, ◌-◌, ◌≤◌, ℕ, List, All, [], length, take, slice_set, IfOk, OnOk, OnErr};
 ghost use Rattle.std.proofs.Math.ListN.{replicate};
+ghost use Rattle.paths.specs.Lists.{between, Extends};
+ghost use Rattle.links.specs.Rooms.{IsMoved};
 ghost use Rattle.links.specs.Held.{list_at, push_at, pushed};
 
 use paths::{EdgeId, PathId};
@@ -93,10 +95,15 @@ impl Users {
         ensures ok { OnOk result (self.new ≡ push_at self.old path edge) }
         ensures err { OnErr result (self.new ≡ self.old) }
     {
-        let room = self.rooms[path.index()];
+        let place = path.index();
+        let room = self.rooms[place];
         if room.stop < room.end {
             self.edges[room.stop] = edge;
-            self.rooms[path.index()].stop = room.stop + 1;
+            self.rooms[place] = Room {
+                start: room.start,
+                stop: room.stop + 1,
+                end: room.end,
+            };
             Ok(())
         } else {
             self.push_moved(path, edge)
@@ -109,14 +116,11 @@ impl Users {
         ensures ok { OnOk result (self.new ≡ push_at self.old path edge) }
         ensures err { OnErr result (self.new ≡ self.old) }
     {
-        let room = self.rooms[path.index()];
+        let place = path.index();
+        let room = self.rooms[place];
         let start = self.edges.len();
-        self.edges.extend_from_within(room.start..room.stop)?;
-        self.edges.push(edge)?;
-        let stop = self.edges.len();
-        // the list and the edge, and as many places as there were before
-        self.edges.extend_from_within(room.start..room.stop)?;
-        self.rooms[path.index()] = Room {
+        let stop = append_moved(&mut self.edges, room.start, room.stop, edge)?;
+        self.rooms[place] = Room {
             start,
             stop,
             end: self.edges.len(),
@@ -156,9 +160,34 @@ impl Users {
         requires { path < length self.old }
         ensures { self.new ≡ slice_set self.old path (take (length (list_at self.old path) - 1) (list_at self.old path)) }
     {
-        let room = self.rooms[path.index()];
+        let place = path.index();
+        let room = self.rooms[place];
         if room.start < room.stop {
-            self.rooms[path.index()].stop = room.stop - 1;
+            self.rooms[place] = Room {
+                start: room.start,
+                stop: room.stop - 1,
+                end: room.end,
+            };
         }
     }
+}
+
+/// Copies what stands between two places to the end, puts an edge behind it, and makes as many places again. Gives the
+/// place behind the edge.
+fn append_moved(
+    edges: &mut Vec<EdgeId>,
+    start: usize,
+    stop: usize,
+    edge: EdgeId,
+) -> Result<usize, AllocError>
+    requires order { start ≤ stop }
+    requires within { stop ≤ length edges.old.items }
+    ensures ok { IfOk result (IsMoved edges.old.items edges.new.items (between edges.old.items start stop ++ edge ∷ [])) }
+    ensures err { OnErr result (Extends edges.old.items edges.new.items) }
+{
+    edges.extend_from_within(start..stop)?;
+    edges.push(edge)?;
+    let end = edges.len();
+    edges.extend_from_within(start..stop)?;
+    Ok(end)
 }

@@ -1,13 +1,16 @@
-use Rattle.std.proofs.Common.{rules, ◌≡◌, ◌<◌, ◌||◌, not, ℕ, false, List, [], ◌++◌, All, filter, length, get_or, EachIndex, IfOk, OnOk, vec_len, ◌+◌, ◌-◌, ◌*◌, ◌≤◌, ◌/◌, ◌%◌, Bool, true, nat_eq, nat_lt, ◌∷◌, slice_set, bit_and, bit_or, Fits, w8, w32, w64, Bor, MutBor}
-use Rattle.std.specs.List.{flat_map}
-use Rattle.model.specs.Graph.{has_number}
-use Rattle.paths.specs.Lists.{line_inputs, line_outputs}
-use Rattle.paths.specs.Told.{texts_at}
-use Rattle.links.specs.Linked.{default_targets}
-use Rattle.links.specs.Told.{declared_by}
-use Rattle.links.specs.Free.{free_of}
+use Rattle.std.proofs.Common.{◌≡◌, ℕ, ◌<◌, ◌∙◌, arith, get_or, length, true}
+use Rattle.std.proofs.lemmas.List.{get_or_default, length-set}
+use Rattle.links.proofs.Turns.{marked_next}
 use Rattle.links.proofs.defaults.mark.Goals as goal
 
--- src/defaults.rt:61:5
 pub loop-path-preserved : goal.loop-path-preserved
-loop-path-preserved c = ?
+loop-path-preserved c =
+    let paths = c.args.paths.now in
+    let place = c.loop-path.path-index in
+    let at : c.index.result ≡ get_or paths place 0 = c.index.ensures.place ∙ (c.path-item.is ∙ get_or_default paths place c.path-item.result 0 c.loop-path-test.true) in
+    let low : get_or paths place 0 < length c.args.marks.now = c.requires place 0 c.loop-path-test.true in
+    record {
+      fits = length-set c.loop-path.marks c.index.result true ∙ c.loop-path.invariant.fits;
+      marked = marked_next c.args.marks.now c.loop-path.marks paths place c.index.result c.loop-path-test.true (at ∙ get_or_default paths place 0 c.index.result c.loop-path-test.true)
+          (omega (arith, at, low, c.loop-path.invariant.fits)) c.loop-path.invariant.marked;
+    }

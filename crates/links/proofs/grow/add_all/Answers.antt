@@ -1,9 +1,6 @@
-use Rattle.std.proofs.Common.{rules, ◌≡◌, ◌<◌, ◌++◌, ℕ, List, All, take, slice_set, ◌≤◌, length, IfOk, OnOk, OnErr, nat_eq, ◌+◌, ◌-◌, ◌*◌, ◌/◌, ◌%◌, Bool, true, false, nat_lt, [], ◌∷◌, slice_index_or, bit_and, bit_or, Fits, w8, w32, w64, Bor, MutBor}
-use Rattle.indexmap.specs.IndexSet.{insert_all}
-use Rattle.links.specs.Held.{list_at, StandOnce}
-use Rattle.links.specs.Grown.{HasNumbered, HasGained}
+use Rattle.links.proofs.Turns.{insert_next}
 use Rattle.links.proofs.grow.add_all.Goals as goal
 
--- src/grow.rt:75:5
 pub loop-path-preserved : goal.loop-path-preserved
-loop-path-preserved c = ?
+loop-path-preserved c =
+    insert_next c.args.all.now.keys c.loop-path.all.keys c.insert.new.self.keys c.args.paths.now c.loop-path.path-index c.path-item.result c.loop-path-test.true c.path-item.is c.loop-path.invariant c.in_ok-insert.ensures.keys

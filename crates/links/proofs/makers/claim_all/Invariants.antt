@@ -4,7 +4,7 @@ use Rattle.links.proofs.makers.claim_all.Given as goal
 
 abbrev pub invariant-loop-place : goal.invariant-loop-place
 invariant-loop-place l = record {
-  fits : length l.makers ≡ l.manifest.named;
+  fits : length l.makers ≡ length l.manifest.paths;
   below : AreMakersBelow l.manifest.lines l.makers l.place;
   dyndeps : HaveDyndepsBelow l.manifest l.place;
 }

@@ -1,17 +1,17 @@
-use Rattle.std.proofs.Common.{rules, ◌≡◌, ◌<◌, ◌++◌, ℕ, true, Some, IfSome, length, slice_get, slice_index, MatchOption, ◌+◌, ◌-◌, ◌*◌, ◌≤◌, ◌/◌, ◌%◌, Bool, false, nat_eq, nat_lt, List, [], ◌∷◌, slice_index_or, slice_set, bit_and, bit_or, Fits, w8, w32, w64, Bor, MutBor}
-use Rattle.std.specs.Option.{option_map}
-use Rattle.std.specs.Map.Iter.{deref}
-use Rattle.model.specs.Graph.{has_number, maker, later_number}
-use Rattle.paths.specs.Told.{text_at}
-use Rattle.links.specs.Held.{times}
-use Rattle.links.specs.Links.{links_of, needs_at, users_at}
-use Rattle.links.specs.Told.{declared_by}
+use Rattle.std.proofs.Common.{◌∙◌, sym, ap}
+use Rattle.model.specs.Graph.{later_number}
+use Rattle.links.proofs.GraphIs.{maker_within}
+use Rattle.links.proofs.Makes.{maker_is}
+use Rattle.links.proofs.Parts.{some_of}
 use Rattle.links.proofs.graph.Graph.maker.Goals as goal
 
--- src/access.rt:112:5
 pub returns-clause-within : goal.returns-clause-within
-returns-clause-within c = ?
+returns-clause-within c = some_of c.stored_maker.result (λ e is. maker_within c.args.self.now c.args.path e (sym c.stored_maker.ensures ∙ is))
 
--- src/access.rt:112:5
+pub returns-clause-makes : goal.returns-clause-makes
+returns-clause-makes c = some_of c.stored_maker.result (λ e is. c.args.self.now.making.made c.args.path e (sym c.stored_maker.ensures ∙ is))
+
 pub returns-clause-text : goal.returns-clause-text
-returns-clause-text c = ?
+returns-clause-text c lt =
+    let graph = c.args.self.now in
+    maker_is graph.manifest graph.makers.items graph.making graph.apart c.args.path lt ∙ ap later_number (sym c.stored_maker.ensures)

@@ -1,8 +1,7 @@
-use Rattle.std.proofs.Common.{rules, ◌≡◌, ◌<◌, ◌++◌, ◌∷◌, ◌-◌, ℕ, List, All, [], length, take, slice_set, IfOk, OnOk, OnErr, ◌+◌, ◌*◌, ◌≤◌, ◌/◌, ◌%◌, Bool, true, false, nat_eq, nat_lt, slice_index_or, bit_and, bit_or, Fits, w8, w32, w64, Bor, MutBor}
-use Rattle.std.proofs.Math.ListN.{replicate}
-use Rattle.links.specs.Held.{list_at, push_at, pushed}
+use Rattle.std.proofs.Common.{◌∙◌, ap, map}
+use Rattle.links.specs.Rooms.{room_of, no_room}
+use Rattle.links.proofs.Spaces.{map_replicate}
 use Rattle.links.proofs.users.Users.none.Goals as goal
 
--- src/users.rt:49:5
 pub returns : goal.returns
-returns c = ?
+returns c = ap (map (room_of _)) (c.in_ok-vec.ensures.items_if_clones_equal (λ x y h. h)) ∙ map_replicate (room_of _) c.args.paths no_room

@@ -1,8 +1,7 @@
-use Rattle.std.proofs.Common.{rules, ◌≡◌, ◌<◌, ◌++◌, ◌∷◌, ◌-◌, ℕ, List, All, [], length, take, slice_set, IfOk, OnOk, OnErr, ◌+◌, ◌*◌, ◌≤◌, ◌/◌, ◌%◌, Bool, true, false, nat_eq, nat_lt, slice_index_or, bit_and, bit_or, Fits, w8, w32, w64, Bor, MutBor}
-use Rattle.std.proofs.Math.ListN.{replicate}
-use Rattle.links.specs.Held.{list_at, push_at, pushed}
+use Rattle.links.proofs.Spaces.{pop_view}
 use Rattle.links.proofs.users.Users.pop.Goals as goal
 
--- src/users.rt:155:5
 pub returns-then-room : goal.returns-then-room
-returns-then-room c = ?
+returns-then-room c =
+    pop_view c.self.inside.edges.items c.self.inside.rooms.items c.self.invariant c.args.self.now c.self.view_is c.args.path c.index-place.result c.index-place.ensures.place c.requires
+    c.index-room.result.now c.index-room.ensures

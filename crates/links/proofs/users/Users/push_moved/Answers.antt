@@ -1,31 +1,26 @@
-use Rattle.std.proofs.Common.{rules, ◌≡◌, ◌<◌, ◌++◌, ◌∷◌, ◌-◌, ℕ, List, All, [], length, take, slice_set, IfOk, OnOk, OnErr, ◌+◌, ◌*◌, ◌≤◌, ◌/◌, ◌%◌, Bool, true, false, nat_eq, nat_lt, slice_index_or, bit_and, bit_or, Fits, w8, w32, w64, Bor, MutBor}
-use Rattle.std.proofs.Math.ListN.{replicate}
-use Rattle.links.specs.Held.{list_at, push_at, pushed}
+use Rattle.std.proofs.Common.{◌∙◌, arith, OnErr, rules}
+use Rattle.paths.specs.Lists.{Extends}
+use Rattle.links.proofs.Spaces.{lies_in, move_view, move_rooms, kept_view}
 use Rattle.links.proofs.users.Users.push_moved.Goals as goal
 
--- src/users.rt:115:9
-pub returns-in_err-push-clause-err : goal.returns-in_err-push-clause-err
-returns-in_err-push-clause-err c = ?
+pub append_moved-requires-clause-order : goal.append_moved-requires-clause-order
+append_moved-requires-clause-order c =
+    (lies_in c.self.inside.edges.items c.self.inside.rooms.items c.self.invariant c.args.self.now c.self.view_is c.args.path c.index-place.result c.index-place.ensures.place c.requires
+    c.index-room.result.now c.index-room.ensures).in_order
 
--- src/users.rt:118:9
-pub extend_from_within-requires-2-clause-start_le_end :
-    goal.extend_from_within-requires-2-clause-start_le_end
-extend_from_within-requires-2-clause-start_le_end c = ?
+pub append_moved-requires-clause-within : goal.append_moved-requires-clause-within
+append_moved-requires-clause-within c =
+    let lies = lies_in c.self.inside.edges.items c.self.inside.rooms.items c.self.invariant c.args.self.now c.self.view_is c.args.path c.index-place.result c.index-place.ensures.place c.requires c.index-room.result.now c.index-room.ensures in
+    omega (arith, lies.used, lies.within)
 
--- src/users.rt:118:9
-pub extend_from_within-requires-2-clause-in_bounds :
-    goal.extend_from_within-requires-2-clause-in_bounds
-extend_from_within-requires-2-clause-in_bounds c = ?
-
--- src/users.rt:118:9
-pub returns-in_err-extend_from_within-2-clause-err :
-    goal.returns-in_err-extend_from_within-2-clause-err
-returns-in_err-extend_from_within-2-clause-err c = ?
-
--- src/users.rt:107:5
-pub invariant_of-self-2 : goal.invariant_of-self-2
-invariant_of-self-2 c = ?
-
--- src/users.rt:107:5
 pub returns-clause-ok : goal.returns-clause-ok
-returns-clause-ok c = ?
+returns-clause-ok c =
+    move_view c.self.inside.edges.items c.self.inside.rooms.items c.self.invariant c.args.self.now c.self.view_is c.args.path c.index-place.result c.index-place.ensures.place c.requires
+    c.index-room.result.now c.index-room.ensures c.append_moved.new.edges.items c.args.edge c.len-start.result c.in_ok-stop.stop c.len.result c.in_ok-stop.ensures.ok
+    (c.len-start.ensures ∙ omega (arith, c.self.inside.edges.ok.0)) (c.len.ensures ∙ omega (arith, c.append_moved.new.edges.ok.0))
+
+pub invariant_of-self-2 : goal.invariant_of-self-2
+invariant_of-self-2 c =
+    move_rooms c.self.inside.edges.items c.self.inside.rooms.items c.self.invariant c.args.self.now c.self.view_is c.args.path c.index-place.result c.index-place.ensures.place c.requires
+    c.index-room.result.now c.index-room.ensures c.append_moved.new.edges.items c.args.edge c.len-start.result c.in_ok-stop.stop c.len.result c.in_ok-stop.ensures.ok
+    (c.len-start.ensures ∙ omega (arith, c.self.inside.edges.ok.0)) (c.len.ensures ∙ omega (arith, c.append_moved.new.edges.ok.0))

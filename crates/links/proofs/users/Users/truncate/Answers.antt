@@ -1,8 +1,9 @@
-use Rattle.std.proofs.Common.{rules, ◌≡◌, ◌<◌, ◌++◌, ◌∷◌, ◌-◌, ℕ, List, All, [], length, take, slice_set, IfOk, OnOk, OnErr, ◌+◌, ◌*◌, ◌≤◌, ◌/◌, ◌%◌, Bool, true, false, nat_eq, nat_lt, slice_index_or, bit_and, bit_or, Fits, w8, w32, w64, Bor, MutBor}
-use Rattle.std.proofs.Math.ListN.{replicate}
-use Rattle.links.specs.Held.{list_at, push_at, pushed}
+use Rattle.std.proofs.Common.{◌∙◌, ap, map, sym, List, ℕ, take}
+use Rattle.std.proofs.lemmas.List.{take-map}
+use Rattle.links.specs.Rooms.{room_of}
 use Rattle.links.proofs.users.Users.truncate.Goals as goal
 
--- src/users.rt:84:5
 pub returns : goal.returns
-returns c = ?
+returns c =
+    ap (map (room_of c.self.inside.edges.items)) c.truncate.ensures.items
+    ∙ (sym (take-map (room_of c.self.inside.edges.items) c.args.paths c.self.inside.rooms.items) ∙ ap (take c.args.paths) c.self.view_is)
