@@ -12,3 +12,5 @@ pub mod Spaces
 pub mod Turns
 pub mod Parts
 pub mod Flaws
+pub mod Asked
+pub mod Named

@@ -1,21 +1,19 @@
-use Rattle.std.proofs.Common.{rules, ◌≡◌, ◌<◌, ◌≤◌, ◌++◌, ℕ, true, All, length, get_or, None, IfOk, IfErr, OnOk, IfSome, MatchOption, ◌+◌, ◌-◌, ◌*◌, ◌/◌, ◌%◌, Bool, false, nat_eq, nat_lt, List, [], ◌∷◌, slice_set, bit_and, bit_or, Fits, w8, w32, w64, Bor, MutBor}
-use Rattle.model.specs.Graph.{has_number}
-use Rattle.paths.specs.Lists.{line_at, line_inputs}
-use Rattle.paths.specs.Commands.{no_action}
-use Rattle.paths.specs.Told.{graph_of, text_at}
-use Rattle.links.specs.Held.{AreMakers, DyndepsAreInputs, dyndep_of}
-use Rattle.links.specs.Linked.{IsFaultOf}
-use Rattle.links.specs.Making.{IsFirstFlaw, HaveClaimed, IsClaimedTwice, IsOtherDyndep, IsFaultFor}
+use Rattle.std.proofs.Common.{◌∙◌, ◌<◌, ap, sym, subst, length, [], Some}
+use Rattle.std.proofs.lemmas.Option.{get_or_from_slice_get}
+use Rattle.links.specs.declared.fault.GraphFault.TheVariants.{MadeTwice as MadeTwiceFault, NoDyndepInput as NoDyndepInputFault}
+use Rattle.links.specs.Making.{IsFaultFor}
+use Rattle.links.proofs.Flaws.{flaw_path, flaw_within}
 use Rattle.links.proofs.makers.fault_of.Goals as goal
 
--- src/makers.rt:47:13
 pub text-requires : goal.text-requires
-text-requires c = ?
+text-requires c = subst (λ f. flaw_path f < length c.args.manifest.now.paths) c.in-MadeTwice.is (flaw_within c.args.manifest.now c.args.flaw c.requires)
 
--- src/makers.rt:40:1
 pub returns-in_ok-from_str-in-MadeTwice : goal.returns-in_ok-from_str-in-MadeTwice
-returns-in_ok-from_str-in-MadeTwice c = ?
+returns-in_ok-from_str-in-MadeTwice c =
+    subst (λ f. IsFaultFor c.args.manifest.now.paths f (MadeTwiceFault c.in_ok-from_str-in-MadeTwice.field-0)) (sym c.in-MadeTwice.is)
+    (ap MadeTwiceFault (c.in_ok-from_str-in-MadeTwice.ensures ∙ sym (get_or_from_slice_get c.args.manifest.now.paths c.in-MadeTwice.path c.text.result.now [] c.text.ensures)))
 
--- src/makers.rt:40:1
 pub returns-in_ok-from_str-in-NoDyndepInput : goal.returns-in_ok-from_str-in-NoDyndepInput
-returns-in_ok-from_str-in-NoDyndepInput c = ?
+returns-in_ok-from_str-in-NoDyndepInput c =
+    subst (λ f. IsFaultFor c.args.manifest.now.paths f (NoDyndepInputFault c.in_ok-from_str-in-NoDyndepInput.field-0)) (sym c.in-NoDyndepInput.is)
+    (ap NoDyndepInputFault (c.in_ok-from_str-in-NoDyndepInput.ensures ∙ sym (get_or_from_slice_get c.args.manifest.now.paths c.in-NoDyndepInput.path c.text-in-NoDyndepInput.result.now [] c.text-in-NoDyndepInput.ensures)))

@@ -1,13 +1,5 @@
-use Rattle.std.proofs.Common.{rules, ◌≡◌, ◌<◌, ◌≤◌, ◌++◌, ℕ, true, All, length, get_or, None, IfOk, IfErr, OnOk, IfSome, MatchOption, ◌+◌, ◌-◌, ◌*◌, ◌/◌, ◌%◌, Bool, false, nat_eq, nat_lt, List, [], ◌∷◌, slice_set, bit_and, bit_or, Fits, w8, w32, w64, Bor, MutBor}
-use Rattle.model.specs.Graph.{has_number}
-use Rattle.paths.specs.Lists.{line_at, line_inputs}
-use Rattle.paths.specs.Commands.{no_action}
-use Rattle.paths.specs.Told.{graph_of, text_at}
-use Rattle.links.specs.Held.{AreMakers, DyndepsAreInputs, dyndep_of}
-use Rattle.links.specs.Linked.{IsFaultOf}
-use Rattle.links.specs.Making.{IsFirstFlaw, HaveClaimed, IsClaimedTwice, IsOtherDyndep, IsFaultFor}
+use Rattle.links.proofs.Flaws.{fault_told}
 use Rattle.links.proofs.makers.makers_of.Goals as goal
 
--- src/makers.rt:27:1
 pub returns-in_ok-fault_of-in-Err-clause-fault : goal.returns-in_ok-fault_of-in-Err-clause-fault
-returns-in_ok-fault_of-in-Err-clause-fault c = ?
+returns-in_ok-fault_of-in-Err-clause-fault c = fault_told c.args.manifest.now c.len.ensures.once c.in-Err.flaw c.in_ok-fault_of-in-Err.field-0 c.in-Err.ensures.flaw c.in_ok-fault_of-in-Err.ensures
