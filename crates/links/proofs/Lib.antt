@@ -14,3 +14,5 @@ pub mod Parts
 pub mod Flaws
 pub mod Asked
 pub mod Named
+pub mod Longer
+pub mod Joins

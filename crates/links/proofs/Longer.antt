@@ -45,7 +45,7 @@ longer_length old new path (inr more) = let long = ap length more in let sum = l
 texts_longer : (paths more : List (List ℕ)) (numbers : List ℕ) → AreWithin paths numbers → texts_at (paths ++ more) numbers ≡ texts_at paths numbers
 texts_longer paths more [] within = refl
 texts_longer paths more (n ∷ numbers) within =
-    ap (λ (t : List ℕ). t ∷ texts_at (paths ++ more) numbers) (get_or_append_left paths more n [] within.0) ∙ ap (λ (l : List (List ℕ)). text_at paths n ∷ l) (texts_longer paths more numbers within.1)
+    ap (λ (t : List ℕ). t ∷ texts_at (paths ++ more) numbers) (get_or_append_left paths more [] n within.0) ∙ ap (λ (l : List (List ℕ)). text_at paths n ∷ l) (texts_longer paths more numbers within.1)
 
 part_within : (n : ℕ) (line : Line) → ((p : ℕ) → has_number (line_paths line) p ≡ true → p < n)
     → AllByRecursion (λ p. p < n) line.explicit_outputs × AllByRecursion (λ p. p < n) line.implicit_outputs × AllByRecursion (λ p. p < n) line.explicit_inputs
@@ -92,7 +92,7 @@ edge_longer paths more line (Command command) each low =
   where
     dyndep : (o : Option ℕ) → stop_of o ≤ length paths → option_map (text_at (paths ++ more)) o ≡ option_map (text_at paths) o
     dyndep None low = refl
-    dyndep (Some p) low = ap (λ (t : List ℕ). Some t) (get_or_append_left paths more p [] (omega (arith, low)))
+    dyndep (Some p) low = ap (λ (t : List ℕ). Some t) (get_or_append_left paths more [] p (omega (arith, low)))
 
 edges_longer : (paths more : List (List ℕ)) (lines : List Line) (actions : List Action) → ((e p : ℕ) → has_number (line_paths (line_at lines e)) p ≡ true → p < length paths)
     → ((e : ℕ) → dyndep_stop (get_or actions e no_action) ≤ length paths) → edges_of (paths ++ more) lines actions ≡ edges_of paths lines actions

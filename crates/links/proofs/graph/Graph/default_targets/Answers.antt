@@ -1,4 +1,4 @@
-use Rattle.std.proofs.Common.{◌≡◌, ◌∙◌, ◌<◌, ◌==◌, ℕ, Bool, List, false, true, ap, sym, subst, length, get_or, arith, vec_len}
+use Rattle.std.proofs.Common.{◌≡◌, ◌∙◌, ◌<◌, ◌==◌, ℕ, [], Bool, List, false, true, ap, sym, subst, length, get_or, arith, vec_len}
 use Rattle.std.specs.List.{flat_map}
 use Rattle.model.specs.Graph.{has_number}
 use Rattle.paths.specs.Lists.{line_inputs}
@@ -7,7 +7,7 @@ use Rattle.links.proofs.Parts.{if_ok_then, nothing_of}
 use Rattle.links.proofs.graph.Graph.default_targets.Goals as goal
 
 pub returns-then-is_empty-clause-within : goal.returns-then-is_empty-clause-within
-returns-then-is_empty-clause-within c = if_ok_then c.outputs_but-then-is_empty.result c.outputs_but-then-is_empty.ensures (λ free is. free_within c.args.self.now _ free.items is)
+returns-then-is_empty-clause-within c = if_ok_then c.outputs_but-then-is_empty.result c.outputs_but-then-is_empty.ensures (λ free is. free_within c.args.self.now [] free.items is)
 
 pub returns-then-is_empty-clause-targets : goal.returns-then-is_empty-clause-targets
 returns-then-is_empty-clause-targets c =

@@ -8,6 +8,3 @@ loop-next-preserved c = ?
 
 pub returns : goal.returns
 returns c = ?
-
-pub returns-then-reads_alias : goal.returns-then-reads_alias
-returns-then-reads_alias c = ?

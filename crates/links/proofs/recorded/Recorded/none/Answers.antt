@@ -4,4 +4,4 @@ use Rattle.links.proofs.Spaces.{map_replicate, no_span}
 use Rattle.links.proofs.recorded.Recorded.none.Goals as goal
 
 pub returns : goal.returns
-returns c = ap (map (span_of _)) (c.in_ok-vec.ensures.items_if_clones_equal (λ x y h. h)) ∙ map_replicate (span_of _) c.args.edges no_span
+returns c = ap (map (span_of _)) (c.in_ok-vec.ensures.items_if_clones_equal (λ y h. h)) ∙ map_replicate (span_of _) c.args.edges no_span
