@@ -71,7 +71,7 @@ option_text : (text : ℕ → List ℕ) (o : Option ℕ) (file : List ℕ) → o
 option_text text None file is = cc
 option_text text (Some p) file is = (p, refl, cc)
 
-dyndeps_texts : (paths : List (List ℕ)) (lines : List Line) (actions : List Action) (k : ℕ)
+pub dyndeps_texts : (paths : List (List ℕ)) (lines : List Line) (actions : List Action) (k : ℕ)
     → ((e p : ℕ) → e < k → dyndep_of (get_or actions e no_action) ≡ Some p → has_number (line_inputs (line_at lines e)) p ≡ true) → AllByRecursion NamesDyndepInput (take k (edges_of paths lines actions))
 dyndeps_texts paths lines actions zero each = tt
 dyndeps_texts paths [] actions (suc k) each = tt

@@ -40,7 +40,7 @@ module _ (graph : Graph) (edge : ℕ) (lt : edge < length graph.manifest.lines) 
     ];
   }
 
-  fresh_within : AllByRecursion (λ p. p < length graph.users) fresh
+  pub fresh_within : AllByRecursion (λ p. p < length graph.users) fresh
   fresh_within = within_of (length graph.users) fresh (λ p h.
       let low = within_has (length graph.manifest.paths) inputs p within (subst (λ (l : List ℕ). has_number l p ≡ true) (sym split) (has_number-right (list_at graph.recorded edge) fresh p h)) in
       omega (arith, low, graph.using.fits))

@@ -16,3 +16,4 @@ pub mod Asked
 pub mod Named
 pub mod Longer
 pub mod Joins
+pub mod Ends

@@ -1,5 +1,5 @@
 -- Results, options and lists, taken apart.
-use Rattle.std.proofs.Common.{◌≡◌, ◌⊎◌, inl, inr, ℕ, zero, suc, ◌+◌, ◌<◌, ◌≤◌, ◌==◌, Bool, true, false, List, [], ◌∷◌, ◌++◌, Option, Some, None, IfSome, IfOk, IfErr, OnErr, Result, Ok, Err, length, get_or, refl, sym, ◌∙◌, ap, subst, arith}
+use Rattle.std.proofs.Common.{◌≡◌, ◌⊎◌, inl, inr, ℕ, zero, suc, ◌+◌, ◌<◌, ◌≤◌, ◌==◌, Bool, true, false, List, [], ◌∷◌, ◌++◌, Option, Some, None, IfSome, IfOk, IfErr, OnOk, OnErr, Result, Ok, Err, length, get_or, refl, sym, ◌∙◌, ap, subst, arith}
 use Rattle.std.specs.List.{AllByRecursion}
 use Rattle.std.specs.Option.{is_some}
 use Rattle.std.proofs.lemmas.Bool.{true≢false, eqb-true}
@@ -36,3 +36,11 @@ nothing_of (x ∷ xs) is = let none = eqb-true (length (x ∷ xs)) 0 (sym is) in
 pub all_push : (n : ℕ) (xs : List ℕ) (x : ℕ) → AllByRecursion (λ p. p < n) xs → x < n → AllByRecursion (λ p. p < n) (xs ++ x ∷ [])
 all_push n [] x all lt = (lt, tt)
 all_push n (y ∷ xs) x all lt = (all.0, all_push n xs x all.1 lt)
+
+pub on_err_then : {T E P Q : Type 0} (r : Result T E) → OnErr r P → (P → Q) → OnErr r Q
+on_err_then (Ok x) p f = tt
+on_err_then (Err e) p f = f p
+
+pub on_ok_then : {T E P Q : Type 0} (r : Result T E) → OnOk r P → (P → Q) → OnOk r Q
+on_ok_then (Ok x) p f = f p
+on_ok_then (Err e) p f = tt

@@ -90,7 +90,7 @@ map_replicate f (suc n) x = ap (λ l. f x ∷ l) (map_replicate f n x)
 
 -- ---- recorded inputs
 
-pub no_span : Span
+abbrev pub no_span : Span
 no_span = record { start = 0; stop = 0 }
 
 span_at : (n : ℕ) (spans : List Span) (k : ℕ) (d : Span) → k < length spans → AreSpansIn n spans → IsSpanIn n (get_or spans k d)

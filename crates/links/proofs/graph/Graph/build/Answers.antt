@@ -1,22 +1,23 @@
-use Rattle.std.proofs.Common.{rules, ◌≡◌, ◌<◌, ℕ, List, [], length, IfOk, IfErr, OnOk, ◌+◌, ◌-◌, ◌*◌, ◌≤◌, ◌/◌, ◌%◌, Bool, true, false, nat_eq, nat_lt, ◌∷◌, ◌++◌, slice_index_or, slice_set, bit_and, bit_or, Fits, w8, w32, w64, Bor, MutBor}
+use Rattle.std.proofs.Common.{◌≡◌, ◌∙◌, ℕ, List, [], length, sym, subst, ap}
 use Rattle.std.proofs.Math.ListN.{replicate}
-use Rattle.model.specs.Graph.{IsMadeOnce}
-use Rattle.model.specs.SingleBuild.{NamesOther}
-use Rattle.paths.specs.Numbers.{HaveOnePlace}
-use Rattle.paths.specs.Told.{graph_of}
 use Rattle.links.specs.Held.{AreUsers}
-use Rattle.links.specs.Linked.{IsFaultOf}
-use Rattle.links.specs.Told.{recorded_by}
+use Rattle.links.proofs.Ends.{nothing_recorded, none_twice, none_other}
 use Rattle.links.proofs.graph.Graph.build.Goals as goal
 
--- src/build.rt:36:9
 pub invariant_of-result : goal.invariant_of-result
-invariant_of-result c = ?
+invariant_of-result c =
+    let manifest = c.args.manifest in
+    let none : c.in_ok-recorded.recorded ≡ replicate (length manifest.lines) [] = c.in_ok-recorded.ensures ∙ ap (λ (n : ℕ). replicate n []) c.len.ensures in
+    record {
+      apart = c.in_ok-users.ensures.apart;
+      making = c.in_ok-makers.ensures.makers;
+      dyndeps = c.in_ok-makers.ensures.dyndeps;
+      recording = nothing_recorded manifest c.len.result c.in_ok-recorded.recorded c.len.ensures c.in_ok-recorded.ensures;
+      using = subst (λ (l : List (List ℕ)). AreUsers manifest l c.in_ok-users.users) (sym {A = List (List ℕ)} none) c.in_ok-users.ensures.users;
+    }
 
--- src/build.rt:26:5
 pub returns-clause-once : goal.returns-clause-once
-returns-clause-once c = ?
+returns-clause-once c = none_twice c.args.manifest c.in_ok-makers.makers.items c.in_ok-makers.ensures.makers c.in_ok-users.ensures.apart
 
--- src/build.rt:26:5
 pub returns-clause-dyndep : goal.returns-clause-dyndep
-returns-clause-dyndep c = ?
+returns-clause-dyndep c = none_other c.args.manifest c.in_ok-makers.ensures.dyndeps
