@@ -78,8 +78,8 @@ dyndeps_texts paths [] actions (suc k) each = tt
 dyndeps_texts paths (line ∷ lines) [] (suc k) each = tt
 dyndeps_texts paths (line ∷ lines) (action ∷ actions) (suc k) each = (
   (λ file names.
-  let one = option_text (text_at paths) (dyndep_of action) file (sym (dyndep_is paths line action) ∙ names) in
-  subst (λ (l : List (List ℕ)). has l file ≡ true) (sym (inputs_of paths line action)) (subst (λ (t : List ℕ). has (texts_at paths (line_inputs line)) t ≡ true) one.2 (has_text paths (line_inputs line) one.0 (each 0 one.0 (omega arith) one.1)))),
+      let one = option_text (text_at paths) (dyndep_of action) file (sym (dyndep_is paths line action) ∙ names) in
+      subst (λ (l : List (List ℕ)). has l file ≡ true) (sym (inputs_of paths line action)) (subst (λ (t : List ℕ). has (texts_at paths (line_inputs line)) t ≡ true) one.2 (has_text paths (line_inputs line) one.0 (each 0 one.0 (omega arith) one.1)))),
   dyndeps_texts paths lines actions k (λ e p lt names. each (suc e) p (omega (arith, lt)) names),
 )
 
@@ -155,8 +155,7 @@ module _ (manifest : Manifest) (once : HaveOnePlace manifest.paths) where
         (texts_at manifest.paths (made_below manifest.lines k ++ line_outputs (line_at manifest.lines k)))
         (map-append (text_at manifest.paths) (made_below manifest.lines k) (line_outputs (line_at manifest.lines k)) ∙ ap (λ (l : List (List ℕ)). texts_at manifest.paths (made_below manifest.lines k) ++ l) (sym outputs_are))
         (distinct_texts manifest.paths once (made_below manifest.lines k ++ line_outputs (line_at manifest.lines k)) (joined_within (made_below manifest.lines k) (line_outputs (line_at manifest.lines k)) (below_within k) (outputs_within manifest k)) whole)
-        (NoDyndepInputFault (text_at manifest.paths p))
-        (
+        (NoDyndepInputFault (text_at manifest.paths p)) (
           ap (λ (e : Edge). e.dyndep) (edge_get manifest.paths manifest.lines manifest.actions k manifest.fits) ∙ (dyndep_is manifest.paths (line_at manifest.lines k) (get_or manifest.actions k no_action) ∙ ap (option_map (text_at manifest.paths)) other.0),
           ap (λ (l : List (List ℕ)). has l (text_at manifest.paths p)) inputs_are ∙ (has_texts manifest.paths once (line_inputs (line_at manifest.lines k)) p (dyndep_low manifest k p other.0) (inputs_within manifest k) ∙ other.1),
         )

@@ -197,7 +197,7 @@ module _ (graph : Graph) where
     read = λ view p. (
       (λ read. counted edges closed view (suc e) p read e refl first),
       (λ is. reached is.edge is.listed view p (subst (IsRead (declared_by graph).edges view (suc is.edge)) is.text
-      (read_at view is.edge is.path is.input (subst (λ (t : List ℕ). (counts_if_present (links_of graph) is.path ≡ false) ⊎ IsSome (view t)) (sym is.text) is.counts)))),
+          (read_at view is.edge is.path is.input (subst (λ (t : List ℕ). (counts_if_present (links_of graph) is.path ≡ false) ⊎ IsSome (view t)) (sym is.text) is.counts)))),
     );
   }
 

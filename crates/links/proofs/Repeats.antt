@@ -324,4 +324,3 @@ module _ (edges : List Edge) (k : ℕ) (edge : Edge) (now : List (List ℕ)) (lt
     where
       this : edge ≡ get_or edges k no_edge
       this = is ∙ get_or_default edges k edge no_edge lt
-

@@ -91,7 +91,6 @@ found_at xs k (Some x) p within is same =
     let low : k < length xs = ltb-true k (length xs) (sym within) in
     slice_get-get_or xs k x.now low ∙ ap (λ (n : ℕ). Some n) (sym is ∙ sym number)
 
-
 -- ---- each number once
 
 any_absent : (xs : List ℕ) (n : ℕ) → list_any (nat_eq n) xs ≡ false → has_number xs n ≡ false
