@@ -1,14 +1,14 @@
 -- What is built, and its cone.
-use Rattle.std.proofs.Common.{◌≡◌, ◌≢◌, ◌⊎◌, inl, inr, ℕ, zero, suc, ◌+◌, ◌<◌, ◌≤◌, ◌==◌, ◌||◌, not, Bool, true, false, cond, List, [], ◌∷◌, ◌++◌, Option, Some, None, IfOk, IfErr, Result, Ok, Err, map, filter, length, get_or, take, slice_get, refl, sym, ◌∙◌, ap, subst, arith, bytes_eq}
+use Rattle.std.proofs.Common.{◌≡◌, inl, inr, ℕ, zero, suc, ◌+◌, ◌<◌, ◌==◌, not, Bool, true, false, cond, List, [], ◌∷◌, ◌++◌, Some, IfOk, Result, Ok, Err, filter, length, get_or, take, slice_get, refl, sym, ◌∙◌, ap, subst, arith}
 use Rattle.std.specs.List.{AllByRecursion, flat_map}
-use Rattle.std.proofs.lemmas.Bool.{cases_Bool, false≢true, true≢false, or_cases}
-use Rattle.std.proofs.lemmas.List.{map-append, get_or_default, length-map}
+use Rattle.std.proofs.lemmas.Bool.{false≢true, true≢false}
+use Rattle.std.proofs.lemmas.List.{map-append, length-map}
 use Rattle.std.proofs.lemmas.Option.{get_or_from_slice_get}
 use Rattle.model.specs.declared.graph.Edge.{Edge}
 use Rattle.model.specs.Graph.{has, has_number, is_named, roots, all_outputs, all_inputs, or_else, targets_of}
 use Rattle.model.specs.Records.{Store, recorded_inputs}
-use Rattle.model.specs.SingleBuild.{Asked, declared_graph, AllNamed}
-use Rattle.build_theory.proofs.Lists.{has_number-left, has_number-right, has_number-cases}
+use Rattle.model.specs.SingleBuild.{Asked, declared_graph}
+use Rattle.build_theory.proofs.Lists.{has_number-cases}
 use Rattle.paths.specs.declared.line.Line.{Line}
 use Rattle.paths.specs.Numbers.{HaveOnePlace}
 use Rattle.paths.specs.Lists.{line_at, line_inputs, line_outputs}
@@ -27,7 +27,7 @@ use Rattle.links.proofs.ConesOf.{no_cycle}
 use Rattle.links.proofs.GraphIs.{graph_is, links_are}
 use Rattle.links.proofs.Makes.{output_below, input_below}
 use Rattle.links.proofs.Parts.{all_index}
-use Rattle.links.proofs.Texts.{AreWithin, within_of, within_has, has_texts, all_outputs_of, all_inputs_of}
+use Rattle.links.proofs.Texts.{AreWithin, within_of, has_texts, all_outputs_of, all_inputs_of}
 
 -- ---- defaults
 

@@ -1,10 +1,10 @@
 -- A walk's cone is the cone of its targets, and the paths round a cycle are shown as the definitions say.
-use Rattle.std.proofs.Common.{◌≡◌, inl, inr, ℕ, suc, ◌<◌, ◌==◌, true, false, cond, Bool, List, [], ◌∷◌, ◌++◌, Option, Some, None, map, length, slice_index, slice_get, Result, Ok, Err, IfErr, refl, sym, ◌∙◌, ap, subst, arith, append_assoc}
+use Rattle.std.proofs.Common.{◌≡◌, inl, inr, ℕ, suc, ◌<◌, ◌==◌, true, false, cond, Bool, List, [], ◌∷◌, ◌++◌, Option, Some, None, map, length, slice_index, Result, Ok, Err, IfErr, refl, sym, ◌∙◌, ap, subst, arith, append_assoc}
 use Rattle.std.specs.List.{AllByRecursion}
 use Rattle.std.proofs.lemmas.List.{map-append, append-nil}
 use Rattle.std.proofs.lemmas.Bool.{false≢true, or_cases, or_left, eqb-true, eq-eqb, cases_Bool}
 use Rattle.model.specs.declared.graph.Edge.{Edge}
-use Rattle.model.specs.Graph.{has, has_number, edge_at, maker, later_number, outputs, inputs, targets_of}
+use Rattle.model.specs.Graph.{has, has_number, edge_at, maker, later_number, outputs, targets_of}
 use Rattle.model.specs.Records.{Store, recorded_inputs}
 use Rattle.model.specs.Reading.{IsInCone, Wanted, Needed, Validating, IsCycle}
 use Rattle.model.specs.SingleBuild.{Asked, declared_graph, IsChainOf, IsShownCycle}

@@ -1,19 +1,18 @@
 -- Pushes and pops, and what is so of a whole manifest.
-use Rattle.std.proofs.Common.{◌≡◌, ◌≢◌, inl, inr, ℕ, zero, suc, ◌+◌, ◌-◌, ◌<◌, ◌≤◌, ◌==◌, Bool, true, false, List, [], ◌∷◌, ◌++◌, Option, Some, None, Result, Ok, Err, OnOk, OnErr, length, get_or, take, drop, refl, sym, ◌∙◌, ap, subst, arith, length-append}
+use Rattle.std.proofs.Common.{◌≡◌, ℕ, zero, suc, ◌+◌, ◌-◌, ◌<◌, ◌≤◌, true, false, List, [], ◌∷◌, ◌++◌, Option, Some, Result, Ok, Err, OnOk, OnErr, length, take, refl, sym, ◌∙◌, ap, subst, arith, length-append}
 use Rattle.std.specs.List.{AllByRecursion, flat_map}
 use Rattle.std.specs.Result.{is_err}
 use Rattle.std.proofs.Math.ListN.{set, replicate}
 use Rattle.std.proofs.Math.Seq.{take-length}
 use Rattle.std.proofs.lemmas.Bool.{false≢true, true≢false, false_from_ne_true}
-use Rattle.std.proofs.lemmas.List.{get_or-set_same, length-replicate}
-use Rattle.model.specs.declared.graph.Edge.{Edge}
-use Rattle.model.specs.Graph.{has_number, IsMadeOnce, all_outputs}
+use Rattle.std.proofs.lemmas.List.{length-replicate}
+use Rattle.model.specs.Graph.{has_number, IsMadeOnce}
 use Rattle.model.specs.SingleBuild.{NamesOther}
 use Rattle.paths.specs.declared.line.Line.{Line}
 use Rattle.paths.specs.declared.manifest.Manifest.{Manifest}
 use Rattle.paths.specs.Numbers.{HaveOnePlace}
 use Rattle.paths.specs.Lists.{line_at, line_outputs}
-use Rattle.paths.specs.Told.{texts_at, graph_of}
+use Rattle.paths.specs.Told.{graph_of}
 use Rattle.links.specs.Held.{list_at, StandOnce, AreMakers, DyndepsAreInputs, AreRecorded, pushed, push_at}
 use Rattle.links.specs.Linked.{AreDistinct, NamesDyndepInput}
 use Rattle.links.specs.Making.{made_below}
@@ -22,7 +21,7 @@ use Rattle.links.proofs.Lists.{length-pushed, pushed-append, push_same, once_non
 use Rattle.links.proofs.Makes.{below_has, below_next, distinct_texts, output_below}
 use Rattle.links.proofs.Asked.{flat_has}
 use Rattle.links.proofs.Repeats.{made_once, names_no_other}
-use Rattle.links.proofs.Texts.{AreWithin, within_of, all_outputs_of, length-edges}
+use Rattle.links.proofs.Texts.{AreWithin, within_of, all_outputs_of}
 
 pub ok_of : {T E : Type 0} {P : Type 0} (r : Result T E) → is_err r ≡ false → OnOk r P → P
 ok_of (Ok x) no_error is = is

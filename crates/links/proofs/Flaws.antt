@@ -1,12 +1,11 @@
 -- What is wrong with the lowest edge that has a flaw, by numbers and in texts.
-use Rattle.std.proofs.Common.{◌≡◌, ◌⊎◌, inl, inr, ℕ, zero, suc, ◌+◌, ◌<◌, ◌≤◌, ◌==◌, ◌||◌, Bool, true, false, cond, List, [], ◌∷◌, ◌++◌, Option, Some, None, map, length, get_or, take, drop, refl, sym, ◌∙◌, ap, subst, arith, append_assoc}
-use Rattle.std.specs.List.{AllByRecursion, flat_map}
+use Rattle.std.proofs.Common.{◌≡◌, inl, inr, ℕ, zero, suc, ◌+◌, ◌<◌, ◌≤◌, ◌==◌, true, List, [], ◌∷◌, ◌++◌, Option, Some, None, length, get_or, take, refl, sym, ◌∙◌, ap, subst, arith, append_assoc}
+use Rattle.std.specs.List.{AllByRecursion}
 use Rattle.std.specs.Option.{option_map}
-use Rattle.std.proofs.lemmas.Bool.{cases_Bool, cases_eq, false≢true, or_left, eq-eqb}
-use Rattle.std.proofs.lemmas.List.{map-append, get_or_default, length-append}
+use Rattle.std.proofs.lemmas.Bool.{cases_eq, or_left, eq-eqb}
+use Rattle.std.proofs.lemmas.List.{map-append, get_or_default}
 use Rattle.model.specs.declared.graph.Edge.{Edge}
 use Rattle.model.specs.Graph.{has, has_number, no_edge, inputs, outputs, all_outputs}
-use Rattle.model.specs.SingleBuild.{NamesOther}
 use Rattle.build_theory.proofs.Lists.{has_number-left, has_number-right, has_number-cases}
 use Rattle.paths.specs.declared.line.Line.{Line}
 use Rattle.paths.specs.declared.manifest.Action.{Action}
@@ -15,16 +14,16 @@ use Rattle.paths.specs.declared.manifest.Manifest.{Manifest}
 use Rattle.paths.specs.Numbers.{HaveOnePlace}
 use Rattle.paths.specs.Lists.{line_at, line_outputs, line_inputs}
 use Rattle.paths.specs.Commands.{no_action, dyndep_stop, stop_of}
-use Rattle.paths.specs.Told.{text_at, texts_at, edge_of, edges_of, graph_of}
+use Rattle.paths.specs.Told.{text_at, texts_at, edges_of, graph_of}
 use Rattle.links.specs.declared.fault.GraphFault.{GraphFault}
-use Rattle.links.specs.declared.fault.GraphFault.TheVariants.{Memory, MadeTwice as MadeTwiceFault, NoDyndepInput as NoDyndepInputFault}
+use Rattle.links.specs.declared.fault.GraphFault.TheVariants.{MadeTwice as MadeTwiceFault, NoDyndepInput as NoDyndepInputFault}
 use Rattle.links.specs.declared.makers.Flaw.{Flaw}
 use Rattle.links.specs.declared.makers.Flaw.TheVariants.{MadeTwice, NoDyndepInput}
-use Rattle.links.specs.Held.{maker_in, dyndep_of, StandOnce, AreMakers, DyndepsAreInputs}
-use Rattle.links.specs.Linked.{AreDistinct, NamesDyndepInput, IsFirstRepeated, IsFaultOf}
-use Rattle.links.specs.Making.{made_below, HaveClaimed, IsFirstClaimed, AreMakersBelow, HaveDyndepsBelow, IsOtherDyndep, IsRemade, IsFlaw, IsFirstFlaw, IsClaimedTwice, IsFaultFor}
-use Rattle.links.proofs.Makes.{output_below, outputs_within, inputs_within, claimed_once, remade, distinct_texts, below_has, below_next}
-use Rattle.links.proofs.Repeats.{IsFaultIn, IsDyndepFault, fault_turn, dyndep_fault_turn}
+use Rattle.links.specs.Held.{dyndep_of, StandOnce}
+use Rattle.links.specs.Linked.{AreDistinct, NamesDyndepInput, IsFaultOf}
+use Rattle.links.specs.Making.{made_below, HaveClaimed, AreMakersBelow, HaveDyndepsBelow, IsOtherDyndep, IsRemade, IsFirstFlaw, IsClaimedTwice, IsFaultFor}
+use Rattle.links.proofs.Makes.{output_below, outputs_within, inputs_within, claimed_once, remade, distinct_texts, below_has}
+use Rattle.links.proofs.Repeats.{fault_turn, dyndep_fault_turn}
 use Rattle.links.proofs.Texts.{AreWithin, within_has, within_of, has_text, has_texts, outputs_of, inputs_of, dyndep_is, length-edges, edge_get, all_outputs_of, edges_take}
 
 -- ---- by numbers

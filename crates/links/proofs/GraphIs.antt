@@ -1,26 +1,25 @@
 -- What the numbers of a graph stand for.
-use Rattle.std.proofs.Common.{◌≡◌, ◌⊎◌, inl, inr, ℕ, zero, suc, ◌<◌, ◌≤◌, ◌==◌, ◌||◌, Bool, true, false, List, [], ◌∷◌, ◌++◌, Option, Some, None, map, length, get_or, refl, sym, ◌∙◌, ap, subst, arith}
+use Rattle.std.proofs.Common.{◌≡◌, inl, inr, ℕ, zero, suc, ◌<◌, ◌||◌, Bool, true, List, [], ◌∷◌, ◌++◌, Option, Some, None, map, length, get_or, refl, sym, ◌∙◌, ap, subst, arith}
 use Rattle.std.specs.Prelude.{slice_index}
-use Rattle.std.specs.List.{AllByRecursion}
-use Rattle.std.proofs.lemmas.Bool.{false≢true, or_left, or_right, or_cases}
+use Rattle.std.proofs.lemmas.Bool.{false≢true, or_left, or_right}
 use Rattle.std.proofs.lemmas.List.{map-append}
 use Rattle.model.specs.declared.graph.Edge.{Edge}
 use Rattle.model.specs.Graph.{has, has_number, edge_at, inputs, maker, later_number}
 use Rattle.model.specs.Reading.{needs}
-use Rattle.build_theory.proofs.Lists.{bytes_same, has-left, has-right, has-cases, has_number-cases, has_number-append}
+use Rattle.build_theory.proofs.Lists.{bytes_same, has_number-cases}
 use Rattle.paths.specs.declared.line.Line.{Line}
-use Rattle.paths.specs.Lists.{line_at, line_inputs, line_outputs}
+use Rattle.paths.specs.Lists.{line_at, line_outputs}
 use Rattle.paths.specs.Commands.{no_action}
 use Rattle.paths.specs.Told.{text_at, texts_at, edge_of}
 use Rattle.links.specs.declared.graph.Graph.{Graph}
 use Rattle.links.specs.Held.{list_at}
 use Rattle.links.specs.Links.{Links, links_of, needs_at}
-use Rattle.links.specs.Linked.{IsGraphOf, IsMakerFor, HasMaker, IsValidatorFor, HasValidator, IsLinksOf}
+use Rattle.links.specs.Linked.{IsGraphOf, IsLinksOf}
 use Rattle.links.specs.Told.{declared_by, recorded_by, AreSameInputs}
 use Rattle.links.proofs.Rounds.{has_at}
 use Rattle.links.proofs.Texts.{length-edges, edge_get, inputs_of, validations_of, number_of}
 use Rattle.links.proofs.Walking.{place_in}
-use Rattle.links.proofs.Makes.{maker_is, output_below, input_below, validation_below}
+use Rattle.links.proofs.Makes.{maker_is, input_below, validation_below}
 
 has_append : (xs ys : List (List ℕ)) (p : List ℕ) → has (xs ++ ys) p ≡ (has xs p || has ys p)
 has_append [] ys p = refl

@@ -1,16 +1,16 @@
 -- Recorded inputs that join an edge.
-use Rattle.std.proofs.Common.{◌≡◌, ◌≢◌, ◌⊎◌, inl, inr, ℕ, zero, suc, ◌+◌, ◌<◌, ◌≤◌, ◌==◌, ◌||◌, Bool, true, false, cond, nat_eq, List, [], ◌∷◌, ◌++◌, length, get_or, take, drop, refl, sym, ◌∙◌, ap, subst, arith, length-append}
+use Rattle.std.proofs.Common.{◌≡◌, ◌≢◌, inl, inr, ℕ, zero, suc, ◌<◌, ◌≤◌, ◌==◌, ◌||◌, Bool, true, false, cond, nat_eq, List, [], ◌∷◌, ◌++◌, length, take, refl, sym, ◌∙◌, ap, subst, arith, length-append}
 use Rattle.std.specs.List.{AllByRecursion}
 use Rattle.std.proofs.Math.ListN.{set}
-use Rattle.std.proofs.lemmas.Bool.{cases_Bool, cases_eq, eqb-true, eq-eqb, false≢true, or_left, or_right, false_from_ne_true}
-use Rattle.std.proofs.lemmas.List.{get_or-set_same, get_or-set_other, length-set, take-append-drop}
+use Rattle.std.proofs.lemmas.Bool.{cases_eq, eqb-true, eq-eqb, false≢true, or_left, or_right, false_from_ne_true}
+use Rattle.std.proofs.lemmas.List.{get_or-set_same, get_or-set_other, length-set}
 use Rattle.indexmap.specs.IndexSet.{insert_all}
 use Rattle.model.specs.Graph.{has_number}
-use Rattle.build_theory.proofs.Lists.{has_number-left, has_number-right, has_number-cases}
+use Rattle.build_theory.proofs.Lists.{has_number-left, has_number-right}
 use Rattle.links.specs.declared.graph.Graph.{Graph}
 use Rattle.links.specs.Held.{list_at, times, StandOnce, AreRecorded, AreUsers, pushed}
 use Rattle.links.specs.Links.{links_of}
-use Rattle.links.proofs.Lists.{times-append, times_pushed, length-pushed, once_none}
+use Rattle.links.proofs.Lists.{times-append, times_pushed, length-pushed}
 use Rattle.links.proofs.Sets.{Gains, gains_all, all_once, all_fresh}
 use Rattle.links.proofs.Texts.{within_has, within_of}
 

@@ -1,30 +1,22 @@
 -- Who makes what, by numbers and in texts.
-use Rattle.std.proofs.Common.{◌≡◌, ◌≢◌, ◌⊎◌, inl, inr, ℕ, zero, suc, ◌+◌, ◌<◌, ◌≤◌, ◌==◌, ◌||◌, Bool, true, false, cond, List, [], ◌∷◌, ◌++◌, Option, Some, None, map, length, get_or, take, drop, nat_lt, refl, sym, ◌∙◌, ap, subst, arith, append_assoc, bytes_eq}
-use Rattle.std.specs.List.{AllByRecursion, flat_map}
-use Rattle.std.specs.Option.{option_map, is_some}
-use Rattle.std.proofs.lemmas.Bool.{cases_Bool, cases_lt, eqb-true, eq-eqb, false≢true, or_cases, or_left, or_right, false_from_ne_true}
-use Rattle.std.proofs.lemmas.List.{map-append, get_or_default}
-use Rattle.model.specs.declared.graph.Edge.{Edge}
-use Rattle.model.specs.Graph.{has, has_number, no_edge, edge_at, inputs, outputs, all_outputs, maker, later_number, IsMadeOnce}
-use Rattle.model.specs.SingleBuild.{NamesOther}
-use Rattle.build_theory.proofs.Lists.{same_bytes, bytes_same, one_if, has_number-left, has_number-right, has_number-cases, has_number-append}
+use Rattle.std.proofs.Common.{◌≡◌, inl, inr, ℕ, zero, suc, ◌<◌, ◌≤◌, ◌==◌, Bool, true, false, cond, List, [], ◌∷◌, ◌++◌, Option, Some, None, length, take, nat_lt, refl, sym, ◌∙◌, ap, subst, arith, append_assoc, bytes_eq}
+use Rattle.std.specs.List.{flat_map}
+use Rattle.std.specs.Option.{is_some}
+use Rattle.std.proofs.lemmas.Bool.{cases_Bool, cases_lt, eqb-true, eq-eqb, false≢true, false_from_ne_true}
+use Rattle.model.specs.Graph.{has, has_number, outputs, maker, later_number}
+use Rattle.build_theory.proofs.Lists.{same_bytes, bytes_same, one_if, has_number-left, has_number-right, has_number-cases}
 use Rattle.paths.specs.declared.line.Line.{Line}
 use Rattle.paths.specs.declared.manifest.Action.{Action}
 use Rattle.paths.specs.declared.manifest.Manifest.{Manifest}
 use Rattle.paths.specs.Numbers.{HaveOnePlace}
-use Rattle.paths.specs.Lists.{no_line, line_at, line_outputs, line_regular_inputs, line_inputs, line_paths, all_paths}
-use Rattle.paths.specs.Commands.{no_action, dyndep_stop}
+use Rattle.paths.specs.Lists.{no_line, line_at, line_outputs, line_inputs, line_paths, all_paths}
 use Rattle.paths.specs.Told.{text_at, texts_at, edge_of, edges_of, graph_of}
-use Rattle.links.specs.declared.fault.GraphFault.{GraphFault}
-use Rattle.links.specs.declared.fault.GraphFault.TheVariants.{Memory, MadeTwice as MadeTwiceFault, NoDyndepInput as NoDyndepInputFault}
-use Rattle.links.specs.declared.makers.Flaw.{Flaw}
-use Rattle.links.specs.declared.makers.Flaw.TheVariants.{MadeTwice, NoDyndepInput}
-use Rattle.links.specs.Held.{maker_in, dyndep_of, times, StandOnce, AreMakers, DyndepsAreInputs}
-use Rattle.links.specs.Linked.{AreDistinct, NamesDyndepInput, IsFirstRepeated, IsFaultOf}
-use Rattle.links.specs.Making.{made_below, HaveClaimed, IsFirstClaimed, AreMakersBelow, HaveDyndepsBelow, IsOtherDyndep, IsRemade, IsFlaw, IsFirstFlaw, IsClaimedTwice, IsFaultFor}
+use Rattle.links.specs.Held.{maker_in, times, StandOnce, AreMakers}
+use Rattle.links.specs.Linked.{AreDistinct}
+use Rattle.links.specs.Making.{made_below, HaveClaimed, IsFirstClaimed, AreMakersBelow, IsRemade}
 use Rattle.links.proofs.Lists.{one_time, no_time, once_left, once_right, once_append, once_none}
-use Rattle.links.proofs.Repeats.{copies, no_copies, distinct_of_copies, made_once, names_no_other, fault_turn, dyndep_fault_turn}
-use Rattle.links.proofs.Texts.{same_number, AreWithin, within_has, within_of, has_text, has_texts, number_of, outputs_of, inputs_of, dyndep_is, length-edges, edge_get, all_outputs_of, edges_take}
+use Rattle.links.proofs.Repeats.{copies, no_copies, distinct_of_copies}
+use Rattle.links.proofs.Texts.{same_number, AreWithin, within_has, within_of, has_texts, number_of, outputs_of}
 
 -- ---- the numbers of a line are named
 

@@ -1,5 +1,5 @@
 -- What an edge reads, through the phony edges that are met one after the other.
-use Rattle.std.proofs.Common.{◌≡◌, ◌⊎◌, inl, inr, ℕ, zero, suc, ◌+◌, ◌<◌, ◌≤◌, ◌==◌, ◌||◌, Bool, true, false, cond, nat_eq, get_or, List, [], ◌∷◌, ◌++◌, length, slice_get, Option, Some, None, refl, sym, ◌∙◌, ap, subst, arith, length-append}
+use Rattle.std.proofs.Common.{◌≡◌, ◌⊎◌, inl, inr, ℕ, suc, ◌+◌, ◌<◌, ◌≤◌, ◌==◌, ◌||◌, Bool, true, false, cond, nat_eq, get_or, List, [], ◌∷◌, ◌++◌, length, slice_get, Option, Some, None, refl, sym, ◌∙◌, ap, subst, arith, length-append}
 use Rattle.std.specs.Prelude.{IsSome, option_to_list}
 use Rattle.std.specs.Option.{is_some}
 use Rattle.std.proofs.lemmas.Bool.{cases_Bool, cases_lt, eq-eqb, eqb-true, or_left, or_right, or_cases, false≢true, true≢false}
@@ -7,10 +7,10 @@ use Rattle.std.proofs.lemmas.Option.{slice_get_within}
 use Rattle.indexmap.specs.IndexSet.{insert_key, insert_all}
 use Rattle.model.specs.declared.graph.Edge.{Edge}
 use Rattle.model.specs.World.{View}
-use Rattle.model.specs.Graph.{has, has_number, edge_at, inputs, regular_inputs, maker, later_number}
+use Rattle.model.specs.Graph.{has, has_number, edge_at, inputs, regular_inputs, later_number}
 use Rattle.model.specs.Reading.{IsAlias, Counts, IsRead, Itself, Through}
 use Rattle.build_theory.proofs.Lists.{has_number-left, has_number-right, has_number-cases, has_number-one, has_number-is}
-use Rattle.paths.specs.Lists.{line_at, line_inputs, line_regular_inputs}
+use Rattle.paths.specs.Lists.{line_at, line_regular_inputs}
 use Rattle.paths.specs.Commands.{no_action}
 use Rattle.paths.specs.Told.{text_at, texts_at}
 use Rattle.links.specs.declared.graph.Graph.{Graph}

@@ -1,9 +1,8 @@
 -- Paths that stand twice among outputs, and faults of edges in texts.
-use Rattle.std.proofs.Common.{◌≡◌, ◌≢◌, ◌⊎◌, inl, inr, ℕ, zero, suc, ◌+◌, ◌<◌, ◌≤◌, Bool, true, false, List, [], ◌∷◌, ◌++◌, Some, length, get_or, take, drop, refl, sym, ◌∙◌, ap, subst, bytes_eq, arith, append_assoc, length-append, drop-cons}
+use Rattle.std.proofs.Common.{◌≡◌, ◌≢◌, ◌⊎◌, inl, inr, ℕ, zero, suc, ◌+◌, ◌<◌, ◌≤◌, true, false, List, [], ◌∷◌, ◌++◌, Some, length, get_or, take, drop, refl, sym, ◌∙◌, ap, subst, bytes_eq, arith, append_assoc, drop-cons}
 use Rattle.std.specs.List.{AllByRecursion}
 use Rattle.std.proofs.lemmas.Bool.{or_cases, or_left, or_right, cases_Bool, false≢true, false_from_ne_true}
 use Rattle.std.proofs.lemmas.List.{take-append-drop, get_or_default}
-use Rattle.std.proofs.Math.Seq.{take-suc}
 use Rattle.model.specs.declared.graph.Edge.{Edge}
 use Rattle.model.specs.Graph.{has, edge_at, no_edge, inputs, outputs, all_outputs, StandsTwice, IsMadeTwice, IsMadeOnce}
 use Rattle.model.specs.SingleBuild.{NamesOther}

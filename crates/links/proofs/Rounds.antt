@@ -1,5 +1,5 @@
 -- The paths round a cycle of edges, each of which waits for the next one.
-use Rattle.std.proofs.Common.{◌≡◌, ◌≢◌, ◌⊎◌, inl, inr, ℕ, zero, suc, ◌+◌, ◌-◌, ◌<◌, ◌≤◌, ◌==◌, true, List, [], ◌∷◌, ◌++◌, Option, Some, map, length, take, drop, slice_index, slice_index_or, slice_get, nat_lt, Result, IfOk, add-suc, refl, sym, ◌∙◌, ap, subst, arith}
+use Rattle.std.proofs.Common.{◌≡◌, ◌≢◌, ◌⊎◌, inl, inr, ℕ, zero, suc, ◌+◌, ◌-◌, ◌<◌, ◌≤◌, ◌==◌, true, List, [], ◌∷◌, ◌++◌, Option, Some, map, length, take, drop, slice_index, slice_index_or, nat_lt, Result, IfOk, add-suc, refl, sym, ◌∙◌, ap, subst, arith}
 use Rattle.std.specs.List.{AllByRecursion, IsFirstBest}
 use Rattle.std.proofs.lemmas.List.{get_or-drop, length-drop, length-append, map-append, take-append-drop, take_all}
 use Rattle.std.proofs.lemmas.Result.{IfOk-weaker}

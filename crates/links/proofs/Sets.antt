@@ -1,5 +1,5 @@
 -- Sets of numbers that grow.
-use Rattle.std.proofs.Common.{◌≡◌, ◌⊎◌, inl, inr, ℕ, zero, suc, ◌+◌, ◌<◌, ◌≤◌, ◌==◌, ◌||◌, not, Bool, true, false, if◌then◌else◌, nat_eq, nat_lt, get_or, is_some, IfSome, List, [], ◌∷◌, ◌++◌, length, slice_get, Option, Some, None, refl, sym, ◌∙◌, ap, subst, append_assoc, length-append, arith}
+use Rattle.std.proofs.Common.{◌≡◌, ◌⊎◌, inl, inr, ℕ, zero, suc, ◌<◌, ◌==◌, ◌||◌, Bool, true, false, if◌then◌else◌, nat_eq, nat_lt, get_or, is_some, IfSome, List, [], ◌∷◌, ◌++◌, length, slice_get, Option, Some, None, refl, sym, ◌∙◌, ap, subst, append_assoc, arith}
 use Rattle.std.specs.Borrow.{Bor}
 use Rattle.std.specs.List.{list_any}
 use Rattle.std.specs.Option.{option_copied}
@@ -10,7 +10,7 @@ use Rattle.indexmap.specs.IndexSet.{insert_key, insert_all}
 use Rattle.model.specs.Graph.{has_number}
 use Rattle.build_theory.proofs.Lists.{has_number-left, has_number-cases, has_number-is, has_number-push}
 use Rattle.links.specs.Held.{StandOnce}
-use Rattle.links.proofs.Lists.{once_push, once_none, apart_of_once}
+use Rattle.links.proofs.Lists.{once_push, apart_of_once}
 
 -- ---- a set of numbers that grows
 

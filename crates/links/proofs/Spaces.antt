@@ -1,9 +1,8 @@
 -- Lists in flat memory, with room to grow.
 use Rattle.std.proofs.Common.{◌≡◌, ◌≢◌, ◌⊎◌, inl, inr, ℕ, zero, suc, ◌+◌, ◌-◌, ◌<◌, ◌≤◌, List, [], ◌∷◌, ◌++◌, map, length, take, drop, get_or, refl, sym, ◌∙◌, ap, subst, arith, length-append, append_assoc}
 use Rattle.std.proofs.Math.ListN.{set, replicate}
-use Rattle.std.proofs.Math.Seq.{drop-append_seam, take-suc}
-use Rattle.std.specs.List.{AllByRecursion}
-use Rattle.std.proofs.lemmas.List.{take-append-le, drop-append-le, drop-set-lt, drop-set-add, take-set-le, get_or-set_same, get_or-set_other, length-set, get_or-map, length-map, length-drop, length-take-le, get_or-drop, get_or_default}
+use Rattle.std.proofs.Math.Seq.{drop-append_seam}
+use Rattle.std.proofs.lemmas.List.{take-append-le, drop-append-le, drop-set-lt, drop-set-add, take-set-le, get_or-set_same, get_or-set_other, get_or-map, length-map, length-drop, length-take-le, get_or_default}
 use Rattle.paths.specs.Lists.{between, Extends}
 use Rattle.links.specs.declared.recorded.Span.{Span}
 use Rattle.links.specs.declared.users.Room.{Room}

@@ -1,18 +1,18 @@
 -- Edges of numbers and of texts.
-use Rattle.std.proofs.Common.{◌≡◌, ◌≢◌, inl, inr, ℕ, zero, suc, ◌+◌, ◌<◌, ◌≤◌, ◌==◌, ◌||◌, Bool, true, false, cond, List, [], ◌∷◌, ◌++◌, Option, Some, None, map, length, get_or, take, drop, slice_get, refl, sym, ◌∙◌, ap, subst, arith, bytes_eq}
+use Rattle.std.proofs.Common.{◌≡◌, inl, inr, ℕ, zero, suc, ◌<◌, ◌==◌, true, List, [], ◌∷◌, ◌++◌, Some, length, get_or, take, refl, sym, ◌∙◌, ap, subst, arith, bytes_eq}
 use Rattle.std.specs.List.{AllByRecursion, flat_map}
 use Rattle.std.specs.Option.{option_map}
 use Rattle.std.proofs.lemmas.Bool.{cases_Bool, eqb-true, eq-eqb, false≢true, or_cases, or_left, or_right, false_from_ne_true}
 use Rattle.std.proofs.lemmas.List.{map-append}
 use Rattle.std.proofs.lemmas.Option.{slice_get-get_or}
 use Rattle.model.specs.declared.graph.Edge.{Edge}
-use Rattle.model.specs.Graph.{has, has_number, edge_at, no_edge, inputs, outputs, regular_inputs, all_inputs, all_outputs, maker, later_number}
+use Rattle.model.specs.Graph.{has, has_number, no_edge, inputs, outputs, regular_inputs, all_inputs, all_outputs}
 use Rattle.build_theory.proofs.Lists.{same_bytes, bytes_same}
 use Rattle.paths.specs.declared.line.Line.{Line}
 use Rattle.paths.specs.declared.manifest.Action.{Action}
 use Rattle.paths.specs.declared.manifest.Action.TheVariants.{Alias, Command}
 use Rattle.paths.specs.Numbers.{HaveOnePlace}
-use Rattle.paths.specs.Lists.{no_line, line_at, line_outputs, line_regular_inputs, line_inputs}
+use Rattle.paths.specs.Lists.{line_at, line_outputs, line_regular_inputs, line_inputs}
 use Rattle.paths.specs.Commands.{no_action}
 use Rattle.paths.specs.Told.{text_at, texts_at, edge_of, edges_of}
 use Rattle.links.specs.Held.{dyndep_of}

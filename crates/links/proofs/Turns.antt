@@ -1,27 +1,27 @@
 -- What stands after one more turn of a loop.
-use Rattle.std.proofs.Common.{◌≡◌, ◌≢◌, ◌⊎◌, inl, inr, ℕ, zero, suc, ◌+◌, ◌<◌, ◌≤◌, ◌==◌, ◌||◌, not, Bool, true, false, cond, nat_eq, nat_lt, List, [], ◌∷◌, ◌++◌, Option, Some, None, map, filter, length, get_or, take, drop, add-one, refl, sym, ◌∙◌, ap, subst, arith, append_assoc, bytes_eq}
+use Rattle.std.proofs.Common.{◌≡◌, ◌≢◌, ◌⊎◌, inl, inr, ℕ, zero, suc, ◌+◌, ◌<◌, ◌==◌, ◌||◌, not, Bool, true, false, cond, nat_eq, nat_lt, List, [], ◌∷◌, ◌++◌, Option, Some, None, filter, length, get_or, take, drop, add-one, refl, sym, ◌∙◌, ap, subst, arith, append_assoc, bytes_eq}
 use Rattle.std.specs.Prelude.{option_to_list}
 use Rattle.std.specs.List.{AllByRecursion, flat_map}
 use Rattle.std.specs.Option.{is_some}
 use Rattle.std.proofs.Math.ListN.{set}
 use Rattle.std.proofs.Math.Seq.{take-suc}
-use Rattle.std.proofs.lemmas.Bool.{cases_eq, cases_Bool, cases_lt, eqb-true, eq-eqb, or_left, or_right, or_cases, false≢true, true≢false, false_from_ne_true}
-use Rattle.std.proofs.lemmas.List.{get_or-set_same, get_or-set_other, length-set, map-append, append-nil}
+use Rattle.std.proofs.lemmas.Bool.{cases_eq, cases_Bool, eqb-true, eq-eqb, or_left, or_right, or_cases, false≢true, false_from_ne_true}
+use Rattle.std.proofs.lemmas.List.{get_or-set_same, get_or-set_other, map-append, append-nil}
 use Rattle.std.proofs.lemmas.Grind.{flat_map-append}
 use Rattle.indexmap.specs.IndexSet.{insert_key, insert_all}
 use Rattle.model.specs.declared.graph.Edge.{Edge}
-use Rattle.model.specs.Graph.{has, has_number, maker, later_number, is_named}
-use Rattle.build_theory.proofs.Lists.{same_bytes, bytes_same, has-left, has-right, has-cases, has_number-left, has_number-append, has_number-push, has_number-push_cases, has_number-push_other, all_append}
+use Rattle.model.specs.Graph.{has, has_number, maker}
+use Rattle.build_theory.proofs.Lists.{same_bytes, bytes_same, has-left, has-right, has-cases, has_number-left, has_number-append, has_number-push, has_number-push_cases, has_number-push_other}
 use Rattle.paths.specs.declared.line.Line.{Line}
 use Rattle.paths.specs.Lists.{line_at, line_inputs, line_outputs}
 use Rattle.paths.specs.Told.{text_at, texts_at}
-use Rattle.links.specs.Alias.{alias_at, aliases_of, any_alias}
+use Rattle.links.specs.Alias.{alias_at, aliases_of}
 use Rattle.links.specs.Free.{free_of}
 use Rattle.links.specs.Held.{list_at, times, StandOnce, maker_in, pushed}
 use Rattle.links.specs.Linked.{AreMakersOf}
 use Rattle.links.specs.Links.{Links}
-use Rattle.links.specs.Making.{IsFirstClaimed, HaveClaimed}
-use Rattle.links.proofs.Lists.{times_pushed, once_push, once_none}
+use Rattle.links.specs.Making.{IsFirstClaimed}
+use Rattle.links.proofs.Lists.{times_pushed, once_push}
 
 -- the first of a list, and one more
 pub take_next : (xs : List ℕ) (i n : ℕ) → i < length xs → n ≡ get_or xs i n → take (i + 1) xs ≡ take i xs ++ n ∷ []

@@ -1,8 +1,7 @@
 -- The graph in numbers: what each edge names, and who makes it. Edges count from 0 here and in the code, and from 1 in messages, events and definitions.
-use Rattle.std.specs.Prelude.{◌≡◌, ℕ, suc, ◌==◌, ◌<◌, Bool, true, false, if◌then◌else◌, List, [], ◌∷◌, ◌++◌, length, get_or, Option, Some, None}
+use Rattle.std.specs.Prelude.{ℕ, Bool, true, false, List, ◌++◌, length, get_or, Option}
 use Rattle.paths.specs.declared.manifest.Action.{Action}
 use Rattle.paths.specs.declared.manifest.Action.TheVariants.{Alias, Command}
-use Rattle.paths.specs.declared.manifest.Manifest.{Manifest}
 use Rattle.paths.specs.Lists.{line_at, line_outputs, line_regular_inputs, line_inputs}
 use Rattle.paths.specs.Commands.{no_action}
 use Rattle.links.specs.declared.graph.Graph.{Graph}

@@ -1,5 +1,5 @@
 -- Makers while they are given, and what is wrong with the lowest edge that has a flaw.
-use Rattle.std.specs.Prelude.{◌≡◌, ◌⊎◌, ℕ, ◌<◌, ◌≤◌, Bool, true, false, if◌then◌else◌, List, [], ◌∷◌, ◌++◌, length, take, get_or, Option, Some, None, is_some}
+use Rattle.std.specs.Prelude.{◌≡◌, ◌⊎◌, ℕ, ◌<◌, true, false, if◌then◌else◌, List, ◌∷◌, ◌++◌, length, take, get_or, Option, Some, None, is_some}
 use Rattle.std.specs.List.{flat_map}
 use Rattle.model.specs.Graph.{has_number}
 use Rattle.paths.specs.declared.line.Line.{Line}
@@ -10,7 +10,7 @@ use Rattle.paths.specs.Told.{text_at}
 use Rattle.links.specs.declared.makers.Flaw.{Flaw}
 use Rattle.links.specs.declared.makers.Flaw.TheVariants.{MadeTwice, NoDyndepInput}
 use Rattle.links.specs.declared.fault.GraphFault.{GraphFault}
-use Rattle.links.specs.declared.fault.GraphFault.TheVariants.{Memory, MadeTwice as MadeTwiceFault, NoDyndepInput as NoDyndepInputFault}
+use Rattle.links.specs.declared.fault.GraphFault.TheVariants.{MadeTwice as MadeTwiceFault, NoDyndepInput as NoDyndepInputFault}
 use Rattle.links.specs.Held.{maker_in, dyndep_of, StandOnce}
 
 -- what the first so many edges make, in order

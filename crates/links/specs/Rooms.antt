@@ -1,5 +1,5 @@
 -- Lists in flat memory that have room to grow.
-use Rattle.std.specs.Prelude.{◌≡◌, ◌≢◌, ◌⊎◌, ℕ, ◌+◌, ◌≤◌, ◌<◌, List, ◌++◌, length, get_or}
+use Rattle.std.specs.Prelude.{◌≡◌, ◌≢◌, ◌⊎◌, ℕ, ◌+◌, ◌≤◌, List, ◌++◌, length, get_or}
 use Rattle.paths.specs.Lists.{between}
 use Rattle.links.specs.declared.users.Room.{Room}
 

@@ -1,5 +1,5 @@
 -- Lists in flat memory.
-use Rattle.std.specs.Prelude.{◌≡◌, ◌≢◌, ◌⊎◌, ℕ, ◌+◌, ◌≤◌, ◌<◌, List, length}
+use Rattle.std.specs.Prelude.{ℕ, ◌≤◌, List}
 use Rattle.std.specs.List.{AllByRecursion}
 use Rattle.paths.specs.Lists.{between}
 use Rattle.links.specs.declared.recorded.Span.{Span}

@@ -1,7 +1,7 @@
 -- What targets are built, and why they have no cone.
-use Rattle.std.specs.Prelude.{◌≡◌, ℕ, ◌<◌, true, false, List, [], map, length, slice_index, All}
+use Rattle.std.specs.Prelude.{◌≡◌, ℕ, ◌<◌, true, false, List, [], map, length, All}
 use Rattle.std.specs.List.{AllByRecursion}
-use Rattle.model.specs.Graph.{has, is_named, targets_of}
+use Rattle.model.specs.Graph.{is_named, targets_of}
 use Rattle.model.specs.declared.graph.Edge.{Edge}
 use Rattle.model.specs.Reading.{IsInCone, IsCycle}
 use Rattle.model.specs.Records.{Store}

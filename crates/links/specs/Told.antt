@@ -1,7 +1,6 @@
 -- The graph of texts that a graph in numbers stands for.
 use Rattle.std.specs.Prelude.{◌≡◌, ℕ, zero, suc, List, []}
 use Rattle.model.specs.declared.graph.BuildGraph.{BuildGraph}
-use Rattle.model.specs.declared.graph.Edge.{Edge}
 use Rattle.model.specs.Graph.{has}
 use Rattle.paths.specs.Told.{graph_of, texts_at}
 use Rattle.links.specs.declared.graph.Graph.{Graph}

@@ -1,4 +1,4 @@
-use Rattle.std.proofs.Common.{◌≡◌, ◌∙◌, ◌<◌, ℕ, List, ap, sym, subst, arith, length, get_or}
+use Rattle.std.proofs.Common.{◌≡◌, ◌∙◌, ◌<◌, ℕ, List, ap, sym, subst, length, get_or}
 use Rattle.std.specs.List.{AllByRecursion}
 use Rattle.paths.specs.Lists.{line_at, line_inputs}
 use Rattle.links.specs.Held.{pushed}

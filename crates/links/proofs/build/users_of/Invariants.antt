@@ -1,4 +1,4 @@
-use Rattle.std.proofs.Common.{◌≡◌, ℕ, ◌<◌, cond, nat_lt, length, take}
+use Rattle.std.proofs.Common.{◌≡◌, ℕ, cond, nat_lt, length}
 use Rattle.paths.specs.Lists.{line_at, line_inputs}
 use Rattle.links.specs.Held.{list_at, times}
 use Rattle.links.proofs.build.users_of.Given as goal

@@ -1,4 +1,4 @@
-use Rattle.std.proofs.Common.{◌≡◌, ℕ, ◌<◌, ◌∙◌, arith, get_or, length, true}
+use Rattle.std.proofs.Common.{◌≡◌, ◌<◌, ◌∙◌, arith, get_or, length, true}
 use Rattle.std.proofs.lemmas.List.{get_or_default, length-set}
 use Rattle.links.proofs.Turns.{marked_next}
 use Rattle.links.proofs.defaults.mark.Goals as goal

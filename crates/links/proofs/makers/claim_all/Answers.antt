@@ -1,6 +1,6 @@
-use Rattle.std.proofs.Common.{◌≡◌, ◌∙◌, ◌<◌, ◌≤◌, ◌+◌, ℕ, suc, List, ap, sym, subst, arith, rules, length, get_or, IfErr}
+use Rattle.std.proofs.Common.{◌≡◌, ◌∙◌, ◌<◌, ◌+◌, ℕ, suc, List, ap, sym, subst, arith, rules, length, get_or, IfErr}
 use Rattle.paths.specs.Lists.{line_at, line_outputs}
-use Rattle.links.specs.Making.{AreMakersBelow, HaveClaimed, HaveDyndepsBelow, IsClaimedTwice, IsOtherDyndep, IsFirstFlaw}
+use Rattle.links.specs.Making.{AreMakersBelow, HaveClaimed, HaveDyndepsBelow, IsClaimedTwice, IsOtherDyndep}
 use Rattle.links.proofs.Makes.{outputs_within, makers_turn, makers_whole}
 use Rattle.links.proofs.Flaws.{claim_flaw, dyndep_flaw, dyndeps_turn}
 use Rattle.links.proofs.Parts.{all_index, if_err_then}

@@ -1,4 +1,4 @@
-use Rattle.std.proofs.Common.{◌∙◌, ◌<◌, ap, sym, subst, length, [], Some}
+use Rattle.std.proofs.Common.{◌∙◌, ◌<◌, ap, sym, subst, length, []}
 use Rattle.std.proofs.lemmas.Option.{get_or_from_slice_get}
 use Rattle.links.specs.declared.fault.GraphFault.TheVariants.{MadeTwice as MadeTwiceFault, NoDyndepInput as NoDyndepInputFault}
 use Rattle.links.specs.Making.{IsFaultFor}

@@ -1,4 +1,4 @@
-use Rattle.std.proofs.Common.{◌≡◌, ◌∙◌, ◌≤◌, ℕ, List, [], ◌∷◌, ◌++◌, ap, refl, arith, length, take}
+use Rattle.std.proofs.Common.{◌≡◌, ◌∙◌, ℕ, [], ◌∷◌, ◌++◌, ap, refl, arith, length, take}
 use Rattle.links.proofs.Longer.{IsLonger, added_longer, longer_length, told_longer, users_fit, users_same, users_counted}
 use Rattle.links.proofs.Parts.{if_ok_then}
 use Rattle.links.proofs.graph.Graph.add_path.Goals as goal

@@ -1,9 +1,8 @@
-use Rattle.std.proofs.Common.{◌≡◌, ◌∙◌, ℕ, List, IfErr, ap, sym, subst, rules}
+use Rattle.std.proofs.Common.{ℕ, List, ap, sym, subst}
 use Rattle.paths.specs.Told.{texts_at}
 use Rattle.links.specs.Linked.{AreMakersOf}
 use Rattle.links.specs.Told.{declared_by}
-use Rattle.links.specs.Targets.{IsUnknownIn}
-use Rattle.links.proofs.Asked.{cone_for, no_cone_for, unknown_for, if_ok_both}
+use Rattle.links.proofs.Asked.{cone_for, no_cone_for, if_ok_both}
 use Rattle.links.proofs.Parts.{if_err_then}
 use Rattle.links.proofs.graph.Graph.cone.Goals as goal
 

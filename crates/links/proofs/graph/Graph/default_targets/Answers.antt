@@ -1,4 +1,4 @@
-use Rattle.std.proofs.Common.{◌≡◌, ◌∙◌, ◌<◌, ◌==◌, ℕ, [], Bool, List, false, true, ap, sym, subst, length, get_or, arith, vec_len}
+use Rattle.std.proofs.Common.{◌≡◌, ◌∙◌, ◌==◌, ℕ, [], Bool, List, false, ap, sym, length, get_or, arith, vec_len}
 use Rattle.std.specs.List.{flat_map}
 use Rattle.model.specs.Graph.{has_number}
 use Rattle.paths.specs.Lists.{line_inputs}

@@ -1,4 +1,4 @@
-use Rattle.std.proofs.Common.{ℕ, ◌<◌, length, take}
+use Rattle.std.proofs.Common.{◌<◌, length, take}
 use Rattle.std.specs.List.{AllByRecursion}
 use Rattle.paths.specs.Told.{texts_at}
 use Rattle.links.specs.Linked.{AreMakersOf}

@@ -1,4 +1,4 @@
-use Rattle.std.proofs.Common.{◌≡◌, ◌∙◌, ◌≤◌, ◌<◌, ℕ, List, Some, false, rules, length, slice_get, sym, subst, ap}
+use Rattle.std.proofs.Common.{◌≡◌, ◌∙◌, ◌≤◌, ℕ, List, Some, false, rules, length, slice_get, sym, subst, ap}
 use Rattle.links.specs.Alias.{any_alias}
 use Rattle.links.specs.Links.{links_of}
 use Rattle.links.specs.ReadingOf.{IsReadingOf}

@@ -1,4 +1,4 @@
-use Rattle.std.proofs.Common.{◌≡◌, ◌∙◌, ℕ, List, length, ap, arith}
+use Rattle.std.proofs.Common.{◌∙◌, ℕ, List, ap, arith}
 use Rattle.std.proofs.Math.ListN.{set}
 use Rattle.links.proofs.Spaces.{span_set}
 use Rattle.links.proofs.recorded.Recorded.set.Goals as goal

@@ -1,5 +1,4 @@
-use Rattle.std.proofs.Common.{◌≡◌, ◌∙◌, ◌<◌, ◌+◌, ℕ, List, ◌++◌, ◌∷◌, [], ap, sym, subst, arith, length, take, get_or}
-use Rattle.std.specs.List.{AllByRecursion}
+use Rattle.std.proofs.Common.{◌≡◌, ◌∙◌, ◌<◌, ℕ, List, ◌∷◌, [], ap, sym, subst, arith, length, take, get_or}
 use Rattle.std.proofs.lemmas.List.{get_or_default}
 use Rattle.links.specs.Held.{pushed, push_at}
 use Rattle.links.proofs.Ends.{ok_of, err_of, all_take}

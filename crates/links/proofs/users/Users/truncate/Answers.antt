@@ -1,4 +1,4 @@
-use Rattle.std.proofs.Common.{◌∙◌, ap, map, sym, List, ℕ, take}
+use Rattle.std.proofs.Common.{◌∙◌, ap, map, sym, take}
 use Rattle.std.proofs.lemmas.List.{take-map}
 use Rattle.links.specs.Rooms.{room_of}
 use Rattle.links.proofs.users.Users.truncate.Goals as goal

@@ -1,4 +1,4 @@
-use Rattle.std.proofs.Common.{ℕ, ap, [], arith, ◌∙◌}
+use Rattle.std.proofs.Common.{ℕ, ap, arith, ◌∙◌}
 use Rattle.std.proofs.lemmas.List.{get_or_default}
 use Rattle.links.specs.Links.{links_of}
 use Rattle.links.proofs.Walking.{needed_beside}
