@@ -1,0 +1,4 @@
+pub mod Fronts
+pub mod Changing
+pub mod Updating
+pub mod Seating
