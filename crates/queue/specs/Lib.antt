@@ -1,0 +1,4 @@
+pub mod Turns
+pub mod Pools
+pub mod Seats
+pub mod Queues
