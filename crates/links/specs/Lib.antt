@@ -1,0 +1,14 @@
+pub mod Links
+pub mod Held
+pub mod Spans
+pub mod Rooms
+pub mod Told
+pub mod Linked
+pub mod Grown
+pub mod Making
+pub mod Free
+pub mod Cone
+pub mod ConeOf
+pub mod Targets
+pub mod Alias
+pub mod ReadingOf

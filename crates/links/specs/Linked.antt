@@ -1,0 +1,126 @@
+-- How the graph in numbers stands for edges.
+use Rattle.std.specs.Prelude.{◌≡◌, ℕ, suc, ◌<◌, true, false, List, [], ◌∷◌, ◌++◌, map, length, slice_index, Some}
+use Rattle.std.specs.List.{AllByRecursion}
+use Rattle.model.specs.declared.graph.Edge.{Edge}
+use Rattle.model.specs.Graph.{has, has_number, edge_at, maker, later_number, outputs, inputs, roots, all_outputs, or_else, StandsTwice, IsMadeTwice}
+use Rattle.model.specs.Reading.{needs, IsInCone}
+use Rattle.model.specs.SingleBuild.{NamesOther}
+use Rattle.build_theory.specs.Order.{AreMakersFirst}
+use Rattle.paths.specs.Told.{text_at}
+use Rattle.links.specs.declared.fault.GraphFault.{GraphFault}
+use Rattle.links.specs.declared.fault.GraphFault.TheVariants.{Memory, MadeTwice, NoDyndepInput}
+use Rattle.links.specs.declared.cone.Mark.{Mark}
+use Rattle.links.specs.Links.{Links, needs_at}
+use Rattle.links.specs.Cone.{maker_at, validator_at, mark_at, is_listed}
+
+-- no path stands twice in the list
+abbrev pub AreDistinct : List (List ℕ) → Type 0
+AreDistinct paths = (p : List ℕ) → StandsTwice paths p → ⊥
+
+-- the numbers stand for the paths of these edges, and of what is recorded of them
+pub record IsGraphOf (edges : List Edge) (recorded : ℕ → List (List ℕ)) (paths : List (List ℕ)) (links : Links) : Type 0 where
+  pub fits : links.count ≡ length edges
+  pub numbered : (e k : ℕ) → k < length (needs_at links e) → slice_index (needs_at links e) k < length paths
+  pub needs : (e : ℕ) (p : List ℕ) → has (map (text_at paths) (needs_at links e)) p ≡ has (needs edges recorded (suc e)) p
+  pub makers : (p : ℕ) → p < length paths → maker edges (text_at paths p) ≡ later_number (links.maker p)
+  pub validated : (e k : ℕ) → k < length (links.validations e) → slice_index (links.validations e) k < length paths
+  pub validations : (e : ℕ) → map (text_at paths) (links.validations e) ≡ (edge_at edges (suc e)).validations
+
+-- the first path of the list that stands before already
+pub record IsFirstRepeated (paths : List (List ℕ)) (p : List ℕ) : Type 0 where
+  pub before : List (List ℕ)
+  pub after : List (List ℕ)
+  pub splits : paths ≡ before ++ p ∷ after
+  pub earlier : has before p ≡ true
+  pub distinct : AreDistinct before
+
+-- a dyndep file that the edge names is one of its inputs (manual: "Dynamic Dependencies")
+abbrev pub NamesDyndepInput : Edge → Type 0
+NamesDyndepInput e = (file : List ℕ) → e.dyndep ≡ Some file → has (inputs e) file ≡ true
+
+-- no path is made twice, and each dyndep file is an input of the edge that names it
+pub record AreInOrder (edges : List Edge) : Type 0 where
+  pub distinct : AreDistinct (all_outputs edges)
+  pub dyndep : AllByRecursion NamesDyndepInput edges
+
+-- what is wrong with an edge after these, which are in order
+abbrev pub IsFaulty : List Edge → Edge → GraphFault → Type 0
+IsFaulty before edge Memory = ⊥
+IsFaulty before edge (MadeTwice p) = IsFirstRepeated (all_outputs before ++ outputs edge) p
+IsFaulty before edge (NoDyndepInput p) = AreDistinct (all_outputs before ++ outputs edge) × (edge.dyndep ≡ Some p) × (has (inputs edge) p ≡ false)
+
+-- the fault of the lowest edge that has one
+pub record IsFirstFault (edges : List Edge) (fault : GraphFault) : Type 0 where
+  pub before : List Edge
+  pub edge : Edge
+  pub after : List Edge
+  pub splits : edges ≡ before ++ edge ∷ after
+  pub in_order : AreInOrder before
+  pub faulty : IsFaulty before edge fault
+
+-- why edges are no graph in numbers; want of memory is shown by tests alone
+abbrev pub IsFaultOf : List Edge → GraphFault → Type 0
+IsFaultOf edges Memory = Unit {0}
+IsFaultOf edges (MadeTwice p) = IsMadeTwice edges p × IsFirstFault edges (MadeTwice p)
+IsFaultOf edges (NoDyndepInput p) = NamesOther edges p × IsFirstFault edges (NoDyndepInput p)
+
+-- what is built where no target is asked for and no default is declared
+abbrev pub default_targets : List Edge → List (List ℕ)
+default_targets edges = or_else (roots edges) (all_outputs edges)
+
+-- the edge that counts as e in the code makes one of these paths
+pub record MakesOneOf (edges : List Edge) (targets : List (List ℕ)) (e : ℕ) : Type 0 where
+  pub path : List ℕ
+  pub wanted : has targets path ≡ true
+  pub made : maker edges path ≡ Some (suc e)
+
+-- just the makers of these paths; a source has none
+pub record AreMakersOf (edges : List Edge) (targets : List (List ℕ)) (requested : List ℕ) : Type 0 where
+  pub each : (e : ℕ) → has_number requested e ≡ true → MakesOneOf edges targets e
+  pub all : (p : List ℕ) (e : ℕ) → has targets p ≡ true → maker edges p ≡ Some (suc e) → has_number requested e ≡ true
+
+-- edge j makes something that edge i waits for
+pub record IsMakerFor (edges : List Edge) (recorded : ℕ → List (List ℕ)) (i j : ℕ) : Type 0 where
+  pub path : List ℕ
+  pub needed : has (needs edges recorded i) path ≡ true
+  pub made : maker edges path ≡ Some j
+
+-- by the numbers, edge j makes an input of the edge that counts as e in the code
+pub record HasMaker (links : Links) (e j : ℕ) : Type 0 where
+  pub place : ℕ
+  pub number : ℕ
+  pub within : place < length (needs_at links e)
+  pub is : maker_at links e place ≡ Some number
+  pub same : suc number ≡ j
+
+-- edge j makes something that edge i names for validation
+pub record IsValidatorFor (edges : List Edge) (i j : ℕ) : Type 0 where
+  pub path : List ℕ
+  pub named : has (edge_at edges i).validations path ≡ true
+  pub made : maker edges path ≡ Some j
+
+-- by the numbers, edge j makes a validation of the edge that counts as e in the code
+pub record HasValidator (links : Links) (e j : ℕ) : Type 0 where
+  pub place : ℕ
+  pub number : ℕ
+  pub within : place < length (links.validations e)
+  pub is : validator_at links e place ≡ Some number
+  pub same : suc number ≡ j
+
+-- by the numbers an edge waits for just the edges that it waits for, and is validated by just those that validate it
+pub record IsLinksOf (edges : List Edge) (recorded : ℕ → List (List ℕ)) (links : Links) : Type 0 where
+  pub fits : links.count ≡ length edges
+  pub linked : (e j : ℕ) → HasMaker links e j → IsMakerFor edges recorded (suc e) j
+  pub complete : (e j : ℕ) → IsMakerFor edges recorded (suc e) j → HasMaker links e j
+  pub validating : (e j : ℕ) → HasValidator links e j → IsValidatorFor edges (suc e) j
+  pub validated : (e j : ℕ) → IsValidatorFor edges (suc e) j → HasValidator links e j
+
+-- the edges of the cone of these targets, each once and after the makers of all that it waits for; the marks show which
+-- they are
+pub record IsConeOf (edges : List Edge) (recorded : ℕ → List (List ℕ)) (targets : List (List ℕ)) (order : List ℕ) (marks : List Mark) : Type 0 where
+  pub fits : length marks ≡ length edges
+  pub marked : (e : ℕ) → is_listed (mark_at marks e) ≡ has_number order e
+  pub once : (before after : List ℕ) (e : ℕ) → order ≡ before ++ e ∷ after → has_number before e ≡ false
+  pub within : (e : ℕ) → has_number order e ≡ true → IsInCone edges recorded targets (suc e)
+  pub all : (i : ℕ) → IsInCone edges recorded targets i → has_number (map suc order) i ≡ true
+  pub ordered : AreMakersFirst edges recorded [] (map suc order)

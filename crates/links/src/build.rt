@@ -1,0 +1,54 @@
+//! From a manifest to a graph.
+
+ghost use Rattle.std.specs.Prelude.{◌≡◌, ◌<◌, ℕ, List, [], length, IfOk, IfErr, OnOk};
+ghost use Rattle.std.proofs.Math.ListN.{replicate};
+ghost use Rattle.model.specs.Graph.{IsMadeOnce};
+ghost use Rattle.model.specs.SingleBuild.{NamesOther};
+ghost use Rattle.paths.specs.Told.{graph_of};
+ghost use Rattle.links.specs.Held.{AreUsers};
+ghost use Rattle.links.specs.Linked.{IsFaultOf};
+ghost use Rattle.links.specs.Told.{recorded_by};
+
+use crate::fault::GraphFault;
+use crate::graph::Graph;
+use crate::makers::makers_of;
+use crate::recorded::Recorded;
+use crate::users::Users;
+use paths::Manifest;
+use std::alloc::{AllocError, Global};
+
+impl Graph {
+    /// The graph of what build files declare, which it takes over. Nothing is recorded.
+    ///
+    /// `MadeTwice` and `NoDyndepInput` tell of the lowest edge that has such a fault, in this order at one edge:
+    /// `MadeTwice` has its first output that an edge before it makes, or it itself once more.
+    pub fn build(alloc: Global, manifest: Manifest) -> Result<Graph, GraphFault>
+        ensures manifest { IfOk result (λ graph. graph.manifest ≡ manifest) }
+        ensures once { OnOk result (IsMadeOnce (graph_of manifest).edges) }
+        ensures dyndep { OnOk result ((file : List ℕ) → NamesOther (graph_of manifest).edges file → ⊥) }
+        ensures recorded { IfOk result (λ graph. (i : ℕ) → recorded_by graph i ≡ []) }
+        ensures fault { IfErr result (IsFaultOf (graph_of manifest).edges) }
+    {
+        let makers = makers_of(alloc, &manifest)?;
+        let recorded = Recorded::none(alloc, manifest.lines.len())?;
+        let users = users_of(alloc, &manifest)?;
+        Ok(Graph {
+            manifest,
+            makers,
+            recorded,
+            users,
+        })
+    }
+}
+
+/// For each path the edges that name it.
+fn users_of(alloc: Global, manifest: &Manifest) -> Result<Users, AllocError>
+    ensures { IfOk result (AreUsers manifest.now (replicate (length manifest.now.lines) [])) }
+{
+    let mut users = Users::none(alloc, manifest.paths.len())?;
+    for place in 0..manifest.lines.len() {
+        let edge = manifest.edge(place);
+        users.push_all(manifest.lines.inputs(edge), edge)?;
+    }
+    Ok(users)
+}

@@ -1,0 +1,79 @@
+//! Recorded inputs join an edge.
+
+ghost use Rattle.std.specs.Prelude.{◌≡◌, ◌<◌, ◌++◌, ℕ, List, All, take, slice_set, ◌≤◌, length, IfOk, OnOk, OnErr, nat_eq};
+ghost use Rattle.indexmap.specs.IndexSet.{insert_all};
+ghost use Rattle.links.specs.Held.{list_at, StandOnce};
+ghost use Rattle.links.specs.Grown.{HasNumbered, HasGained};
+
+use crate::graph::Graph;
+use indexmap::IndexSet;
+use paths::{EdgeId, PathId};
+use std::alloc::{AllocError, Global};
+
+impl Graph {
+    /// The number of a path, which gets one where it has none. No build line names more than before: the path gets a
+    /// number past those that one does.
+    ///
+    /// Where memory is refused, nothing is changed.
+    pub fn add_path(&mut self, alloc: Global, path: &str) -> Result<PathId, AllocError>
+        ensures added { IfOk result (HasNumbered self.old self.new path.now) }
+        ensures err { OnErr result (self.new ≡ self.old) }
+    {
+        self.users.add_path()?;
+        let added = self.manifest.paths.add(alloc, path);
+        self.users.truncate(self.manifest.paths.len());
+        added
+    }
+
+    /// Records these inputs of the edge, each once, beside those that were recorded before.
+    ///
+    /// Where memory is refused, nothing is changed.
+    pub fn add_inputs(
+        &mut self,
+        alloc: Global,
+        edge: EdgeId,
+        inputs: &[PathId],
+    ) -> Result<(), AllocError>
+        requires edge { edge < length self.old.manifest.lines }
+        requires inputs { All (λ p. p < length self.old.manifest.paths) inputs.now }
+        ensures gained { OnOk result (HasGained self.old self.new edge inputs.now) }
+        ensures err { OnErr result (self.new ≡ self.old) }
+    {
+        let mut all = IndexSet::new(alloc);
+        add_all(&mut all, self.recorded.at(edge))?;
+        let held = all.len();
+        add_all(&mut all, inputs)?;
+        self.record(edge, all.as_slice(), held)
+    }
+
+    /// Records these inputs of the edge in place of those that it has, which are the first so many of them.
+    fn record(&mut self, edge: EdgeId, inputs: &[PathId], held: usize) -> Result<(), AllocError>
+        requires edge { edge < length self.old.manifest.lines }
+        requires inputs { All (λ p. p < length self.old.manifest.paths) inputs.now }
+        requires once { StandOnce inputs.now }
+        requires held { take held inputs.now ≡ list_at self.old.recorded edge }
+        requires within { held ≤ length inputs.now }
+        ensures recorded { OnOk result (self.new.recorded ≡ slice_set self.old.recorded edge inputs.now) }
+        ensures manifest { self.new.manifest ≡ self.old.manifest }
+        ensures makers { self.new.makers ≡ self.old.makers }
+        ensures err { OnErr result (self.new ≡ self.old) }
+    {
+        let fresh = &inputs[held..];
+        self.users.push_all(fresh, edge)?;
+        let recorded = self.recorded.set(edge, inputs);
+        if recorded.is_err() {
+            self.users.pop_all(fresh);
+        }
+        recorded
+    }
+}
+
+/// Adds these paths, each once.
+fn add_all(all: &mut IndexSet<PathId>, paths: &[PathId]) -> Result<(), AllocError>
+    ensures { OnOk result (all.new.keys ≡ insert_all nat_eq all.old.keys paths.now) }
+{
+    for path in paths {
+        all.insert(*path)?;
+    }
+    Ok(())
+}

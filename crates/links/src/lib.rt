@@ -1,0 +1,21 @@
+//! The whole build graph in numbers: who makes what, what is needed and in which order, what an edge reads, who names a path.
+#![tactic(auto)]
+
+mod access;
+mod build;
+mod cone;
+mod defaults;
+mod fault;
+mod graph;
+mod grow;
+mod makers;
+mod reading;
+mod recorded;
+mod targets;
+mod users;
+mod walk;
+
+pub use cone::{Cone, ConeFault, Mark};
+pub use fault::GraphFault;
+pub use graph::Graph;
+pub use reading::Reading;

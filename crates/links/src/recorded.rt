@@ -1,0 +1,72 @@
+//! The recorded inputs of each edge, in flat memory.
+
+ghost use Rattle.std.specs.Prelude.{◌≡◌, ◌<◌, ◌++◌, [], length, slice_set, IfOk, OnOk, OnErr};
+ghost use Rattle.std.proofs.Math.ListN.{replicate};
+ghost use Rattle.links.specs.Held.{list_at};
+
+use paths::{EdgeId, PathId};
+use std::alloc::{AllocError, Global};
+use std::marker::Model;
+
+/// Where the recorded inputs of an edge stand.
+#[derive(Clone, Copy)]
+pub struct Span {
+    pub start: usize,
+    pub stop: usize,
+}
+
+/// The recorded inputs of edges, which contracts see as one list for each edge. An edge takes 16 bytes, and 4 for each
+/// of its recorded inputs. What an edge gains moves no other one.
+#[derive(Drop)]
+pub struct Recorded {
+    numbers: Vec<PathId>,
+    spans: Vec<Span>,
+}
+
+impl Model for Recorded {
+    ghost use Rattle.std.specs.Prelude.{ℕ, List, map, length};
+
+    ghost Value = { List (List ℕ) };
+
+    ghost use Rattle.links.specs.Spans.{span_of, AreSpansIn};
+
+    ghost view = { λ recorded. map (span_of recorded.numbers.items) recorded.spans.items };
+
+    ghost invariant = { λ recorded. AreSpansIn (length recorded.numbers.items) recorded.spans.items };
+}
+
+impl Recorded {
+    /// So many edges without recorded inputs.
+    pub fn none(alloc: Global, edges: usize) -> Result<Recorded, AllocError>
+        ensures { IfOk result (λ recorded. recorded ≡ replicate edges []) }
+    {
+        Ok(Recorded {
+            numbers: Vec::new(alloc),
+            spans: vec![in alloc; Span { start: 0, stop: 0 }; edges]?,
+        })
+    }
+
+    /// The recorded inputs of the edge, in the order in which they came.
+    pub fn at(&self, edge: EdgeId) -> &[PathId]
+        requires { edge < length self.now }
+        ensures { result.now ≡ list_at self.now edge }
+    {
+        let span = self.spans[edge.index()];
+        &self.numbers[span.start..span.stop]
+    }
+
+    /// Gives the edge these recorded inputs in place of those that it had. Where memory is refused, it keeps them.
+    pub fn set(&mut self, edge: EdgeId, inputs: &[PathId]) -> Result<(), AllocError>
+        requires { edge < length self.old }
+        ensures ok { OnOk result (self.new ≡ slice_set self.old edge inputs.now) }
+        ensures err { OnErr result (self.new ≡ self.old) }
+    {
+        let start = self.numbers.len();
+        self.numbers.extend_from_slice(inputs)?;
+        self.spans[edge.index()] = Span {
+            start,
+            stop: self.numbers.len(),
+        };
+        Ok(())
+    }
+}

@@ -1,0 +1,86 @@
+//! What is built, and the edges that make it.
+
+ghost use Rattle.std.specs.Prelude.{◌≡◌, ◌<◌, ℕ, true, List, All, map, IfOk, IfErr, vec_len, length};
+ghost use Rattle.std.specs.List.{AllByRecursion};
+ghost use Rattle.model.specs.Graph.{is_named, targets_of};
+ghost use Rattle.model.specs.Records.{Store, recorded_inputs};
+ghost use Rattle.model.specs.SingleBuild.{Asked};
+ghost use Rattle.paths.specs.Told.{texts_at};
+ghost use Rattle.links.specs.Linked.{AreMakersOf};
+ghost use Rattle.links.specs.Told.{declared_by, recorded_by, AreSameInputs};
+ghost use Rattle.links.specs.Targets.{IsOrdered, IsConeFor, IsNoCone, IsUnknownIn};
+
+use crate::cone::{Cone, ConeFault};
+use crate::graph::Graph;
+use paths::{EdgeId, PathId};
+use std::alloc::{AllocError, Global};
+use text::Path;
+
+impl Graph {
+    /// The edges that a build of these canonical targets needs, each once and after the makers of its inputs and recorded
+    /// inputs: those that make the targets and, of each edge, those that make its inputs, its recorded inputs and its
+    /// validations. Where there are no targets, they are the defaults, else the outputs that no edge needs, else all
+    /// outputs (manual: "Default target statements").
+    ///
+    /// `Unknown` where a target is named by no build line, recorded inputs or not: the place of the first such one. No
+    /// build line names the empty path, which stands for a target without a canonical one. `Cycle` where edges of the
+    /// cone need one another in a circle; validations make none.
+    pub fn cone(&self, alloc: Global, targets: &[Path]) -> Result<Cone, ConeFault>
+        ensures marks { IfOk result (λ cone. vec_len cone.marks ≡ length self.now.manifest.lines) }
+        ensures ordered { IfOk result (IsOrdered self.now) }
+        ensures cone { IfOk result (λ cone. (recorded : ℕ → List (List ℕ)) → AreSameInputs recorded (recorded_by self.now) → IsConeFor self.now recorded targets.now cone) }
+        ensures fault { IfErr result (λ fault. (asked : Asked) (store : Store) → asked.declared ≡ asked.graph.edges → asked.graph ≡ declared_by self.now → asked.targets ≡ targets.now → AreSameInputs (recorded_inputs store asked.graph.edges) (recorded_by self.now) → IsNoCone asked store self.now.manifest.paths fault) }
+    {
+        let numbers = self.targets(alloc, targets)?;
+        let requested = self.makers_of(alloc, &numbers)?;
+        Cone::of(alloc, self, numbers, &requested)
+    }
+
+    /// What is built where these targets are asked for.
+    fn targets(&self, alloc: Global, asked: &[Path]) -> Result<Vec<PathId>, ConeFault>
+        ensures within { IfOk result (λ targets. All (λ p. p < self.now.manifest.named) targets.items) }
+        ensures targets { IfOk result (λ targets. texts_at self.now.manifest.paths targets.items ≡ targets_of (declared_by self.now) asked.now) }
+        ensures named { IfOk result (λ _. AllByRecursion (λ p. is_named (declared_by self.now).edges p ≡ true) asked.now) }
+        ensures fault { IfErr result (IsUnknownIn (declared_by self.now).edges asked.now) }
+    {
+        if !asked.is_empty() {
+            self.numbers_of(alloc, asked)
+        } else if !self.manifest.defaults.is_empty() {
+            Ok(self.manifest.defaults.as_slice().to_vec(alloc)?)
+        } else {
+            Ok(self.default_targets(alloc)?)
+        }
+    }
+
+    /// The numbers of these targets; `Unknown` for the first that no build line names.
+    fn numbers_of(&self, alloc: Global, asked: &[Path]) -> Result<Vec<PathId>, ConeFault>
+        ensures within { IfOk result (λ targets. All (λ p. p < self.now.manifest.named) targets.items) }
+        ensures targets { IfOk result (λ targets. texts_at self.now.manifest.paths targets.items ≡ asked.now) }
+        ensures named { IfOk result (λ _. AllByRecursion (λ p. is_named (declared_by self.now).edges p ≡ true) asked.now) }
+        ensures fault { IfErr result (IsUnknownIn (declared_by self.now).edges asked.now) }
+    {
+        let mut numbers = Vec::new(alloc);
+        for (place, target) in asked.iter().enumerate() {
+            match self.manifest.number_of(target.as_str()) {
+                Some(number) => numbers.push(number)?,
+                None => return Err(ConeFault::Unknown(place)),
+            }
+        }
+        Ok(numbers)
+    }
+
+    /// The edges that make these paths, once for each path; sources have none.
+    fn makers_of(&self, alloc: Global, targets: &[PathId]) -> Result<Vec<EdgeId>, AllocError>
+        requires { All (λ p. p < length self.now.manifest.paths) targets.now }
+        ensures within { IfOk result (λ edges. All (λ e. e < length self.now.manifest.lines) edges.items) }
+        ensures makers { IfOk result (λ edges. AreMakersOf (declared_by self.now).edges (texts_at self.now.manifest.paths targets.now) edges.items) }
+    {
+        let mut edges = Vec::new(alloc);
+        for target in targets {
+            if let Some(edge) = self.maker(*target) {
+                edges.push(edge)?;
+            }
+        }
+        Ok(edges)
+    }
+}

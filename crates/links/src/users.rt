@@ -1,0 +1,164 @@
+//! For each path the edges that name it, in flat memory.
+
+ghost use Rattle.std.specs.Prelude.{◌≡◌, ◌<◌, ◌++◌, ◌∷◌, ◌-◌, ℕ, List, All, [], length, take, slice_set, IfOk, OnOk, OnErr};
+ghost use Rattle.std.proofs.Math.ListN.{replicate};
+ghost use Rattle.links.specs.Held.{list_at, push_at, pushed};
+
+use paths::{EdgeId, PathId};
+use std::alloc::{AllocError, Global};
+use std::marker::Model;
+
+/// Where a list stands, and up to where it may grow.
+#[derive(Clone, Copy)]
+pub struct Room {
+    pub start: usize,
+    pub stop: usize,
+    pub end: usize,
+}
+
+impl Room {
+    const NONE: Room = Room {
+        start: 0,
+        stop: 0,
+        end: 0,
+    };
+}
+
+/// The edges that name each path, which contracts see as one list for each path. A path takes 24 bytes, and 4 to 16 for
+/// each edge of its list: a list without room moves to the end, into twice the room.
+#[derive(Drop)]
+pub struct Users {
+    edges: Vec<EdgeId>,
+    rooms: Vec<Room>,
+}
+
+impl Model for Users {
+    ghost use Rattle.std.specs.Prelude.{ℕ, List, map};
+
+    ghost Value = { List (List ℕ) };
+
+    ghost use Rattle.links.specs.Rooms.{room_of, AreRooms};
+
+    ghost view = { λ users. map (room_of users.edges.items) users.rooms.items };
+
+    ghost invariant = { λ users. AreRooms users.edges.items users.rooms.items };
+}
+
+impl Users {
+    /// So many paths that no edge names.
+    pub fn none(alloc: Global, paths: usize) -> Result<Users, AllocError>
+        ensures { IfOk result (λ users. users ≡ replicate paths []) }
+    {
+        Ok(Users {
+            edges: Vec::new(alloc),
+            rooms: vec![in alloc; Room::NONE; paths]?,
+        })
+    }
+
+    /// How many paths there are.
+    pub fn len(&self) -> usize
+        ensures { result ≡ length self.now }
+    {
+        self.rooms.len()
+    }
+
+    /// The edges that name the path.
+    pub fn at(&self, path: PathId) -> &[EdgeId]
+        requires { path < length self.now }
+        ensures { result.now ≡ list_at self.now path }
+    {
+        let room = self.rooms[path.index()];
+        &self.edges[room.start..room.stop]
+    }
+
+    /// One more path, which no edge names. Where memory is refused, nothing is changed.
+    pub fn add_path(&mut self) -> Result<(), AllocError>
+        ensures ok { OnOk result (self.new ≡ self.old ++ [] ∷ []) }
+        ensures err { OnErr result (self.new ≡ self.old) }
+    {
+        self.rooms.push(Room::NONE)?;
+        Ok(())
+    }
+
+    /// Leaves so many paths.
+    pub fn truncate(&mut self, paths: usize)
+        ensures { self.new ≡ take paths self.old }
+    {
+        self.rooms.truncate(paths);
+    }
+
+    /// Puts an edge behind those that name the path. Where memory is refused, nothing is changed.
+    pub fn push(&mut self, path: PathId, edge: EdgeId) -> Result<(), AllocError>
+        requires { path < length self.old }
+        ensures ok { OnOk result (self.new ≡ push_at self.old path edge) }
+        ensures err { OnErr result (self.new ≡ self.old) }
+    {
+        let room = self.rooms[path.index()];
+        if room.stop < room.end {
+            self.edges[room.stop] = edge;
+            self.rooms[path.index()].stop = room.stop + 1;
+            Ok(())
+        } else {
+            self.push_moved(path, edge)
+        }
+    }
+
+    /// Moves the list of a path to the end, into twice the room, and puts an edge behind it.
+    fn push_moved(&mut self, path: PathId, edge: EdgeId) -> Result<(), AllocError>
+        requires { path < length self.old }
+        ensures ok { OnOk result (self.new ≡ push_at self.old path edge) }
+        ensures err { OnErr result (self.new ≡ self.old) }
+    {
+        let room = self.rooms[path.index()];
+        let start = self.edges.len();
+        self.edges.extend_from_within(room.start..room.stop)?;
+        self.edges.push(edge)?;
+        let stop = self.edges.len();
+        // the list and the edge, and as many places as there were before
+        self.edges.extend_from_within(room.start..room.stop)?;
+        self.rooms[path.index()] = Room {
+            start,
+            stop,
+            end: self.edges.len(),
+        };
+        Ok(())
+    }
+
+    /// Puts an edge behind those that name each of these paths. Where memory is refused, nothing is changed.
+    pub fn push_all(&mut self, paths: &[PathId], edge: EdgeId) -> Result<(), AllocError>
+        requires { All (λ p. p < length self.old) paths.now }
+        ensures ok { OnOk result (self.new ≡ pushed self.old paths.now edge) }
+        ensures err { OnErr result (self.new ≡ self.old) }
+    {
+        for (done, path) in paths.iter().enumerate() {
+            if self.push(*path, edge).is_err() {
+                self.pop_all(&paths[..done]);
+                return Err(AllocError);
+            }
+        }
+        Ok(())
+    }
+
+    /// Takes back what was put behind those that name these paths.
+    pub fn pop_all(&mut self, paths: &[PathId])
+        requires { All (λ p. p < length self.old) paths.now }
+        ensures { (users : List (List ℕ)) (edge : ℕ) → self.old ≡ pushed users paths.now edge → self.new ≡ users }
+    {
+        let (_, mut left) = paths.split_at(0);
+        while let Some((last, front)) = left.split_last() {
+            self.pop(*last);
+            left = front;
+        }
+    }
+
+    /// Takes back the last edge of those that name the path, if there is one.
+    fn pop(&mut self, path: PathId)
+        requires { path < length self.old }
+        ensures { self.new ≡ slice_set self.old path (take (length (list_at self.old path) - 1) (list_at self.old path)) }
+    {
+        let room = self.rooms[path.index()];
+        if room.start < room.stop {
+            self.rooms[path.index()].stop = room.stop - 1;
+        }
+    }
+}
