@@ -27,10 +27,13 @@ pub record IsFront (groups : List (Option ℕ)) (waiting : List Bool) (pools : L
   pub shows : (e g : ℕ) (pool : Pool) → slice_index_or groups e None ≡ Some g → slice_get pools g ≡ Some pool → has front e ≡ true → pool.shown ≡ Some e
   pub shown : (e g : ℕ) (pool : Pool) → slice_index_or groups e None ≡ Some g → slice_get pools g ≡ Some pool → pool.shown ≡ Some e → has front e ≡ true
 
-pub record IsQueue (queue : Inside) : Type 0 where
-  pub within : AreWithin (length queue.pools.items) queue.groups.items
-  pub flags : length queue.waiting.items ≡ length queue.groups.items
-  pub room : length queue.groups.items ≤ length queue.front
-  pub seats : AreSeated queue.groups.items queue.ranks.items (map members_of queue.pools.items)
-  pub pools : (g : ℕ) (pool : Pool) → slice_get queue.pools.items g ≡ Some pool → IsPool queue.groups.items queue.ranks.items queue.waiting.items g pool
-  pub front : IsFront queue.groups.items queue.waiting.items queue.pools.items queue.front
+pub record AreQueued (groups : List (Option ℕ)) (ranks : List ℕ) (pools : List Pool) (waiting front : List Bool) : Type 0 where
+  pub within : AreWithin (length pools) groups
+  pub flags : length waiting ≡ length groups
+  pub room : length groups ≤ length front
+  pub seats : AreSeated groups ranks (map members_of pools)
+  pub kept : (g : ℕ) (pool : Pool) → slice_get pools g ≡ Some pool → IsPool groups ranks waiting g pool
+  pub fronts : IsFront groups waiting pools front
+
+abbrev pub IsQueue : Inside → Type 0
+IsQueue queue = AreQueued queue.groups.items queue.ranks.items queue.pools.items queue.waiting.items queue.front
