@@ -105,7 +105,7 @@ impl Queue {
             Some(group) => {
                 let pool = &mut self.pools[group];
                 pool.waiting.remove(self.ranks[edge]);
-                pool.running += 1;
+                pool.running = one_more(pool.running, pool.depth);
                 show(pool, &mut self.front);
             }
         }
@@ -132,6 +132,14 @@ impl Queue {
             Some(group) => self.pools[group].running < self.pools[group].depth,
         }
     }
+}
+
+/// One more command runs, of those that may.
+fn one_more(running: usize, depth: usize) -> usize
+    requires { running < depth }
+    ensures { result ≡ suc running }
+{
+    running + 1
 }
 
 /// A pool without edges for each depth.
