@@ -10,5 +10,5 @@ mod step;
 pub use plan::Plan;
 pub use step::{End, Standing, Step, Verdict};
 
-#[cfg(test)]
-mod tests;
+
+

@@ -1,5 +1,8 @@
 //! The plan, and what it is told.
 
+ghost use Rattle.std.specs.Prelude.{◌≡◌, ◌≤◌, ◌^◌, ◌+◌, length, vec_len};
+ghost use Rattle.plan.specs.Plan.{IsReady, IsWaiting, IsTallied};
+
 use crate::first::{first_counts, first_ready, first_standings, sources};
 use crate::pools::queue_of;
 use crate::step::{End, Standing, Step, Verdict};
@@ -34,9 +37,27 @@ pub struct Plan {
     pub jobs: usize,
     /// After how many failed commands nothing is started; 0 is no limit.
     pub keep: usize,
+    ghost fits: { vec_len left ≡ vec_len standings },
+    ghost few: { vec_len standings ≤ 2 ^ 32 },
+    ghost room: { vec_len standings ≤ length ready },
+    ghost rest: { vec_len standings ≤ length pending },
+    ghost sets: { IsReady standings.items left.items ready pending },
+    ghost waits: { IsWaiting standings.items queue },
+    ghost tallied: { IsTallied standings.items running failed well },
 }
 
 impl Plan {
+    ghost use Rattle.std.specs.Prelude.{◌≡◌, ◌<◌, ◌++◌, ◌∷◌, ℕ, suc, true, false, List, [], length, vec_len, slice_set, IfOk};
+    ghost use Rattle.model.specs.Schedule.{Task, Step as Done, Judged, Started, Ended as Finished, IsLawful, IsLawfulStep, well_in, running_in, failed_in};
+    ghost use Rattle.lowest.specs.Flags.{has};
+    ghost use Rattle.queue.specs.Turns.{may};
+    ghost use Rattle.links.specs.declared.graph.Graph.{Graph};
+    ghost use Rattle.links.specs.Links.{links_of};
+    ghost use Rattle.links.specs.Linked.{IsConeOf};
+    ghost use Rattle.plan.specs.Standing.{standing_at};
+    ghost use Rattle.plan.specs.Plan.{standing_by, standing_after, has_limits, IsSettling, AreFlagged};
+    ghost use Rattle.plan.specs.Planned.{IsPlanOver, IsTaskOf, IsPlanned, IsNextOf, IsOffered, is_stale};
+
     /// A plan in which no edge of the cone is judged.
     pub fn new(
         alloc: Global,
@@ -44,7 +65,12 @@ impl Plan {
         cone: &Cone,
         jobs: usize,
         keep: usize,
-    ) -> Result<Plan, AllocError> {
+    ) -> Result<Plan, AllocError>
+        requires { vec_len cone.now.marks ≡ length graph.now.manifest.lines }
+        ensures over { IfOk result (IsPlanOver graph.now) }
+        ensures flags { IfOk result (λ plan. (p : ℕ) → has plan.changed.items p ≡ false) }
+        ensures planned { IfOk result (λ plan. (task : Task) → IsTaskOf task graph.now → task.jobs ≡ jobs → task.keep ≡ keep → IsConeOf task.graph.edges task.recorded task.targets cone.now.order.items cone.now.marks.items → IsPlanned task graph.now plan []) }
+    {
         let edges = graph.edges();
         let standings = first_standings(alloc, graph, cone)?;
         let there = sources(alloc, graph)?;
@@ -73,7 +99,10 @@ impl Plan {
     }
 
     /// What is to be done next: a judgement before a start, and the lowest edge first.
-    pub fn next(&self) -> Step {
+    pub fn next(&self) -> Step
+        ensures offered { IsOffered self.now result }
+        ensures lawful { (task : Task) (graph : Graph) (steps : List Done) → IsPlanned task graph self.now steps → IsLawful task steps → IsNextOf task steps result }
+    {
         if let Some(place) = self.ready.first() {
             return Step::Judge(EdgeId::at_below(place));
         }
@@ -92,7 +121,14 @@ impl Plan {
     }
 
     /// Notes the verdict over an edge that may be judged, and what is settled by it.
-    pub fn judged(&mut self, graph: &Graph, edge: EdgeId, verdict: Verdict) {
+    pub fn judged(&mut self, graph: &Graph, edge: EdgeId, verdict: Verdict)
+        requires over { IsPlanOver graph.now self.old }
+        requires ready { has self.old.ready edge ≡ true }
+        ensures over { IsPlanOver graph.now self.new }
+        ensures stands { IsSettling self.old.standings.items self.new.standings.items edge (standing_by verdict) }
+        ensures flags { self.new.changed ≡ self.old.changed }
+        ensures planned { (task : Task) (steps : List Done) → IsPlanned task graph.now self.old steps → IsLawful task steps → IsLawfulStep task steps (Judged (suc edge) (is_stale verdict)) → IsPlanned task graph.now self.new (steps ++ Judged (suc edge) (is_stale verdict) ∷ []) }
+    {
         let place = edge.index();
         self.ready.remove(place);
         match verdict {
@@ -108,7 +144,13 @@ impl Plan {
     }
 
     /// Notes that the command of an edge that may start was started.
-    pub fn started(&mut self, edge: EdgeId) {
+    pub fn started(&mut self, edge: EdgeId)
+        requires { may self.old.queue edge ≡ true }
+        ensures over { (graph : Graph) → IsPlanOver graph self.old → IsPlanOver graph self.new }
+        ensures stands { self.new.standings.items ≡ slice_set self.old.standings.items edge Standing.Running }
+        ensures flags { self.new.changed ≡ self.old.changed }
+        ensures planned { (task : Task) (graph : Graph) (steps : List Done) → IsPlanned task graph self.old steps → IsLawful task steps → IsLawfulStep task steps (Started (suc edge)) → IsPlanned task graph self.new (steps ++ Started (suc edge) ∷ []) }
+    {
         let place = edge.index();
         self.queue.take(place);
         self.standings[place] = Standing::Running;
@@ -117,7 +159,15 @@ impl Plan {
 
     /// Notes that the command of a running edge ended, whether it ended well, what is settled by that, and for each of its
     /// outputs whether it was changed.
-    pub fn finished(&mut self, graph: &Graph, edge: EdgeId, ok: bool, changed: &[bool]) {
+    pub fn finished(&mut self, graph: &Graph, edge: EdgeId, ok: bool, changed: &[bool])
+        requires over { IsPlanOver graph.now self.old }
+        requires running { standing_at self.old.standings.items edge ≡ Standing.Running }
+        requires flags { length changed.now ≡ length ((links_of graph.now).outputs edge) }
+        ensures over { IsPlanOver graph.now self.new }
+        ensures stands { IsSettling self.old.standings.items self.new.standings.items edge (standing_after ok) }
+        ensures flags { AreFlagged self.old.changed.items self.new.changed.items ((links_of graph.now).outputs edge) changed.now }
+        ensures planned { (task : Task) (steps : List Done) → IsPlanned task graph.now self.old steps → IsLawful task steps → IsLawfulStep task steps (Finished (suc edge) ok) → IsPlanned task graph.now self.new (steps ++ Finished (suc edge) ok ∷ []) }
+    {
         let place = edge.index();
         note_changes(&mut self.changed, graph.outputs(edge), changed);
         self.queue.release(place);
@@ -133,32 +183,48 @@ impl Plan {
     }
 
     /// Whether the path was changed by the command that makes it, as that was handed in; false where nothing was.
-    pub fn changed(&self, path: PathId) -> bool {
+    pub fn changed(&self, path: PathId) -> bool
+        ensures { result ≡ has self.now.changed.items path }
+    {
         matches!(self.changed.get(path.index()), Some(true))
     }
 
     /// How many commands run.
-    pub fn running(&self) -> usize {
+    pub fn running(&self) -> usize
+        ensures value { result ≡ self.now.running }
+        ensures steps { (task : Task) (graph : Graph) (steps : List Done) → IsPlanned task graph self.now steps → IsLawful task steps → result ≡ length (running_in steps) }
+    {
         self.running
     }
 
     /// How many commands failed.
-    pub fn failed(&self) -> usize {
+    pub fn failed(&self) -> usize
+        ensures value { result ≡ self.now.failed }
+        ensures steps { (task : Task) (graph : Graph) (steps : List Done) → IsPlanned task graph self.now steps → IsLawful task steps → result ≡ length (failed_in steps) }
+    {
         self.failed
     }
 
     /// How many commands ended well.
-    pub fn well(&self) -> usize {
+    pub fn well(&self) -> usize
+        ensures value { result ≡ self.now.well }
+        ensures steps { (task : Task) (graph : Graph) (steps : List Done) → IsPlanned task graph self.now steps → IsLawful task steps → result ≡ length (well_in steps) }
+    {
         self.well
     }
 
     /// How far an edge has come.
-    pub fn standing(&self, edge: EdgeId) -> Standing {
+    pub fn standing(&self, edge: EdgeId) -> Standing
+        requires { edge < vec_len self.now.standings }
+        ensures { result ≡ standing_at self.now.standings.items edge }
+    {
         self.standings[edge.index()]
     }
 
     /// Whether fewer commands run than may, and fewer have failed.
-    fn has_room(&self) -> bool {
+    fn has_room(&self) -> bool
+        ensures { result ≡ has_limits self.now.jobs self.now.keep self.now.running self.now.failed }
+    {
         (self.jobs == 0 || self.running < self.jobs) && (self.keep == 0 || self.failed < self.keep)
     }
 }

@@ -1,18 +1,18 @@
 -- What a change of one edge leaves of a queue.
-use Rattle.std.proofs.Common.{◌≡◌, ◌⊎◌, inl, inr, ℕ, zero, suc, ◌<◌, ◌≤◌, nat_lt, ◌&&◌, Bool, true, false, List, [], ◌∷◌, Option, None, Some, map, length, get_or, MatchOption, refl, sym, ◌∙◌, ap, subst, arith}
+use Rattle.std.proofs.Common.{◌≡◌, inl, inr, ℕ, zero, suc, ◌<◌, ◌≤◌, nat_lt, Bool, true, false, List, [], ◌∷◌, Option, None, Some, map, length, get_or, MatchOption, refl, sym, ◌∙◌, ap, subst, arith}
 use Rattle.std.specs.List.{slice_get}
 use Rattle.std.proofs.Math.ListN.{set}
 use Rattle.std.proofs.Math.Seq.{map-set_same}
-use Rattle.std.proofs.lemmas.List.{length-set, get_or-set_same, get_or-set_other, get_or-map, map-set}
-use Rattle.std.proofs.lemmas.Option.{slice_get-get_or, slice_get_within, get_or_from_slice_get, slice_get_read}
-use Rattle.std.proofs.lemmas.Bool.{false≢true, true≢false, and_parts, and_from, cases_Bool, cases_eq, false_from_ne_true, lt-ltb, ltb-true}
+use Rattle.std.proofs.lemmas.List.{length-set, get_or-set_same, get_or-set_other}
+use Rattle.std.proofs.lemmas.Option.{slice_get-get_or, slice_get_within, get_or_from_slice_get}
+use Rattle.std.proofs.lemmas.Bool.{false≢true, and_parts, and_from, cases_Bool, cases_eq, lt-ltb, ltb-true}
 use Rattle.lowest.specs.Flags.{has, IsFirst, AreNone}
 use Rattle.queue.specs.declared.pool.Pool.{Pool}
-use Rattle.queue.specs.Turns.{Turns, AreWithin, group_at, room, may, IsFirstTurn, NoTurn}
-use Rattle.queue.specs.Pools.{member_at, AreMembers, IsTurn, IsShown, with_shown}
+use Rattle.queue.specs.Turns.{Turns, room, may, IsFirstTurn, NoTurn}
+use Rattle.queue.specs.Pools.{member_at, AreMembers, IsShown, with_shown}
 use Rattle.queue.specs.Seats.{members_of, depth_of, running_of, list_at, AreSeated}
-use Rattle.queue.specs.Queues.{IsPool, IsFront, AreQueued}
-use Rattle.queue.proofs.Fronts.{has_within, some_is, flag_other, flag_new, flag_was, shown_fits, turn_of, none_of, list_is, turn_in, shown_in, rank_is, member_fits, shown_below}
+use Rattle.queue.specs.Queues.{IsPool, AreQueued}
+use Rattle.queue.proofs.Fronts.{some_is, flag_other, flag_new, flag_was, shown_fits, turn_of, none_of, list_is, turn_in, shown_in, rank_is, member_fits}
 
 pub some_group : (g h : ℕ) (o : Option ℕ) → o ≡ Some g → o ≡ Some h → g ≡ h
 some_group g h o a b = some_is g h (sym a ∙ b)
@@ -222,9 +222,11 @@ module _ (groups : List (Option ℕ)) (ranks : List ℕ) (pools : List Pool) (wa
           by_shown pool there has_room (Some f) shown =
               let before = queued.kept g pool there in
               let turn = turn_of pool pool.shown f before.shown shown in
-              let rank = rank_is groups ranks pools waiting front queued g e pool there at in
-              (f, lower pool before.members turn.rank (get_or ranks e 0) rank.0 (not_above turn.rank (get_or ranks e 0) (λ less. false≢true (sym (turn.first.lowest (get_or ranks e 0) less) ∙ (before.waits e at ∙ both.0)))) f turn.is rank.1,
-              queued.fronts.shown f g pool (turn_in groups ranks pools waiting front queued g f pool there turn) there shown)
+              let rank = rank_is groups ranks pools waiting front queued g e pool there at in (
+                f,
+                lower pool before.members turn.rank (get_or ranks e 0) rank.0 (not_above turn.rank (get_or ranks e 0) (λ less. false≢true (sym (turn.first.lowest (get_or ranks e 0) less) ∙ (before.waits e at ∙ both.0)))) f turn.is rank.1,
+                queued.fronts.shown f g pool (turn_in groups ranks pools waiting front queued g f pool there turn) there shown,
+              )
             where
               not_above : (a b : ℕ) → (b < a → ⊥) → a ≤ b
               not_above a b fails = elim (cases_Bool (nat_lt b a)) [

@@ -1,16 +1,15 @@
 -- What stands in front.
-use Rattle.std.proofs.Common.{◌≡◌, ◌⊎◌, inl, inr, ℕ, zero, suc, ◌<◌, ◌≤◌, ◌&&◌, nat_lt, Bool, true, false, List, [], ◌∷◌, Option, None, Some, map, length, get_or, MatchOption, refl, sym, ◌∙◌, ap, subst, arith}
+use Rattle.std.proofs.Common.{◌≡◌, ◌⊎◌, inl, inr, ℕ, zero, suc, ◌<◌, Bool, true, false, List, [], ◌∷◌, Option, None, Some, map, length, get_or, refl, sym, ◌∙◌, ap, subst, arith}
 use Rattle.std.specs.List.{slice_get}
 use Rattle.std.proofs.Math.ListN.{set}
 use Rattle.std.proofs.lemmas.List.{length-set, get_or-set_same, get_or-set_other, get_or-map}
-use Rattle.std.proofs.lemmas.Option.{slice_get-get_or, slice_get_within, get_or_from_slice_get}
-use Rattle.std.proofs.lemmas.Bool.{false≢true, true≢false, and_parts, and_from, cases_Bool, cases_eq, false_from_ne_true, lt-ltb, ltb-true}
-use Rattle.lowest.specs.Flags.{has, IsFirst, AreNone}
+use Rattle.std.proofs.lemmas.Option.{slice_get_within, get_or_from_slice_get}
+use Rattle.std.proofs.lemmas.Bool.{false≢true, cases_Bool, cases_eq}
+use Rattle.lowest.specs.Flags.{has, AreNone}
 use Rattle.queue.specs.declared.pool.Pool.{Pool}
-use Rattle.queue.specs.Turns.{Turns, AreWithin, group_at, room, may, IsFirstTurn, NoTurn}
-use Rattle.queue.specs.Pools.{member_at, AreMembers, IsTurn, IsShown, without, with, with_shown}
-use Rattle.queue.specs.Seats.{members_of, depth_of, running_of, list_at, AreSeated}
-use Rattle.queue.specs.Queues.{IsPool, IsFront, AreQueued}
+use Rattle.queue.specs.Pools.{member_at, IsTurn, IsShown, without, with, with_shown}
+use Rattle.queue.specs.Seats.{members_of, list_at}
+use Rattle.queue.specs.Queues.{AreQueued}
 
 -- ---- flags
 
@@ -104,8 +103,7 @@ module _ (groups : List (Option ℕ)) (ranks : List ℕ) (pools : List Pool) (wa
   -- the rank of an edge in its pool
   pub rank_is : (g e : ℕ) (pool : Pool) → slice_get pools g ≡ Some pool → get_or groups e None ≡ Some g → (get_or ranks e 0 < length pool.members.items) × (member_at pool (get_or ranks e 0) ≡ e)
   rank_is g e pool is at =
-      let same = list_is pools g pool is in
-      (
+      let same = list_is pools g pool is in (
         omega (arith, queued.seats.within e g at, ap (λ (l : List ℕ). length l) same),
         sym (ap (λ (l : List ℕ). get_or l (get_or ranks e 0) 0) same) ∙ queued.seats.seated e g at,
       )

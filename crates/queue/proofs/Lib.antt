@@ -1,3 +1,4 @@
 pub mod Fronts
 pub mod Changing
 pub mod Updating
+pub mod Seating

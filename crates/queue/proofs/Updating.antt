@@ -1,18 +1,18 @@
 -- What a queue is after one edge was put, taken or released.
-use Rattle.std.proofs.Common.{◌≡◌, ◌⊎◌, inl, inr, ℕ, zero, suc, ◌+◌, ◌-◌, ◌<◌, ◌≤◌, Bool, true, false, List, [], ◌∷◌, Option, None, Some, IfSome, map, length, get_or, MatchOption, refl, sym, ◌∙◌, ap, subst, arith}
+use Rattle.std.proofs.Common.{◌≡◌, inl, inr, ℕ, zero, suc, ◌<◌, Bool, true, false, List, [], ◌∷◌, Option, None, Some, IfSome, map, length, get_or, refl, sym, ◌∙◌, ap, subst, arith}
 use Rattle.std.specs.List.{slice_get}
 use Rattle.std.proofs.Math.ListN.{set}
 use Rattle.std.proofs.Math.Seq.{map-set_same}
 use Rattle.std.proofs.lemmas.List.{length-set, get_or-set_same, get_or-set_other, get_or-map, map-set}
-use Rattle.std.proofs.lemmas.Option.{slice_get-get_or, slice_get_within, get_or_from_slice_get, slice_get_read}
-use Rattle.std.proofs.lemmas.Bool.{false≢true, cases_eq, and_parts, ltb-true}
+use Rattle.std.proofs.lemmas.Option.{slice_get_within, get_or_from_slice_get, slice_get_read}
+use Rattle.std.proofs.lemmas.Bool.{cases_eq, and_parts, ltb-true}
 use Rattle.lowest.specs.Flags.{has}
 use Rattle.queue.specs.declared.pool.Pool.{Pool}
-use Rattle.queue.specs.Turns.{Turns, group_at, room, may, runs_in, runs_at, set_runs, with_waiting, with_running}
-use Rattle.queue.specs.Pools.{member_at, AreMembers, IsTurn, IsShown, ShownWithin, with_shown}
-use Rattle.queue.specs.Seats.{members_of, depth_of, running_of}
-use Rattle.queue.specs.Queues.{IsPool, AreQueued}
-use Rattle.queue.proofs.Fronts.{has_within, rank_is, member_fits, shown_below}
+use Rattle.queue.specs.Turns.{Turns, room, may, runs_in, runs_at, set_runs, with_waiting, with_running}
+use Rattle.queue.specs.Pools.{member_at, AreMembers, IsShown, ShownWithin, with_shown}
+use Rattle.queue.specs.Seats.{depth_of, running_of}
+use Rattle.queue.specs.Queues.{AreQueued}
+use Rattle.queue.proofs.Fronts.{rank_is, member_fits, shown_below}
 use Rattle.queue.proofs.Changing.{pool_changed}
 
 pub read_pool : (pools : List Pool) (g : ℕ) (pool : Pool) → pool ≡ get_or pools g pool → g < length pools → slice_get pools g ≡ Some pool
@@ -35,13 +35,13 @@ members_again pool running shown members = record { ordered = members.ordered; w
 pub members_set : (pool : Pool) (running r : ℕ) (flag : Bool) (waiting : List Bool) → AreMembers pool → r < length pool.members.items → waiting ≡ set pool.waiting r flag
     → AreMembers record { depth = pool.depth; running = running; members = pool.members; waiting = waiting; shown = pool.shown }
 members_set pool running r flag waiting members lt is = subst (λ (w : List Bool). AreMembers record { depth = pool.depth; running = running; members = pool.members; waiting = w; shown = pool.shown }) (sym is) record {
-    ordered = members.ordered;
-    waiting = λ k set_. elim (cases_eq k r) [
-      | inl same ↦ omega (arith, same, lt)
-      | inr other ↦ members.waiting k (sym (get_or-set_other pool.waiting r k flag false other) ∙ set_)
-    ];
-    fits = omega (arith, members.fits, length-set pool.waiting r flag);
-  }
+  ordered = members.ordered;
+  waiting = λ k set_. elim (cases_eq k r) [
+    | inl same ↦ omega (arith, same, lt)
+    | inr other ↦ members.waiting k (sym (get_or-set_other pool.waiting r k flag false other) ∙ set_)
+  ];
+  fits = omega (arith, members.fits, length-set pool.waiting r flag);
+}
 
 shows_again : (pool : Pool) (x s : Option ℕ) → IsShown pool s → IsShown (record pool { shown = x }) s
 shows_again pool x None is = is

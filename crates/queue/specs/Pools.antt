@@ -1,5 +1,5 @@
 -- What a pool shows.
-use Rattle.std.specs.Prelude.{◌≡◌, ℕ, ◌<◌, ◌≤◌, nat_lt, Bool, true, false, if◌then◌else◌, List, length, slice_index, slice_set, slice_get, Option, None, Some, IfSome, MatchOption}
+use Rattle.std.specs.Prelude.{◌≡◌, ℕ, ◌<◌, ◌≤◌, Bool, true, false, List, length, slice_index, slice_set, Option, None, Some, IfSome, MatchOption}
 use Rattle.lowest.specs.Flags.{has, IsFirst, AreNone}
 use Rattle.queue.specs.declared.pool.Pool.{Pool}
 

@@ -1,10 +1,10 @@
 -- How a queue keeps the edges that wait.
-use Rattle.std.specs.Prelude.{◌≡◌, ℕ, ◌<◌, ◌≤◌, Bool, true, false, List, [], map, length, slice_index, slice_index_or, slice_get, Option, None, Some, MatchOption}
+use Rattle.std.specs.Prelude.{◌≡◌, ℕ, ◌≤◌, Bool, true, List, map, length, slice_index, slice_index_or, slice_get, Option, None, Some}
 use Rattle.lowest.specs.Flags.{has}
 use Rattle.queue.specs.declared.pool.Pool.{Pool}
 use Rattle.queue.specs.declared.queue.Queue.TheInside.{Inside}
 use Rattle.queue.specs.Turns.{Turns, AreWithin}
-use Rattle.queue.specs.Pools.{member_at, AreMembers, IsShown}
+use Rattle.queue.specs.Pools.{AreMembers, IsShown}
 use Rattle.queue.specs.Seats.{members_of, depth_of, running_of, AreSeated}
 
 abbrev pub turns_of : Inside → Turns

@@ -1,5 +1,5 @@
 -- The places of edges in their pools.
-use Rattle.std.specs.Prelude.{◌≡◌, ℕ, ◌<◌, ◌≤◌, Bool, List, [], ◌∷◌, ◌++◌, map, replicate, length, slice_index, slice_index_or, slice_set, slice_get, Option, None, Some}
+use Rattle.std.specs.Prelude.{◌≡◌, ℕ, ◌<◌, ◌≤◌, Bool, List, [], ◌∷◌, ◌++◌, map, replicate, length, slice_index, slice_index_or, slice_set, Option, None, Some}
 use Rattle.lowest.specs.Flags.{AreNone}
 use Rattle.queue.specs.declared.pool.Pool.{Pool}
 

@@ -1,5 +1,5 @@
 -- Edges that wait for their start, in pools of which so many commands may run at once.
-use Rattle.std.specs.Prelude.{◌≡◌, ℕ, suc, ◌<◌, nat_lt, ◌&&◌, Bool, true, false, List, length, slice_index, slice_index_or, slice_set, Option, None, Some, IfSome}
+use Rattle.std.specs.Prelude.{◌≡◌, ℕ, ◌<◌, nat_lt, ◌&&◌, Bool, true, false, List, slice_index, slice_index_or, slice_set, Option, None, Some}
 use Rattle.lowest.specs.Flags.{has}
 
 pub record Turns : Type 0 where

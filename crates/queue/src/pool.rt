@@ -2,6 +2,7 @@
 
 ghost use Rattle.std.specs.Prelude.{◌≡◌, ◌<◌, ℕ, length};
 ghost use Rattle.queue.specs.Pools.{IsShown, AreMembers, with_shown, member_at, ShownWithin};
+
 use lowest::Lowest;
 
 /// A pool of edges.

@@ -1,4 +1,4 @@
-use Rattle.std.proofs.Common.{◌≡◌, take, map}
+use Rattle.std.proofs.Common.{take, map}
 use Rattle.queue.specs.Seats.{AreSeated, HaveSameLimits, members_of}
 use Rattle.queue.proofs.queue.seat_all.Given as goal
 

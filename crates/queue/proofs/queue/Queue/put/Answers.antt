@@ -1,13 +1,12 @@
-use Rattle.std.proofs.Common.{◌≡◌, ◌∙◌, ℕ, ◌+◌, ◌-◌, ◌<◌, Option, None, Some, List, Bool, true, length, get_or, ap, sym, refl, suc, subst, arith}
+use Rattle.std.proofs.Common.{◌≡◌, ◌∙◌, ℕ, ◌<◌, None, Some, List, Bool, true, length, get_or, ap, arith}
 use Rattle.std.specs.List.{slice_get}
 use Rattle.std.proofs.Math.ListN.{set}
 use Rattle.std.proofs.lemmas.List.{length-set}
 use Rattle.lowest.specs.Flags.{has}
-use Rattle.queue.specs.Turns.{Turns, room, group_at, runs_at, with_waiting, with_running}
-use Rattle.std.proofs.lemmas.Bool.{and_parts, ltb-true}
+use Rattle.queue.specs.Turns.{Turns, with_waiting}
 use Rattle.queue.specs.declared.pool.Pool.{Pool}
-use Rattle.queue.proofs.Fronts.{rank_is, has_within}
-use Rattle.queue.proofs.Updating.{read_pool, read_rank, read_group, members_set, members_again, shown_within, members_within, waits_set, after_show, others_set, seen_put, seen_running}
+use Rattle.queue.proofs.Fronts.{rank_is}
+use Rattle.queue.proofs.Updating.{read_pool, read_rank, read_group, members_set, shown_within, members_within, waits_set, after_show, others_set, seen_put}
 use Rattle.queue.proofs.queue.Queue.put.Goals as goal
 
 pub insert-requires-in-Some : goal.insert-requires-in-Some
