@@ -1,0 +1,4 @@
+pub mod CountBy
+pub mod PlannedSteps
+pub mod PlannedCounts
+pub mod Judging
