@@ -74,14 +74,14 @@ count_nothing test (x ∷ xs) none =
         omega (arith, e, z, rest)
 
 module _ (task : Task) (graph : Graph) (plan : Plan) (steps : List Step) (at : IsPlanned task graph plan steps) (lawful : IsLawful task steps) where
-  abbrev InCone : ℕ → Type 0
+  abbrev pub InCone : ℕ → Type 0
   InCone i = IsInCone task.graph.edges task.recorded task.targets i
 
-  abbrev stand : ℕ → Standing
+  abbrev pub stand : ℕ → Standing
   stand e = standing_at plan.standings.items e
 
   -- an edge that is not outside, by a test that one outside fails
-  known : (test : Standing → Bool) (e : ℕ) → test Outside ≡ false → test (stand e) ≡ true → is_outside (stand e) ≡ false
+  pub known : (test : Standing → Bool) (e : ℕ) → test Outside ≡ false → test (stand e) ≡ true → is_outside (stand e) ≡ false
   known test e none is = by (stand e) is
     where
       by : (s : Standing) → test s ≡ true → is_outside s ≡ false

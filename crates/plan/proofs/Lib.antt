@@ -2,3 +2,5 @@ pub mod CountBy
 pub mod PlannedSteps
 pub mod PlannedCounts
 pub mod Judging
+pub mod Places
+pub mod Starting
