@@ -4,3 +4,4 @@ pub mod PlannedCounts
 pub mod Judging
 pub mod Places
 pub mod Starting
+pub mod Lowering

@@ -1,5 +1,5 @@
 -- What a plan knows of a build, and what it says next, by the steps so far.
-use Rattle.std.specs.Prelude.{◌≡◌, ◌≢◌, ℕ, zero, suc, ◌==◌, ◌<◌, Bool, true, false, if◌then◌else◌, List, [], length, slice_index, filter, Option, None, Some, get_or}
+use Rattle.std.specs.Prelude.{◌≡◌, ◌≢◌, ◌⊎◌, ℕ, zero, suc, ◌==◌, ◌<◌, Bool, true, false, if◌then◌else◌, List, [], length, slice_index, filter, Option, None, Some, get_or}
 use Rattle.model.specs.Graph.{has_number, edge_at, IsCommand}
 use Rattle.model.specs.Reading.{IsInCone}
 use Rattle.model.specs.Schedule.{Task, Step as Done, Judged, Started, IsLawfulStep, NoneMayBeJudged, NoneMayStart, IsSettled, clean_in, out_of_date_in, started_in, well_in, failed_in, running_in, done_in}
@@ -17,15 +17,49 @@ use Rattle.plan.specs.declared.step.Verdict.TheVariants as verdict
 use Rattle.plan.specs.declared.step.End.TheVariants as ending
 use Rattle.plan.specs.declared.step.Step.{Step}
 use Rattle.plan.specs.declared.step.Step.TheVariants.{Judge, Start, Wait, Ended as Over}
-use Rattle.plan.specs.Standing.{standing_at, is_outside, is_phony, is_settled}
+use Rattle.plan.specs.Standing.{standing_at, is_outside, is_phony, is_settled, maker_settled}
 use Rattle.plan.specs.Pools.{pool_of}
-use Rattle.plan.specs.Plan.{IsOver, IsPooled}
+use Rattle.model.specs.declared.graph.Edge.{Edge}
+use Rattle.plan.specs.Plan.{IsOver, IsCounted, IsPooled}
 
 -- a plan in which all that follows from what it was told is settled
 pub record IsPlanOver (graph : Graph) (plan : Plan) : Type 0 where
   pub over : IsOver (links_of graph) (length graph.manifest.paths) plan.standings.items plan.left.items plan.there.items
   pub settled : AreNone plan.pending
   pub pooled : IsPooled graph plan.standings.items plan.queue
+
+-- nothing but what edges wait for is changed
+pub record IsStill (old new : Plan) : Type 0 where
+  pub standings : new.standings ≡ old.standings
+  pub queue : new.queue ≡ old.queue
+  pub changed : new.changed ≡ old.changed
+  pub running : new.running ≡ old.running
+  pub failed : new.failed ≡ old.failed
+  pub well : new.well ≡ old.well
+  pub jobs : new.jobs ≡ old.jobs
+  pub keep : new.keep ≡ old.keep
+
+-- an alias may only be settled; nothing else is changed but what edges wait for
+pub record SettlesAliases (old new : Plan) : Type 0 where
+  pub fits : length new.standings.items ≡ length old.standings.items
+  pub stands : (e : ℕ) → (standing_at new.standings.items e ≡ standing_at old.standings.items e) ⊎ ((standing_at old.standings.items e ≡ Alias) × (standing_at new.standings.items e ≡ Known))
+  pub queue : new.queue ≡ old.queue
+  pub changed : new.changed ≡ old.changed
+  pub running : new.running ≡ old.running
+  pub failed : new.failed ≡ old.failed
+  pub well : new.well ≡ old.well
+  pub jobs : new.jobs ≡ old.jobs
+  pub keep : new.keep ≡ old.keep
+
+-- what is settled in the plan is so by what was done
+abbrev pub IsSound : List Edge → List ℕ → Plan → Type 0
+IsSound edges done plan = (e : ℕ) → is_settled (standing_at plan.standings.items e) ≡ true → IsSettled edges done (suc e)
+
+-- what the edge makes may not be there yet; what else settled edges make is
+pub record IsAhead (graph : Graph) (edge : ℕ) (plan : Plan) : Type 0 where
+  pub counted : IsCounted (links_of graph) (length graph.manifest.paths) plan.standings.items plan.left.items plan.there.items
+  pub sound : (p : ℕ) → has plan.there.items p ≡ true → maker_settled plan.standings.items ((links_of graph).maker p) ≡ true
+  pub complete : (p : ℕ) → p < length graph.manifest.paths → maker_settled plan.standings.items ((links_of graph).maker p) ≡ true → (has plan.there.items p ≡ true) ⊎ ((links_of graph).maker p ≡ Some edge)
 
 -- the task is to build what the graph declares; aliases have no recorded inputs
 pub record IsTaskOf (task : Task) (graph : Graph) : Type 0 where
