@@ -5,3 +5,4 @@ pub mod Judging
 pub mod Places
 pub mod Starting
 pub mod Lowering
+pub mod Arriving

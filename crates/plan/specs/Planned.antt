@@ -30,7 +30,7 @@ pub record IsPlanOver (graph : Graph) (plan : Plan) : Type 0 where
 
 -- nothing but what edges wait for is changed
 pub record IsStill (old new : Plan) : Type 0 where
-  pub standings : new.standings ≡ old.standings
+  pub standings : new.standings.items ≡ old.standings.items
   pub queue : new.queue ≡ old.queue
   pub changed : new.changed ≡ old.changed
   pub running : new.running ≡ old.running

@@ -85,7 +85,7 @@ impl Plan {
         requires within { user < vec_len self.old.standings }
         requires some { awaits (standing_at self.old.standings.items user) ≡ true → 0 < slice_index self.old.left.items user }
         ensures left { self.new.left.items ≡ (if awaits (standing_at self.old.standings.items user) then lowered self.old.left.items user else self.old.left.items) }
-        ensures there { self.new.there ≡ self.old.there }
+        ensures there { self.new.there.items ≡ self.old.there.items }
         ensures rest { IsStill self.old self.new }
     {
         match self.standings[user] {
