@@ -200,14 +200,11 @@ listed_push [] x p = or_none (x == p)
     or_none : (b : Bool) → (b || false) ≡ b
     or_none true = refl
     or_none false = refl
-listed_push (y ∷ xs) x p = by (y == p)
+listed_push (y ∷ xs) x p = one_more (y == p) (listed_push xs x p)
   where
-    rest : has_number (xs ++ x ∷ []) p ≡ (has_number xs p || (x == p))
-    rest = listed_push xs x p
-
-    by : (b : Bool) → (b || has_number (xs ++ x ∷ []) p) ≡ ((b || has_number xs p) || (x == p))
-    by true = refl
-    by false = rest
+    one_more : (b : Bool) → has_number (xs ++ x ∷ []) p ≡ (has_number xs p || (x == p)) → (b || has_number (xs ++ x ∷ []) p) ≡ ((b || has_number xs p) || (x == p))
+    one_more true rest = refl
+    one_more false rest = rest
 
 pub come_next : (paths : ℕ) (outputs : List ℕ) (k : ℕ) (old there after : List Bool) → k < length outputs → length there ≡ paths → after ≡ set there (get_or outputs k 0) true → HaveCome paths (take k outputs) old there → HaveCome paths (take (k + 1) outputs) old after
 come_next paths outputs k old there after lt fits is come =
