@@ -6,3 +6,4 @@ pub mod Places
 pub mod Starting
 pub mod Lowering
 pub mod Arriving
+pub mod Settling
