@@ -8,7 +8,8 @@ use Rattle.plan.specs.declared.step.Standing.{Standing}
 use Rattle.plan.specs.declared.step.Standing.TheVariants.{Outside, Unjudged, Clean, OutOfDate, Running, Well, Failed, Alias, Known}
 use Rattle.plan.specs.Standing.{standing_at, is_unjudged, is_alias, is_out_of_date, is_running, is_failed, is_well, is_settled, awaits, maker_settled}
 use Rattle.plan.specs.Plan.{IsReady, IsTallied, IsOver, IsCounted, is_missing}
-use Rattle.plan.specs.Planned.{IsTaskOf}
+use Rattle.plan.specs.Planned.{IsTaskOf, IsAhead, IsStill, SettlesAliases}
+use Rattle.plan.specs.declared.plan.Plan.{Plan}
 use Rattle.model.specs.Graph.{has_number, edge_at, inputs}
 use Rattle.model.specs.Schedule.{Task, IsSettled, Alias as ByAlias}
 use Rattle.build_theory.proofs.Lists.{has-left}
@@ -169,3 +170,38 @@ aliases_next first now after e fits before stands known is k = subst (λ (s : Li
       | inr new ↦ inr (new.0, get_or-set_other now e k Known Outside other ∙ new.1)
     ]
   ])
+
+-- what the edge makes came in
+pub ahead_over : (graph : Graph) (e : ℕ) (plan : Plan) (after : List Standing) (counts : List ℕ) (come : List Bool) → IsAhead graph e plan → is_settled (standing_at plan.standings.items e) ≡ true → after ≡ plan.standings.items
+    → IsCounted (links_of graph) (length graph.manifest.paths) after counts come
+    → ((p : ℕ) → p < length graph.manifest.paths → has_number ((links_of graph).outputs e) p ≡ true → has come p ≡ true) → ((p : ℕ) → has_number ((links_of graph).outputs e) p ≡ false → has come p ≡ has plan.there.items p)
+    → IsOver (links_of graph) (length graph.manifest.paths) after counts come
+ahead_over graph e plan after counts come ahead mine is counted made others = record {
+    edges = counted.edges;
+    known = counted.known;
+    counts = counted.counts;
+    sound = λ p flag. ap (λ (s : List Standing). maker_settled s ((links_of graph).maker p)) is ∙ elim (cases_Bool (has_number ((links_of graph).outputs e) p)) [
+      | inl output ↦ ap (maker_settled plan.standings.items) (graph.making.all p e output) ∙ mine
+      | inr other ↦ ahead.sound p (sym (others p other) ∙ flag)
+    ];
+    complete = λ p lt settled. elim (ahead.complete p lt (sym (ap (λ (s : List Standing). maker_settled s ((links_of graph).maker p)) is) ∙ settled)) [
+      | inl was ↦ elim (cases_Bool (has_number ((links_of graph).outputs e) p)) [
+        | inl output ↦ made p lt output
+        | inr other ↦ others p other ∙ was
+      ]
+      | inr maker ↦ made p lt (graph.making.made p e maker)
+    ];
+  }
+
+pub still_aliases : (first now after : Plan) → IsStill first now → SettlesAliases now after → SettlesAliases first after
+still_aliases first now after still aliases = record {
+    fits = aliases.fits ∙ ap (λ (s : List Standing). length s) still.standings;
+    stands = λ e. subst (λ (s : List Standing). (standing_at after.standings.items e ≡ standing_at s e) ⊎ ((standing_at s e ≡ Alias) × (standing_at after.standings.items e ≡ Known))) still.standings (aliases.stands e);
+    queue = aliases.queue ∙ still.queue;
+    changed = aliases.changed ∙ still.changed;
+    running = aliases.running ∙ still.running;
+    failed = aliases.failed ∙ still.failed;
+    well = aliases.well ∙ still.well;
+    jobs = aliases.jobs ∙ still.jobs;
+    keep = aliases.keep ∙ still.keep;
+  }
