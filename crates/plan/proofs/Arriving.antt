@@ -112,9 +112,9 @@ told_next standings users k old left after lt told within some is = by (awaits (
         record {
           fits = ap (λ (l : List ℕ). length l) same ∙ told.fits;
           told = λ e here.
-            let one : one_if (get_or users k 0 == e) ≡ 0 = ap one_if (false_from_ne_true (get_or users k 0 == e) (λ h. false≢true (sym waits ∙ subst (λ (n : ℕ). awaits (standing_at standings n) ≡ true) (sym (eqb-true (get_or users k 0) e h)) here))) in
-            let now : get_or after e 0 ≡ get_or left e 0 = ap (λ (l : List ℕ). get_or l e 0) same in
-            omega (arith, one, now, times_next users k e lt, told.told e here);
+              let one : one_if (get_or users k 0 == e) ≡ 0 = ap one_if (false_from_ne_true (get_or users k 0 == e) (λ h. false≢true (sym waits ∙ subst (λ (n : ℕ). awaits (standing_at standings n) ≡ true) (sym (eqb-true (get_or users k 0) e h)) here))) in
+              let now : get_or after e 0 ≡ get_or left e 0 = ap (λ (l : List ℕ). get_or l e 0) same in
+              omega (arith, one, now, times_next users k e lt, told.told e here);
         }
 
 past : {X : Type 0} (xs : List X) (i : ℕ) (d : X) → length xs ≤ i → get_or xs i d ≡ d
@@ -138,15 +138,15 @@ user_within graph p e some = elim (cases_Bool (nat_lt e (length graph.manifest.l
 
 pub still_more : (a b c : Plan) → IsStill a b → IsStill b c → IsStill a c
 still_more a b c one two = record {
-    standings = two.standings ∙ one.standings;
-    queue = two.queue ∙ one.queue;
-    changed = two.changed ∙ one.changed;
-    running = two.running ∙ one.running;
-    failed = two.failed ∙ one.failed;
-    well = two.well ∙ one.well;
-    jobs = two.jobs ∙ one.jobs;
-    keep = two.keep ∙ one.keep;
-  }
+  standings = two.standings ∙ one.standings;
+  queue = two.queue ∙ one.queue;
+  changed = two.changed ∙ one.changed;
+  running = two.running ∙ one.running;
+  failed = two.failed ∙ one.failed;
+  well = two.well ∙ one.well;
+  jobs = two.jobs ∙ one.jobs;
+  keep = two.keep ∙ one.keep;
+}
 
 module _ (graph : Graph) (p : ℕ) (users : List ℕ) (named : (e : ℕ) → times users e ≡ times (needs_at (links_of graph) e) p) (paths : ℕ) (standings : List Standing) (old : List ℕ) (there : List Bool)
     (counted : IsCounted (links_of graph) paths standings old there) (lt : p < length there) (none : has there p ≡ false) where
@@ -216,9 +216,9 @@ come_next paths outputs k old there after lt fits is come =
             ∙ come.made p within (old_listed p other (sym (listed_push (take k outputs) (get_or outputs k 0) p) ∙ listed))
       ];
       others = λ p unlisted.
-        let both = or_parts (has_number (take k outputs) p) (get_or outputs k 0 == p) (sym (listed_push (take k outputs) (get_or outputs k 0) p) ∙ unlisted) in
-        get_or-set_other there (get_or outputs k 0) p true false (λ same. false≢true (sym both.1 ∙ eq-eqb (get_or outputs k 0) p (sym same)))
-        ∙ come.others p both.0;
+          let both = or_parts (has_number (take k outputs) p) (get_or outputs k 0 == p) (sym (listed_push (take k outputs) (get_or outputs k 0) p) ∙ unlisted) in
+          get_or-set_other there (get_or outputs k 0) p true false (λ same. false≢true (sym both.1 ∙ eq-eqb (get_or outputs k 0) p (sym same)))
+          ∙ come.others p both.0;
     })
   where
     old_listed : (p : ℕ) → (p ≡ get_or outputs k 0 → ⊥) → (has_number (take k outputs) p || (get_or outputs k 0 == p)) ≡ true → has_number (take k outputs) p ≡ true

@@ -101,9 +101,9 @@ module _ (task : Task) (graph : Graph) (plan : Plan) (steps : List Step) (at : I
       settled_flags (has_number (well_in steps) i) (has_number (failed_in steps) i) (has_number (started_in steps) i) (has_number (out_of_date_in steps) i) (has_number (clean_in steps) i)
       (λ w. false_from_ne_true (has_number (failed_in steps) i) (λ f. kept.well_or_failed i w f))
       (λ c.
-        let out : has_number (out_of_date_in steps) i ≡ false = false_from_ne_true (has_number (out_of_date_in steps) i) (λ o. kept.apart i c o) in
-        let new : has_number (started_in steps) i ≡ false = false_from_ne_true (has_number (started_in steps) i) (λ s. false≢true (sym out ∙ kept.started i s)) in
-        (false_from_ne_true (has_number (failed_in steps) i) (λ f. false≢true (sym new ∙ kept.ended i (kept.failed i f))), new, out))
+      let out : has_number (out_of_date_in steps) i ≡ false = false_from_ne_true (has_number (out_of_date_in steps) i) (λ o. kept.apart i c o) in
+      let new : has_number (started_in steps) i ≡ false = false_from_ne_true (has_number (started_in steps) i) (λ s. false≢true (sym out ∙ kept.started i s)) in
+      (false_from_ne_true (has_number (failed_in steps) i) (λ f. false≢true (sym new ∙ kept.ended i (kept.failed i f))), new, out))
       (sym (has_number-append (clean_in steps) (well_in steps) i) ∙ h)
 
   -- the makers of what an edge needs, by numbers

@@ -108,8 +108,7 @@ module _ (pools : List Pool) where
     where
       by : (b : Bool) → bytes_eq name console ≡ b → place b name ≡ Some g → (get_or (depths_of pools) g 0 ≡ depth_of pools name) × (depth_of pools name ≡ 0 → ⊥)
       by true e found =
-          let declared : depth_of pools name ≡ 1 = ap (λ (b : Bool). deep b name) e in
-          (
+          let declared : depth_of pools name ≡ 1 = ap (λ (b : Bool). deep b name) e in (
             ap (λ (k : ℕ). get_or (depths_of pools) k 0) (sym (some_is (length pools) g found) ∙ sym (length-map pools depth)) ∙ (at_end (map depth pools) 1 ∙ sym declared),
             λ z. absurd (omega (arith, declared, z)),
           )

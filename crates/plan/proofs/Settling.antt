@@ -164,12 +164,12 @@ alias_first first now e (inr new) stands = new.0
 pub aliases_next : (first now after : List Standing) (e : ℕ) → length now ≡ length first → ((k : ℕ) → (standing_at now k ≡ standing_at first k) ⊎ ((standing_at first k ≡ Alias) × (standing_at now k ≡ Known))) → standing_at now e ≡ Alias
     → standing_at (set now e Known) e ≡ Known → after ≡ set now e Known → (k : ℕ) → (standing_at after k ≡ standing_at first k) ⊎ ((standing_at first k ≡ Alias) × (standing_at after k ≡ Known))
 aliases_next first now after e fits before stands known is k = subst (λ (s : List Standing). (standing_at s k ≡ standing_at first k) ⊎ ((standing_at first k ≡ Alias) × (standing_at s k ≡ Known))) (sym is) (elim (cases_eq k e) [
-    | inl same ↦ inr (subst (λ (n : ℕ). standing_at first n ≡ Alias) (sym same) (alias_first first now e (before e) stands), subst (λ (n : ℕ). standing_at (set now e Known) n ≡ Known) (sym same) known)
-    | inr other ↦ elim (before k) [
-      | inl old ↦ inl (get_or-set_other now e k Known Outside other ∙ old)
-      | inr new ↦ inr (new.0, get_or-set_other now e k Known Outside other ∙ new.1)
-    ]
-  ])
+  | inl same ↦ inr (subst (λ (n : ℕ). standing_at first n ≡ Alias) (sym same) (alias_first first now e (before e) stands), subst (λ (n : ℕ). standing_at (set now e Known) n ≡ Known) (sym same) known)
+  | inr other ↦ elim (before k) [
+    | inl old ↦ inl (get_or-set_other now e k Known Outside other ∙ old)
+    | inr new ↦ inr (new.0, get_or-set_other now e k Known Outside other ∙ new.1)
+  ]
+])
 
 -- what the edge makes came in
 pub ahead_over : (graph : Graph) (e : ℕ) (plan : Plan) (after : List Standing) (counts : List ℕ) (come : List Bool) → IsAhead graph e plan → is_settled (standing_at plan.standings.items e) ≡ true → after ≡ plan.standings.items
@@ -177,31 +177,31 @@ pub ahead_over : (graph : Graph) (e : ℕ) (plan : Plan) (after : List Standing)
     → ((p : ℕ) → p < length graph.manifest.paths → has_number ((links_of graph).outputs e) p ≡ true → has come p ≡ true) → ((p : ℕ) → has_number ((links_of graph).outputs e) p ≡ false → has come p ≡ has plan.there.items p)
     → IsOver (links_of graph) (length graph.manifest.paths) after counts come
 ahead_over graph e plan after counts come ahead mine is counted made others = record {
-    edges = counted.edges;
-    known = counted.known;
-    counts = counted.counts;
-    sound = λ p flag. ap (λ (s : List Standing). maker_settled s ((links_of graph).maker p)) is ∙ elim (cases_Bool (has_number ((links_of graph).outputs e) p)) [
-      | inl output ↦ ap (maker_settled plan.standings.items) (graph.making.all p e output) ∙ mine
-      | inr other ↦ ahead.sound p (sym (others p other) ∙ flag)
-    ];
-    complete = λ p lt settled. elim (ahead.complete p lt (sym (ap (λ (s : List Standing). maker_settled s ((links_of graph).maker p)) is) ∙ settled)) [
-      | inl was ↦ elim (cases_Bool (has_number ((links_of graph).outputs e) p)) [
-        | inl output ↦ made p lt output
-        | inr other ↦ others p other ∙ was
-      ]
-      | inr maker ↦ made p lt (graph.making.made p e maker)
-    ];
-  }
+  edges = counted.edges;
+  known = counted.known;
+  counts = counted.counts;
+  sound = λ p flag. ap (λ (s : List Standing). maker_settled s ((links_of graph).maker p)) is ∙ elim (cases_Bool (has_number ((links_of graph).outputs e) p)) [
+    | inl output ↦ ap (maker_settled plan.standings.items) (graph.making.all p e output) ∙ mine
+    | inr other ↦ ahead.sound p (sym (others p other) ∙ flag)
+  ];
+  complete = λ p lt settled. elim (ahead.complete p lt (sym (ap (λ (s : List Standing). maker_settled s ((links_of graph).maker p)) is) ∙ settled)) [
+    | inl was ↦ elim (cases_Bool (has_number ((links_of graph).outputs e) p)) [
+      | inl output ↦ made p lt output
+      | inr other ↦ others p other ∙ was
+    ]
+    | inr maker ↦ made p lt (graph.making.made p e maker)
+  ];
+}
 
 pub still_aliases : (first now after : Plan) → IsStill first now → SettlesAliases now after → SettlesAliases first after
 still_aliases first now after still aliases = record {
-    fits = aliases.fits ∙ ap (λ (s : List Standing). length s) still.standings;
-    stands = λ e. subst (λ (s : List Standing). (standing_at after.standings.items e ≡ standing_at s e) ⊎ ((standing_at s e ≡ Alias) × (standing_at after.standings.items e ≡ Known))) still.standings (aliases.stands e);
-    queue = aliases.queue ∙ still.queue;
-    changed = aliases.changed ∙ still.changed;
-    running = aliases.running ∙ still.running;
-    failed = aliases.failed ∙ still.failed;
-    well = aliases.well ∙ still.well;
-    jobs = aliases.jobs ∙ still.jobs;
-    keep = aliases.keep ∙ still.keep;
-  }
+  fits = aliases.fits ∙ ap (λ (s : List Standing). length s) still.standings;
+  stands = λ e. subst (λ (s : List Standing). (standing_at after.standings.items e ≡ standing_at s e) ⊎ ((standing_at s e ≡ Alias) × (standing_at after.standings.items e ≡ Known))) still.standings (aliases.stands e);
+  queue = aliases.queue ∙ still.queue;
+  changed = aliases.changed ∙ still.changed;
+  running = aliases.running ∙ still.running;
+  failed = aliases.failed ∙ still.failed;
+  well = aliases.well ∙ still.well;
+  jobs = aliases.jobs ∙ still.jobs;
+  keep = aliases.keep ∙ still.keep;
+}

@@ -194,8 +194,7 @@ module _ (task : Task) (graph : Graph) (plan : Plan) (steps : List Step) (at : I
   started_may e start =
       let within = stands.stale_in_cone task steps lawful (suc e) start.stale in
       let command = stands.stale_command task steps lawful (suc e) start.stale in
-      let stale : is_out_of_date (stood e) ≡ true = ap is_out_of_date (at.stands e within command ∙ stands.new_out_of_date task steps lawful (suc e) start.stale start.once) in
-      (
+      let stale : is_out_of_date (stood e) ≡ true = ap is_out_of_date (at.stands e within command ∙ stands.new_out_of_date task steps lawful (suc e) start.stale start.once) in (
         and_from ((plan.jobs == 0) || nat_lt plan.running plan.jobs) ((plan.keep == 0) || nat_lt plan.failed plan.keep)
             (limit_below plan.jobs task.jobs plan.running (length (running_in steps)) at.limits.0 running_count start.job)
             (limit_below plan.keep task.keep plan.failed (length (failed_in steps)) at.limits.1 failed_count start.keep),

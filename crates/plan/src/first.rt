@@ -70,7 +70,12 @@ fn is_there(there: &[bool], path: PathId) -> bool {
 }
 
 /// Puts each edge that waits for nothing among the commands or the aliases that do.
-pub fn first_ready(standings: &[Standing], left: &[usize], ready: &mut Lowest, pending: &mut Lowest) {
+pub fn first_ready(
+    standings: &[Standing],
+    left: &[usize],
+    ready: &mut Lowest,
+    pending: &mut Lowest,
+) {
     for (place, standing) in standings.iter().enumerate() {
         if left[place] == 0 {
             match standing {

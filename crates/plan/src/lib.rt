@@ -9,6 +9,3 @@ mod step;
 
 pub use plan::Plan;
 pub use step::{End, Standing, Step, Verdict};
-
-
-

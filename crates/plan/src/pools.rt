@@ -11,11 +11,7 @@ use std::alloc::{AllocError, Global};
 const CONSOLE: &str = "console";
 
 /// No edge waits for its start. The pools are the declared ones, and behind them the one for the terminal.
-pub fn queue_of(
-    alloc: Global,
-    graph: &Graph,
-    standings: &[Standing],
-) -> Result<Queue, AllocError> {
+pub fn queue_of(alloc: Global, graph: &Graph, standings: &[Standing]) -> Result<Queue, AllocError> {
     let pools = graph.manifest.pools.as_slice();
     let mut groups = Vec::with_capacity(alloc, standings.len())?;
     for (place, standing) in standings.iter().enumerate() {

@@ -58,11 +58,10 @@ loop-user-preserved c =
     let some : awaits (standing_at plan.standings.items (get_or users c.loop-user.user-index 0)) ≡ true → 0 < get_or c.loop-user.self.left.items (get_or users c.loop-user.user-index 0) 0 = next_some graph p users named (length graph.manifest.paths) plan.standings.items plan.left.items plan.there.items c.requires lt none c.loop-user.user-index c.loop-user.self.left.items c.loop-user-test.true told in
     let more = still_more plan c.loop-user.self c.count_down.new.self still c.count_down.ensures.rest in
     let after : c.count_down.new.self.left.items ≡ cond (awaits (standing_at plan.standings.items (get_or users c.loop-user.user-index 0))) (lowered c.loop-user.self.left.items (get_or users c.loop-user.user-index 0)) c.loop-user.self.left.items =
-        c.count_down.ensures.left
-        ∙ (ap (λ (s : List Standing). cond (awaits (standing_at s c.index-in-loop-user.result)) (lowered c.loop-user.self.left.items c.index-in-loop-user.result) c.loop-user.self.left.items) still.standings
-        ∙ ap (λ (e : ℕ). cond (awaits (standing_at plan.standings.items e)) (lowered c.loop-user.self.left.items e) c.loop-user.self.left.items) item) in
-    let inside : get_or users c.loop-user.user-index 0 < length c.loop-user.self.left.items = omega (arith, within, ap (λ (s : List Standing). length s) still.standings, c.loop-user.self.standings.ok.0, c.loop-user.self.fits, c.loop-user.self.left.ok.0) in
-    (
+    c.count_down.ensures.left
+    ∙ (ap (λ (s : List Standing). cond (awaits (standing_at s c.index-in-loop-user.result)) (lowered c.loop-user.self.left.items c.index-in-loop-user.result) c.loop-user.self.left.items) still.standings
+    ∙ ap (λ (e : ℕ). cond (awaits (standing_at plan.standings.items e)) (lowered c.loop-user.self.left.items e) c.loop-user.self.left.items) item) in
+    let inside : get_or users c.loop-user.user-index 0 < length c.loop-user.self.left.items = omega (arith, within, ap (λ (s : List Standing). length s) still.standings, c.loop-user.self.standings.ok.0, c.loop-user.self.fits, c.loop-user.self.left.ok.0) in (
       more,
       subst (λ (s : List Standing). IsTold s (take (c.loop-user.user-index + 1) users) plan.left.items c.count_down.new.self.left.items) (sym more.standings)
           (told_next plan.standings.items users c.loop-user.user-index plan.left.items c.loop-user.self.left.items c.count_down.new.self.left.items c.loop-user-test.true told inside some after),

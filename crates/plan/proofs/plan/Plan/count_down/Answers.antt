@@ -28,4 +28,3 @@ invariant_of-self-in-Alias-clause-sets c =
     alias_lowered plan.standings.items plan.left.items c.args.user (omega (arith, lt, fits)) (c.requires.some (ap awaits stands)) (with_items plan.left c.lower-in-Alias.new.left).items plan.ready plan.pending c.lower-in-Alias.new.set
     stands (omega (arith, lt, plan.rest, plan.standings.ok.0)) (with_items_is plan.left c.lower-in-Alias.new.left size ∙ (c.lower-in-Alias.ensures.left ∙ ap (λ (l : List ℕ). lowered l c.args.user) c.deref_mut-in-Alias.ensures.value))
     (c.lower-in-Alias.ensures.set ∙ ap (λ (l : List ℕ). raised plan.pending l c.args.user) c.deref_mut-in-Alias.ensures.value) plan.sets
-

@@ -18,32 +18,32 @@ returns-in-Some-first-clause-lawful c = λ task graph steps at lawful.
 
 pub returns-then-self-gt0-clause-lawful : goal.returns-then-self-gt0-clause-lawful
 returns-then-self-gt0-clause-lawful c = λ task graph steps at lawful. (
-    none_judged task graph c.args.self.now steps at lawful c.in_default.ensures,
-    none_started task graph c.args.self.now steps at lawful (elim c.if-has_room.branch [
-      | then-has_room+in_default-first w ↦ λ limits. w.in_default-first.ensures
-      | else-has_room w ↦ λ limits. absurd (false≢true (sym w.if-has_room.false ∙ (c.has_room.ensures ∙ limits)))
-    ]),
-    some_run task graph c.args.self.now steps at lawful (omega arith),
-  )
+  none_judged task graph c.args.self.now steps at lawful c.in_default.ensures,
+  none_started task graph c.args.self.now steps at lawful (elim c.if-has_room.branch [
+    | then-has_room+in_default-first w ↦ λ limits. w.in_default-first.ensures
+    | else-has_room w ↦ λ limits. absurd (false≢true (sym w.if-has_room.false ∙ (c.has_room.ensures ∙ limits)))
+  ]),
+  some_run task graph c.args.self.now steps at lawful (omega arith),
+)
 
 pub returns-then-self-gt0-2-clause-lawful : goal.returns-then-self-gt0-2-clause-lawful
 returns-then-self-gt0-2-clause-lawful c = λ task graph steps at lawful. (
-    none_judged task graph c.args.self.now steps at lawful c.in_default.ensures,
-    none_started task graph c.args.self.now steps at lawful (elim c.if-has_room.branch [
-      | then-has_room+in_default-first w ↦ λ limits. w.in_default-first.ensures
-      | else-has_room w ↦ λ limits. absurd (false≢true (sym w.if-has_room.false ∙ (c.has_room.ensures ∙ limits)))
-    ]),
-    none_run task graph c.args.self.now steps at lawful (omega arith),
-    some_failed task graph c.args.self.now steps at lawful (omega arith),
-  )
+  none_judged task graph c.args.self.now steps at lawful c.in_default.ensures,
+  none_started task graph c.args.self.now steps at lawful (elim c.if-has_room.branch [
+    | then-has_room+in_default-first w ↦ λ limits. w.in_default-first.ensures
+    | else-has_room w ↦ λ limits. absurd (false≢true (sym w.if-has_room.false ∙ (c.has_room.ensures ∙ limits)))
+  ]),
+  none_run task graph c.args.self.now steps at lawful (omega arith),
+  some_failed task graph c.args.self.now steps at lawful (omega arith),
+)
 
 pub returns-clause-lawful : goal.returns-clause-lawful
 returns-clause-lawful c = λ task graph steps at lawful. (
-    none_judged task graph c.args.self.now steps at lawful c.in_default.ensures,
-    none_started task graph c.args.self.now steps at lawful (elim c.if-has_room.branch [
-      | then-has_room+in_default-first w ↦ λ limits. w.in_default-first.ensures
-      | else-has_room w ↦ λ limits. absurd (false≢true (sym w.if-has_room.false ∙ (c.has_room.ensures ∙ limits)))
-    ]),
-    none_run task graph c.args.self.now steps at lawful (omega arith),
-    none_failed task graph c.args.self.now steps at lawful (omega arith),
-  )
+  none_judged task graph c.args.self.now steps at lawful c.in_default.ensures,
+  none_started task graph c.args.self.now steps at lawful (elim c.if-has_room.branch [
+    | then-has_room+in_default-first w ↦ λ limits. w.in_default-first.ensures
+    | else-has_room w ↦ λ limits. absurd (false≢true (sym w.if-has_room.false ∙ (c.has_room.ensures ∙ limits)))
+  ]),
+  none_run task graph c.args.self.now steps at lawful (omega arith),
+  none_failed task graph c.args.self.now steps at lawful (omega arith),
+)

@@ -16,9 +16,9 @@ invariant_of-self-clause-sets c =
 
 pub invariant_of-self-clause-waits : goal.invariant_of-self-clause-waits
 invariant_of-self-clause-waits c = record {
-    fits = c.loop-place.self.waits.fits ∙ sym (length-set c.loop-place.self.standings.items c.in-Some.place Known);
-    waits = λ e. c.loop-place.self.waits.waits e ∙ sym (known_same c.loop-place.self.standings.items c.loop-place.self.left.items c.loop-place.self.ready c.loop-place.self.pending c.loop-place.self.sets c.in-Some.place c.in-Some.ensures.is is_out_of_date refl e);
-  }
+  fits = c.loop-place.self.waits.fits ∙ sym (length-set c.loop-place.self.standings.items c.in-Some.place Known);
+  waits = λ e. c.loop-place.self.waits.waits e ∙ sym (known_same c.loop-place.self.standings.items c.loop-place.self.left.items c.loop-place.self.ready c.loop-place.self.pending c.loop-place.self.sets c.in-Some.place c.in-Some.ensures.is is_out_of_date refl e);
+}
 
 pub invariant_of-self-clause-tallied : goal.invariant_of-self-clause-tallied
 invariant_of-self-clause-tallied c = known_tallied c.loop-place.self.standings.items c.loop-place.self.left.items c.loop-place.self.ready c.loop-place.self.pending c.loop-place.self.sets c.in-Some.place c.in-Some.ensures.is c.loop-place.self.running c.loop-place.self.failed c.loop-place.self.well c.loop-place.self.tallied
@@ -30,8 +30,7 @@ loop-place-preserved c =
     let stands = was_alias c.loop-place.self.standings.items c.loop-place.self.left.items c.loop-place.self.ready c.loop-place.self.pending c.loop-place.self.sets c.in-Some.place c.in-Some.ensures.is in
     let known = now_known c.loop-place.self.standings.items c.loop-place.self.left.items c.loop-place.self.ready c.loop-place.self.pending c.loop-place.self.sets c.in-Some.place c.in-Some.ensures.is in
     let before = c.loop-place.invariant.0 in
-    let rest = c.arrive_all.ensures.rest in
-    (
+    let rest = c.arrive_all.ensures.rest in (
       record {
         fits = ap (λ (s : List Standing). length s) rest.standings ∙ (length-set now.standings.items e Known ∙ before.fits);
         stands = aliases_next c.args.self.now.standings.items now.standings.items c.arrive_all.new.self.standings.items e before.fits before.stands stands known rest.standings;
