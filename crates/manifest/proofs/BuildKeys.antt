@@ -9,7 +9,7 @@ use Rattle.std.proofs.lemmas.List.{map-append, take_more, take_all, append-nil}
 use Rattle.std.proofs.lemmas.Slice.Eq.{bytes_eq-Decides}
 use Rattle.model.specs.Graph.{has}
 use Rattle.manifest.specs.Held.{AreKeys}
-use Rattle.manifest.specs.declared.paths.EdgePaths.{EdgePaths}
+use Rattle.manifest.specs.Spelled.{EdgePaths}
 use Rattle.manifest.specs.States.{different, all_of}
 
 same_text : (a b : List ℕ) → bytes_eq a b ≡ true → a ≡ b

@@ -19,7 +19,7 @@ use Rattle.manifest.specs.declared.fault.FileFault.{FileFault}
 use Rattle.manifest.specs.declared.fault.ReadError.{ReadError}
 use Rattle.manifest.specs.declared.kept.Declared.{Declared}
 use Rattle.manifest.specs.declared.kept.ReadEdge.{ReadEdge}
-use Rattle.manifest.specs.declared.paths.EdgePaths.{EdgePaths}
+use Rattle.manifest.specs.Spelled.{EdgePaths}
 use Rattle.manifest.specs.Answer.{IsFaultOf}
 use Rattle.manifest.specs.Blocks.{BlockLine, BuildBlock, build_block}
 use Rattle.manifest.specs.Declarations.{is_phony, rule_here, RuleHere, PathsOf, OfBuild, IsTooMuch, build_here, most_edges, most_paths}

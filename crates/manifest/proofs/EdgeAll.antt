@@ -11,7 +11,7 @@ use Rattle.scopes.specs.declared.template.Rule.{Rule}
 use Rattle.manifest.specs.declared.fault.ReadError.{ReadError}
 use Rattle.manifest.specs.declared.fault.ReadError.TheVariants.{Memory, Site, Refused}
 use Rattle.manifest.specs.declared.kept.ReadEdge.{ReadEdge}
-use Rattle.manifest.specs.declared.paths.EdgePaths.{EdgePaths}
+use Rattle.manifest.specs.Spelled.{EdgePaths}
 use Rattle.manifest.specs.declared.values.Values.{Values}
 use Rattle.manifest.specs.Answer.{IsFaultOf, IsAnswerOf}
 use Rattle.manifest.specs.Edges.{OfEdge, OfEdges, ValuesOf, ValuesOfRule, IsEdgeOf, phony_edge}

@@ -4,7 +4,7 @@ use Rattle.std.specs.Prelude.{filter, not, if◌then◌else◌}
 use Rattle.std.specs.List.{AllByRecursion}
 use Rattle.model.specs.declared.graph.Edge.{Edge}
 use Rattle.model.specs.Graph.{has}
-use Rattle.manifest.specs.declared.paths.EdgePaths.{EdgePaths}
+use Rattle.manifest.specs.Spelled.{EdgePaths}
 use Rattle.manifest.specs.Answer.{ArePathsOnly, IsWellFormed, IsPath}
 use Rattle.manifest.specs.Edges.{without, outputs_of}
 use Rattle.manifest.specs.Held.{ArePathsFormed}

@@ -8,8 +8,8 @@ use Rattle.scopes.specs.declared.block.Block.{Block}
 use Rattle.scopes.specs.Moves.{Move}
 use Rattle.scopes.specs.Scopes.{IsScopesOf}
 use Rattle.scopes.specs.Place.{value_of_name}
-use Rattle.manifest.specs.declared.paths.PathReader.{PathReader}
-use Rattle.manifest.specs.declared.paths.EdgePaths.{EdgePaths}
+use Rattle.manifest.specs.declared.path_reader.PathReader.{PathReader}
+use Rattle.manifest.specs.Spelled.{EdgePaths}
 use Rattle.manifest.specs.Expansion.{ArePaths}
 use Rattle.manifest.specs.Declarations.{ArePathsOf, all_texts}
 use Rattle.manifest.specs.Flags.{FlagsAfter}

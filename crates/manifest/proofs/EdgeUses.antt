@@ -21,7 +21,7 @@ use Rattle.manifest.specs.Answer.{IsAnswerOf}
 use Rattle.manifest.specs.Edges.{ExpandedValues}
 use Rattle.manifest.specs.Held.{IsUseRefused, IsBuildOf}
 use Rattle.manifest.specs.declared.kept.ReadEdge.{ReadEdge}
-use Rattle.manifest.specs.declared.paths.EdgePaths.{EdgePaths}
+use Rattle.manifest.specs.Spelled.{EdgePaths}
 use Rattle.scopes.specs.declared.block.Block.{Block}
 use Rattle.manifest.specs.Readings.Outcome.{Reached}
 use Rattle.manifest.specs.Readings.Unless.{in_order}

@@ -5,7 +5,7 @@ use Rattle.scopes.specs.Scopes.{IsScopesOf}
 use Rattle.scopes.specs.Place.{value_of_name}
 use Rattle.manifest.specs.Expansion.{ArePaths}
 use Rattle.manifest.specs.Flags.{FlagsAfter}
-use Rattle.manifest.proofs.paths.PathReader.paths.Given as goal
+use Rattle.manifest.proofs.path_reader.PathReader.paths.Given as goal
 
 abbrev pub invariant-loop-value : goal.invariant-loop-value
 invariant-loop-value l = record {

@@ -7,7 +7,7 @@ use Rattle.scopes.specs.Texts.{largest_value}
 use Rattle.manifest.specs.Expansion.{text_of}
 use Rattle.manifest.proofs.TextLemmas.{text_of_pieces}
 use Rattle.manifest.proofs.FlagLemmas.{flags_small, flags_large, large_some, found_same}
-use Rattle.manifest.proofs.paths.PathReader.path.Goals as goal
+use Rattle.manifest.proofs.path_reader.PathReader.path.Goals as goal
 
 pub returns-in-Some-clause-flags : goal.returns-in-Some-clause-flags
 returns-in-Some-clause-flags c = on_ok_weaker c.canonical.result (λ empty past at.

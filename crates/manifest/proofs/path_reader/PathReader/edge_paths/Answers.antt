@@ -7,7 +7,7 @@ use Rattle.manifest.specs.Places.{place_of}
 use Rattle.manifest.proofs.Binds.{where_ok}
 use Rattle.manifest.proofs.CheckLemmas.{noted_fault, none_noted, none_wrong, flags_fresh}
 use Rattle.manifest.proofs.EdgePathLemmas.{Calls, call_of, all_flags, all_paths}
-use Rattle.manifest.proofs.paths.PathReader.edge_paths.Goals as goal
+use Rattle.manifest.proofs.path_reader.PathReader.edge_paths.Goals as goal
 
 pub returns-in_err-check : goal.returns-in_err-check
 returns-in_err-check c = λ past at.

@@ -9,25 +9,18 @@ ghost use Rattle.manifest.specs.Expansion.{text_of, is_empty, ArePaths};
 ghost use Rattle.manifest.specs.Declarations.{PathsOf};
 ghost use Rattle.manifest.specs.Answer.{IsAnswerOf};
 ghost use Rattle.manifest.specs.Places.{place_of};
+ghost use Rattle.manifest.specs.InNumbers.{AreAdded, FindsPaths, numbers_of};
+ghost use Rattle.paths.specs.Told.{text_at, texts_at};
+ghost use Rattle.std.specs.Option.{option_map, option_to_list};
 ghost use Rattle.manifest.specs.Flags.{FlagsAfter, IsPathFound, NoneIsWrong};
 
 use crate::fault::{FaultKind, ReadError};
 use crate::place::Place;
 use lexer::{BuildLine, ReadFault, Value, canonical};
+use paths::{Line, PathId, Paths};
 use scopes::{Block, ExpandFault, Scopes, as_it_stands, expand};
 use std::alloc::Global;
 use text::{Items, Path};
-
-/// The paths of a build line, canonical.
-#[derive(Debug, Drop)]
-pub struct EdgePaths {
-    pub explicit_outputs: Items<Path>,
-    pub implicit_outputs: Items<Path>,
-    pub explicit_inputs: Items<Path>,
-    pub implicit_inputs: Items<Path>,
-    pub order_only_inputs: Items<Path>,
-    pub validations: Items<Path>,
-}
 
 /// Expands paths, and notes what is wrong with some of them.
 #[derive(Drop)]
@@ -54,27 +47,29 @@ impl<'a> PathReader<'a> {
         }
     }
 
-    /// The paths of a build line.
-    pub fn edge_paths(
+    /// The paths of a build line, which are put into the table.
+    pub fn line(
         mut self,
         alloc: Global,
+        table: &mut Paths,
         place: &Place<'_>,
         build: &BuildLine<'_>,
-    ) -> Result<EdgePaths, ReadError>
+    ) -> Result<Line, ReadError>
         requires empty { self.has_empty ≡ false }
         requires large { self.has_large ≡ false }
-        ensures { (past : List Move) → IsScopesOf self.entry.scopes.now past → IsAnswerOf (PathsOf (place_of place.now) (value_of_name self.entry.block.now past) (build_of build.now)) result }
+        ensures said { (past : List Move) → IsScopesOf self.entry.scopes.now past → FindsPaths table.new (PathsOf (place_of place.now) (value_of_name self.entry.block.now past) (build_of build.now)) result }
+        ensures added { IfOk result (λ line. AreAdded table.old table.new (numbers_of line)) }
     {
-        let paths = EdgePaths {
-            explicit_outputs: self.paths(alloc, build.explicit_outputs.as_slice())?,
-            implicit_outputs: self.paths(alloc, build.implicit_outputs.as_slice())?,
-            explicit_inputs: self.paths(alloc, build.explicit_inputs.as_slice())?,
-            implicit_inputs: self.paths(alloc, build.implicit_inputs.as_slice())?,
-            order_only_inputs: self.paths(alloc, build.order_only_inputs.as_slice())?,
-            validations: self.paths(alloc, build.validations.as_slice())?,
+        let line = Line {
+            explicit_outputs: self.numbers(alloc, table, build.explicit_outputs.as_slice())?,
+            implicit_outputs: self.numbers(alloc, table, build.implicit_outputs.as_slice())?,
+            explicit_inputs: self.numbers(alloc, table, build.explicit_inputs.as_slice())?,
+            implicit_inputs: self.numbers(alloc, table, build.implicit_inputs.as_slice())?,
+            order_only_inputs: self.numbers(alloc, table, build.order_only_inputs.as_slice())?,
+            validations: self.numbers(alloc, table, build.validations.as_slice())?,
         };
         self.check(alloc, place)?;
-        Ok(paths)
+        Ok(line)
     }
 
     /// Refuses paths of which one expands to nothing, else those of which one is too large.
@@ -106,6 +101,49 @@ impl<'a> PathReader<'a> {
             }
         }
         Ok(paths)
+    }
+
+    /// The numbers of the canonical paths of these, but for those that are noted as wrong.
+    fn numbers(
+        &mut self,
+        alloc: Global,
+        table: &mut Paths,
+        values: &[Value<'_>],
+    ) -> Result<Items<PathId>, ReadError>
+        ensures scopes { self.new.scopes.now ≡ self.old.scopes.now }
+        ensures block { self.new.block.now ≡ self.old.block.now }
+        ensures flags { OnOk result ((past : List Move) → IsScopesOf self.old.scopes.now past → FlagsAfter self.old self.new (value_of_name self.old.block.now past) (paths_of values.now)) }
+        ensures added { IfOk result (AreAdded table.old table.new) }
+        ensures paths { IfOk result (λ numbers. (past : List Move) → IsScopesOf self.old.scopes.now past → self.new.has_empty ≡ false → self.new.has_large ≡ false → ArePaths (value_of_name self.old.block.now past) (paths_of values.now) (texts_at table.new numbers)) }
+        ensures memory { IfErr result (λ error. error ≡ ReadError.Memory) }
+    {
+        let mut numbers = Items::from_vec(Vec::with_capacity(alloc, values.len())?);
+        for value in values {
+            if let Some(number) = self.number(alloc, table, value)? {
+                numbers.push(number)?;
+            }
+        }
+        Ok(numbers)
+    }
+
+    /// The number of the canonical path, or nothing where it is noted as wrong.
+    fn number(
+        &mut self,
+        alloc: Global,
+        table: &mut Paths,
+        value: &Value<'_>,
+    ) -> Result<Option<PathId>, ReadError>
+        ensures scopes { self.new.scopes.now ≡ self.old.scopes.now }
+        ensures block { self.new.block.now ≡ self.old.block.now }
+        ensures flags { OnOk result ((past : List Move) → IsScopesOf self.old.scopes.now past → FlagsAfter self.old self.new (value_of_name self.old.block.now past) (fragments_of value.now ∷ [])) }
+        ensures added { IfOk result (λ number. AreAdded table.old table.new (option_to_list number)) }
+        ensures found { IfOk result (λ number. (past : List Move) → IsScopesOf self.old.scopes.now past → self.new.has_empty ≡ false → self.new.has_large ≡ false → IsPathFound (text_of (value_of_name self.old.block.now past) (fragments_of value.now)) (option_map (text_at table.new) number)) }
+        ensures memory { IfErr result (λ error. error ≡ ReadError.Memory) }
+    {
+        match self.path(alloc, value)? {
+            Some(path) => Ok(Some(table.add(alloc, path.as_str())?)),
+            None => Ok(None),
+        }
     }
 
     /// The canonical path, or nothing where it is noted as wrong.

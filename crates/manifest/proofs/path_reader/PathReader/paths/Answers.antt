@@ -7,8 +7,8 @@ use Rattle.manifest.specs.Expansion.{text_of}
 use Rattle.manifest.specs.Flags.{FlagsAfter, IsPathFound}
 use Rattle.manifest.proofs.FlagLemmas.{flags_append, flags_before}
 use Rattle.manifest.proofs.ReaderLemmas.{paths_of_more, flags_kept, found_kept, paths_found}
-use Rattle.manifest.proofs.paths.PathReader.paths.Goals as goal
-use Rattle.manifest.proofs.paths.PathReader.paths.Goals.{in-Some+in_ok-push, in_default}
+use Rattle.manifest.proofs.path_reader.PathReader.paths.Goals as goal
+use Rattle.manifest.proofs.path_reader.PathReader.paths.Goals.{in-Some+in_ok-push, in_default}
 
 pub loop-value-preserved : goal.loop-value-preserved
 loop-value-preserved c =

@@ -5,7 +5,7 @@ use Rattle.manifest.specs.Readings.Unless.{in_order}
 use Rattle.manifest.specs.Places.{place_of}
 use Rattle.manifest.proofs.TextLemmas.{not_true}
 use Rattle.manifest.proofs.Binds.{unless_at, unless_fault}
-use Rattle.manifest.proofs.paths.PathReader.check.Goals as goal
+use Rattle.manifest.proofs.path_reader.PathReader.check.Goals as goal
 
 pub returns-then-self : goal.returns-then-self
 returns-then-self c = unless_at _ _ (place_of c.args.place.now) (Line EmptyPath) c.fault.result c.if-self.true c.fault.ensures
