@@ -19,7 +19,10 @@ use Rattle.manifest.specs.States.{State, nothing}
 use Rattle.manifest.specs.Files.{Reads, deepest}
 use Rattle.manifest.specs.Graphs.{Declares, OfMain, AtEnd}
 use Rattle.manifest.specs.Answer.{held, site_part, ReadsFile, IsFaultOf, IsFaultSeen, IsAnswerOf}
-use Rattle.manifest.specs.Held.{IsStateOf, IsFormed, IsBuildOf}
+use Rattle.paths.specs.declared.line.Line.{Line}
+use Rattle.manifest.specs.declared.kept.Named.{Named}
+use Rattle.manifest.specs.Held.{IsStateOf, IsFormed, IsBuildOf, IsLineFor, AreNamed, AreLinesFormed, ArePathsFormed}
+use Rattle.manifest.specs.InNumbers.{IsWithin, paths_at}
 use Rattle.manifest.specs.Places.{IsFaultAt}
 use Rattle.manifest.specs.Seen.{IsCaused}
 use Rattle.manifest.proofs.Binds.{refuse_at}
@@ -77,8 +80,15 @@ no_edges : (P : ReadEdge → Type 0) (edges : List ReadEdge) → AllZip IsBuildO
 no_edges P [] all = tt
 no_edges P (edge ∷ edges) all = absurd all
 
+no_lines : (kept : Named) → AreNamed kept [] → AreLinesFormed kept
+no_lines kept is = by kept.lines is.lines
+  where
+    by : (lines : List Line) → AllZip (IsLineFor kept.table) [] lines → AllByRecursion (λ (line : Line). IsWithin kept.table line × ArePathsFormed (paths_at kept.table line)) lines
+    by [] all = tt
+    by (line ∷ lines) all = absurd all
+
 pub formed_new : (declared : Declared) → IsStateOf declared nothing → IsFormed declared
-formed_new declared is = record { past = []; scopes = is.scopes; edges = no_edges _ declared.edges.items is.edges }
+formed_new declared is = record { past = []; scopes = is.scopes; edges = no_edges _ declared.edges.items is.edges; paths = no_lines declared.paths is.paths }
 
 -- ---- readings
 

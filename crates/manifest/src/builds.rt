@@ -97,7 +97,11 @@ impl Declared {
 }
 
 /// The values that the block binds, up to the first that is too large.
-fn read_block(alloc: Global, scopes: &Scopes, lines: &[TextLine<'_>]) -> Result<BlockRead, AllocError>
+fn read_block(
+    alloc: Global,
+    scopes: &Scopes,
+    lines: &[TextLine<'_>],
+) -> Result<BlockRead, AllocError>
     ensures { IfOk result (λ read. (past : List Move) → IsScopesOf scopes.now past → (file : List ℕ) → IsBlockRead read file (build_block file past (block_lines (map said_of lines.now)) [])) }
 {
     let mut block = Block::new(alloc);

@@ -110,11 +110,7 @@ fn path_or_none(alloc: Global, text: &Text) -> Result<Text, ReadError>
 }
 
 /// The number of the canonical path, which is put into the table; none for an empty text.
-fn file_or_none(
-    alloc: Global,
-    table: &mut Paths,
-    text: &Text,
-) -> Result<Option<PathId>, ReadError>
+fn file_or_none(alloc: Global, table: &mut Paths, text: &Text) -> Result<Option<PathId>, ReadError>
     ensures grows { OnOk result (IsLonger table.old table.new) }
     ensures file { IfOk result (λ number. IsFileOrNone text.now (option_map (text_at table.new) number)) }
     ensures within { IfOk result (λ number. stop_of number ≤ length table.new) }
