@@ -5,6 +5,8 @@ use Rattle.std.specs.Option.{option_map, is_none}
 use Rattle.std.proofs.Math.Path.{fun_ext}
 use Rattle.std.proofs.lemmas.Grind.{flat_map-append}
 use Rattle.std.proofs.lemmas.List.{append-nil}
+use Rattle.std.specs.declared.alloc.Global.{Global}
+use Rattle.std.specs.declared.rc.Rc.{Rc}
 use Rattle.lexer.specs.declared.fault.FaultKind.TheVariants.{TooLarge}
 use Rattle.lexer.specs.Said.{BuildForm}
 use Rattle.scopes.specs.declared.all_scopes.Scopes.{Scopes}
@@ -38,7 +40,7 @@ use Rattle.manifest.specs.States.{State, Build, with_build, present, first_or, n
 use Rattle.manifest.specs.Expansion.{Bound, value_here}
 use Rattle.manifest.proofs.Binds.{fault_in_wider, then_fault, then_next_fault, unless_at, unless_fault, refuse_at}
 use Rattle.manifest.proofs.Added.{paths_stay, within_stays, all_texts_of}
-use Rattle.manifest.proofs.OwnOutputs.{line_stays, own_within, own_paths}
+use Rattle.manifest.proofs.OwnOutputs.{grow_lines, own_within, own_paths}
 use Rattle.manifest.proofs.EdgeFormed.{own_formed}
 use Rattle.manifest.proofs.TextLemmas.{here_same}
 
@@ -184,12 +186,6 @@ edges_count old state is = zip_length IsBuildOf old.edges.items state.builds is.
 
 -- ---- its paths
 
-grow_lines : (old new : List (List ℕ)) (builds : List Build) (lines : List Line) → IsLonger old new → AllZip (IsLineFor old) builds lines → AllZip (IsLineFor new) builds lines
-grow_lines old new [] [] longer all = tt
-grow_lines old new [] (line ∷ lines) longer all = absurd all
-grow_lines old new (build ∷ builds) [] longer all = absurd all
-grow_lines old new (build ∷ builds) (line ∷ lines) longer all = (line_stays old new build line longer all.0, grow_lines old new builds lines longer all.1)
-
 -- a line that was read, and what is kept of it
 pub line_kept : (table : List (List ℕ)) (build : Build) (line : Line) (is_phony : Bool) → HaveOnePlace table → IsWithin table line → paths_at table line ≡ build.paths
     → is_phony ≡ is_none build.rule → IsLineFor table build (kept_line is_phony line)
@@ -252,3 +248,10 @@ parts_from place form lines declared state read rule paths scopes block is same_
   paths_read = subst (λ (b : Block). PathsOf place (value_of_name b state.past) form (Reached paths)) same_block
       (paths_read state.past (subst (λ (s : Scopes). IsScopesOf s state.past) (sym same_scopes) is.scopes));
 }
+
+pub count_of : (before old table : List (List ℕ)) (line : Line) → AreAdded old table (numbers_of line) → AreKeys old before → length table ≡ different (before ++ all_of (paths_at table line))
+count_of before old table line added keys = (added.keys before keys).count ∙ ap (λ (l : List (List ℕ)). different (before ++ l)) (all_texts_of table line)
+
+pub none_kept : (rule : Option (Rc Rule Global)) (flag : Bool) → flag ≡ is_none rule → flag ≡ is_none (option_map (λ (r : Rc Rule Global). r.value) rule)
+none_kept None flag is = is
+none_kept (Some rule) flag is = is

@@ -1,5 +1,6 @@
 -- A phony's inputs that are outputs of its own, in numbers and in texts.
 use Rattle.std.proofs.Common.{◌≡◌, ℕ, ◌<◌, ◌||◌, ◌==◌, not, Bool, true, false, List, [], ◌∷◌, ◌++◌, length, filter, slice_get, Some, None, if◌then◌else◌, bytes_eq, refl, sym, ap, ◌∙◌, subst}
+use Rattle.std.specs.List.{AllZip}
 use Rattle.std.proofs.lemmas.Bool.{eqb-true, eq-eqb}
 use Rattle.std.proofs.lemmas.List.{map-append}
 use Rattle.std.proofs.lemmas.Option.{slice_get-get_or}
@@ -18,7 +19,13 @@ use Rattle.manifest.proofs.Added.{below_both, lists_of, paths_stay, within_stays
 pub line_stays : (old new : List (List ℕ)) (build : Build) (line : Line) → IsLonger old new → IsLineFor old build line → IsLineFor new build line
 line_stays old new build line longer is = record { within = within_stays old new line longer is.within; paths = paths_stay old new line longer is.within ∙ is.paths }
 
-same_answer : (a b : Bool) → (a ≡ true → b ≡ true) → (b ≡ true → a ≡ true) → a ≡ b
+pub grow_lines : (old new : List (List ℕ)) (builds : List Build) (lines : List Line) → IsLonger old new → AllZip (IsLineFor old) builds lines → AllZip (IsLineFor new) builds lines
+grow_lines old new [] [] longer all = tt
+grow_lines old new [] (line ∷ lines) longer all = absurd all
+grow_lines old new (build ∷ builds) [] longer all = absurd all
+grow_lines old new (build ∷ builds) (line ∷ lines) longer all = (line_stays old new build line longer all.0, grow_lines old new builds lines longer all.1)
+
+pub same_answer : (a b : Bool) → (a ≡ true → b ≡ true) → (b ≡ true → a ≡ true) → a ≡ b
 same_answer true b there back = sym (there refl)
 same_answer false true there back = back refl
 same_answer false false there back = refl
@@ -33,7 +40,7 @@ module _ (table : List (List ℕ)) (once : HaveOnePlace table) where
       (λ same. let e : text_at table i ≡ text_at table j = (bytes_eq-Decides (text_at table i) (text_at table j)).0 same in
       eq-eqb i j (once i j (text_at table j) (at_number table i low ∙ ap (λ (p : List ℕ). Some p) e) (at_number table j high)))
 
-  numbers_texts : (outputs : List ℕ) (n : ℕ) → AreBelow (length table) outputs → n < length table → has_number outputs n ≡ has (texts_at table outputs) (text_at table n)
+  pub numbers_texts : (outputs : List ℕ) (n : ℕ) → AreBelow (length table) outputs → n < length table → has_number outputs n ≡ has (texts_at table outputs) (text_at table n)
   numbers_texts [] n all low = refl
   numbers_texts (j ∷ outputs) n all low =
       ap (λ (b : Bool). b || has_number outputs n) (same_number j n all.0 low)

@@ -35,7 +35,7 @@ use Rattle.lexer.specs.declared.fault.FaultKind.TheVariants.{TooLarge}
 use Rattle.model.specs.declared.graph.Pool.{Pool}
 use Rattle.scopes.specs.declared.fault.UseFault.{UseFault}
 use Rattle.scopes.specs.declared.fault.UseFault.TheVariants.{Memory as UseMemory, Circle as UseCircle, TooLarge as UseTooLarge}
-use Rattle.manifest.specs.declared.fault.FaultKind.TheVariants.{Line, Circle}
+use Rattle.manifest.specs.declared.fault.FaultKind.TheVariants.{Line as OfLine, Circle}
 use Rattle.manifest.specs.Places.{IsFaultAt}
 use Rattle.manifest.specs.Expansion.{bound}
 
@@ -159,4 +159,4 @@ abbrev pub IsUseRefused : {T : Type 0} → Build → UseFault → Result T ReadE
 IsUseRefused build fault (Ok value) = ⊥
 IsUseRefused build UseMemory (Err error) = error ≡ Memory
 IsUseRefused build UseCircle (Err error) = IsFaultAt build.place (Circle build.rule_name) error
-IsUseRefused build UseTooLarge (Err error) = IsFaultAt build.place (Line TooLarge) error
+IsUseRefused build UseTooLarge (Err error) = IsFaultAt build.place (OfLine TooLarge) error

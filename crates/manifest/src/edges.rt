@@ -72,7 +72,7 @@ impl ReadEdge {
         plain: Paths<'_>,
     ) -> Result<Values, ReadError>
         requires { self.now.scope < vec_len scopes.now.scopes }
-        ensures { (past : List Move) (said : List Pool) (build : Build) → IsScopesOf scopes.now past → ArePools pools.now.entries said → IsBuildOf self.now build → ShowsPaths plain build → IsAnswerOf (CommandValues past said build rule.now) result }
+        ensures { (past : List Move) (said : List Pool) (build : Build) → IsScopesOf scopes.now past → ArePools pools.now.entries said → IsBuildOf self.now build → ShowsPaths plain.entry build → IsAnswerOf (CommandValues past said build rule.now) result }
     {
         let values = self.expand(alloc, scopes, rule, plain)?;
         self.check_pool(alloc, pools, &values)?;
@@ -88,7 +88,7 @@ impl ReadEdge {
         plain: Paths<'_>,
     ) -> Result<Values, ReadError>
         requires { self.now.scope < vec_len scopes.now.scopes }
-        ensures { (past : List Move) (build : Build) → IsScopesOf scopes.now past → IsBuildOf self.now build → ShowsPaths plain build → IsAnswerOf (ExpandedValues past build rule.now) result }
+        ensures { (past : List Move) (build : Build) → IsScopesOf scopes.now past → IsBuildOf self.now build → ShowsPaths plain.entry build → IsAnswerOf (ExpandedValues past build rule.now) result }
     {
         // as nearly all
         if are_bare(plain.inputs) && are_bare(plain.outputs) {
@@ -115,7 +115,7 @@ impl ReadEdge {
         quoted: Paths<'_>,
     ) -> Result<Values, ReadError>
         requires { self.now.scope < vec_len scopes.now.scopes }
-        ensures { (past : List Move) (build : Build) → IsScopesOf scopes.now past → IsBuildOf self.now build → ShowsPaths plain build → ShowsQuoted quoted build → IsAnswerOf (ExpandedValues past build rule.now) result }
+        ensures { (past : List Move) (build : Build) → IsScopesOf scopes.now past → IsBuildOf self.now build → ShowsPaths plain.entry build → ShowsQuoted quoted.entry build → IsAnswerOf (ExpandedValues past build rule.now) result }
     {
         let at = Use {
             scope: self.scope,

@@ -4,7 +4,7 @@ ghost use Rattle.std.specs.Prelude.{◌≡◌, ◌≤◌, List, ℕ, length, if�
 ghost use Rattle.std.specs.Option.{option_map};
 ghost use Rattle.model.specs.declared.graph.Deps.TheVariants.{Unset, Gcc};
 ghost use Rattle.paths.specs.declared.line.Line.{Line};
-ghost use Rattle.paths.specs.declared.manifest.Action.TheVariants.{Command};
+ghost use Rattle.paths.specs.declared.manifest.Action.TheVariants.{Command as OfCommand};
 ghost use Rattle.paths.specs.Commands.{stop_of};
 ghost use Rattle.paths.specs.Lists.{line_outputs};
 ghost use Rattle.paths.specs.Told.{text_at, edge_of};
@@ -23,7 +23,7 @@ use text::{Items, Text};
 /// What an edge with a command does. The dyndep file is put into the table.
 pub fn command_of(alloc: Global, table: &mut Paths, values: Values) -> Result<Command, ReadError>
     ensures grows { OnOk result (IsLonger table.old table.new) }
-    ensures command { IfOk result (λ command. (line : Line) → IsEdgeOf (paths_at table.new line) values (edge_of table.new line (Command command))) }
+    ensures command { IfOk result (λ command. (line : Line) → IsEdgeOf (paths_at table.new line) values (edge_of table.new line (OfCommand command))) }
     ensures dyndep { IfOk result (λ command. stop_of command.dyndep ≤ length table.new) }
     ensures memory { IfErr result (λ error. error ≡ ReadError.Memory) }
 {
