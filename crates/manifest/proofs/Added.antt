@@ -79,11 +79,10 @@ at_is (x ∷ table) (suc n) path is = let rest = at_is table n path is in let lo
 pub added_one : (old new : List (List ℕ)) (path : List ℕ) (n : ℕ) → IsAdded old new path n → AreAdded old new (n ∷ [])
 added_one old new path n is = record {
   grows = by_grows (has old path) is.grows;
-  within = (place.0, tt);
-  keys = λ before keys. subst (λ (p : List ℕ). AreKeys new (before ++ p ∷ [])) (sym place.1) (by_keys (has old path) refl before keys);
+  within = ((at_is new n path is.at).0, tt);
+  keys = λ before keys. subst (λ (p : List ℕ). AreKeys new (before ++ p ∷ [])) (sym (at_is new n path is.at).1) (by_keys (has old path) refl before keys);
 }
   where
-    place = at_is new n path is.at
     by_grows : (b : Bool) → new ≡ (if b then old else old ++ path ∷ []) → IsLonger old new
     by_grows true e = record { more = []; grows = e ∙ sym (append-nil old) }
     by_grows false e = record { more = path ∷ []; grows = e }
@@ -112,7 +111,13 @@ lists_of count line all =
 
 pub same_paths : (a b : EdgePaths) → a.explicit_outputs ≡ b.explicit_outputs → a.implicit_outputs ≡ b.implicit_outputs → a.explicit_inputs ≡ b.explicit_inputs
     → a.implicit_inputs ≡ b.implicit_inputs → a.order_only_inputs ≡ b.order_only_inputs → a.validations ≡ b.validations → a ≡ b
-same_paths a b e1 e2 e3 e4 e5 e6 = cc
+same_paths a b e1 e2 e3 e4 e5 e6 =
+    ap {B = EdgePaths} (λ (x : List (List ℕ)). record { explicit_outputs = x; implicit_outputs = a.implicit_outputs; explicit_inputs = a.explicit_inputs; implicit_inputs = a.implicit_inputs; order_only_inputs = a.order_only_inputs; validations = a.validations }) e1
+    ∙ (ap {B = EdgePaths} (λ (x : List (List ℕ)). record { explicit_outputs = b.explicit_outputs; implicit_outputs = x; explicit_inputs = a.explicit_inputs; implicit_inputs = a.implicit_inputs; order_only_inputs = a.order_only_inputs; validations = a.validations }) e2
+    ∙ (ap {B = EdgePaths} (λ (x : List (List ℕ)). record { explicit_outputs = b.explicit_outputs; implicit_outputs = b.implicit_outputs; explicit_inputs = x; implicit_inputs = a.implicit_inputs; order_only_inputs = a.order_only_inputs; validations = a.validations }) e3
+    ∙ (ap {B = EdgePaths} (λ (x : List (List ℕ)). record { explicit_outputs = b.explicit_outputs; implicit_outputs = b.implicit_outputs; explicit_inputs = b.explicit_inputs; implicit_inputs = x; order_only_inputs = a.order_only_inputs; validations = a.validations }) e4
+    ∙ (ap {B = EdgePaths} (λ (x : List (List ℕ)). record { explicit_outputs = b.explicit_outputs; implicit_outputs = b.implicit_outputs; explicit_inputs = b.explicit_inputs; implicit_inputs = b.implicit_inputs; order_only_inputs = x; validations = a.validations }) e5
+    ∙ (ap {B = EdgePaths} (λ (x : List (List ℕ)). record { explicit_outputs = b.explicit_outputs; implicit_outputs = b.implicit_outputs; explicit_inputs = b.explicit_inputs; implicit_inputs = b.implicit_inputs; order_only_inputs = b.order_only_inputs; validations = x }) e6)))))
 
 pub paths_stay : (a b : List (List ℕ)) (line : Line) → IsLonger a b → IsWithin a line → paths_at b line ≡ paths_at a line
 paths_stay a b line one within =

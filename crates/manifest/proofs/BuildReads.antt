@@ -1,7 +1,7 @@
 -- What a build statement is read to.
-use Rattle.std.proofs.Common.{◌≡◌, ℕ, ◌≤◌, ◌<◌, Bool, true, false, List, [], ◌∷◌, ◌++◌, ◌⊎◌, inl, inr, length, vec_len, Option, Some, None, refl, sym, ap, ◌∙◌, subst, if◌then◌else◌, arith, length-append}
+use Rattle.std.proofs.Common.{not, ◌≡◌, ℕ, ◌≤◌, ◌<◌, Bool, true, false, List, [], ◌∷◌, ◌++◌, ◌⊎◌, inl, inr, length, vec_len, Option, Some, None, refl, sym, ap, ◌∙◌, subst, if◌then◌else◌, arith, length-append}
 use Rattle.std.specs.List.{AllZip, AllByRecursion}
-use Rattle.std.specs.Option.{option_map, is_none}
+use Rattle.std.specs.Option.{option_map, is_none, is_some}
 use Rattle.std.proofs.Math.Path.{fun_ext}
 use Rattle.std.proofs.lemmas.Grind.{flat_map-append}
 use Rattle.std.proofs.lemmas.List.{append-nil}
@@ -252,6 +252,8 @@ parts_from place form lines declared state read rule paths scopes block is same_
 pub count_of : (before old table : List (List ℕ)) (line : Line) → AreAdded old table (numbers_of line) → AreKeys old before → length table ≡ different (before ++ all_of (paths_at table line))
 count_of before old table line added keys = (added.keys before keys).count ∙ ap (λ (l : List (List ℕ)). different (before ++ l)) (all_texts_of table line)
 
-pub none_kept : (rule : Option (Rc Rule Global)) (flag : Bool) → flag ≡ is_none rule → flag ≡ is_none (option_map (λ (r : Rc Rule Global). r.value) rule)
-none_kept None flag is = is
-none_kept (Some rule) flag is = is
+pub none_kept : (rule : Option (Rc Rule Global)) (flag : Bool) → is_some rule ≡ not flag → flag ≡ is_none (option_map (λ (r : Rc Rule Global). r.value) rule)
+none_kept None true is = refl
+none_kept None false is = absurd (cc)
+none_kept (Some rule) true is = absurd (cc)
+none_kept (Some rule) false is = refl

@@ -76,6 +76,10 @@ below_push named before after number pushed low all = subst (AllByRecursion (λ 
 
 -- ---- one default
 
+or_right : (a : Bool) → (a || true) ≡ true
+or_right true = refl
+or_right false = refl
+
 -- a path with a number below that of the first path that no build line names
 pub known_path : (known table : List (List ℕ)) (path : List ℕ) (number : ℕ) → IsLonger known table → slice_get table number ≡ Some path → number < length known → has known path ≡ true
 known_path known table path number longer at low =
@@ -85,9 +89,6 @@ known_path known table path number longer at low =
     by [] n h e = absurd (omega arith)
     by (x ∷ k) zero h e = let same : Some x ≡ Some path = e in let p : x ≡ path = cc in ap (λ (b : Bool). b || has k path) ((bytes_eq-Decides x path).1 p)
     by (x ∷ k) (suc n) h e = ap (λ (b : Bool). bytes_eq x path || b) (by k n (omega arith) e) ∙ or_right (bytes_eq x path)
-    or_right : (a : Bool) → (a || true) ≡ true
-    or_right true = refl
-    or_right false = refl
 
 -- one past them, or none
 pub unknown_path : (known table : List (List ℕ)) (path : List ℕ) (number : ℕ) → HaveOnePlace table → IsLonger known table → slice_get table number ≡ Some path → length known ≤ number → has known path ≡ false

@@ -33,7 +33,7 @@ returns-in_err-action-clause-edges c = λ past said builds of are all named.
     let left : length c.loop-edge.actions + length (c.in-Some.edge ∷ into_iter_items c.next.new.self) ≡ length c.args.lines.now = rw c.in-Some.ensures.steps.0 at c.loop-edge.invariant.5 in
     let low : length c.loop-edge.actions < length c.args.lines.now = omega arith in
     let place : c.at_below-place.result ≡ length c.loop-edge.actions = c.at_below-place.ensures ∙ c.len.ensures in
-    let failed = err_from_is_err_and c.from_residual.result c.from_residual.ensures.1 in
+    let failed = err_from_is_err_and c.from_residual-in_err-action.result c.from_residual-in_err-action.ensures.1 in
     rw (failed.1, failed.2) (goes_wrong past said builds _ _ c.in-Some.edge _ c.args.lines.now (length c.loop-edge.actions) low c.in-Some.ensures.steps.0 _ _
     (λ build is for. (rw place at c.in_err-action.ensures.edge) past said build of are is for) (c.loop-edge.invariant.7 past said builds of are all named))
 

@@ -1,4 +1,4 @@
-use Rattle.std.proofs.Common.{arith, ◌≡◌, ◌+◌, ◌++◌, ℕ, List, [], ◌∷◌, take, Option, Some, None, sym, subst, ◌∙◌, ap, append-nil}
+use Rattle.std.proofs.Common.{arith, ◌≡◌, ◌+◌, ◌++◌, ℕ, List, [], ◌∷◌, take, Option, Some, None, sym, subst, ◌∙◌, ap, refl, append-nil}
 use Rattle.std.proofs.lemmas.List.{map-append}
 use Rattle.std.specs.Option.{option_map, option_to_list}
 use Rattle.lexer.specs.Said.{Fragments, fragments_of, paths_of}
@@ -6,17 +6,25 @@ use Rattle.paths.specs.Told.{text_at, texts_at}
 use Rattle.scopes.specs.Moves.{Move}
 use Rattle.scopes.specs.Scopes.{IsScopesOf}
 use Rattle.scopes.specs.Place.{value_of_name}
-use Rattle.manifest.specs.Expansion.{text_of}
+use Rattle.manifest.specs.Expansion.{text_of, ArePaths}
 use Rattle.manifest.specs.Flags.{FlagsAfter, IsPathFound}
 use Rattle.manifest.specs.InNumbers.{AreAdded}
 use Rattle.manifest.proofs.Added.{added_on, added_none, texts_grow}
-use Rattle.manifest.proofs.FlagLemmas.{flags_append, flags_before}
+use Rattle.manifest.proofs.FlagLemmas.{flags_none, flags_append, flags_before}
 use Rattle.manifest.proofs.ReaderLemmas.{paths_of_more, flags_kept, found_kept, paths_found}
 use Rattle.manifest.proofs.path_reader.PathReader.numbers.Goals as goal
 use Rattle.manifest.proofs.path_reader.PathReader.numbers.Goals.{in-Some+in_ok-push, in_default}
 
 pub loop-value-init : goal.loop-value-init
-loop-value-init c = ?
+loop-value-init c =
+    let none : c.from_vec-numbers.result ≡ [] = c.from_vec-numbers.ensures ∙ c.in_ok-with_capacity.ensures.items in
+    record {
+      scopes = refl;
+      block = refl;
+      flags = λ past at. flags_none c.args.self.now (value_of_name c.args.self.now.block.now past);
+      added = subst (AreAdded c.args.table.now c.args.table.now) (sym none) (added_none c.args.table.now);
+      paths = λ past at empty large. subst (λ (n : List ℕ). ArePaths (value_of_name c.args.self.now.block.now past) [] (texts_at c.args.table.now n)) (sym none) tt;
+    }
 
 pub loop-value-preserved : goal.loop-value-preserved
 loop-value-preserved c =
