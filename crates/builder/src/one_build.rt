@@ -68,8 +68,13 @@ fn read_texts<S: Site>(alloc: Global, site: &mut S, name: &str) -> Result<BuildG
     ensures file { IsTrue S.tells → ReadsFile name.now (S.world site.old).history (S.world site.new).history result }
     ensures graph { IfOk result IsGraph }
 {
-    let manifest = manifest::read(alloc, site, name)?;
-    Ok(manifest.texts(alloc)?)
+    match manifest::read(alloc, site, name) {
+        Ok(manifest) => match manifest.texts(alloc) {
+            Ok(graph) => Ok(graph),
+            Err(_) => Err(ReadError::Memory),
+        },
+        Err(error) => Err(error),
+    }
 }
 
 /// The report of a build whose files were not read.

@@ -11,7 +11,7 @@ use Rattle.model.specs.declared.graph.Pool.{Pool}
 use Rattle.paths.specs.declared.line.Line.{Line}
 use Rattle.paths.specs.declared.manifest.Action.{Action}
 use Rattle.paths.specs.declared.manifest.Action.TheVariants.{Alias, Command}
-use Rattle.paths.specs.declared.manifest.Command.{Command}
+use Rattle.paths.specs.declared.manifest.Command.{Command as Does}
 use Rattle.paths.specs.Commands.{stop_of, dyndep_stop}
 use Rattle.paths.specs.Lists.{line_at, no_line}
 use Rattle.paths.specs.Told.{text_at, texts_at, edge_of, edges_of}
@@ -62,7 +62,7 @@ alias_of paths = record {
   phony = true;
 }
 
-abbrev command_edge : Command → EdgePaths → Option (List ℕ) → Edge
+abbrev command_edge : Does → EdgePaths → Option (List ℕ) → Edge
 command_edge command paths dyndep = record {
   explicit_outputs = paths.explicit_outputs;
   implicit_outputs = paths.implicit_outputs;
@@ -99,7 +99,7 @@ module _ (past : List Move) (said : List Pool) (build : Build) (table : List (Li
         then_fault (ValuesOf past said build) _ error
         (subst (λ (r : Option Rule). IsFaultOf (ValuesOfRule past said build r) error) (sym some) (then_fault (CommandValues past said build rule) _ error is))
 
-    pub command_made : (new : List (List ℕ)) (values : Values) (command : Command) → IsLonger table new → CommandValues past said build rule (Reached values)
+    pub command_made : (new : List (List ℕ)) (values : Values) (command : Does) → IsLonger table new → CommandValues past said build rule (Reached values)
         → IsEdgeOf (paths_at new line) values (edge_of new line (Command command)) → OfEdge past said build (Reached (edge_of new line (Command command)))
     command_made new values command longer reading is =
         goes_on (subst (λ (r : Option Rule). ValuesOfRule past said build r (Reached (Some values))) (sym some) (goes_on reading refl))

@@ -55,18 +55,18 @@ module _ (outputs : List (List ℕ)) (p : List ℕ) (absent : has outputs p ≡ 
       ]
       by false is = ap (λ (b : Bool). bytes_eq x p || b) (without_other xs)
 
+abbrev own_rest : EdgePaths → List (List ℕ)
+own_rest paths = without (outputs_of paths) paths.explicit_inputs ++ (without (outputs_of paths) paths.implicit_inputs ++ (without (outputs_of paths) paths.order_only_inputs ++ paths.validations))
+
 kept_has : (rule : Option Rule) (paths : EdgePaths) (p : List ℕ) → has (all_of paths) p ≡ true → has (all_of (kept_of rule paths)) p ≡ true
 kept_has (Some rule) paths p there = there
 kept_has None paths p there = elim (cases_Bool (has (outputs_of paths) p)) [
   | inl own ↦
-      ap (λ (l : List (List ℕ)). has l p) (sym (append_assoc paths.explicit_outputs paths.implicit_outputs rest))
-      ∙ (has_append (outputs_of paths) rest p ∙ ap (λ (b : Bool). b || has rest p) own)
+      ap (λ (l : List (List ℕ)). has l p) (sym (append_assoc paths.explicit_outputs paths.implicit_outputs (own_rest paths)))
+      ∙ (has_append (outputs_of paths) (own_rest paths) p ∙ ap (λ (b : Bool). b || has (own_rest paths) p) own)
   | inr other ↦ same other ∙ there
 ]
   where
-    abbrev rest : List (List ℕ)
-    rest = without (outputs_of paths) paths.explicit_inputs ++ (without (outputs_of paths) paths.implicit_inputs ++ (without (outputs_of paths) paths.order_only_inputs ++ paths.validations))
-
     parts : (a b c d e f : List (List ℕ)) → has (a ++ (b ++ (c ++ (d ++ (e ++ f))))) p ≡ (has a p || (has b p || (has c p || (has d p || (has e p || has f p)))))
     parts a b c d e f =
         has_append a _ p ∙ ap (λ (x : Bool). has a p || x) (has_append b _ p ∙ ap (λ (x : Bool). has b p || x)

@@ -32,7 +32,7 @@ use text::{Items, Path, Text};
 impl ReadEdge {
     /// What the edge of the statement does, with its rule expanded. A dyndep file is put into the table.
     pub fn action(
-        self,
+        &self,
         alloc: Global,
         scopes: &Scopes,
         pools: &IndexMap<String, u32>,
@@ -40,10 +40,10 @@ impl ReadEdge {
         lines: &Lines,
         edge: EdgeId,
     ) -> Result<Action, ReadError>
-        requires scope { self.scope < vec_len scopes.now.scopes }
+        requires scope { self.now.scope < vec_len scopes.now.scopes }
         requires edge { edge < length lines.now }
         requires within { IsWithin table.old (line_at lines.now edge) }
-        ensures edge { (past : List Move) (said : List Pool) (build : Build) → IsScopesOf scopes.now past → ArePools pools.now.entries said → IsBuildOf self build → IsLineFor table.old build (line_at lines.now edge) → IsAnswerOf (OfEdge past said build) (in_edge table.new (line_at lines.now edge) result) }
+        ensures edge { (past : List Move) (said : List Pool) (build : Build) → IsScopesOf scopes.now past → ArePools pools.now.entries said → IsBuildOf self.now build → IsLineFor table.old build (line_at lines.now edge) → IsAnswerOf (OfEdge past said build) (in_edge table.new (line_at lines.now edge) result) }
         ensures grows { OnOk result (IsLonger table.old table.new) }
         ensures dyndep { IfOk result (λ action. dyndep_stop action ≤ length table.new) }
     {
