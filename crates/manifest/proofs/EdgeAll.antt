@@ -220,3 +220,14 @@ module _ (past : List Move) (said : List Pool) (builds : List Build) (table : Li
 pub none_left : {X : Type 0} (xs : List X) → length xs ≡ 0 → xs ≡ []
 none_left [] h = refl
 none_left (x ∷ xs) h = cc
+
+edges_none : (table : List (List ℕ)) (lines : List Line) → edges_of table lines [] ≡ []
+edges_none table [] = refl
+edges_none table (line ∷ lines) = refl
+
+pub goes_begin : (past : List Move) (said : List Pool) (builds : List Build) (table : List (List ℕ)) (read left : List ReadEdge) (lines : List Line) (actions : List Action) → left ≡ read → actions ≡ []
+    → AllZip IsBuildOf read builds → AllZip (IsLineFor table) builds lines → Goes past said builds table left (drop (length actions) lines) (edges_of table lines actions)
+goes_begin past said builds table read left lines actions same none all named =
+    subst (λ (l : List ReadEdge). Goes past said builds table l (drop (length actions) lines) (edges_of table lines actions)) (sym same)
+    (subst (λ (a : List Action). Goes past said builds table read (drop (length a) lines) (edges_of table lines a)) (sym none)
+    (subst (λ (e : List Edge). Goes past said builds table read lines e) (sym (edges_none table lines)) (goes_first past said builds table read lines all named)))

@@ -46,14 +46,14 @@ has_here (x ∷ table) (suc n) low = ap (λ (b : Bool). bytes_eq x (text_at tabl
 module _ (outputs : List (List ℕ)) (p : List ℕ) (absent : has outputs p ≡ false) where
   without_other : (xs : List (List ℕ)) → has (without outputs xs) p ≡ has xs p
   without_other [] = refl
-  without_other (x ∷ xs) = by (has outputs x) refl
+  without_other (x ∷ xs) = by (has outputs x) refl (without_other xs)
     where
-      by : (b : Bool) → has outputs x ≡ b → has (if not b then x ∷ without outputs xs else without outputs xs) p ≡ (bytes_eq x p || has xs p)
-      by true is = elim (cases_Bool (bytes_eq x p)) [
+      by : (b : Bool) → has outputs x ≡ b → has (without outputs xs) p ≡ has xs p → has (if not b then x ∷ without outputs xs else without outputs xs) p ≡ (bytes_eq x p || has xs p)
+      by true is rest = elim (cases_Bool (bytes_eq x p)) [
         | inl same ↦ let e : x ≡ p = (bytes_eq-Decides x p).0 same in let there : has outputs p ≡ true = subst (λ (q : List ℕ). has outputs q ≡ true) e is in absurd (cc)
-        | inr other ↦ without_other xs ∙ sym (ap (λ (b : Bool). b || has xs p) other)
+        | inr other ↦ rest ∙ sym (ap (λ (b : Bool). b || has xs p) other)
       ]
-      by false is = ap (λ (b : Bool). bytes_eq x p || b) (without_other xs)
+      by false is rest = ap (λ (b : Bool). bytes_eq x p || b) rest
 
 abbrev own_rest : EdgePaths → List (List ℕ)
 own_rest paths = without (outputs_of paths) paths.explicit_inputs ++ (without (outputs_of paths) paths.implicit_inputs ++ (without (outputs_of paths) paths.order_only_inputs ++ paths.validations))
@@ -98,17 +98,17 @@ all_named table (build ∷ builds) [] p all there = absurd all
 all_named table (build ∷ builds) (line ∷ lines) p all there =
     ap (λ (l : List (List ℕ)). has l p) (map-append (text_at table) (line_paths line) (all_paths lines))
     ∙ (has_append (texts_at table (line_paths line)) (texts_at table (all_paths lines)) p
-    ∙ by (has (all_of build.paths) p) refl (sym (has_append (all_of build.paths) (named builds) p) ∙ there))
+    ∙ by (λ rest. all_named table builds lines p all.1 rest) (has (all_of build.paths) p) refl (sym (has_append (all_of build.paths) (named builds) p) ∙ there))
   where
-    by : (b : Bool) → has (all_of build.paths) p ≡ b → (has (all_of build.paths) p || has (named builds) p) ≡ true
+    by : (has (named builds) p ≡ true → has (texts_at table (all_paths lines)) p ≡ true) → (b : Bool) → has (all_of build.paths) p ≡ b → (has (all_of build.paths) p || has (named builds) p) ≡ true
         → (has (texts_at table (line_paths line)) p || has (texts_at table (all_paths lines)) p) ≡ true
-    by true here one =
+    by others true here one =
         let kept : has (all_of (kept_of build.rule build.paths)) p ≡ true = kept_has build.rule build.paths p here in
         let texts : texts_at table (line_paths line) ≡ all_of (kept_of build.rule build.paths) = ap (texts_at table) (line_same line) ∙ (all_texts_of table line ∙ ap all_of all.0.paths) in
         ap (λ (l : List (List ℕ)). has l p || has (texts_at table (all_paths lines)) p) texts ∙ ap (λ (b : Bool). b || has (texts_at table (all_paths lines)) p) kept
-    by false here one =
+    by others false here one =
         let rest : has (named builds) p ≡ true = sym (ap (λ (b : Bool). b || has (named builds) p) here) ∙ one in
-        ap (λ (b : Bool). has (texts_at table (line_paths line)) p || b) (all_named table builds lines p all.1 rest) ∙ or_right (has (texts_at table (line_paths line)) p)
+        ap (λ (b : Bool). has (texts_at table (line_paths line)) p || b) (others rest) ∙ or_right (has (texts_at table (line_paths line)) p)
 
 below_has : (count : ℕ) (numbers : List ℕ) (n : ℕ) → AreBelow count numbers → has_number numbers n ≡ true → n < count
 below_has count [] n all there = absurd (cc)
@@ -126,9 +126,9 @@ numbered table lines builds once is n = same_answer (has_number (all_paths lines
     ∙ all_named table builds lines (text_at table n) is.lines (sym (is.keys.same (text_at table n)) ∙ has_here table n h))
   where
     below_lt : (a b : ℕ) → a < b → nat_lt a b ≡ true
-    below_lt a b low = omega arith
+    below_lt a b low = grind (arith, low)
     lt_below : (a b : ℕ) → nat_lt a b ≡ true → a < b
-    lt_below a b low = omega arith
+    lt_below a b low = grind (arith, low)
 
 -- ---- lists that stay below
 

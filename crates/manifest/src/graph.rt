@@ -1,10 +1,12 @@
 //! The build graph, when all is read.
 
-ghost use Rattle.std.specs.Prelude.{◌≡◌, ◌<◌, ◌≤◌, [], List, ℕ, length, map, IfOk, OnOk};
+ghost use Rattle.std.specs.Prelude.{◌≡◌, ◌<◌, ◌≤◌, ◌^◌, [], List, ℕ, nat_lt, length, map, IfOk, OnOk};
 ghost use Rattle.std.specs.List.{AllZip, AllByRecursion};
 ghost use Rattle.model.specs.declared.graph.Pool.{Pool as SaidPool};
 ghost use Rattle.paths.specs.Commands.{dyndep_stop};
-ghost use Rattle.paths.specs.Told.{text_at, texts_at};
+ghost use Rattle.model.specs.Graph.{has_number};
+ghost use Rattle.paths.specs.Lists.{all_paths};
+ghost use Rattle.paths.specs.Told.{text_at, texts_at, edges_of, graph_of};
 ghost use Rattle.scopes.specs.Moves.{Move};
 ghost use Rattle.scopes.specs.Scopes.{IsScopesOf};
 ghost use Rattle.manifest.specs.Answer.{IsAnswerOf, IsGraph, in_texts};
@@ -48,15 +50,40 @@ impl Declared {
         let named = paths.len();
         let actions = expand_all(alloc, &scopes, &pools, &mut paths, &lines, edges)?;
         let defaults = default_numbers(alloc, &paths, named, defaults.as_slice())?;
-        Ok(Manifest {
-            paths,
-            named,
-            lines,
-            actions,
-            pools: all_pools(alloc, &pools)?,
-            defaults,
-            builddir: builddir(alloc, &scopes)?,
-        })
+        let pools = all_pools(alloc, &pools)?;
+        let builddir = builddir(alloc, &scopes)?;
+        Ok(manifest_of(
+            paths, named, lines, actions, pools, defaults, builddir,
+        ))
+    }
+}
+
+/// The manifest of its parts.
+fn manifest_of(
+    paths: Paths,
+    named: usize,
+    lines: Lines,
+    actions: Items<Action>,
+    pools: Items<Pool>,
+    defaults: Items<PathId>,
+    builddir: Text,
+) -> Manifest
+    requires few { length lines ≤ 2 ^ 32 }
+    requires fits { length actions ≡ length lines }
+    requires names { named ≤ length paths }
+    requires numbered { (p : ℕ) → has_number (all_paths lines) p ≡ nat_lt p named }
+    requires known { AllByRecursion (λ number. number < named) defaults }
+    requires dyndeps { AllByRecursion (λ action. dyndep_stop action ≤ length paths) actions }
+    ensures { graph_of result ≡ record { edges = edges_of paths lines actions; pools = pools; defaults = texts_at paths defaults; builddir = builddir } }
+{
+    Manifest {
+        paths,
+        named,
+        lines,
+        actions,
+        pools,
+        defaults,
+        builddir,
     }
 }
 

@@ -18,10 +18,7 @@ pub returns-in_err-defaults-clause-said : goal.returns-in_err-defaults-clause-sa
 returns-in_err-defaults-clause-said c = λ state at.
     let failed = err_from_is_err_and c.from_residual-in_err-defaults.result c.from_residual-in_err-defaults.ensures.1 in
     rw (failed.1, failed.2) (then_next_fault _ _ _ _ (c.in_ok-actions.ensures.edges state.past state.pools state.builds at.scopes at.pools at.edges at.paths.lines)
-    (then_fault _ _ _ (c.in_err-defaults.ensures.said c.args.self.paths.table (named state.builds) state.defaults c.in_ok-actions.ensures.grows c.len.ensures.count at.paths.keys (rw c.as_slice.ensures.value at.defaults))))
+    (then_fault _ _ _ (c.in_err-defaults.ensures.said c.args.self.paths.table (named state.builds) state.defaults c.in_ok-actions.ensures.grows c.len-named.ensures.count at.paths.keys (rw c.as_slice.ensures.value at.defaults))))
 
-pub returns-clause-said : goal.returns-clause-said
-returns-clause-said c = λ state at.
-    goes_on (c.in_ok-actions.ensures.edges state.past state.pools state.builds at.scopes at.pools at.edges at.paths.lines)
-    (goes_on (c.in_ok-defaults.ensures.said c.args.self.paths.table (named state.builds) state.defaults c.in_ok-actions.ensures.grows c.len.ensures.count at.paths.keys (rw c.as_slice.ensures.value at.defaults))
-    (same_graph state _ _ _ _ _ refl (c.in_ok-all_pools.ensures ∙ at.pools) (c.in_ok-defaults.ensures.texts ∙ same_defaults _ _ (rw c.as_slice.ensures.value at.defaults)) (c.in_ok-builddir.ensures state.past at.scopes)))
+pub expand_all-requires-clause-count : goal.expand_all-requires-clause-count
+expand_all-requires-clause-count c = as_many c.args.self _ c.requires.stated.1
