@@ -86,6 +86,7 @@ added_one old new path n is = record {
     by_grows : (b : Bool) → new ≡ (if b then old else old ++ path ∷ []) → IsLonger old new
     by_grows true e = record { more = []; grows = e ∙ sym (append-nil old) }
     by_grows false e = record { more = path ∷ []; grows = e }
+
     by_keys : (b : Bool) → has old path ≡ b → (before : List (List ℕ)) → AreKeys old before → AreKeys new (before ++ path ∷ [])
     by_keys true e before keys = subst (λ (l : List (List ℕ)). AreKeys l (before ++ path ∷ [])) (sym (is.grows ∙ ap (λ (b : Bool). if b then old else old ++ path ∷ []) e)) (known_key old before path keys e)
     by_keys false e before keys = subst (λ (l : List (List ℕ)). AreKeys l (before ++ path ∷ [])) (sym (is.grows ∙ ap (λ (b : Bool). if b then old else old ++ path ∷ []) e)) (new_key old before path keys e)

@@ -127,6 +127,7 @@ numbered table lines builds once is n = same_answer (has_number (all_paths lines
   where
     below_lt : (a b : ℕ) → a < b → nat_lt a b ≡ true
     below_lt a b low = grind (arith, low)
+
     lt_below : (a b : ℕ) → nat_lt a b ≡ true → a < b
     lt_below a b low = grind (arith, low)
 

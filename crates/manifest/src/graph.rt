@@ -52,9 +52,7 @@ impl Declared {
         let defaults = default_numbers(alloc, &paths, named, defaults.as_slice())?;
         let pools = all_pools(alloc, &pools)?;
         let builddir = builddir(alloc, &scopes)?;
-        Ok(manifest_of(
-            paths, named, lines, actions, pools, defaults, builddir,
-        ))
+        Ok(manifest_of(paths, named, lines, actions, pools, defaults, builddir))
     }
 }
 

@@ -1,4 +1,6 @@
-use Rattle.std.proofs.Common.{rules, ◌≡◌, None}
+use Rattle.std.proofs.Common.{rules, ◌≡◌, None, Err}
+use Rattle.std.proofs.lemmas.Result.{err_from_is_err_and}
+use Rattle.paths.specs.declared.manifest.Manifest.{Manifest}
 use Rattle.manifest.specs.Answer.{in_texts}
 use Rattle.manifest.specs.Graphs.{AtEnd}
 use Rattle.manifest.specs.States.{nothing}
@@ -47,3 +49,9 @@ returns-clause-file g c = λ told.
     read_done old new c.args.name.now c.in_ok-file.file.value same c.in_ok-content.content
     (covers_before g.R.Texts.tells old new old mid new told c.read_bytes.ensures.looks (λ name content sees. sees) _ _ (c.in_ok-content.ensures.content told))
     c.in-Some.bytes c.as_slice.result.now c.in-Some.is c.as_slice.ensures inner.0 (in_texts c.finish.result) inner.2 (c.finish.ensures.said inner.0 inner.1)
+
+pub returns-in_err-read_bytes-clause-cause : goal.returns-in_err-read_bytes-clause-cause
+returns-in_err-read_bytes-clause-cause g c =
+    let failed = err_from_is_err_and c.from_residual-in_err-read_bytes.result c.from_residual-in_err-read_bytes.ensures.1 in
+    let inner = c.in_err-read_bytes.ensures.cause (nothing, c.in_ok-declared.ensures) in
+    rw (failed.1, failed.2) (main_cause {U = Manifest} _ _ _ _ _ (Err c.in_err-read_bytes.field-0.0) c.read.ensures.cause c.in_ok-content.was inner)
