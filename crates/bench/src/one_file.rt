@@ -22,7 +22,7 @@ impl Texts for OneFile {
 
     ghost tells = { false };
 
-    ghost world = { λ _. record { history = []; events = []; ticked = 0; failures = 0; failures_at_start = 0; stopped = false } };
+    ghost world = { λ _. record { history = []; events = []; earlier = []; ticked = 0; failures = 0; failures_at_start = 0; stopped = false } };
 
     fn read(&mut self, path: &str) -> Result<Option<Bytes>, SiteFault> {
         if path == "build.ninja" {

@@ -48,7 +48,7 @@ impl Texts for Files {
 
     ghost tells = { false };
 
-    ghost world = { λ files. record { history = []; events = []; ticked = 0; failures = files.failures; failures_at_start = 0; stopped = false } };
+    ghost world = { λ files. record { history = []; events = []; earlier = []; ticked = 0; failures = files.failures; failures_at_start = 0; stopped = false } };
 
     fn read(&mut self, path: &str) -> Result<Option<Bytes>, SiteFault> {
         if self.passing == 0 {
