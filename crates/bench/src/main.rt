@@ -75,6 +75,7 @@ fn count_graph(rt: &impl Print, alloc: Global, bytes: Vec<u8>) -> Result<()> {
 fn count_cone(rt: &impl Print, alloc: Global, bytes: Vec<u8>) -> Result<()> {
     let manifest = read(alloc, &mut OneFile::new(bytes))?;
     print_sizes(rt, &manifest)?;
+    let manifest = manifest.texts(alloc)?;
     let graph = Graph::build(alloc, &manifest)?;
     let paths = graph.paths.len();
     let outputs = graph.links.makers.len();
@@ -95,7 +96,7 @@ fn read<R: Texts>(alloc: Global, site: &mut R) -> Result<Manifest> {
 
 /// Prints how many edges, pools and defaults there are.
 fn print_sizes(rt: &impl Print, manifest: &Manifest) -> Result<()> {
-    let edges = manifest.edges.len();
+    let edges = manifest.lines.len();
     let pools = manifest.pools.len();
     let defaults = manifest.defaults.len();
     println!(rt; "{edges} edges, {pools} pools, {defaults} defaults")?;

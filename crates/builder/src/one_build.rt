@@ -1,6 +1,6 @@
 //! One build.
 
-ghost use Rattle.std.specs.Prelude.{◌≡◌, ◌⊎◌, ℕ, List, IfOk, IfErr, OnErr, [], false, string_bytes, length, map, suc};
+ghost use Rattle.std.specs.Prelude.{◌≡◌, ◌⊎◌, ℕ, List, IfOk, IfErr, OnErr, IsTrue, [], false, string_bytes, length, map, suc};
 ghost use Rattle.model.specs.declared.graph.BuildGraph.{BuildGraph};
 ghost use Rattle.model.specs.declared.graph.Edge.{Edge};
 ghost use Rattle.model.specs.World.{World, IsIdle};
@@ -19,7 +19,8 @@ ghost use Rattle.builder.specs.Cut.{Cuts, IsLeft, report_of};
 ghost use Rattle.builder.specs.Build.{task_for, limits_of, BuildsFor, IsBuild};
 ghost use Rattle.builder.specs.Ended.{ReportsSteps, HasRun, run_answer};
 ghost use Rattle.builder.specs.Taken.{IsTaken};
-ghost use Rattle.manifest.specs.Answer.{IsGraph};
+ghost use Rattle.model.specs.Calls.{OnlyLooks, HasCause};
+ghost use Rattle.manifest.specs.Answer.{IsGraph, ReadsFile, site_part};
 
 use crate::asked::{Asked, Limits};
 use crate::cut::Cut;
@@ -29,8 +30,8 @@ use crate::report::{Options, Refusal, Report};
 use crate::run::{end_after_fault, run};
 use crate::taken::first_not_taken;
 use graph::{Cone, ConeFault, Graph, GraphFault, links_are_makers};
-use manifest::{Manifest, ReadError, reads_longer};
-use model::{Edge, SiteFault};
+use manifest::{ReadError, reads_longer};
+use model::{BuildGraph, Edge, SiteFault};
 use site::Site;
 use std::alloc::{AllocError, Global};
 use text::{Path, Text};
@@ -48,7 +49,7 @@ pub fn build<S: Site>(alloc: Global, site: &mut S, options: &Options, targets: &
     ensures answers { (edges : List Edge) × Answers S.tells edges (S.world site.old) (S.world site.new) result }
     ensures build { IsBuild S.tells S.outcome options.now.file (limits_of options.now) targets.now (S.world site.old) (S.world site.new) result }
 {
-    match manifest::read(alloc, site, options.file.as_str()) {
+    match read_texts(alloc, site, options.file.as_str()) {
         Ok(manifest) => match Asked::new(alloc, options, targets, &manifest.builddir) {
             Ok(asked) => {
                 reads_longer();
@@ -57,6 +58,22 @@ pub fn build<S: Site>(alloc: Global, site: &mut S, options: &Options, targets: &
             Err(_) => Report::Fault(SiteFault::Memory),
         },
         Err(error) => not_read(error),
+    }
+}
+
+/// What the build files declare, as texts.
+fn read_texts<S: Site>(alloc: Global, site: &mut S, name: &str) -> Result<BuildGraph, ReadError>
+    ensures looks { OnlyLooks S.tells (S.world site.old) (S.world site.new) }
+    ensures cause { HasCause (S.world site.old) (S.world site.new) (site_part result) }
+    ensures file { IsTrue S.tells → ReadsFile name.now (S.world site.old).history (S.world site.new).history result }
+    ensures graph { IfOk result IsGraph }
+{
+    match manifest::read(alloc, site, name) {
+        Ok(manifest) => match manifest.texts(alloc) {
+            Ok(graph) => Ok(graph),
+            Err(_) => Err(ReadError::Memory),
+        },
+        Err(error) => Err(error),
     }
 }
 
@@ -75,7 +92,7 @@ fn not_read(error: ReadError) -> Report
 fn build_manifest<S: Site>(
     alloc: Global,
     site: &mut S,
-    manifest: &Manifest,
+    manifest: &BuildGraph,
     asked: &Asked<'_>,
 ) -> Report
     requires idle { IsIdle (S.world site.old).events }
@@ -104,7 +121,7 @@ fn not_taken(alloc: Global, edge: &Edge) -> Report
 fn build_taken<S: Site>(
     alloc: Global,
     site: &mut S,
-    manifest: &Manifest,
+    manifest: &BuildGraph,
     asked: &Asked<'_>,
 ) -> Report
     requires idle { IsIdle (S.world site.old).events }
@@ -135,7 +152,7 @@ fn no_graph(fault: GraphFault) -> Report
 fn build_graph<S: Site>(
     alloc: Global,
     site: &mut S,
-    manifest: &Manifest,
+    manifest: &BuildGraph,
     graph: &Graph<'_>,
     asked: &Asked<'_>,
 ) -> Report
@@ -190,7 +207,7 @@ fn target_at(alloc: Global, given: &[Text], place: usize) -> Result<Text, AllocE
 fn build_cone<S: Site>(
     alloc: Global,
     site: &mut S,
-    manifest: &Manifest,
+    manifest: &BuildGraph,
     graph: &Graph<'_>,
     cone: &Cone,
     asked: &Asked<'_>,
@@ -223,7 +240,7 @@ fn build_cone<S: Site>(
 fn run_cone<S: Site>(
     alloc: Global,
     site: &mut S,
-    manifest: &Manifest,
+    manifest: &BuildGraph,
     graph: &Graph<'_>,
     cone: &Cone,
     folder: &Path,

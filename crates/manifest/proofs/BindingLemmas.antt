@@ -12,7 +12,7 @@ use Rattle.manifest.specs.declared.kept.ReadEdge.{ReadEdge}
 use Rattle.manifest.specs.Readings.{Outcome, Unless, Give}
 use Rattle.manifest.specs.Readings.Outcome.{Reached, Broken}
 use Rattle.manifest.specs.Answer.{IsFaultOf}
-use Rattle.manifest.specs.Held.{IsFormed, IsInScope, ArePathsFormed}
+use Rattle.manifest.specs.Held.{IsFormed, IsInScope, AreLinesFormed}
 use Rattle.manifest.proofs.CheckLemmas.{unless_told, unless_good}
 
 never : {X Y : Type 0} (value : X) (New : Outcome Y → Type 0) (told : FileFault) → Give value (Broken told) → New (Broken told)
@@ -33,19 +33,20 @@ value_given bad fault value given is =
     (good.0, same)
 
 edges_kept : (old new : Scopes) → vec_len old.scopes ≤ vec_len new.scopes → (edges : List ReadEdge)
-    → AllByRecursion (λ (edge : ReadEdge). ArePathsFormed edge.paths × IsInScope old edge) edges → AllByRecursion (λ (edge : ReadEdge). ArePathsFormed edge.paths × IsInScope new edge) edges
+    → AllByRecursion (IsInScope old) edges → AllByRecursion (IsInScope new) edges
 edges_kept old new more [] all = tt
 edges_kept old new more (edge ∷ edges) all =
-    let within : edge.scope < vec_len old.scopes = all.0.1 in
-    ((all.0.0, omega arith), edges_kept old new more edges all.1)
+    let within : edge.scope < vec_len old.scopes = all.0 in
+    (omega arith, edges_kept old new more edges all.1)
 
 -- as many scopes were entered
 pub formed_kept : (old new : Declared) (before after : List Move) → IsScopesOf old.scopes before → IsScopesOf new.scopes after → entered after ≡ entered before
-    → new.edges.items ≡ old.edges.items → AllByRecursion (λ (edge : ReadEdge). ArePathsFormed edge.paths × IsInScope old.scopes edge) old.edges.items → IsFormed new
-formed_kept old new before after was is same edges all =
+    → new.edges.items ≡ old.edges.items → AllByRecursion (IsInScope old.scopes) old.edges.items → new.paths ≡ old.paths → AreLinesFormed old.paths → IsFormed new
+formed_kept old new before after was is same edges all same_paths formed =
     let more : vec_len old.scopes.scopes ≤ vec_len new.scopes.scopes = omega (arith, was.number, is.number, same) in
     record {
       past = after;
       scopes = is;
       edges = rw edges (edges_kept old.scopes new.scopes more old.edges.items all);
+      paths = rw same_paths formed;
     }

@@ -6,7 +6,7 @@ use Rattle.manifest.specs.declared.fault.FaultKind.TheVariants.{Line}
 use Rattle.manifest.specs.declared.fault.FileFault.{FileFault}
 use Rattle.manifest.specs.declared.fault.ReadError.{ReadError}
 use Rattle.manifest.specs.declared.fault.ReadError.TheVariants.{Memory, Site, Refused}
-use Rattle.manifest.specs.declared.paths.PathReader.{PathReader}
+use Rattle.manifest.specs.declared.path_reader.PathReader.{PathReader}
 use Rattle.manifest.specs.Readings.{Outcome, Place, Unless, Give, fault_at}
 use Rattle.manifest.specs.Readings.Outcome.{Reached, Broken}
 use Rattle.manifest.specs.Readings.Unless.{refused, in_order}

@@ -9,7 +9,7 @@ use Rattle.scopes.specs.Scopes.{IsScopesOf}
 use Rattle.manifest.specs.declared.kept.Declared.{Declared}
 use Rattle.manifest.specs.declared.kept.ReadEdge.{ReadEdge}
 use Rattle.manifest.specs.States.{State, with_move, present, first_or}
-use Rattle.manifest.specs.Held.{IsStateOf, IsFormed, ArePathsFormed}
+use Rattle.manifest.specs.Held.{IsStateOf, IsFormed}
 use Rattle.manifest.specs.Declarations.{IsRepeated}
 
 -- the same declarations with other scopes
@@ -36,7 +36,8 @@ formed_moved declared scopes move after stays formed =
     record {
       past = move ∷ formed.past;
       scopes = scoped;
-      edges = subst (λ (count : ℕ). AllByRecursion (λ (edge : ReadEdge). ArePathsFormed edge.paths × (edge.scope < count)) declared.edges.items) same formed.edges;
+      edges = subst (λ (count : ℕ). AllByRecursion (λ (edge : ReadEdge). edge.scope < count) declared.edges.items) same formed.edges;
+      paths = formed.paths;
     }
 
 -- ---- names of rules

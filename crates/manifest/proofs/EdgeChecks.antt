@@ -17,7 +17,7 @@ use Rattle.manifest.specs.Readings.Outcome.{Reached}
 use Rattle.manifest.specs.Readings.Unless.{in_order}
 use Rattle.manifest.specs.States.{Build, is_pool}
 use Rattle.manifest.specs.Expansion.{is_empty}
-use Rattle.manifest.proofs.EdgeKeys.{turned}
+use Rattle.manifest.proofs.BuildKeys.{turned}
 
 -- the same refusal at the place of the statement
 pub at_build : (one other : Place) (kind same : FaultKind) (error : ReadError) → one ≡ other → kind ≡ same → IsFaultAt one kind error → IsFaultAt other same error

@@ -1,13 +1,19 @@
 -- Edges of well-formed paths are well formed.
-use Rattle.std.proofs.Common.{◌≡◌, Bool, true, false, List, [], ◌∷◌, ◌++◌}
+use Rattle.std.proofs.Common.{◌≡◌, ℕ, None, sym, subst, Bool, true, false, List, [], ◌∷◌, ◌++◌}
 use Rattle.std.specs.Prelude.{filter, not, if◌then◌else◌}
 use Rattle.std.specs.List.{AllByRecursion}
-use Rattle.model.specs.declared.graph.Edge.{Edge}
+use Rattle.paths.specs.declared.line.Line.{Line}
+use Rattle.paths.specs.declared.manifest.Action.{Action}
+use Rattle.paths.specs.declared.manifest.Action.TheVariants.{Alias, Command}
+use Rattle.paths.specs.Told.{edge_of, edges_of}
 use Rattle.model.specs.Graph.{has}
-use Rattle.manifest.specs.declared.paths.EdgePaths.{EdgePaths}
+use Rattle.manifest.specs.Spelled.{EdgePaths}
 use Rattle.manifest.specs.Answer.{ArePathsOnly, IsWellFormed, IsPath}
-use Rattle.manifest.specs.Edges.{without, outputs_of}
-use Rattle.manifest.specs.Held.{ArePathsFormed}
+use Rattle.manifest.specs.Edges.{outputs_of}
+use Rattle.manifest.specs.Held.{ArePathsFormed, kept_of}
+use Rattle.manifest.specs.InNumbers.{IsLonger, IsWithin, paths_at}
+use Rattle.manifest.proofs.Added.{paths_stay}
+use Rattle.manifest.proofs.PathForms.{only_append}
 use Rattle.manifest.specs.States.{all_of}
 
 part_all : {X : Type 0} (P : X → Type 0) (xs ys : List X) → AllByRecursion P (xs ++ ys) → AllByRecursion P xs × AllByRecursion P ys
@@ -40,35 +46,51 @@ parts_of paths all =
     let p5 = part_all IsPath paths.order_only_inputs paths.validations p4.1 in
     record { explicit_outputs = p1.0; implicit_outputs = p2.0; explicit_inputs = p3.0; implicit_inputs = p4.0; order_only_inputs = p5.0; validations = p5.1 }
 
--- an edge with these paths
-pub formed_command : (paths : EdgePaths) (edge : Edge) → edge.explicit_outputs ≡ paths.explicit_outputs → edge.implicit_outputs ≡ paths.implicit_outputs
-    → edge.explicit_inputs ≡ paths.explicit_inputs → edge.implicit_inputs ≡ paths.implicit_inputs → edge.order_only_inputs ≡ paths.order_only_inputs
-    → edge.validations ≡ paths.validations → ArePathsFormed paths → IsWellFormed edge
-formed_command paths edge e1 e2 e3 e4 e5 e6 formed =
-    let parts = parts_of paths formed.all in record {
-      made = rw (e1, e2) formed.made;
-      explicit_outputs = rw e1 parts.explicit_outputs;
-      implicit_outputs = rw e2 parts.implicit_outputs;
-      explicit_inputs = rw e3 parts.explicit_inputs;
-      implicit_inputs = rw e4 parts.implicit_inputs;
-      order_only_inputs = rw e5 parts.order_only_inputs;
-      validations = rw e6 parts.validations;
+-- what a phony keeps
+pub own_formed : (paths : EdgePaths) → ArePathsFormed paths → ArePathsFormed (kept_of None paths)
+own_formed paths formed =
+    let parts = parts_of paths formed.all in
+    let keep = λ (path : List ℕ). not (has (outputs_of paths) path) in
+    record {
+      made = formed.made;
+      all =
+          only_append paths.explicit_outputs _ parts.explicit_outputs
+          (only_append paths.implicit_outputs _ parts.implicit_outputs
+          (only_append (filter keep paths.explicit_inputs) _ (filter_all IsPath keep paths.explicit_inputs parts.explicit_inputs)
+          (only_append (filter keep paths.implicit_inputs) _ (filter_all IsPath keep paths.implicit_inputs parts.implicit_inputs)
+          (only_append (filter keep paths.order_only_inputs) _ (filter_all IsPath keep paths.order_only_inputs parts.order_only_inputs) parts.validations))));
     }
 
--- the edge of a phony with these paths
-pub formed_phony : (paths : EdgePaths) (edge : Edge) → edge.explicit_outputs ≡ paths.explicit_outputs → edge.implicit_outputs ≡ paths.implicit_outputs
-    → edge.explicit_inputs ≡ without (outputs_of paths) paths.explicit_inputs → edge.implicit_inputs ≡ without (outputs_of paths) paths.implicit_inputs
-    → edge.order_only_inputs ≡ without (outputs_of paths) paths.order_only_inputs → edge.validations ≡ paths.validations → ArePathsFormed paths → IsWellFormed edge
-formed_phony paths edge e1 e2 e3 e4 e5 e6 formed =
-    let parts = parts_of paths formed.all in record {
-      made = rw (e1, e2) formed.made;
-      explicit_outputs = rw e1 parts.explicit_outputs;
-      implicit_outputs = rw e2 parts.implicit_outputs;
-      explicit_inputs = rw e3 (filter_all IsPath (λ path. not (has (outputs_of paths) path)) paths.explicit_inputs parts.explicit_inputs);
-      implicit_inputs = rw e4 (filter_all IsPath (λ path. not (has (outputs_of paths) path)) paths.implicit_inputs parts.implicit_inputs);
-      order_only_inputs = rw e5 (filter_all IsPath (λ path. not (has (outputs_of paths) path)) paths.order_only_inputs parts.order_only_inputs);
-      validations = rw e6 parts.validations;
+-- an edge with these paths
+pub formed_edge : (table : List (List ℕ)) (line : Line) (action : Action) → ArePathsFormed (paths_at table line) → IsWellFormed (edge_of table line action)
+formed_edge table line Alias formed =
+    let parts = parts_of (paths_at table line) formed.all in record {
+      made = formed.made;
+      explicit_outputs = parts.explicit_outputs;
+      implicit_outputs = parts.implicit_outputs;
+      explicit_inputs = parts.explicit_inputs;
+      implicit_inputs = parts.implicit_inputs;
+      order_only_inputs = parts.order_only_inputs;
+      validations = parts.validations;
     }
+formed_edge table line (Command command) formed =
+    let parts = parts_of (paths_at table line) formed.all in record {
+      made = formed.made;
+      explicit_outputs = parts.explicit_outputs;
+      implicit_outputs = parts.implicit_outputs;
+      explicit_inputs = parts.explicit_inputs;
+      implicit_inputs = parts.implicit_inputs;
+      order_only_inputs = parts.order_only_inputs;
+      validations = parts.validations;
+    }
+
+-- all of them, in a table that has grown
+pub formed_edges : (old new : List (List ℕ)) (lines : List Line) (actions : List Action) → IsLonger old new
+    → AllByRecursion (λ (line : Line). IsWithin old line × ArePathsFormed (paths_at old line)) lines → AllByRecursion IsWellFormed (edges_of new lines actions)
+formed_edges old new [] actions longer all = tt
+formed_edges old new (line ∷ lines) [] longer all = tt
+formed_edges old new (line ∷ lines) (action ∷ actions) longer all =
+    (formed_edge new line action (subst ArePathsFormed (sym (paths_stay old new line longer all.0.0)) all.0.1), formed_edges old new lines actions longer all.1)
 
 pub push_all : {X : Type 0} (P : X → Type 0) (xs : List X) (x : X) → AllByRecursion P xs → P x → AllByRecursion P (xs ++ x ∷ [])
 push_all P [] x all more = (more, tt)

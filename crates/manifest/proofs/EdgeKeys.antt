@@ -1,107 +1,95 @@
--- Sets of texts that are kept as keys.
-use Rattle.std.proofs.Common.{◌≡◌, ℕ, Bool, true, false, List, [], ◌∷◌, ◌++◌, map, string_bytes, refl, sym, ◌∙◌, ap, subst, append_assoc}
-use Rattle.std.specs.Prelude.{bytes_eq, ◌||◌, not, if◌then◌else◌, String}
+-- Numbers that are none of these.
+use Rattle.std.proofs.Common.{◌≡◌, ℕ, Bool, true, false, List, [], ◌∷◌, ◌++◌, ◌||◌, ◌==◌, not, if◌then◌else◌, refl, sym, ◌∙◌, ap, subst, append_assoc}
 use Rattle.std.specs.List.{list_any}
-use Rattle.std.specs.declared.alloc.Global.{Global}
-use Rattle.std.proofs.lemmas.List.{map-append}
+use Rattle.std.proofs.lemmas.Bool.{eqb-true, eq-eqb}
 use Rattle.std.proofs.lemmas.List.Elements.{filter-append}
-use Rattle.indexmap.specs.IndexSet.{insert_key}
-use Rattle.model.specs.Graph.{has}
-use Rattle.text.proofs.Plain.{same_bytes, bytes_eq-same}
-use Rattle.manifest.specs.Edges.{without}
-use Rattle.manifest.specs.Held.{HasKeys}
+use Rattle.model.specs.Graph.{has_number}
+use Rattle.manifest.specs.InNumbers.{HasNumbers, numbers_without}
 
 same_answer : (a b : Bool) → (a ≡ true → b ≡ true) → (b ≡ true → a ≡ true) → a ≡ b
 same_answer true b there back = sym (there refl)
 same_answer false true there back = back refl
 same_answer false false there back = refl
 
-pub turned : (a b : List ℕ) → bytes_eq a b ≡ bytes_eq b a
-turned a b = same_answer (bytes_eq a b) (bytes_eq b a) (λ h. equal b a (sym (same_bytes a b h))) (λ h. equal a b (sym (same_bytes b a h)))
-  where
-    equal : (x y : List ℕ) → x ≡ y → bytes_eq x y ≡ true
-    equal x y e = subst (λ (z : List ℕ). bytes_eq x z ≡ true) e (bytes_eq-same x)
+turned : (a b : ℕ) → (a == b) ≡ (b == a)
+turned a b = same_answer (a == b) (b == a) (λ h. eq-eqb b a (sym (eqb-true a b h))) (λ h. eq-eqb a b (sym (eqb-true b a h)))
 
--- the key of this text is found
-abbrev pub finds : List (String Global) → List ℕ → Bool
-finds keys path = list_any (λ (key : String Global). bytes_eq path (string_bytes key)) keys
+-- the set's tests are those of the numbers
+pub listed : (n : ℕ) (keys : List ℕ) → list_any (λ (key : ℕ). n == key) keys ≡ has_number keys n
+listed n [] = refl
+listed n (key ∷ keys) = ap (λ (b : Bool). (n == key) || b) (listed n keys) ∙ ap (λ (b : Bool). b || has_number keys n) (turned n key)
 
-pub finds_has : (keys : List (String Global)) (path : List ℕ) → finds keys path ≡ has (map string_bytes keys) path
-finds_has [] path = refl
-finds_has (key ∷ keys) path = ap (λ (b : Bool). b || finds keys path) (turned path (string_bytes key)) ∙ ap (λ (b : Bool). bytes_eq (string_bytes key) path || b) (finds_has keys path)
-
-joins : (b all one other : Bool) → all ≡ (one || other) → (b || all) ≡ ((b || one) || other)
-joins true all one other is = refl
-joins false all one other is = is
-
-pub has_append : (xs ys : List (List ℕ)) (path : List ℕ) → has (xs ++ ys) path ≡ (has xs path || has ys path)
-has_append [] ys path = refl
-has_append (x ∷ xs) ys path = joins (bytes_eq x path) (has (xs ++ ys) path) (has xs path) (has ys path) (has_append xs ys path)
-
-absorbed : (a b : Bool) → (b ≡ true → a ≡ true) → a ≡ (a || b)
-absorbed true b known = refl
-absorbed false true known = known refl
-absorbed false false known = refl
-
-or_nothing : (b : Bool) → (b || false) ≡ b
+or_nothing : (a : Bool) → (a || false) ≡ a
 or_nothing true = refl
 or_nothing false = refl
 
-abbrev same_text : String Global → String Global → Bool
-same_text one other = bytes_eq (string_bytes one) (string_bytes other)
+or_more : (a b c : Bool) → (a || (b || c)) ≡ ((a || b) || c)
+or_more true b c = refl
+or_more false b c = refl
 
-has_inserted : (keys : List (String Global)) (key : String Global) (path : List ℕ)
-    → has (map string_bytes (insert_key same_text keys key)) path ≡ (has (map string_bytes keys) path || bytes_eq (string_bytes key) path)
-has_inserted keys key path = by (finds keys (string_bytes key)) refl
+has_append : (xs ys : List ℕ) (n : ℕ) → has_number (xs ++ ys) n ≡ (has_number xs n || has_number ys n)
+has_append [] ys n = refl
+has_append (x ∷ xs) ys n = ap (λ (b : Bool). (x == n) || b) (has_append xs ys n) ∙ or_more (x == n) (has_number xs n) (has_number ys n)
+
+known_more : (keys : List ℕ) (key n : ℕ) → has_number keys key ≡ true → has_number keys n ≡ (has_number keys n || (key == n))
+known_more keys key n known = by (key == n) refl
   where
-    by : (b : Bool) → finds keys (string_bytes key) ≡ b → has (map string_bytes (if b then keys else keys ++ key ∷ [])) path ≡ (has (map string_bytes keys) path || bytes_eq (string_bytes key) path)
-    by true is = absorbed (has (map string_bytes keys) path) (bytes_eq (string_bytes key) path)
-        (λ h. subst (λ (p : List ℕ). has (map string_bytes keys) p ≡ true) (same_bytes (string_bytes key) path h) (sym (finds_has keys (string_bytes key)) ∙ is))
-    by false is = ap (λ (l : List (List ℕ)). has l path) (map-append string_bytes keys (key ∷ []))
-        ∙ (has_append (map string_bytes keys) (string_bytes key ∷ []) path ∙ ap (λ (b : Bool). has (map string_bytes keys) path || b) (or_nothing (bytes_eq (string_bytes key) path)))
+    by : (b : Bool) → (key == n) ≡ b → has_number keys n ≡ (has_number keys n || b)
+    by true same = let e : key ≡ n = eqb-true key n same in let here : has_number keys n ≡ true = subst (λ (m : ℕ). has_number keys m ≡ true) e known in rw here refl
+    by false other = sym (or_nothing (has_number keys n))
 
--- one more text is put in
-pub keys_push : (keys new : List (String Global)) (texts : List (List ℕ)) (key : String Global) (text : List ℕ)
-    → new ≡ insert_key same_text keys key → string_bytes key ≡ text → HasKeys keys texts → HasKeys new (texts ++ text ∷ [])
-keys_push keys new texts key text inserted is have path =
-    ap (λ (l : List (String Global)). has (map string_bytes l) path) inserted
-    ∙ (has_inserted keys key path
-    ∙ (ap (λ (b : Bool). b || bytes_eq (string_bytes key) path) (have path)
-    ∙ (ap (λ (t : List ℕ). has texts path || bytes_eq t path) is
-    ∙ (ap (λ (b : Bool). has texts path || b) (sym (or_nothing (bytes_eq text path))) ∙ sym (has_append texts (text ∷ []) path)))))
+has_inserted : (keys new : List ℕ) (key n : ℕ) → new ≡ (if list_any (λ (other : ℕ). key == other) keys then keys else keys ++ key ∷ [])
+    → has_number new n ≡ (has_number keys n || (key == n))
+has_inserted keys new key n inserted = by (list_any (λ (other : ℕ). key == other) keys) refl
+  where
+    by : (b : Bool) → list_any (λ (other : ℕ). key == other) keys ≡ b → has_number new n ≡ (has_number keys n || (key == n))
+    by true found =
+        ap (λ (l : List ℕ). has_number l n) (inserted ∙ ap (λ (b : Bool). if b then keys else keys ++ key ∷ []) found)
+        ∙ known_more keys key n (sym (listed key keys) ∙ found)
+    by false missing =
+        ap (λ (l : List ℕ). has_number l n) (inserted ∙ ap (λ (b : Bool). if b then keys else keys ++ key ∷ []) missing)
+        ∙ (has_append keys (key ∷ []) n ∙ ap (λ (b : Bool). has_number keys n || b) (or_nothing (key == n)))
 
-pub keys_push_behind : (keys new : List (String Global)) (front taken : List (List ℕ)) (key : String Global) (text : List ℕ)
-    → new ≡ insert_key same_text keys key → string_bytes key ≡ text → HasKeys keys (front ++ taken) → HasKeys new (front ++ (taken ++ text ∷ []))
-keys_push_behind keys new front taken key text inserted is have =
-    subst (HasKeys new) (append_assoc front taken (text ∷ [])) (keys_push keys new (front ++ taken) key text inserted is have)
+-- one more number is put in
+pub keys_push : (keys new numbers : List ℕ) (key number : ℕ) → new ≡ (if list_any (λ (other : ℕ). key == other) keys then keys else keys ++ key ∷ []) → key ≡ number
+    → HasNumbers keys numbers → HasNumbers new (numbers ++ number ∷ [])
+keys_push keys new numbers key number inserted is have n =
+    has_inserted keys new key n inserted
+    ∙ (ap (λ (b : Bool). b || (key == n)) (have n)
+    ∙ (ap (λ (k : ℕ). has_number numbers n || (k == n)) is
+    ∙ (ap (λ (b : Bool). has_number numbers n || b) (sym (or_nothing (number == n))) ∙ sym (has_append numbers (number ∷ []) n))))
 
--- whether a text of a set is found
-pub found : (keys : List (String Global)) (texts : List (List ℕ)) (text path : List ℕ) (b : Bool)
-    → b ≡ finds keys text → text ≡ path → HasKeys keys texts → has texts path ≡ b
-found keys texts text path b is same have =
-    sym (have path) ∙ (sym (finds_has keys path) ∙ (ap (λ (t : List ℕ). finds keys t) (sym same) ∙ sym is))
+pub keys_push_behind : (keys new front taken : List ℕ) (key number : ℕ) → new ≡ (if list_any (λ (other : ℕ). key == other) keys then keys else keys ++ key ∷ []) → key ≡ number
+    → HasNumbers keys (front ++ taken) → HasNumbers new (front ++ (taken ++ number ∷ []))
+keys_push_behind keys new front taken key number inserted is have =
+    subst (HasNumbers new) (append_assoc front taken (number ∷ [])) (keys_push keys new (front ++ taken) key number inserted is have)
 
--- ---- the paths that are none of these
+-- whether a number of a set is found
+pub found : (keys numbers : List ℕ) (key number : ℕ) (b : Bool) → b ≡ list_any (λ (other : ℕ). key == other) keys → key ≡ number → HasNumbers keys numbers → has_number numbers number ≡ b
+found keys numbers key number b is same have =
+    sym (have number) ∙ (sym (listed number keys) ∙ (ap (λ (k : ℕ). list_any (λ (other : ℕ). k == other) keys) (sym same) ∙ sym is))
 
-module _ (texts taken : List (List ℕ)) (path : List ℕ) where
-  one_more : without texts (taken ++ path ∷ []) ≡ without texts taken ++ without texts (path ∷ [])
-  one_more = filter-append (λ (other : List ℕ). not (has texts other)) taken (path ∷ [])
+-- ---- the numbers that are none of these
 
-  last_of : (b : Bool) → has texts path ≡ b → without texts (path ∷ []) ≡ (if b then [] else path ∷ [])
+module _ (numbers taken : List ℕ) (number : ℕ) where
+  one_more : numbers_without numbers (taken ++ number ∷ []) ≡ numbers_without numbers taken ++ numbers_without numbers (number ∷ [])
+  one_more = filter-append (λ (other : ℕ). not (has_number numbers other)) taken (number ∷ [])
+
+  last_of : (b : Bool) → has_number numbers number ≡ b → numbers_without numbers (number ∷ []) ≡ (if b then [] else number ∷ [])
   last_of true is = rw is refl
   last_of false is = rw is refl
 
-  pub keeps_path : has texts path ≡ false → without texts (taken ++ path ∷ []) ≡ without texts taken ++ path ∷ []
-  keeps_path is = one_more ∙ ap (λ (l : List (List ℕ)). without texts taken ++ l) (last_of false is)
+  pub keeps_number : has_number numbers number ≡ false → numbers_without numbers (taken ++ number ∷ []) ≡ numbers_without numbers taken ++ number ∷ []
+  keeps_number is = one_more ∙ ap (λ (l : List ℕ). numbers_without numbers taken ++ l) (last_of false is)
 
-  pub drops_path : has texts path ≡ true → without texts (taken ++ path ∷ []) ≡ without texts taken
-  drops_path is = one_more ∙ (ap (λ (l : List (List ℕ)). without texts taken ++ l) (last_of true is) ∙ nothing (without texts taken))
+  pub drops_number : has_number numbers number ≡ true → numbers_without numbers (taken ++ number ∷ []) ≡ numbers_without numbers taken
+  drops_number is = one_more ∙ (ap (λ (l : List ℕ). numbers_without numbers taken ++ l) (last_of true is) ∙ nothing (numbers_without numbers taken))
     where
-      nothing : (l : List (List ℕ)) → l ++ [] ≡ l
+      nothing : (l : List ℕ) → l ++ [] ≡ l
       nothing [] = refl
-      nothing (x ∷ xs) = ap (λ (m : List (List ℕ)). x ∷ m) (nothing xs)
+      nothing (x ∷ xs) = ap (λ (m : List ℕ). x ∷ m) (nothing xs)
 
-  pub keeps_next : (kept new : List (List ℕ)) (copy : List ℕ) → kept ≡ without texts taken → new ≡ kept ++ copy ∷ [] → copy ≡ path
-      → has texts path ≡ false → new ≡ without texts (taken ++ path ∷ [])
+  pub keeps_next : (kept new : List ℕ) (copy : ℕ) → kept ≡ numbers_without numbers taken → new ≡ kept ++ copy ∷ [] → copy ≡ number
+      → has_number numbers number ≡ false → new ≡ numbers_without numbers (taken ++ number ∷ [])
   keeps_next kept new copy before pushed same is =
-      pushed ∙ (ap (λ (l : List (List ℕ)). l ++ copy ∷ []) before ∙ (ap (λ (p : List ℕ). without texts taken ++ p ∷ []) same ∙ sym (keeps_path is)))
+      pushed ∙ (ap (λ (l : List ℕ). l ++ copy ∷ []) before ∙ (ap (λ (n : ℕ). numbers_without numbers taken ++ n ∷ []) same ∙ sym (keeps_number is)))

@@ -8,6 +8,7 @@ use Rattle.scopes.specs.declared.fault.UseFault.TheVariants.{Memory as UseMemory
 use Rattle.scopes.specs.declared.template.Rule.{Rule}
 use Rattle.scopes.specs.declared.template.Template.{Template}
 use Rattle.scopes.specs.declared.usage.Use.{Use}
+use Rattle.scopes.specs.declared.usage.Paths.{Paths}
 use Rattle.scopes.specs.Block.{block_value}
 use Rattle.scopes.specs.Large.{IsTooLargeAtUse}
 use Rattle.scopes.specs.Moves.{Move, or_else, value_at_end}
@@ -19,9 +20,9 @@ use Rattle.manifest.specs.declared.fault.ReadError.{ReadError}
 use Rattle.manifest.specs.declared.values.Values.{Values}
 use Rattle.manifest.specs.Answer.{IsAnswerOf}
 use Rattle.manifest.specs.Edges.{ExpandedValues}
-use Rattle.manifest.specs.Held.{IsUseRefused, IsBuildOf}
+use Rattle.std.specs.Map.Iter.{deref}
+use Rattle.manifest.specs.Held.{IsUseRefused, IsBuildOf, ShowsPaths, ShowsQuoted}
 use Rattle.manifest.specs.declared.kept.ReadEdge.{ReadEdge}
-use Rattle.manifest.specs.declared.paths.EdgePaths.{EdgePaths}
 use Rattle.scopes.specs.declared.block.Block.{Block}
 use Rattle.manifest.specs.Readings.Outcome.{Reached}
 use Rattle.manifest.specs.Readings.Unless.{in_order}
@@ -65,10 +66,10 @@ pub record IsUseFor (at : Use) (build : Build) (rule : Rule) : Type 0 where
   pub block : (name : List ℕ) → block_value at.block.now name ≡ bound build.block name
   pub of_rule : at.rule.now ≡ rule
   pub scope : at.scope ≡ build.scope
-  pub plain_inputs : at.plain.inputs.now ≡ build.paths.explicit_inputs
-  pub plain_outputs : at.plain.outputs.now ≡ build.paths.explicit_outputs
-  pub quoted_inputs : at.quoted.inputs.now ≡ map quoted build.paths.explicit_inputs
-  pub quoted_outputs : at.quoted.outputs.now ≡ map quoted build.paths.explicit_outputs
+  pub plain_inputs : map deref at.plain.inputs.now ≡ build.paths.explicit_inputs
+  pub plain_outputs : map deref at.plain.outputs.now ≡ build.paths.explicit_outputs
+  pub quoted_inputs : map deref at.quoted.inputs.now ≡ map quoted build.paths.explicit_inputs
+  pub quoted_outputs : map deref at.quoted.outputs.now ≡ map quoted build.paths.explicit_outputs
 
 module _ (at : Use) (build : Build) (rule : Rule) (for : IsUseFor at build rule) where
   pub opens_same : (name : List ℕ) → opened at name ≡ opened_in build rule name
@@ -76,11 +77,11 @@ module _ (at : Use) (build : Build) (rule : Rule) (for : IsUseFor at build rule)
       ap (λ (o : Option (List ℕ)). if is_special name then None else unless_bound o (template_of at.rule.now name)) (for.block name)
       ∙ ap (λ (r : Rule). if is_special name then None else unless_bound (bound build.block name) (template_of r name)) for.of_rule
 
-  inputs_shown : (b : Bool) → (if b then at.plain else at.quoted).inputs.now ≡ (if b then build.paths.explicit_inputs else map quoted build.paths.explicit_inputs)
+  inputs_shown : (b : Bool) → map deref (if b then at.plain else at.quoted).inputs.now ≡ (if b then build.paths.explicit_inputs else map quoted build.paths.explicit_inputs)
   inputs_shown true = for.plain_inputs
   inputs_shown false = for.quoted_inputs
 
-  outputs_shown : (b : Bool) → (if b then at.plain else at.quoted).outputs.now ≡ (if b then build.paths.explicit_outputs else map quoted build.paths.explicit_outputs)
+  outputs_shown : (b : Bool) → map deref (if b then at.plain else at.quoted).outputs.now ≡ (if b then build.paths.explicit_outputs else map quoted build.paths.explicit_outputs)
   outputs_shown true = for.plain_outputs
   outputs_shown false = for.quoted_outputs
 
@@ -93,7 +94,7 @@ module _ (at : Use) (build : Build) (rule : Rule) (for : IsUseFor at build rule)
 
   special_same : (asked name : List ℕ) → special_value (paths_for at asked) name ≡ special_in build asked name
   special_same asked name =
-      ap (λ (i : List (List ℕ)). special_of name i (paths_for at asked).outputs.now) (inputs_shown (is_unquoted asked))
+      ap (λ (i : List (List ℕ)). special_of name i (map deref (paths_for at asked).outputs.now)) (inputs_shown (is_unquoted asked))
       ∙ ap (λ (o : List (List ℕ)). special_of name (shown asked build.paths.explicit_inputs) o) (outputs_shown (is_unquoted asked))
 
   pub stands_same : (past : List Move) (asked name : List ℕ) → fixed at asked past name ≡ fixed_in build past asked name
@@ -179,16 +180,15 @@ module _ (past : List Move) (build : Build) (rule : Rule) where
 -- ---- the use that the code makes
 
 pub use_for : (at : Use) (edge : ReadEdge) (build : Build) (rule : Rule) → IsBuildOf edge build → at.block.now ≡ edge.block → at.rule.now ≡ rule → at.scope ≡ edge.scope
-    → at.plain.inputs.now ≡ edge.paths.explicit_inputs → at.plain.outputs.now ≡ edge.paths.explicit_outputs
-    → at.quoted.inputs.now ≡ map quoted edge.paths.explicit_inputs → at.quoted.outputs.now ≡ map quoted edge.paths.explicit_outputs → IsUseFor at build rule
-use_for at edge build rule is block of_rule scope inputs outputs quoted_inputs quoted_outputs = record {
+    → ShowsPaths at.plain build → ShowsQuoted at.quoted build → IsUseFor at build rule
+use_for at edge build rule is block of_rule scope plain words = record {
   block = λ name. ap (λ (b : Block). block_value b name) block ∙ is.block name;
   of_rule = of_rule;
   scope = scope ∙ is.scope;
-  plain_inputs = inputs ∙ ap (λ (p : EdgePaths). p.explicit_inputs) is.paths;
-  plain_outputs = outputs ∙ ap (λ (p : EdgePaths). p.explicit_outputs) is.paths;
-  quoted_inputs = quoted_inputs ∙ ap (λ (p : EdgePaths). map quoted p.explicit_inputs) is.paths;
-  quoted_outputs = quoted_outputs ∙ ap (λ (p : EdgePaths). map quoted p.explicit_outputs) is.paths;
+  plain_inputs = plain.inputs;
+  plain_outputs = plain.outputs;
+  quoted_inputs = words.inputs;
+  quoted_outputs = words.outputs;
 }
 
 module _ (past : List Move) (build : Build) (rule : Rule) where
@@ -201,3 +201,19 @@ module _ (past : List Move) (build : Build) (rule : Rule) where
   not_expanded_use at fault r circle no_circle large for told =
       not_expanded past build rule fault r (λ e. circle_of at build rule for (circle e)) (λ e into. no_circle e (circle_at at build rule for into))
       (λ e. large_of at build rule for past (large e)) told
+
+-- ---- the words of paths
+
+pub bare_words : (plain : Paths) (build : Build) → map quoted (map deref plain.inputs.now) ≡ map deref plain.inputs.now → map quoted (map deref plain.outputs.now) ≡ map deref plain.outputs.now
+    → ShowsPaths plain build → ShowsQuoted plain build
+bare_words plain build inputs outputs shows = record {
+  inputs = sym inputs ∙ ap (map quoted) shows.inputs;
+  outputs = sym outputs ∙ ap (map quoted) shows.outputs;
+}
+
+pub quoted_words : (plain words : Paths) (build : Build) → map deref words.inputs.now ≡ map quoted (map deref plain.inputs.now) → map deref words.outputs.now ≡ map quoted (map deref plain.outputs.now)
+    → ShowsPaths plain build → ShowsQuoted words build
+quoted_words plain words build inputs outputs shows = record {
+  inputs = inputs ∙ ap (map quoted) shows.inputs;
+  outputs = outputs ∙ ap (map quoted) shows.outputs;
+}

@@ -3,7 +3,7 @@ use Rattle.std.proofs.Common.{◌≡◌, ◌<◌, ◌≤◌, ◌||◌, true, fal
 use Rattle.std.proofs.Math.Bool.{or-false, or-true, or_assoc}
 use Rattle.lexer.specs.Said.{Fragments}
 use Rattle.scopes.specs.Texts.{largest_value}
-use Rattle.manifest.specs.declared.paths.PathReader.{PathReader}
+use Rattle.manifest.specs.declared.path_reader.PathReader.{PathReader}
 use Rattle.manifest.specs.Expansion.{text_of, some_text, is_empty, is_large}
 use Rattle.manifest.specs.Flags.{FlagsAfter, IsPathFound}
 use Rattle.manifest.proofs.TextLemmas.{large_false, large_true, some_text_append}

@@ -30,7 +30,7 @@ use Rattle.manifest.specs.Expansion.{text_at, is_large, is_empty}
 use Rattle.manifest.specs.Blocks.{BlockLine}
 use Rattle.manifest.specs.Files.{Holds, Inner, Found, FoundIn, NameOf, OpenOf, OfFile, InScope, OfForm, OfDeclaration, OfText, OfBytes, Reads, first_line, largest_file, too_deep_at, inner_at}
 use Rattle.manifest.specs.Answer.{IsFaultOf, IsFaultSeen}
-use Rattle.manifest.specs.Held.{IsStateOf, Says, IsFormed, ArePathsFormed, IsInScope}
+use Rattle.manifest.specs.Held.{IsStateOf, Says, IsFormed, IsInScope}
 use Rattle.manifest.specs.Made.{HaveOutputs}
 use Rattle.manifest.specs.Places.{IsFaultAt}
 use Rattle.manifest.specs.Seen.{SaysSeen, IsStated, LinesSay, FindsFile}
@@ -156,21 +156,21 @@ pub stated_moved : (declared : Declared) (scopes : Scopes) (move : Move) → ((p
 stated_moved declared scopes move moved is = (with_move move is.0, state_moved declared scopes move is.0 is.1 (moved is.0.past is.1.scopes))
 
 edges_in : (old new : Scopes) (edges : List ReadEdge) → vec_len old.scopes ≤ vec_len new.scopes
-    → AllByRecursion (λ (edge : ReadEdge). ArePathsFormed edge.paths × IsInScope old edge) edges → AllByRecursion (λ (edge : ReadEdge). ArePathsFormed edge.paths × IsInScope new edge) edges
+    → AllByRecursion (IsInScope old) edges → AllByRecursion (IsInScope new) edges
 edges_in old new [] more all = tt
-edges_in old new (edge ∷ edges) more all = ((all.0.0, omega (arith, more, all.0.1)), edges_in old new edges more all.1)
+edges_in old new (edge ∷ edges) more all = let low : edge.scope < vec_len old.scopes = all.0 in (omega (arith, more, low), edges_in old new edges more all.1)
 
 pub formed_entered : (declared : Declared) (scopes : Scopes) → ((past : List Move) → IsScopesOf declared.scopes past → IsScopesOf scopes (Enter ∷ past)) → IsFormed declared
     → IsFormed (record { scopes = scopes; edges = declared.edges; pools = declared.pools; defaults = declared.defaults; paths = declared.paths })
 formed_entered declared scopes moved is =
     let now = moved is.past is.scopes in
-    record { past = Enter ∷ is.past; scopes = now; edges = edges_in declared.scopes scopes declared.edges.items (omega (arith, is.scopes.number, now.number)) is.edges }
+    record { past = Enter ∷ is.past; scopes = now; edges = edges_in declared.scopes scopes declared.edges.items (omega (arith, is.scopes.number, now.number)) is.edges; paths = is.paths }
 
 pub formed_left : (declared : Declared) (scopes : Scopes) → ((past : List Move) → IsScopesOf declared.scopes past → IsScopesOf scopes (Leave ∷ past)) → IsFormed declared
     → IsFormed (record { scopes = scopes; edges = declared.edges; pools = declared.pools; defaults = declared.defaults; paths = declared.paths })
 formed_left declared scopes moved is =
     let now = moved is.past is.scopes in
-    record { past = Leave ∷ is.past; scopes = now; edges = edges_in declared.scopes scopes declared.edges.items (omega (arith, is.scopes.number, now.number)) is.edges }
+    record { past = Leave ∷ is.past; scopes = now; edges = edges_in declared.scopes scopes declared.edges.items (omega (arith, is.scopes.number, now.number)) is.edges; paths = is.paths }
 
 -- ---- the file that a path names
 

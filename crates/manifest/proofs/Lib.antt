@@ -1,3 +1,4 @@
+pub mod Added
 pub mod Agreeing
 pub mod BindingLemmas
 pub mod Binds
@@ -24,8 +25,10 @@ pub mod Grouping
 pub mod Including
 pub mod Looking
 pub mod Moments
+pub mod Naming
 pub mod NumberLemmas
 pub mod Outputs
+pub mod OwnOutputs
 pub mod PathForms
 pub mod PoolKeys
 pub mod PoolLemmas

@@ -4,7 +4,7 @@ use Rattle.std.specs.Prelude.{filter, not, ◌==◌}
 use Rattle.std.specs.List.{AllByRecursion, slice_split}
 use Rattle.lexer.specs.Path.{Part, parent, is_named, is_rooted, Step, Rewrites, done, step, spelled, IsCanonical}
 use Rattle.lexer.specs.Said.{Fragments, BuildForm}
-use Rattle.manifest.specs.declared.paths.EdgePaths.{EdgePaths}
+use Rattle.manifest.specs.Spelled.{EdgePaths}
 use Rattle.manifest.specs.Answer.{IsPath, ArePathsOnly}
 use Rattle.manifest.specs.Declarations.{ArePathsOf, PathsOf}
 use Rattle.manifest.specs.Held.{HasOutput, ArePathsFormed}

@@ -18,8 +18,12 @@ use Rattle.manifest.specs.Readings.Where.{with_value}
 use Rattle.manifest.specs.States.{State, nothing}
 use Rattle.manifest.specs.Files.{Reads, deepest}
 use Rattle.manifest.specs.Graphs.{Declares, OfMain, AtEnd}
-use Rattle.manifest.specs.Answer.{held, site_part, ReadsFile, IsFaultOf, IsFaultSeen, IsAnswerOf}
-use Rattle.manifest.specs.Held.{IsStateOf, IsFormed, IsBuildOf}
+use Rattle.manifest.specs.Answer.{held, site_part, in_texts, ReadsFile, IsFaultOf, IsFaultSeen, IsAnswerOf}
+use Rattle.paths.specs.declared.line.Line.{Line}
+use Rattle.paths.specs.declared.manifest.Manifest.{Manifest}
+use Rattle.manifest.specs.declared.kept.Named.{Named}
+use Rattle.manifest.specs.Held.{IsStateOf, IsFormed, IsBuildOf, IsLineFor, AreNamed, AreLinesFormed, ArePathsFormed}
+use Rattle.manifest.specs.InNumbers.{IsWithin, paths_at}
 use Rattle.manifest.specs.Places.{IsFaultAt}
 use Rattle.manifest.specs.Seen.{IsCaused}
 use Rattle.manifest.proofs.Binds.{refuse_at}
@@ -56,11 +60,11 @@ fault_cause old new R error (Err Memory) none is passed = none
 fault_cause old new R error (Err (Refused fault)) none is passed = none
 fault_cause old new R error (Err (Site fault)) none is passed = absurd (subst (IsFaultOf R) (sym passed) is)
 
-pub answer_cause : {X : Type 0} (old new : World) (R : Outcome X → Type 0) (r : Result X ReadError) → NoneFailed old new → IsAnswerOf R r → IsCaused old new (site_part r)
-answer_cause old new R (Ok value) none is = none
-answer_cause old new R (Err Memory) none is = none
-answer_cause old new R (Err (Site fault)) none is = absurd is
-answer_cause old new R (Err (Refused fault)) none is = none
+pub texts_cause : (old new : World) (R : Outcome BuildGraph → Type 0) (r : Result Manifest ReadError) → NoneFailed old new → IsAnswerOf R (in_texts r) → IsCaused old new (site_part r)
+texts_cause old new R (Ok value) none is = none
+texts_cause old new R (Err Memory) none is = none
+texts_cause old new R (Err (Site fault)) none is = absurd is
+texts_cause old new R (Err (Refused fault)) none is = none
 
 -- a refusal at a place is none of the site's
 pub place_cause : (place : Place) (old new : World) (r : ReadError) → NoneFailed old new → IsFaultAt place (NotFound place.file) r → IsCaused old new (site_part (failed r))
@@ -77,8 +81,15 @@ no_edges : (P : ReadEdge → Type 0) (edges : List ReadEdge) → AllZip IsBuildO
 no_edges P [] all = tt
 no_edges P (edge ∷ edges) all = absurd all
 
+no_lines : (kept : Named) → AreNamed kept [] → AreLinesFormed kept
+no_lines kept is = by kept.lines is.lines
+  where
+    by : (lines : List Line) → AllZip (IsLineFor kept.table) [] lines → AllByRecursion (λ (line : Line). IsWithin kept.table line × ArePathsFormed (paths_at kept.table line)) lines
+    by [] all = tt
+    by (line ∷ lines) all = absurd all
+
 pub formed_new : (declared : Declared) → IsStateOf declared nothing → IsFormed declared
-formed_new declared is = record { past = []; scopes = is.scopes; edges = no_edges _ declared.edges.items is.edges }
+formed_new declared is = record { past = []; scopes = is.scopes; edges = no_edges _ declared.edges.items is.edges; paths = no_lines declared.paths is.paths }
 
 -- ---- readings
 
@@ -101,9 +112,9 @@ module _ (old new : World) (name kept : List ℕ) (same : kept ≡ name) (answer
           (subst (λ (b : List ℕ). Then (Reads (held old.history new.history) deepest kept b nothing) AtEnd outcome) all is)));
     }
 
-    pub read_broken : (error : ReadError) (r : Result BuildGraph ReadError) → IsErrAnd r (λ (e : ReadError). e ≡ error)
-        → IsFaultSeen (Reads (held old.history new.history) deepest kept slice nothing) error → ReadsFile name old.history new.history r
-    read_broken error (Ok graph) passed is = absurd passed
+    pub read_broken : (error : ReadError) (r : Result Manifest ReadError) → IsErrAnd r (λ (e : ReadError). e ≡ error)
+        → IsFaultSeen (Reads (held old.history new.history) deepest kept slice nothing) error → ReadsFile name old.history new.history (in_texts r)
+    read_broken error (Ok manifest) passed is = absurd passed
     read_broken error (Err other) passed is =
         subst (IsFaultSeen (Declares (held old.history new.history) name)) (sym passed)
         (seen_fault_wider (Reads (held old.history new.history) deepest kept slice nothing) (Declares (held old.history new.history) name) error

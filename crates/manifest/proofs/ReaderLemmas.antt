@@ -8,7 +8,7 @@ use Rattle.scopes.specs.declared.block.Block.{Block}
 use Rattle.scopes.specs.Moves.{Move}
 use Rattle.scopes.specs.Scopes.{IsScopesOf}
 use Rattle.scopes.specs.Place.{value_of_name}
-use Rattle.manifest.specs.declared.paths.PathReader.{PathReader}
+use Rattle.manifest.specs.declared.path_reader.PathReader.{PathReader}
 use Rattle.manifest.specs.Expansion.{text_of, ArePaths}
 use Rattle.manifest.specs.Flags.{FlagsAfter, IsPathFound}
 use Rattle.manifest.proofs.TextLemmas.{paths_push}

@@ -18,7 +18,7 @@ use Rattle.scopes.specs.Use.{is_special, unless_bound, IsValueAtUse}
 use Rattle.scopes.specs.Large.{IsTooLargeAtUse}
 use Rattle.manifest.specs.declared.fault.FaultKind.{FaultKind}
 use Rattle.manifest.specs.declared.fault.FaultKind.TheVariants.{Line, UnknownPool, Circle, UnknownDeps, UnknownDefault}
-use Rattle.manifest.specs.declared.paths.EdgePaths.{EdgePaths}
+use Rattle.manifest.specs.Spelled.{EdgePaths}
 use Rattle.manifest.specs.declared.values.Values.{Values}
 use Rattle.manifest.specs.Readings.{Outcome, Give, Then, Where, Place, fault_at}
 use Rattle.manifest.specs.Expansion.{Bound, bound}

@@ -10,7 +10,7 @@ use Rattle.scopes.specs.declared.template.Rule.{Rule}
 use Rattle.scopes.specs.Moves.{Move, Bind, rule_at, last_in, rule_named}
 use Rattle.manifest.specs.declared.fault.FaultKind.TheVariants.{Line, UnexpectedVariable, BadDepth, NeedsVersion}
 use Rattle.manifest.specs.declared.fault.FileFault.{FileFault}
-use Rattle.manifest.specs.declared.paths.EdgePaths.{EdgePaths}
+use Rattle.manifest.specs.Spelled.{EdgePaths}
 use Rattle.manifest.specs.Readings.{Reading, Give, Unless, Where, Cut, Place, fault_at}
 use Rattle.manifest.specs.Expansion.{Bound, value_here, text_at, text_of, some_text, is_large, is_empty, ArePaths}
 use Rattle.manifest.specs.States.{State, Build, Default, with_move, with_build, present, is_pool, named, different}

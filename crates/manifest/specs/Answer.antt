@@ -8,6 +8,8 @@ use Rattle.model.specs.declared.fault.SiteFault.{SiteFault}
 use Rattle.model.specs.declared.event.Moment.{Moment}
 use Rattle.model.specs.World.{file_at, content_of}
 use Rattle.model.specs.Calls.{Sees}
+use Rattle.paths.specs.declared.manifest.Manifest.{Manifest}
+use Rattle.paths.specs.Told.{graph_of}
 use Rattle.manifest.specs.declared.fault.ReadError.{ReadError}
 use Rattle.manifest.specs.declared.fault.ReadError.TheVariants.{Memory, Site, Refused}
 use Rattle.manifest.specs.Readings.{Outcome}
@@ -21,6 +23,11 @@ site_part (Ok value) = Ok tt
 site_part (Err Memory) = Ok tt
 site_part (Err (Site fault)) = Err fault
 site_part (Err (Refused fault)) = Ok tt
+
+-- the answer with its graph of texts
+abbrev pub in_texts : Result Manifest ReadError → Result BuildGraph ReadError
+in_texts (Ok manifest) = Ok (graph_of manifest)
+in_texts (Err error) = Err error
 
 -- the fault is the reading's, unless memory was refused; the site is not asked
 abbrev pub IsFaultOf : {X : Type 0} → (Outcome X → Type 0) → ReadError → Type 0

@@ -7,7 +7,7 @@ use Rattle.scopes.specs.declared.template.Rule.{Rule}
 use Rattle.scopes.specs.Moves.{Bind, DeclareRule, rule_at, last_in, rule_named}
 use Rattle.manifest.specs.declared.fault.FaultKind.TheVariants.{Line, UnknownRule, RepeatedRule, UnexpectedVariable, NoCommand, UnpairedResponse, RepeatedPool, BadDepth, NeedsVersion}
 use Rattle.manifest.specs.declared.fault.FileFault.{FileFault}
-use Rattle.manifest.specs.declared.paths.EdgePaths.{EdgePaths}
+use Rattle.manifest.specs.Spelled.{EdgePaths}
 use Rattle.manifest.specs.Readings.{Reading, Give, Refuse, Unless, Then, Where, Cut, Each, Place, fault_at}
 use Rattle.manifest.specs.Expansion.{Bound, value_here, text_at, some_text, is_large, is_empty, ArePaths}
 use Rattle.manifest.specs.States.{State, Build, with_move, with_build, with_pool, with_defaults, present, is_pool, named, different}

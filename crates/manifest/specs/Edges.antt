@@ -9,7 +9,7 @@ use Rattle.model.specs.Graph.{has, console}
 use Rattle.scopes.specs.declared.template.Rule.{Rule}
 use Rattle.scopes.specs.Moves.{Move}
 use Rattle.manifest.specs.declared.fault.FaultKind.TheVariants.{Line, UnknownPool, Circle, UnknownDeps}
-use Rattle.manifest.specs.declared.paths.EdgePaths.{EdgePaths}
+use Rattle.manifest.specs.Spelled.{EdgePaths}
 use Rattle.manifest.specs.declared.values.Values.{Values}
 use Rattle.manifest.specs.Readings.{Reading, Give, Unless, Then, Where, fault_at}
 use Rattle.manifest.specs.Expansion.{is_empty}

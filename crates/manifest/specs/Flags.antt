@@ -4,7 +4,7 @@ use Rattle.lexer.specs.declared.fault.FaultKind.TheVariants.{TooLarge, EmptyPath
 use Rattle.lexer.specs.Path.{IsCanonical}
 use Rattle.lexer.specs.Said.{Fragments}
 use Rattle.manifest.specs.declared.fault.FaultKind.TheVariants.{Line}
-use Rattle.manifest.specs.declared.paths.PathReader.{PathReader}
+use Rattle.manifest.specs.declared.path_reader.PathReader.{PathReader}
 use Rattle.manifest.specs.Readings.{Place, Reading, Unless, Give, fault_at}
 use Rattle.manifest.specs.Expansion.{some_text, is_empty, is_large}
 

@@ -1,4 +1,5 @@
 pub mod Readings
+pub mod Spelled
 pub mod Expansion
 pub mod States
 pub mod Blocks
@@ -14,5 +15,6 @@ pub mod Seen
 pub mod Values
 pub mod Flags
 pub mod Keeping
+pub mod InNumbers
 pub mod Held
 pub mod Made

@@ -5,7 +5,7 @@ use Rattle.model.specs.declared.graph.Pool.{Pool}
 use Rattle.model.specs.Graph.{has}
 use Rattle.scopes.specs.declared.template.Rule.{Rule}
 use Rattle.scopes.specs.Moves.{Move, open_scopes}
-use Rattle.manifest.specs.declared.paths.EdgePaths.{EdgePaths}
+use Rattle.manifest.specs.Spelled.{EdgePaths}
 use Rattle.manifest.specs.Readings.{Place}
 use Rattle.manifest.specs.Expansion.{Bound}
 

@@ -1,27 +1,29 @@
 //! Build statements (manual: "Build statements").
 
-ghost use Rattle.std.specs.Prelude.{ℕ, List, [], ◌++◌, ◌∷◌, map, string_bytes, IfOk, OnOk};
+ghost use Rattle.std.specs.Prelude.{◌≡◌, ℕ, List, [], ◌∷◌, map, IfOk, OnOk};
 ghost use Rattle.lexer.specs.Said.{said_of, build_of};
 ghost use Rattle.scopes.specs.Moves.{Move};
 ghost use Rattle.scopes.specs.Scopes.{IsScopesOf};
 ghost use Rattle.manifest.specs.Blocks.{block_lines, build_block};
 ghost use Rattle.manifest.specs.Declarations.{OfBuild, RuleHere};
-ghost use Rattle.manifest.specs.Held.{IsStateOf, Says, KeepsScopes, IsFormed, HasOutput, AreKeys};
+ghost use Rattle.manifest.specs.Held.{IsStateOf, Says, KeepsScopes, IsFormed, HasOutput};
+ghost use Rattle.manifest.specs.InNumbers.{with_line, kept_line};
 ghost use Rattle.manifest.specs.Keeping.{IsBlockRead, IsLineRead, FindsRule};
 ghost use Rattle.manifest.specs.Places.{place_of};
-ghost use Rattle.manifest.specs.States.{State, all_of};
+ghost use Rattle.manifest.specs.States.{State};
 
 use crate::blocks::block_line;
 use crate::fault::{FaultKind, ReadError};
-use crate::kept::{Declared, ReadEdge};
-use crate::paths::{EdgePaths, PathReader};
+use crate::kept::{Declared, Named, ReadEdge};
+use crate::made::without_own;
+use crate::path_reader::PathReader;
 use crate::place::Place;
-use indexmap::IndexSet;
-use lexer::{BuildLine, Line};
+use lexer::{BuildLine, Line as TextLine};
+use paths::Line;
 use scopes::{Block, ExpandFault, Rule, Scopes, expand};
 use std::alloc::{AllocError, Global};
 use std::rc::Rc;
-use text::{Path, Text};
+use text::Text;
 
 /// The most build statements.
 const MOST_EDGES: usize = 4_000_000;
@@ -44,7 +46,7 @@ impl Declared {
         alloc: Global,
         place: &Place<'_>,
         build: &BuildLine<'_>,
-        block: &[Line<'_>],
+        block: &[TextLine<'_>],
     ) -> Result<(), ReadError>
         ensures said { (state : State) → IsStateOf self.old state → Says result self.new (OfBuild (place_of place.now) (build_of build.now) (block_lines (map said_of block.now)) state) }
         ensures scopes { OnOk result (KeepsScopes self.old self.new) }
@@ -52,14 +54,15 @@ impl Declared {
     {
         let BlockRead { block, stop } = read_block(alloc, &self.scopes, block)?;
         let rule = self.rule(alloc, place, build.rule)?;
-        let paths = PathReader::new(&self.scopes, &block).edge_paths(alloc, place, build)?;
-        add_paths(alloc, &mut self.paths, &paths)?;
-        if self.edges.len() >= MOST_EDGES || self.paths.len() > MOST_PATHS {
+        let reader = PathReader::new(&self.scopes, &block);
+        let paths = reader.line(alloc, &mut self.paths.table, place, build)?;
+        if self.edges.len() >= MOST_EDGES || self.paths.table.len() > MOST_PATHS {
             return Err(place.too_large(alloc));
         }
         if let Some(line) = stop {
             return Err(place.at_line(line).too_large(alloc));
         }
+        self.paths.add_line(alloc, paths, rule.is_none())?;
         self.edges.push(ReadEdge {
             file: place.file.clone()?,
             line: place.line,
@@ -67,7 +70,6 @@ impl Declared {
             rule_name: Text::from_str(alloc, build.rule)?,
             rule,
             block,
-            paths,
         })?;
         Ok(())
     }
@@ -95,7 +97,11 @@ impl Declared {
 }
 
 /// The values that the block binds, up to the first that is too large.
-fn read_block(alloc: Global, scopes: &Scopes, lines: &[Line<'_>]) -> Result<BlockRead, AllocError>
+fn read_block(
+    alloc: Global,
+    scopes: &Scopes,
+    lines: &[TextLine<'_>],
+) -> Result<BlockRead, AllocError>
     ensures { IfOk result (λ read. (past : List Move) → IsScopesOf scopes.now past → (file : List ℕ) → IsBlockRead read file (build_block file past (block_lines (map said_of lines.now)) [])) }
 {
     let mut block = Block::new(alloc);
@@ -115,7 +121,7 @@ fn read_line(
     alloc: Global,
     scopes: &Scopes,
     block: &mut Block,
-    line: &Line<'_>,
+    line: &TextLine<'_>,
 ) -> Result<Option<usize>, AllocError>
     ensures { IfOk result (λ stop. (past : List Move) → IsScopesOf scopes.now past → IsLineRead past (said_of line.now) block.old block.new stop) }
 {
@@ -132,38 +138,16 @@ fn read_line(
     }
 }
 
-/// Notes the paths of a build line.
-fn add_paths(
-    alloc: Global,
-    known: &mut IndexSet<String>,
-    paths: &EdgePaths,
-) -> Result<(), AllocError>
-    ensures { OnOk result ((before : List (List ℕ)) → AreKeys (map string_bytes known.old.keys) before → AreKeys (map string_bytes known.new.keys) (before ++ all_of paths.now)) }
-{
-    add_all(alloc, known, paths.explicit_outputs.as_slice())?;
-    add_all(alloc, known, paths.implicit_outputs.as_slice())?;
-    add_all(alloc, known, paths.explicit_inputs.as_slice())?;
-    add_all(alloc, known, paths.implicit_inputs.as_slice())?;
-    add_all(alloc, known, paths.order_only_inputs.as_slice())?;
-    add_all(alloc, known, paths.validations.as_slice())
-}
-
-fn add_all(alloc: Global, known: &mut IndexSet<String>, paths: &[Path]) -> Result<(), AllocError>
-    ensures { OnOk result ((before : List (List ℕ)) → AreKeys (map string_bytes known.old.keys) before → AreKeys (map string_bytes known.new.keys) (before ++ paths.now)) }
-{
-    for path in paths {
-        add_path(alloc, known, path)?;
+impl Named {
+    /// Keeps the paths of a build statement. An input of a `phony` one that is an output of its own is dropped.
+    fn add_line(&mut self, alloc: Global, line: Line, is_phony: bool) -> Result<(), AllocError>
+        ensures { OnOk result (self.new ≡ with_line (kept_line is_phony line) self.old) }
+    {
+        if is_phony {
+            let line = without_own(alloc, line)?;
+            self.lines.push(&line)
+        } else {
+            self.lines.push(&line)
+        }
     }
-    Ok(())
-}
-
-/// Notes a path. One that is known takes no memory.
-fn add_path(alloc: Global, known: &mut IndexSet<String>, path: &Path) -> Result<(), AllocError>
-    ensures { OnOk result ((before : List (List ℕ)) → AreKeys (map string_bytes known.old.keys) before → AreKeys (map string_bytes known.new.keys) (before ++ path.now ∷ [])) }
-{
-    if known.contains(path.as_str()) {
-        return Ok(());
-    }
-    known.insert(String::from_str(alloc, path.as_str())?)?;
-    Ok(())
 }

@@ -10,7 +10,7 @@ ghost use Rattle.manifest.specs.States.{State};
 
 use crate::fault::ReadError;
 use crate::kept::{Declared, ReadDefault};
-use crate::paths::PathReader;
+use crate::path_reader::PathReader;
 use crate::place::Place;
 use lexer::Value;
 use scopes::Block;

@@ -1,97 +1,128 @@
 //! Build statements, when all is read.
 
-ghost use Rattle.std.specs.Prelude.{◌≡◌, ◌<◌, List, vec_len, map, IfOk, IsTrue};
+ghost use Rattle.std.specs.Prelude.{◌≡◌, ◌<◌, ◌≤◌, List, length, vec_len, map, IfOk, OnOk, IsTrue};
+ghost use Rattle.std.specs.List.{AllByRecursion};
+ghost use Rattle.std.specs.Map.Iter.{deref};
 ghost use Rattle.lexer.specs.Quote.{quoted};
 ghost use Rattle.model.specs.declared.graph.Pool.{Pool};
+ghost use Rattle.paths.specs.Commands.{dyndep_stop};
+ghost use Rattle.paths.specs.Lists.{line_at};
+ghost use Rattle.paths.specs.Told.{texts_at};
 ghost use Rattle.scopes.specs.Moves.{Move};
 ghost use Rattle.scopes.specs.Scopes.{IsScopesOf};
-ghost use Rattle.manifest.specs.Answer.{IsAnswerOf, IsWellFormed};
-ghost use Rattle.manifest.specs.Edges.{OfEdge, ValuesOf, CommandValues, ExpandedValues, CheckedPool, CheckedDeps};
-ghost use Rattle.manifest.specs.Held.{IsBuildOf, AreQuoted, ArePools, ArePathsFormed, IsUseRefused};
+ghost use Rattle.manifest.specs.Answer.{IsAnswerOf};
+ghost use Rattle.manifest.specs.Edges.{OfEdge, CommandValues, ExpandedValues, CheckedPool, CheckedDeps};
+ghost use Rattle.manifest.specs.Held.{IsBuildOf, ArePools, IsLineFor, ShowsPaths, ShowsQuoted, IsUseRefused, in_edge};
 ghost use Rattle.manifest.specs.Places.{place_of};
+ghost use Rattle.manifest.specs.InNumbers.{IsLonger, IsWithin};
 ghost use Rattle.manifest.specs.States.{Build};
 
 use crate::fault::{FaultKind, ReadError};
 use crate::kept::ReadEdge;
-use crate::made::{command_edge, phony_edge};
+use crate::made::command_of;
 use crate::place::Place;
 use crate::values::Values;
 use indexmap::IndexMap;
 use lexer::{is_bare_path, quote};
-use model::Edge;
+use paths::{Action, EdgeId, Lines, PathId, Paths as Table};
 use scopes::{Paths, Rule, Scopes, Use, UseFault, values_are_unique};
 use std::alloc::{AllocError, Global};
 use text::{Items, Path, Text};
 
 impl ReadEdge {
-    /// The edge of the statement, with its rule expanded.
-    pub fn edge(
-        self,
+    /// What the edge of the statement does, with its rule expanded. A dyndep file is put into the table.
+    pub fn action(
+        &self,
         alloc: Global,
         scopes: &Scopes,
         pools: &IndexMap<String, u32>,
-    ) -> Result<Edge, ReadError>
-        requires { self.scope < vec_len scopes.now.scopes }
-        ensures edge { (past : List Move) (said : List Pool) (build : Build) → IsScopesOf scopes.now past → ArePools pools.now.entries said → IsBuildOf self build → IsAnswerOf (OfEdge past said build) result }
-        ensures formed { IfOk result (λ edge. ArePathsFormed self.paths → IsWellFormed edge) }
+        table: &mut Table,
+        lines: &Lines,
+        edge: EdgeId,
+    ) -> Result<Action, ReadError>
+        requires scope { self.now.scope < vec_len scopes.now.scopes }
+        requires edge { edge < length lines.now }
+        requires within { IsWithin table.old (line_at lines.now edge) }
+        ensures edge { (past : List Move) (said : List Pool) (build : Build) → IsScopesOf scopes.now past → ArePools pools.now.entries said → IsBuildOf self.now build → IsLineFor table.old build (line_at lines.now edge) → IsAnswerOf (OfEdge past said build) (in_edge table.new (line_at lines.now edge) result) }
+        ensures grows { OnOk result (IsLonger table.old table.new) }
+        ensures dyndep { IfOk result (λ action. dyndep_stop action ≤ length table.new) }
     {
-        let values = self.values(alloc, scopes, pools)?;
-        let ReadEdge { paths, .. } = self;
-        match values {
-            Some(values) => command_edge(alloc, paths, values),
-            None => Ok(phony_edge(alloc, paths)?),
-        }
+        let Some(rule) = &self.rule else {
+            return Ok(Action::Alias);
+        };
+        let values = {
+            let inputs = texts(alloc, table, lines.explicit_inputs(edge))?;
+            let outputs = texts(alloc, table, lines.explicit_outputs(edge))?;
+            let plain = Paths {
+                inputs: inputs.as_slice(),
+                outputs: outputs.as_slice(),
+            };
+            self.values(alloc, scopes, pools, rule, plain)?
+        };
+        Ok(Action::Command(command_of(alloc, table, values)?))
     }
 
-    /// The values of the rule's variables; none for `phony`.
+    /// The values of the rule's variables.
     fn values(
         &self,
         alloc: Global,
         scopes: &Scopes,
         pools: &IndexMap<String, u32>,
-    ) -> Result<Option<Values>, ReadError>
-        requires { self.now.scope < vec_len scopes.now.scopes }
-        ensures { (past : List Move) (said : List Pool) (build : Build) → IsScopesOf scopes.now past → ArePools pools.now.entries said → IsBuildOf self.now build → IsAnswerOf (ValuesOf past said build) result }
-    {
-        match &self.rule {
-            Some(rule) => Ok(Some(self.command_values(alloc, scopes, pools, rule)?)),
-            None => Ok(None),
-        }
-    }
-
-    fn command_values(
-        &self,
-        alloc: Global,
-        scopes: &Scopes,
-        pools: &IndexMap<String, u32>,
         rule: &Rule,
+        plain: Paths<'_>,
     ) -> Result<Values, ReadError>
         requires { self.now.scope < vec_len scopes.now.scopes }
-        ensures { (past : List Move) (said : List Pool) (build : Build) → IsScopesOf scopes.now past → ArePools pools.now.entries said → IsBuildOf self.now build → IsAnswerOf (CommandValues past said build rule.now) result }
+        ensures { (past : List Move) (said : List Pool) (build : Build) → IsScopesOf scopes.now past → ArePools pools.now.entries said → IsBuildOf self.now build → ShowsPaths plain.entry build → IsAnswerOf (CommandValues past said build rule.now) result }
     {
-        let values = self.expand(alloc, scopes, rule)?;
+        let values = self.expand(alloc, scopes, rule, plain)?;
         self.check_pool(alloc, pools, &values)?;
         self.check_deps(alloc, &values)?;
         Ok(values)
     }
 
-    fn expand(&self, alloc: Global, scopes: &Scopes, rule: &Rule) -> Result<Values, ReadError>
+    fn expand(
+        &self,
+        alloc: Global,
+        scopes: &Scopes,
+        rule: &Rule,
+        plain: Paths<'_>,
+    ) -> Result<Values, ReadError>
         requires { self.now.scope < vec_len scopes.now.scopes }
-        ensures { (past : List Move) (build : Build) → IsScopesOf scopes.now past → IsBuildOf self.now build → IsAnswerOf (ExpandedValues past build rule.now) result }
+        ensures { (past : List Move) (build : Build) → IsScopesOf scopes.now past → IsBuildOf self.now build → ShowsPaths plain.entry build → IsAnswerOf (ExpandedValues past build rule.now) result }
     {
-        let inputs = self.paths.explicit_inputs.as_slice();
-        let outputs = self.paths.explicit_outputs.as_slice();
-        let quoted_inputs = quote_all(alloc, inputs)?;
-        let quoted_outputs = quote_all(alloc, outputs)?;
+        // as nearly all
+        if are_bare(plain.inputs) && are_bare(plain.outputs) {
+            return self.expand_quoted(alloc, scopes, rule, plain, plain);
+        }
+        let inputs = quote_all(alloc, plain.inputs)?;
+        let outputs = quote_all(alloc, plain.outputs)?;
+        let input_words = borrow_all(alloc, &inputs)?;
+        let output_words = borrow_all(alloc, &outputs)?;
+        let quoted = Paths {
+            inputs: input_words.as_slice(),
+            outputs: output_words.as_slice(),
+        };
+        self.expand_quoted(alloc, scopes, rule, plain, quoted)
+    }
+
+    /// The same, with the paths as words of a command.
+    fn expand_quoted(
+        &self,
+        alloc: Global,
+        scopes: &Scopes,
+        rule: &Rule,
+        plain: Paths<'_>,
+        quoted: Paths<'_>,
+    ) -> Result<Values, ReadError>
+        requires { self.now.scope < vec_len scopes.now.scopes }
+        ensures { (past : List Move) (build : Build) → IsScopesOf scopes.now past → IsBuildOf self.now build → ShowsPaths plain.entry build → ShowsQuoted quoted.entry build → IsAnswerOf (ExpandedValues past build rule.now) result }
+    {
         let at = Use {
             scope: self.scope,
             block: &self.block,
             rule,
-            plain: Paths { inputs, outputs },
-            quoted: Paths {
-                inputs: words(&quoted_inputs, inputs),
-                outputs: words(&quoted_outputs, outputs),
-            },
+            plain,
+            quoted,
         };
         values_are_unique();
         match Values::of(alloc, scopes, &at) {
@@ -152,38 +183,52 @@ impl ReadEdge {
     }
 }
 
-/// The paths, each quoted for a command; none where all stand as they are, as nearly always.
-fn quote_all(alloc: Global, paths: &[Path]) -> Result<Option<Items<Path>>, AllocError>
-    ensures { IfOk result (AreQuoted paths.now) }
+/// The texts of paths of the table.
+fn texts<'a>(
+    alloc: Global,
+    table: &'a Table,
+    numbers: &[PathId],
+) -> Result<Vec<&'a str>, AllocError>
+    requires { AllByRecursion (λ n. n < length table.now) numbers.now }
+    ensures { IfOk result (λ texts. map deref texts.items ≡ texts_at table.now numbers.now) }
 {
-    if are_bare(paths) {
-        return Ok(None);
+    let mut texts = Vec::with_capacity(alloc, numbers.len())?;
+    for number in numbers {
+        texts.push(table.text(*number))?;
     }
+    Ok(texts)
+}
+
+/// The paths, each quoted for a command.
+fn quote_all(alloc: Global, paths: &[&str]) -> Result<Items<Path>, AllocError>
+    ensures { IfOk result (λ words. words ≡ map quoted (map deref paths.now)) }
+{
     let mut words = Items::from_vec(Vec::with_capacity(alloc, paths.len())?);
     for path in paths {
-        words.push(Path::from_string(quote(alloc, path.as_str())?))?;
+        words.push(Path::from_string(quote(alloc, path)?))?;
     }
-    Ok(Some(words))
+    Ok(words)
+}
+
+/// The characters of each.
+fn borrow_all<'a>(alloc: Global, words: &'a Items<Path>) -> Result<Vec<&'a str>, AllocError>
+    ensures { IfOk result (λ texts. map deref texts.items ≡ words.now) }
+{
+    let mut texts = Vec::with_capacity(alloc, words.len())?;
+    for word in words.as_slice() {
+        texts.push(word.as_str())?;
+    }
+    Ok(texts)
 }
 
 /// Whether each path stands in a command as it is.
-fn are_bare(paths: &[Path]) -> bool
-    ensures { IsTrue result → map quoted paths.now ≡ paths.now }
+fn are_bare(paths: &[&str]) -> bool
+    ensures { IsTrue result → map quoted (map deref paths.now) ≡ map deref paths.now }
 {
     for path in paths {
-        if !is_bare_path(path.as_str()) {
+        if !is_bare_path(path) {
             return false;
         }
     }
     true
-}
-
-/// The words of the paths: the quoted ones, or the paths themselves.
-fn words<'a>(kept: &'a Option<Items<Path>>, paths: &'a [Path]) -> &'a [Path]
-    ensures { AreQuoted paths.now kept.now → result.now ≡ map quoted paths.now }
-{
-    match kept {
-        Some(words) => words.as_slice(),
-        None => paths,
-    }
 }

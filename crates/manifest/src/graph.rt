@@ -1,31 +1,40 @@
 //! The build graph, when all is read.
 
-ghost use Rattle.std.specs.Prelude.{◌≡◌, [], List, ℕ, IfOk, string_bytes, map};
+ghost use Rattle.std.specs.Prelude.{◌≡◌, ◌<◌, ◌≤◌, ◌^◌, [], List, ℕ, nat_lt, length, map, IfOk, OnOk};
 ghost use Rattle.std.specs.List.{AllZip, AllByRecursion};
 ghost use Rattle.model.specs.declared.graph.Pool.{Pool as SaidPool};
+ghost use Rattle.paths.specs.Commands.{dyndep_stop};
+ghost use Rattle.model.specs.Graph.{has_number};
+ghost use Rattle.paths.specs.Lists.{all_paths};
+ghost use Rattle.paths.specs.Told.{text_at, texts_at, edges_of, graph_of};
 ghost use Rattle.scopes.specs.Moves.{Move};
 ghost use Rattle.scopes.specs.Scopes.{IsScopesOf};
-ghost use Rattle.manifest.specs.Answer.{IsAnswerOf, IsGraph, IsWellFormed};
+ghost use Rattle.manifest.specs.Answer.{IsAnswerOf, IsGraph, in_texts};
+ghost use Rattle.manifest.specs.Declarations.{most_edges};
 ghost use Rattle.manifest.specs.Edges.{OfEdges};
 ghost use Rattle.manifest.specs.Graphs.{AtEnd, OfDefault, OfDefaults, builddir_in};
-ghost use Rattle.manifest.specs.Held.{IsStateOf, IsFormed, IsInScope, IsBuildOf, IsDefaultOf, ArePools, AreKeys, ArePathsFormed, pool_of};
+ghost use Rattle.manifest.specs.Held.{IsStateOf, IsFormed, IsInScope, IsBuildOf, IsDefaultOf, ArePools, IsLineFor, pool_of, in_edges, is_done};
+ghost use Rattle.manifest.specs.Seen.{IsStated};
+ghost use Rattle.manifest.specs.InNumbers.{AreKeys, IsLonger, IsWithin};
 ghost use Rattle.manifest.specs.States.{State, Build, Default};
 
 use crate::fault::{FaultKind, ReadError};
-use crate::kept::{Declared, ReadDefault, ReadEdge};
+use crate::kept::{Declared, Named, ReadDefault, ReadEdge};
 use crate::place::Place;
-use indexmap::{IndexMap, IndexSet};
-use model::{BuildGraph as Manifest, Edge, Pool};
+use indexmap::IndexMap;
+use model::Pool;
+use paths::{Action, EdgeId, Lines, Manifest, PathId, Paths};
 use scopes::Scopes;
 use std::alloc::{AllocError, Global};
-use text::{Items, Path, Text};
+use text::{Items, Text};
 
 impl Declared {
-    /// The build graph. What is wrong with edges comes before what is wrong with defaults.
+    /// The manifest. What is wrong with edges comes before what is wrong with defaults.
     pub fn finish(self, alloc: Global) -> Result<Manifest, ReadError>
-        requires { IsFormed self }
-        ensures said { (state : State) → IsStateOf self state → IsAnswerOf (AtEnd state) result }
-        ensures graph { IfOk result IsGraph }
+        requires formed { IsFormed self }
+        requires stated { IsStated self }
+        ensures said { (state : State) → IsStateOf self state → IsAnswerOf (AtEnd state) (in_texts result) }
+        ensures graph { IfOk (in_texts result) IsGraph }
     {
         let Declared {
             scopes,
@@ -34,58 +43,107 @@ impl Declared {
             defaults,
             paths,
         } = self;
-        let edges = expand_all(alloc, &scopes, &pools, edges)?;
-        check_defaults(alloc, &paths, defaults.as_slice())?;
-        Ok(Manifest {
-            edges,
-            pools: all_pools(alloc, &pools)?,
-            defaults: all_defaults(alloc, defaults)?,
-            builddir: builddir(alloc, &scopes)?,
-        })
+        let Named {
+            table: mut paths,
+            lines,
+        } = paths;
+        let named = paths.len();
+        let actions = expand_all(alloc, &scopes, &pools, &mut paths, &lines, edges)?;
+        let defaults = default_numbers(alloc, &paths, named, defaults.as_slice())?;
+        let pools = all_pools(alloc, &pools)?;
+        let builddir = builddir(alloc, &scopes)?;
+        Ok(manifest_of(paths, named, lines, actions, pools, defaults, builddir))
     }
 }
 
-/// The edges, with their rules expanded in order.
+/// The manifest of its parts.
+fn manifest_of(
+    paths: Paths,
+    named: usize,
+    lines: Lines,
+    actions: Items<Action>,
+    pools: Items<Pool>,
+    defaults: Items<PathId>,
+    builddir: Text,
+) -> Manifest
+    requires few { length lines ≤ 2 ^ 32 }
+    requires fits { length actions ≡ length lines }
+    requires names { named ≤ length paths }
+    requires numbered { (p : ℕ) → has_number (all_paths lines) p ≡ nat_lt p named }
+    requires known { AllByRecursion (λ number. number < named) defaults }
+    requires dyndeps { AllByRecursion (λ action. dyndep_stop action ≤ length paths) actions }
+    ensures { graph_of result ≡ record { edges = edges_of paths lines actions; pools = pools; defaults = texts_at paths defaults; builddir = builddir } }
+{
+    Manifest {
+        paths,
+        named,
+        lines,
+        actions,
+        pools,
+        defaults,
+        builddir,
+    }
+}
+
+/// What the edges do, with their rules expanded in order.
 fn expand_all(
     alloc: Global,
     scopes: &Scopes,
     pools: &IndexMap<String, u32>,
+    table: &mut Paths,
+    lines: &Lines,
     read: Vec<ReadEdge>,
-) -> Result<Items<Edge>, ReadError>
-    requires { AllByRecursion (λ (edge : ReadEdge). ArePathsFormed edge.paths × IsInScope scopes.now edge) read.items }
-    ensures edges { (past : List Move) (said : List SaidPool) (builds : List Build) → IsScopesOf scopes.now past → ArePools pools.now.entries said → AllZip IsBuildOf read.items builds → IsAnswerOf (OfEdges past said builds []) result }
-    ensures formed { IfOk result (λ edges. AllByRecursion IsWellFormed edges) }
+) -> Result<Items<Action>, ReadError>
+    requires scopes { AllByRecursion (IsInScope scopes.now) read.items }
+    requires within { AllByRecursion (IsWithin table.old) lines.now }
+    requires count { length read.items ≡ length lines.now }
+    requires few { length lines.now ≤ most_edges }
+    ensures edges { (past : List Move) (said : List SaidPool) (builds : List Build) → IsScopesOf scopes.now past → ArePools pools.now.entries said → AllZip IsBuildOf read.items builds → AllZip (IsLineFor table.old) builds lines.now → IsAnswerOf (OfEdges past said builds []) (in_edges table.new lines.now result) }
+    ensures grows { OnOk result (IsLonger table.old table.new) }
+    ensures count { IfOk result (λ actions. length actions ≡ length lines.now) }
+    ensures dyndeps { IfOk result (AllByRecursion (λ action. dyndep_stop action ≤ length table.new)) }
 {
-    let mut edges = Items::new(alloc);
+    let mut actions = Items::from_vec(Vec::with_capacity(alloc, read.len())?);
     for edge in read {
-        edges.push(edge.edge(alloc, scopes, pools)?)?;
+        let place = EdgeId::at_below(actions.len());
+        actions.push(edge.action(alloc, scopes, pools, table, lines, place)?)?;
     }
-    Ok(edges)
+    Ok(actions)
 }
 
-/// Refuses the first default that no build line names.
-fn check_defaults(
+/// The numbers of defaults, of which the first that no build line names is refused. The paths of build lines are the first
+/// of the table, as many as `named`.
+fn default_numbers(
     alloc: Global,
-    named: &IndexSet<String>,
+    table: &Paths,
+    named: usize,
     defaults: &[ReadDefault],
-) -> Result<(), ReadError>
-    ensures { (paths : List (List ℕ)) (said : List Default) → AreKeys (map string_bytes named.now.keys) paths → AllZip IsDefaultOf defaults.now said → IsAnswerOf (OfDefaults paths said) result }
+) -> Result<Items<PathId>, ReadError>
+    ensures said { (known : List (List ℕ)) (paths : List (List ℕ)) (said : List Default) → IsLonger known table.now → named ≡ length known → AreKeys known paths → AllZip IsDefaultOf defaults.now said → IsAnswerOf (OfDefaults paths said) (is_done result) }
+    ensures texts { IfOk result (λ numbers. texts_at table.now numbers ≡ map (λ (default : ReadDefault). default.path) defaults.now) }
+    ensures known { IfOk result (AllByRecursion (λ number. number < named)) }
 {
+    let mut numbers = Items::from_vec(Vec::with_capacity(alloc, defaults.len())?);
     for default in defaults {
-        check_default(alloc, named, default)?;
+        numbers.push(default_number(alloc, table, named, default)?)?;
     }
-    Ok(())
+    Ok(numbers)
 }
 
-fn check_default(
+fn default_number(
     alloc: Global,
-    named: &IndexSet<String>,
+    table: &Paths,
+    named: usize,
     default: &ReadDefault,
-) -> Result<(), ReadError>
-    ensures { (paths : List (List ℕ)) (said : Default) → AreKeys (map string_bytes named.now.keys) paths → IsDefaultOf default.now said → IsAnswerOf (OfDefault paths said) result }
+) -> Result<PathId, ReadError>
+    ensures said { (known : List (List ℕ)) (paths : List (List ℕ)) (said : Default) → IsLonger known table.now → named ≡ length known → AreKeys known paths → IsDefaultOf default.now said → IsAnswerOf (OfDefault paths said) (is_done result) }
+    ensures text { IfOk result (λ number. text_at table.now number ≡ default.now.path) }
+    ensures known { IfOk result (λ number. number < named) }
 {
-    if named.contains(default.path.as_str()) {
-        return Ok(());
+    if let Some(number) = table.number_of(default.path.as_str()) {
+        if number.index() < named {
+            return Ok(number);
+        }
     }
     let kind = FaultKind::UnknownDefault(Text::from_str(alloc, default.path.as_str())?);
     let place = Place {
@@ -107,17 +165,6 @@ fn all_pools(alloc: Global, kept: &IndexMap<String, u32>) -> Result<Items<Pool>,
         })?;
     }
     Ok(pools)
-}
-
-/// The paths of default statements.
-fn all_defaults(alloc: Global, kept: Vec<ReadDefault>) -> Result<Items<Path>, AllocError>
-    ensures { IfOk result (λ paths. paths ≡ map (λ (default : ReadDefault). default.path) kept.items) }
-{
-    let mut paths = Items::new(alloc);
-    for default in kept {
-        paths.push(default.path)?;
-    }
-    Ok(paths)
 }
 
 /// The value of `builddir` in the outermost scope.

@@ -1,7 +1,7 @@
 //! What is kept of the statements read so far.
 
-use crate::paths::EdgePaths;
-use indexmap::{IndexMap, IndexSet};
+use indexmap::IndexMap;
+use paths::{Lines, Paths};
 use scopes::{Block, Rule, Scopes};
 use std::alloc::{AllocError, Global};
 use std::rc::Rc;
@@ -19,7 +19,6 @@ pub struct ReadEdge {
     /// None for `phony`.
     pub rule: Option<Rc<Rule>>,
     pub block: Block,
-    pub paths: EdgePaths,
 }
 
 /// A path of a `default` statement.
@@ -31,6 +30,15 @@ pub struct ReadDefault {
     pub path: Path,
 }
 
+/// The paths of build lines, as text once each, and as numbers elsewhere.
+#[derive(Drop)]
+pub struct Named {
+    /// The paths that build lines name.
+    pub table: Paths,
+    /// The paths of each build statement; those of a `phony` one without the inputs that are outputs of its own.
+    pub lines: Lines,
+}
+
 /// What the statements so far declare.
 #[derive(Drop)]
 pub struct Declared {
@@ -39,8 +47,7 @@ pub struct Declared {
     /// How many commands of each pool may run at once.
     pub pools: IndexMap<String, u32>,
     pub defaults: Vec<ReadDefault>,
-    /// The paths of build lines, each once.
-    pub paths: IndexSet<String>,
+    pub paths: Named,
 }
 
 impl Declared {
@@ -57,7 +64,10 @@ impl Declared {
             edges: Vec::new(alloc),
             pools: IndexMap::new(alloc),
             defaults: Vec::new(alloc),
-            paths: IndexSet::new(alloc),
+            paths: Named {
+                table: Paths::new(alloc),
+                lines: Lines::new(alloc),
+            },
         })
     }
 }

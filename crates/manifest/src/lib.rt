@@ -13,7 +13,7 @@ mod kept;
 mod laws;
 mod made;
 mod numbers;
-mod paths;
+mod path_reader;
 mod place;
 mod pools;
 mod reader;
@@ -23,6 +23,7 @@ mod values;
 
 pub use fault::{FaultKind, FileFault, ReadError};
 pub use laws::{one_outcome, reads_longer};
-pub use model::{Act, BuildGraph as Manifest, Edge, SiteFault};
+pub use model::SiteFault;
+pub use paths::Manifest;
 pub use reader::read;
 pub use texts::Texts;

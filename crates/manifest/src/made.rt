@@ -1,30 +1,35 @@
-//! Edges from paths and values (manual: "Rule variables", "The `phony` rule").
+//! What edges are made of: paths and values (manual: "Rule variables", "The `phony` rule").
 
-ghost use Rattle.std.specs.Prelude.{◌≡◌, ◌++◌, List, ℕ, if◌then◌else◌, IfOk, IfErr};
-ghost use Rattle.model.specs.Graph.{has};
+ghost use Rattle.std.specs.Prelude.{◌≡◌, ◌≤◌, List, ℕ, length, if◌then◌else◌, IfOk, IfErr, OnOk};
+ghost use Rattle.std.specs.Option.{option_map};
 ghost use Rattle.model.specs.declared.graph.Deps.TheVariants.{Unset, Gcc};
-ghost use Rattle.manifest.specs.Answer.{IsWellFormed};
-ghost use Rattle.manifest.specs.Edges.{IsEdgeOf, phony_edge, without, outputs_of, IsPathOrNone, IsFileOrNone, some_text, is_gcc};
-ghost use Rattle.manifest.specs.Held.{ArePathsFormed, HasKeys};
+ghost use Rattle.paths.specs.declared.line.Line.{Line};
+ghost use Rattle.paths.specs.declared.manifest.Action.TheVariants.{Command as OfCommand};
+ghost use Rattle.paths.specs.Commands.{stop_of};
+ghost use Rattle.paths.specs.Lists.{line_outputs};
+ghost use Rattle.paths.specs.Told.{text_at, edge_of};
+ghost use Rattle.manifest.specs.Edges.{IsEdgeOf, IsPathOrNone, IsFileOrNone, some_text, is_gcc};
+ghost use Rattle.manifest.specs.InNumbers.{IsLonger, paths_at, HasNumbers, numbers_without, without_own};
 
 use crate::fault::ReadError;
-use crate::paths::EdgePaths;
 use crate::values::Values;
 use indexmap::IndexSet;
 use lexer::{ReadFault, canonical};
-use model::{Act, Deps, Edge};
+use model::{Act, Deps};
+use paths::{Command, Line, PathId, Paths};
 use std::alloc::{AllocError, Global};
-use text::{Items, Path, Text};
+use text::{Items, Text};
 
-/// An edge with a command.
-pub fn command_edge(alloc: Global, paths: EdgePaths, values: Values) -> Result<Edge, ReadError>
-    ensures edge { IfOk result (IsEdgeOf paths values) }
+/// What an edge with a command does. The dyndep file is put into the table.
+pub fn command_of(alloc: Global, table: &mut Paths, values: Values) -> Result<Command, ReadError>
+    ensures grows { OnOk result (IsLonger table.old table.new) }
+    ensures command { IfOk result (λ command. (line : Line) → IsEdgeOf (paths_at table.new line) values (edge_of table.new line (OfCommand command))) }
+    ensures dyndep { IfOk result (λ command. stop_of command.dyndep ≤ length table.new) }
     ensures memory { IfErr result (λ error. error ≡ ReadError.Memory) }
-    ensures formed { IfOk result (λ edge. ArePathsFormed paths → IsWellFormed edge) }
 {
     let depfile = path_or_none(alloc, &values.depfile)?;
     let response_path = path_or_none(alloc, &values.rspfile)?;
-    let dyndep = file_or_none(alloc, &values.dyndep)?;
+    let dyndep = file_or_none(alloc, table, &values.dyndep)?;
     let deps = deps_of(&values.deps);
     let restat = !values.restat.is_empty();
     let act = Act {
@@ -33,65 +38,44 @@ pub fn command_edge(alloc: Global, paths: EdgePaths, values: Values) -> Result<E
         response_path,
         response_content: values.rspfile_content,
     };
-    Ok(Edge {
-        explicit_outputs: paths.explicit_outputs,
-        implicit_outputs: paths.implicit_outputs,
-        explicit_inputs: paths.explicit_inputs,
-        implicit_inputs: paths.implicit_inputs,
-        order_only_inputs: paths.order_only_inputs,
-        validations: paths.validations,
+    Ok(Command {
         act,
         description: values.description,
         deps,
         restat,
         pool: some_text(values.pool),
         dyndep,
-        phony: false,
     })
 }
 
-/// The edge of a `phony` statement. An input that is one of its own outputs is dropped.
-pub fn phony_edge(alloc: Global, paths: EdgePaths) -> Result<Edge, AllocError>
-    ensures edge { IfOk result (λ edge. edge ≡ phony_edge paths) }
-    ensures formed { IfOk result (λ edge. ArePathsFormed paths → IsWellFormed edge) }
+/// The paths of a `phony` statement without the inputs that are outputs of its own.
+pub fn without_own(alloc: Global, line: Line) -> Result<Line, AllocError>
+    ensures { IfOk result (λ kept. kept ≡ without_own line) }
 {
-    let outputs = output_set(alloc, &paths)?;
-    let explicit_inputs = without(alloc, &outputs, paths.explicit_inputs.as_slice())?;
-    let implicit_inputs = without(alloc, &outputs, paths.implicit_inputs.as_slice())?;
-    let order_only_inputs = without(alloc, &outputs, paths.order_only_inputs.as_slice())?;
-    let act = Act {
-        command: Text::new(alloc),
-        depfile: Text::new(alloc),
-        response_path: Text::new(alloc),
-        response_content: Text::new(alloc),
-    };
-    Ok(Edge {
-        explicit_outputs: paths.explicit_outputs,
-        implicit_outputs: paths.implicit_outputs,
+    let outputs = output_set(alloc, &line)?;
+    let explicit_inputs = without(alloc, &outputs, line.explicit_inputs.as_slice())?;
+    let implicit_inputs = without(alloc, &outputs, line.implicit_inputs.as_slice())?;
+    let order_only_inputs = without(alloc, &outputs, line.order_only_inputs.as_slice())?;
+    Ok(Line {
+        explicit_outputs: line.explicit_outputs,
+        implicit_outputs: line.implicit_outputs,
         explicit_inputs,
         implicit_inputs,
         order_only_inputs,
-        validations: paths.validations,
-        act,
-        description: Text::new(alloc),
-        deps: Deps::Unset,
-        restat: false,
-        pool: None,
-        dyndep: None,
-        phony: true,
+        validations: line.validations,
     })
 }
 
-/// The outputs, each once.
-fn output_set(alloc: Global, paths: &EdgePaths) -> Result<IndexSet<String>, AllocError>
-    ensures { IfOk result (λ outputs. HasKeys outputs.keys (outputs_of paths.now)) }
+/// The numbers of the outputs, each once.
+fn output_set(alloc: Global, line: &Line) -> Result<IndexSet<usize>, AllocError>
+    ensures { IfOk result (λ outputs. HasNumbers outputs.keys (line_outputs line.now)) }
 {
     let mut outputs = IndexSet::new(alloc);
-    for path in paths.explicit_outputs.as_slice() {
-        outputs.insert(String::from_str(alloc, path.as_str())?)?;
+    for path in line.explicit_outputs.as_slice() {
+        outputs.insert(path.index())?;
     }
-    for path in paths.implicit_outputs.as_slice() {
-        outputs.insert(String::from_str(alloc, path.as_str())?)?;
+    for path in line.implicit_outputs.as_slice() {
+        outputs.insert(path.index())?;
     }
     Ok(outputs)
 }
@@ -99,15 +83,15 @@ fn output_set(alloc: Global, paths: &EdgePaths) -> Result<IndexSet<String>, Allo
 /// The paths that are none of the outputs.
 fn without(
     alloc: Global,
-    outputs: &IndexSet<String>,
-    paths: &[Path],
-) -> Result<Items<Path>, AllocError>
-    ensures { IfOk result (λ kept. (texts : List (List ℕ)) → HasKeys outputs.now.keys texts → kept ≡ without texts paths.now) }
+    outputs: &IndexSet<usize>,
+    paths: &[PathId],
+) -> Result<Items<PathId>, AllocError>
+    ensures { IfOk result (λ kept. (numbers : List ℕ) → HasNumbers outputs.now.keys numbers → kept ≡ numbers_without numbers paths.now) }
 {
-    let mut kept = Items::new(alloc);
+    let mut kept = Items::from_vec(Vec::with_capacity(alloc, paths.len())?);
     for path in paths {
-        if !outputs.contains(path.as_str()) {
-            kept.push(path.clone()?)?;
+        if !outputs.contains(&path.index()) {
+            kept.push(*path)?;
         }
     }
     Ok(kept)
@@ -125,13 +109,15 @@ fn path_or_none(alloc: Global, text: &Text) -> Result<Text, ReadError>
     }
 }
 
-/// The canonical path; none for an empty text.
-fn file_or_none(alloc: Global, text: &Text) -> Result<Option<Path>, ReadError>
-    ensures file { IfOk result (IsFileOrNone text.now) }
+/// The number of the canonical path, which is put into the table; none for an empty text.
+fn file_or_none(alloc: Global, table: &mut Paths, text: &Text) -> Result<Option<PathId>, ReadError>
+    ensures grows { OnOk result (IsLonger table.old table.new) }
+    ensures file { IfOk result (λ number. IsFileOrNone text.now (option_map (text_at table.new) number)) }
+    ensures within { IfOk result (λ number. stop_of number ≤ length table.new) }
     ensures memory { IfErr result (λ error. error ≡ ReadError.Memory) }
 {
     match canonical(alloc, text.as_str()) {
-        Ok(path) => Ok(Some(Path::from_string(path))),
+        Ok(path) => Ok(Some(table.add(alloc, path.as_str())?)),
         Err(ReadFault::EmptyPath) => Ok(None),
         Err(ReadFault::Memory) => Err(ReadError::Memory),
     }

@@ -4,7 +4,7 @@ ghost use Rattle.std.specs.Prelude.{◌≡◌, ◌<◌, IfOk, OnOk, IsTrue, map}
 ghost use Rattle.lexer.specs.Said.{said_of, fragments_of, form_of};
 ghost use Rattle.model.specs.Calls.{OnlyLooks, HasCause};
 ghost use Rattle.model.specs.World.{World};
-ghost use Rattle.manifest.specs.Answer.{site_part, ReadsFile, IsGraph, IsAnswerOf};
+ghost use Rattle.manifest.specs.Answer.{site_part, in_texts, ReadsFile, IsGraph, IsAnswerOf};
 ghost use Rattle.manifest.specs.Files.{Reads, OfFile, OpenOf, NameOf, InScope, too_deep_at, inner_at};
 ghost use Rattle.manifest.specs.Held.{IsStateOf, KeepsScopes, IsFormed};
 ghost use Rattle.manifest.specs.Seen.{Covers, seen, IsCaused, FindsFile, SaysSeen, IsStated, GroupSays, LinesSay, if_no_line};
@@ -18,7 +18,7 @@ use crate::kept::Declared;
 use crate::place::Place;
 use crate::texts::Texts;
 use lexer::{Fault, Line, ReadFault, Statement, Statements, Value, canonical};
-use model::BuildGraph as Manifest;
+use paths::Manifest;
 use std::alloc::Global;
 use std::rc::Rc;
 use std::str;
@@ -47,8 +47,8 @@ pub struct Opened {
 pub fn read<R: Texts>(alloc: Global, texts: &mut R, name: &str) -> Result<Manifest, ReadError>
     ensures looks { OnlyLooks R.tells (R.world texts.old) (R.world texts.new) }
     ensures cause { HasCause (R.world texts.old) (R.world texts.new) (site_part result) }
-    ensures file { IsTrue R.tells → ReadsFile name.now (R.world texts.old).history (R.world texts.new).history result }
-    ensures graph { IfOk result IsGraph }
+    ensures file { IsTrue R.tells → ReadsFile name.now (R.world texts.old).history (R.world texts.new).history (in_texts result) }
+    ensures graph { IfOk (in_texts result) IsGraph }
 {
     let content = texts.read(name)?;
     let file = Rc::new(alloc, Text::from_str(alloc, name)?)?;

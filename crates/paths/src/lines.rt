@@ -87,6 +87,15 @@ impl Lines {
         &self.numbers[row.start..row.explicit_outputs]
     }
 
+    /// Its implicit outputs.
+    pub fn implicit_outputs(&self, edge: EdgeId) -> &[PathId]
+        requires { edge < length self.now }
+        ensures { result.now ≡ (line_at self.now edge).implicit_outputs }
+    {
+        let row = self.rows[edge.index()];
+        &self.numbers[row.explicit_outputs..row.implicit_outputs]
+    }
+
     /// Its inputs: the regular ones, then the order-only ones (manual: "Build dependencies").
     pub fn inputs(&self, edge: EdgeId) -> &[PathId]
         requires { edge < length self.now }

@@ -1,12 +1,13 @@
 //! What a manifest declares, in short.
 
-use manifest::{Act, Edge, Manifest};
-use model::Deps;
+use manifest::Manifest;
+use model::{Act, Deps, Edge};
 use std::alloc::{AllocError, Global};
 use text::{Items, Path};
 
 /// The edges, pools, defaults and the folder of the logs, each with `; ` behind it. What is not set is left out.
 pub fn told_by(alloc: Global, manifest: &Manifest) -> Result<String, AllocError> {
+    let manifest = manifest.texts(alloc)?;
     let mut told = String::new(alloc);
     for edge in manifest.edges.as_slice() {
         push_edge(&mut told, edge)?;

@@ -1,6 +1,7 @@
 -- What is known of the rule's texts while they are expanded in order.
-use Rattle.std.proofs.Common.{◌≡◌, ◌⊎◌, inl, inr, ◌<◌, ◌≤◌, ◌+◌, ◌||◌, ℕ, Bool, true, false, cond, List, [], ◌∷◌, ◌++◌, length, take, get_or, Option, None, Some, is_some, IsSome, unwrap_or, codes, refl, sym, ◌∙◌, ap, subst}
+use Rattle.std.proofs.Common.{◌≡◌, ◌⊎◌, inl, inr, ◌<◌, ◌≤◌, ◌+◌, ◌||◌, ℕ, Bool, true, false, cond, List, [], ◌∷◌, ◌++◌, length, take, get_or, map, Option, None, Some, is_some, IsSome, unwrap_or, codes, refl, sym, ◌∙◌, ap, subst}
 use Rattle.std.specs.Str.{bytes_eq}
+use Rattle.std.specs.Map.Iter.{deref}
 use Rattle.std.proofs.lemmas.Bool.{false≢true}
 use Rattle.indexmap.specs.IndexMap.{get_by_text}
 use Rattle.scopes.specs.declared.template.Template.{Template}
@@ -52,7 +53,7 @@ opened_alone : (at : Use) (paths : Paths) (name : List ℕ) → IsSome (opened a
 opened_alone at paths name some = by (bytes_eq name (codes "in")) (bytes_eq name (codes "out")) (bytes_eq name (codes "in_newline")) (block_value at.block.now name) (template_of at.rule.now name) some
   where
     by : (a b c : Bool) (o : Option (List ℕ)) (t : Option Template) → IsSome (cond (a || (b || c)) None (unless_bound o t))
-        → (cond a (Some (joined (32 ∷ []) paths.inputs.now)) (cond b (Some (joined (32 ∷ []) paths.outputs.now)) (cond c (Some (joined (10 ∷ []) paths.inputs.now)) None)) ≡ None) × (o ≡ None)
+        → (cond a (Some (joined (32 ∷ []) (map deref paths.inputs.now))) (cond b (Some (joined (32 ∷ []) (map deref paths.outputs.now))) (cond c (Some (joined (10 ∷ []) (map deref paths.inputs.now))) None)) ≡ None) × (o ≡ None)
     by true b c o t is = absurd (false≢true is)
     by false true c o t is = absurd (false≢true is)
     by false false true o t is = absurd (false≢true is)

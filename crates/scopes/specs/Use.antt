@@ -1,5 +1,6 @@
 -- The value of a rule variable where its rule is used (manual: "Rules", "Evaluation and scoping").
-use Rattle.std.specs.Prelude.{◌≡◌, ◌⊎◌, ℕ, ◌||◌, Bool, true, false, if◌then◌else◌, List, [], ◌∷◌, ◌++◌, Option, None, Some, IsSome, unwrap_or, bytes_eq, codes}
+use Rattle.std.specs.Prelude.{◌≡◌, ◌⊎◌, ℕ, ◌||◌, Bool, true, false, if◌then◌else◌, List, [], ◌∷◌, ◌++◌, Option, None, Some, IsSome, map, unwrap_or, bytes_eq, codes}
+use Rattle.std.specs.Map.Iter.{deref}
 use Rattle.scopes.specs.declared.template.Template.{Template}
 use Rattle.scopes.specs.declared.usage.Use.{Use}
 use Rattle.scopes.specs.declared.usage.Paths.{Paths}
@@ -23,9 +24,9 @@ paths_for at asked = if is_unquoted asked then at.plain else at.quoted
 
 abbrev pub special_value : Paths → List ℕ → Option (List ℕ)
 special_value paths name =
-    if bytes_eq name (codes "in") then Some (joined (32 ∷ []) paths.inputs.now)
-    else (if bytes_eq name (codes "out") then Some (joined (32 ∷ []) paths.outputs.now)
-    else (if bytes_eq name (codes "in_newline") then Some (joined (10 ∷ []) paths.inputs.now) else None))
+    if bytes_eq name (codes "in") then Some (joined (32 ∷ []) (map deref paths.inputs.now))
+    else (if bytes_eq name (codes "out") then Some (joined (32 ∷ []) (map deref paths.outputs.now))
+    else (if bytes_eq name (codes "in_newline") then Some (joined (10 ∷ []) (map deref paths.inputs.now)) else None))
 
 -- the text of the rule that the name stands for: where it stands for no paths, and the block does not bind it
 abbrev pub unless_bound : Option (List ℕ) → Option Template → Option Template

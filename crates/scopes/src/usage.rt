@@ -6,13 +6,12 @@ ghost use Rattle.scopes.specs.Use.{opened, paths_for, is_special, is_unquoted};
 
 use crate::block::Block;
 use crate::template::{Rule, Template};
-use text::Path;
 
 /// The explicit inputs and outputs of an edge, in one spelling.
 #[derive(Clone, Copy)]
 pub struct Paths<'a> {
-    pub inputs: &'a [Path],
-    pub outputs: &'a [Path],
+    pub inputs: &'a [&'a str],
+    pub outputs: &'a [&'a str],
 }
 
 /// The use of a rule by a build statement.

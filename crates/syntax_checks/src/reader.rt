@@ -141,15 +141,19 @@ impl Reader {
 impl Used {
     /// The value, or why there is none.
     fn value(&self, alloc: Global, scopes: &Scopes, asked: &str) -> Result<Text, Fail> {
-        let quoted_inputs = quoted(alloc, self.inputs.as_slice())?;
-        let quoted_outputs = quoted(alloc, self.outputs.as_slice())?;
+        let inputs = texts(alloc, self.inputs.as_slice())?;
+        let outputs = texts(alloc, self.outputs.as_slice())?;
+        let words = quoted(alloc, self.inputs.as_slice())?;
+        let quoted_inputs = texts(alloc, words.as_slice())?;
+        let more_words = quoted(alloc, self.outputs.as_slice())?;
+        let quoted_outputs = texts(alloc, more_words.as_slice())?;
         let at = Use {
             scope: self.scope,
             block: &self.block,
             rule: &self.rule,
             plain: Paths {
-                inputs: self.inputs.as_slice(),
-                outputs: self.outputs.as_slice(),
+                inputs: inputs.as_slice(),
+                outputs: outputs.as_slice(),
             },
             quoted: Paths {
                 inputs: quoted_inputs.as_slice(),
@@ -182,6 +186,14 @@ fn paths(alloc: Global, scopes: &Scopes, values: &[Value<'_>]) -> Result<Items<P
         paths.push(Path::from_string(text.into_string()))?;
     }
     Ok(paths)
+}
+
+fn texts<'a>(alloc: Global, paths: &'a [Path]) -> Result<Vec<&'a str>, Fail> {
+    let mut texts = Vec::with_capacity(alloc, paths.len())?;
+    for path in paths {
+        texts.push(path.as_str())?;
+    }
+    Ok(texts)
 }
 
 fn quoted(alloc: Global, paths: &[Path]) -> Result<Items<Path>, Fail> {

@@ -19,25 +19,25 @@ build_manifest-requires-clause-running g c = c.in-Ok.ensures.cause.stopped
 pub returns-in-Ok-new-clause-answers : goal.returns-in-Ok-new-clause-answers
 returns-in-Ok-new-clause-answers g c = (
   c.in-Ok.manifest.edges,
-  answers_after g.S.Texts.tells c.in-Ok.manifest.edges (g.S.Texts.world c.args.site.now) (g.S.Texts.world c.read.new.texts) (g.S.Texts.world c.build_manifest.new.site) c.build_manifest.result
-      c.read.ensures.looks c.read.ensures.cause.grows c.build_manifest.ensures.answers,
+  answers_after g.S.Texts.tells c.in-Ok.manifest.edges (g.S.Texts.world c.args.site.now) (g.S.Texts.world c.read_texts.new.site) (g.S.Texts.world c.build_manifest.new.site) c.build_manifest.result
+      c.read_texts.ensures.looks c.read_texts.ensures.cause.grows c.build_manifest.ensures.answers,
 )
 
 pub returns-in-Ok-new-clause-build : goal.returns-in-Ok-new-clause-build
 returns-in-Ok-new-clause-build g c =
     let tells = g.S.Texts.tells in
     let old = g.S.Texts.world c.args.site.now in
-    let mid = g.S.Texts.world c.read.new.texts in
+    let mid = g.S.Texts.world c.read_texts.new.site in
     let new = g.S.Texts.world c.build_manifest.new.site in
     let asked = c.in-Ok-new.asked in
-    let looked : Looked tells old mid = record { looks = c.read.ensures.looks; unrefused = unrefused_call old mid _ c.in-Ok.ensures.cause } in
+    let looked : Looked tells old mid = record { looks = c.read_texts.ensures.looks; unrefused = unrefused_call old mid _ c.in-Ok.ensures.cause } in
     let any : Behaviour = record { outcome = g.S.Site.outcome; depfile = λ text. None; dyndep = λ text. None } in
     inr record {
       graph = c.in-Ok.manifest;
       formed = c.in-Ok.ensures.graph;
       file = λ tell.
           let later = builds_grow tells any (any_own asked.folder) c.in-Ok.manifest asked.folder asked.limits asked.given.now asked.targets mid new c.build_manifest.result
-          (c.build_manifest.ensures.builds any (any_own asked.folder) mid (own_in asked.folder) (idle_after tells old mid c.read.ensures.looks c.requires) (looked_nothing tells mid c.in-Ok.ensures.cause.stopped)) tell in
+          (c.build_manifest.ensures.builds any (any_own asked.folder) mid (own_in asked.folder) (idle_after tells old mid c.read_texts.ensures.looks c.requires) (looked_nothing tells mid c.in-Ok.ensures.cause.stopped)) tell in
           subst (λ (n : List ℕ). ReadsFile n old.history new.history (Ok c.in-Ok.manifest)) c.as_str.ensures
           (c.reads_longer.ensures c.as_str.result.now old.history mid.history new.history later.0 (Ok c.in-Ok.manifest) later.1 (c.in-Ok.ensures.file tell));
       targets = asked.targets;
@@ -56,7 +56,7 @@ pub returns-in-Ok-clause-build : goal.returns-in-Ok-clause-build
 returns-in-Ok-clause-build g c = inl record {
   error = error.Memory;
   is = refl;
-  looks = c.read.ensures.looks;
+  looks = c.read_texts.ensures.looks;
   cause = c.in-Ok.ensures.cause;
   file = λ tell. tt;
 }

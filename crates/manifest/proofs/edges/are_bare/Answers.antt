@@ -1,9 +1,7 @@
-use Rattle.std.proofs.Common.{◌∙◌, sym, ap}
-use Rattle.lexer.specs.Quote.{is_bare_path}
+use Rattle.std.proofs.Common.{◌∙◌, sym}
 use Rattle.manifest.proofs.EdgeLists.{bare_more}
 use Rattle.manifest.proofs.edges.are_bare.Goals as goal
 
 pub loop-path-preserved : goal.loop-path-preserved
 loop-path-preserved c =
-    bare_more c.args.paths.now c.loop-path.path-index c.path-item.result c.loop-path-test.true c.path-item.is
-    (ap is_bare_path (sym c.as_str.ensures) ∙ (sym c.is_bare_path.ensures ∙ c.if-not-is_bare_path.false)) c.loop-path.invariant
+    bare_more c.args.paths.now c.loop-path.path-index _ c.loop-path-test.true (sym c.is_bare_path.ensures ∙ c.if-not-is_bare_path.false) c.loop-path.invariant

@@ -1,8 +1,11 @@
-use Rattle.std.proofs.Common.{rules, ◌≡◌, None}
+use Rattle.std.proofs.Common.{rules, ◌≡◌, None, Err}
+use Rattle.std.proofs.lemmas.Result.{err_from_is_err_and}
+use Rattle.paths.specs.declared.manifest.Manifest.{Manifest}
+use Rattle.manifest.specs.Answer.{in_texts}
 use Rattle.manifest.specs.Graphs.{AtEnd}
 use Rattle.manifest.specs.States.{nothing}
 use Rattle.manifest.proofs.Looking.{looks_then, covers_before, covers_after}
-use Rattle.manifest.proofs.ReadMain.{main_cause, answer_cause, formed_new, read_absent, read_broken, read_done}
+use Rattle.manifest.proofs.ReadMain.{main_cause, texts_cause, formed_new, read_absent, read_broken, read_done}
 use Rattle.manifest.proofs.reader.read.Goals as goal
 
 pub returns-in_default-clause-file : goal.returns-in_default-clause-file
@@ -23,8 +26,11 @@ returns-in_err-read_bytes-clause-file g c = λ told.
     c.in-Some.bytes c.as_slice.result.now c.in-Some.is c.as_slice.ensures _ c.from_residual-in_err-read_bytes.result c.from_residual-in_err-read_bytes.ensures.1
     (c.in_err-read_bytes.ensures.said told old new (covers_after g.R.Texts.tells old new old mid new told c.read.ensures.looks (λ name content sees. sees)) nothing c.in_ok-declared.ensures)
 
-pub finish-requires : goal.finish-requires
-finish-requires g c = c.in_ok-read_bytes.ensures.formed (formed_new _ c.in_ok-declared.ensures)
+pub finish-requires-clause-formed : goal.finish-requires-clause-formed
+finish-requires-clause-formed g c = c.in_ok-read_bytes.ensures.formed (formed_new _ c.in_ok-declared.ensures)
+
+pub finish-requires-clause-stated : goal.finish-requires-clause-stated
+finish-requires-clause-stated g c = c.in_ok-read_bytes.ensures.stated (nothing, c.in_ok-declared.ensures)
 
 pub returns-clause-looks : goal.returns-clause-looks
 returns-clause-looks g c = looks_then _ _ _ _ c.read.ensures.looks c.read_bytes.ensures.looks
@@ -33,7 +39,7 @@ pub returns-clause-cause : goal.returns-clause-cause
 returns-clause-cause g c =
     let stated = c.in_ok-read_bytes.ensures.stated (nothing, c.in_ok-declared.ensures) in
     main_cause _ _ _ _ _ c.finish.result c.read.ensures.cause c.in_ok-content.was
-    (answer_cause (g.R.Texts.world c.read.new.self) (g.R.Texts.world c.read_bytes.new.texts) (AtEnd stated.0) c.finish.result (c.in_ok-read_bytes.ensures.cause (nothing, c.in_ok-declared.ensures)) (c.finish.ensures.said stated.0 stated.1))
+    (texts_cause (g.R.Texts.world c.read.new.self) (g.R.Texts.world c.read_bytes.new.texts) (AtEnd stated.0) c.finish.result (c.in_ok-read_bytes.ensures.cause (nothing, c.in_ok-declared.ensures)) (c.finish.ensures.said stated.0 stated.1))
 
 pub returns-clause-file : goal.returns-clause-file
 returns-clause-file g c = λ told.
@@ -42,4 +48,10 @@ returns-clause-file g c = λ told.
     let inner = c.in_ok-read_bytes.ensures.said told old new (covers_after g.R.Texts.tells old new old mid new told c.read.ensures.looks (λ name content sees. sees)) nothing c.in_ok-declared.ensures in
     read_done old new c.args.name.now c.in_ok-file.file.value same c.in_ok-content.content
     (covers_before g.R.Texts.tells old new old mid new told c.read_bytes.ensures.looks (λ name content sees. sees) _ _ (c.in_ok-content.ensures.content told))
-    c.in-Some.bytes c.as_slice.result.now c.in-Some.is c.as_slice.ensures inner.0 c.finish.result inner.2 (c.finish.ensures.said inner.0 inner.1)
+    c.in-Some.bytes c.as_slice.result.now c.in-Some.is c.as_slice.ensures inner.0 (in_texts c.finish.result) inner.2 (c.finish.ensures.said inner.0 inner.1)
+
+pub returns-in_err-read_bytes-clause-cause : goal.returns-in_err-read_bytes-clause-cause
+returns-in_err-read_bytes-clause-cause g c =
+    let failed = err_from_is_err_and c.from_residual-in_err-read_bytes.result c.from_residual-in_err-read_bytes.ensures.1 in
+    let inner = c.in_err-read_bytes.ensures.cause (nothing, c.in_ok-declared.ensures) in
+    rw (failed.1, failed.2) (main_cause {U = Manifest} _ _ _ _ _ (Err c.in_err-read_bytes.field-0.0) c.read.ensures.cause c.in_ok-content.was inner)

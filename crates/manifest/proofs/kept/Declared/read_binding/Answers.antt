@@ -49,4 +49,4 @@ returns-clause-said c = λ state is_state.
 
 pub returns-clause-formed : goal.returns-clause-formed
 returns-clause-formed c = λ formed.
-    formed_kept c.args.self.now _ formed.past (Bind c.args.name.now c.in_ok-text.text ∷ formed.past) formed.scopes (c.in_ok-bind.ensures.ok formed.past formed.scopes) refl refl formed.edges
+    formed_kept c.args.self.now _ formed.past (Bind c.args.name.now c.in_ok-text.text ∷ formed.past) formed.scopes (c.in_ok-bind.ensures.ok formed.past formed.scopes) refl refl formed.edges refl formed.paths

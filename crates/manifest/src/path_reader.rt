@@ -1,0 +1,187 @@
+//! The paths of build lines (manual: "Build statements").
+
+ghost use Rattle.std.specs.Prelude.{◌≡◌, List, [], ◌∷◌, ◌||◌, false, IfOk, IfErr, OnOk};
+ghost use Rattle.lexer.specs.Said.{fragments_of, paths_of, build_of};
+ghost use Rattle.scopes.specs.Moves.{Move};
+ghost use Rattle.scopes.specs.Scopes.{IsScopesOf};
+ghost use Rattle.scopes.specs.Place.{value_of_name};
+ghost use Rattle.manifest.specs.Expansion.{text_of, is_empty, ArePaths};
+ghost use Rattle.manifest.specs.Declarations.{PathsOf};
+ghost use Rattle.manifest.specs.Answer.{IsAnswerOf};
+ghost use Rattle.manifest.specs.Places.{place_of};
+ghost use Rattle.manifest.specs.InNumbers.{AreAdded, FindsPaths, numbers_of};
+ghost use Rattle.paths.specs.Told.{text_at, texts_at};
+ghost use Rattle.std.specs.Option.{option_map, option_to_list};
+ghost use Rattle.manifest.specs.Flags.{FlagsAfter, IsPathFound, NoneIsWrong};
+
+use crate::fault::{FaultKind, ReadError};
+use crate::place::Place;
+use lexer::{BuildLine, ReadFault, Value, canonical};
+use paths::{Line, PathId, Paths};
+use scopes::{Block, ExpandFault, Scopes, as_it_stands, expand};
+use std::alloc::Global;
+use text::{Items, Path};
+
+/// Expands paths, and notes what is wrong with some of them.
+#[derive(Drop)]
+pub struct PathReader<'a> {
+    scopes: &'a Scopes,
+    /// What is seen before the scopes.
+    block: &'a Block,
+    has_empty: bool,
+    has_large: bool,
+}
+
+impl<'a> PathReader<'a> {
+    pub fn new(scopes: &'a Scopes, block: &'a Block) -> PathReader<'a>
+        ensures scopes { result.scopes.now ≡ scopes.now }
+        ensures block { result.block.now ≡ block.now }
+        ensures empty { result.has_empty ≡ false }
+        ensures large { result.has_large ≡ false }
+    {
+        PathReader {
+            scopes,
+            block,
+            has_empty: false,
+            has_large: false,
+        }
+    }
+
+    /// The paths of a build line, which are put into the table.
+    pub fn line(
+        mut self,
+        alloc: Global,
+        table: &mut Paths,
+        place: &Place<'_>,
+        build: &BuildLine<'_>,
+    ) -> Result<Line, ReadError>
+        requires empty { self.has_empty ≡ false }
+        requires large { self.has_large ≡ false }
+        ensures said { (past : List Move) → IsScopesOf self.entry.scopes.now past → FindsPaths table.new (PathsOf (place_of place.now) (value_of_name self.entry.block.now past) (build_of build.now)) result }
+        ensures added { IfOk result (λ line. AreAdded table.old table.new (numbers_of line)) }
+    {
+        let line = Line {
+            explicit_outputs: self.numbers(alloc, table, build.explicit_outputs.as_slice())?,
+            implicit_outputs: self.numbers(alloc, table, build.implicit_outputs.as_slice())?,
+            explicit_inputs: self.numbers(alloc, table, build.explicit_inputs.as_slice())?,
+            implicit_inputs: self.numbers(alloc, table, build.implicit_inputs.as_slice())?,
+            order_only_inputs: self.numbers(alloc, table, build.order_only_inputs.as_slice())?,
+            validations: self.numbers(alloc, table, build.validations.as_slice())?,
+        };
+        self.check(alloc, place)?;
+        Ok(line)
+    }
+
+    /// Refuses paths of which one expands to nothing, else those of which one is too large.
+    pub fn check(&self, alloc: Global, place: &Place<'_>) -> Result<(), ReadError>
+        ensures { IsAnswerOf (NoneIsWrong (place_of place.now) self.now.has_empty self.now.has_large) result }
+    {
+        if self.has_empty {
+            let kind = FaultKind::Line(lexer::FaultKind::EmptyPath);
+            return Err(place.fault(alloc, kind));
+        }
+        if self.has_large {
+            return Err(place.too_large(alloc));
+        }
+        Ok(())
+    }
+
+    /// The canonical paths of these, but for those that are noted as wrong.
+    pub fn paths(&mut self, alloc: Global, values: &[Value<'_>]) -> Result<Items<Path>, ReadError>
+        ensures scopes { self.new.scopes.now ≡ self.old.scopes.now }
+        ensures block { self.new.block.now ≡ self.old.block.now }
+        ensures flags { OnOk result ((past : List Move) → IsScopesOf self.old.scopes.now past → FlagsAfter self.old self.new (value_of_name self.old.block.now past) (paths_of values.now)) }
+        ensures paths { IfOk result (λ paths. (past : List Move) → IsScopesOf self.old.scopes.now past → self.new.has_empty ≡ false → self.new.has_large ≡ false → ArePaths (value_of_name self.old.block.now past) (paths_of values.now) paths) }
+        ensures memory { IfErr result (λ error. error ≡ ReadError.Memory) }
+    {
+        let mut paths = Items::from_vec(Vec::with_capacity(alloc, values.len())?);
+        for value in values {
+            if let Some(path) = self.path(alloc, value)? {
+                paths.push(path)?;
+            }
+        }
+        Ok(paths)
+    }
+
+    /// The numbers of the canonical paths of these, but for those that are noted as wrong.
+    fn numbers(
+        &mut self,
+        alloc: Global,
+        table: &mut Paths,
+        values: &[Value<'_>],
+    ) -> Result<Items<PathId>, ReadError>
+        ensures scopes { self.new.scopes.now ≡ self.old.scopes.now }
+        ensures block { self.new.block.now ≡ self.old.block.now }
+        ensures flags { OnOk result ((past : List Move) → IsScopesOf self.old.scopes.now past → FlagsAfter self.old self.new (value_of_name self.old.block.now past) (paths_of values.now)) }
+        ensures added { IfOk result (AreAdded table.old table.new) }
+        ensures paths { IfOk result (λ numbers. (past : List Move) → IsScopesOf self.old.scopes.now past → self.new.has_empty ≡ false → self.new.has_large ≡ false → ArePaths (value_of_name self.old.block.now past) (paths_of values.now) (texts_at table.new numbers)) }
+        ensures memory { IfErr result (λ error. error ≡ ReadError.Memory) }
+    {
+        let mut numbers = Items::from_vec(Vec::with_capacity(alloc, values.len())?);
+        for value in values {
+            if let Some(number) = self.number(alloc, table, value)? {
+                numbers.push(number)?;
+            }
+        }
+        Ok(numbers)
+    }
+
+    /// The number of the canonical path, or nothing where it is noted as wrong.
+    fn number(
+        &mut self,
+        alloc: Global,
+        table: &mut Paths,
+        value: &Value<'_>,
+    ) -> Result<Option<PathId>, ReadError>
+        ensures scopes { self.new.scopes.now ≡ self.old.scopes.now }
+        ensures block { self.new.block.now ≡ self.old.block.now }
+        ensures flags { OnOk result ((past : List Move) → IsScopesOf self.old.scopes.now past → FlagsAfter self.old self.new (value_of_name self.old.block.now past) (fragments_of value.now ∷ [])) }
+        ensures added { IfOk result (λ number. AreAdded table.old table.new (option_to_list number)) }
+        ensures found { IfOk result (λ number. (past : List Move) → IsScopesOf self.old.scopes.now past → self.new.has_empty ≡ false → self.new.has_large ≡ false → IsPathFound (text_of (value_of_name self.old.block.now past) (fragments_of value.now)) (option_map (text_at table.new) number)) }
+        ensures memory { IfErr result (λ error. error ≡ ReadError.Memory) }
+    {
+        match self.path(alloc, value)? {
+            Some(path) => Ok(Some(table.add(alloc, path.as_str())?)),
+            None => Ok(None),
+        }
+    }
+
+    /// The canonical path, or nothing where it is noted as wrong.
+    fn path(&mut self, alloc: Global, value: &Value<'_>) -> Result<Option<Path>, ReadError>
+        ensures scopes { self.new.scopes.now ≡ self.old.scopes.now }
+        ensures block { self.new.block.now ≡ self.old.block.now }
+        ensures flags { OnOk result ((past : List Move) → IsScopesOf self.old.scopes.now past → FlagsAfter self.old self.new (value_of_name self.old.block.now past) (fragments_of value.now ∷ [])) }
+        ensures found { IfOk result (λ path. (past : List Move) → IsScopesOf self.old.scopes.now past → self.new.has_empty ≡ false → self.new.has_large ≡ false → IsPathFound (text_of (value_of_name self.old.block.now past) (fragments_of value.now)) path) }
+        ensures memory { IfErr result (λ error. error ≡ ReadError.Memory) }
+    {
+        if let Some(text) = as_it_stands(value) {
+            return self.canonical(alloc, text);
+        }
+        match expand(alloc, self.scopes, self.block, value) {
+            Ok(text) => self.canonical(alloc, text.as_str()),
+            Err(ExpandFault::Memory) => Err(ReadError::Memory),
+            Err(ExpandFault::TooLarge) => {
+                self.has_large = true;
+                Ok(None)
+            }
+        }
+    }
+
+    fn canonical(&mut self, alloc: Global, text: &str) -> Result<Option<Path>, ReadError>
+        ensures scopes { self.new.scopes.now ≡ self.old.scopes.now }
+        ensures block { self.new.block.now ≡ self.old.block.now }
+        ensures large { self.new.has_large ≡ self.old.has_large }
+        ensures empty { OnOk result (self.new.has_empty ≡ (self.old.has_empty || is_empty text.now)) }
+        ensures found { IfOk result (λ path. self.new.has_empty ≡ false → IsPathFound text.now path) }
+        ensures memory { IfErr result (λ error. error ≡ ReadError.Memory) }
+    {
+        match canonical(alloc, text) {
+            Ok(path) => Ok(Some(Path::from_string(path))),
+            Err(ReadFault::EmptyPath) => {
+                self.has_empty = true;
+                Ok(None)
+            }
+            Err(ReadFault::Memory) => Err(ReadError::Memory),
+        }
+    }
+}
