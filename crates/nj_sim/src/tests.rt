@@ -208,7 +208,7 @@ fn refused_memory_is_told(rt: HostRuntime) -> Result<(), Fail> {
 }
 
 /// How many files the long script writes, and then shows.
-const FILES: usize = 10_000;
+const FILES: usize = 20_000;
 
 #[test]
 fn a_long_script_comes_to_its_end(rt: HostRuntime) -> Result<(), Fail> {
