@@ -1,43 +1,25 @@
 //! Builds in which the device refuses one call, or the site stops in one, and the builds that come next.
 
-ghost use Rattle.std.specs.Prelude.{◌≡◌, IfOk, OnOk};
+ghost use Rattle.std.specs.Prelude.{IfOk};
 ghost use Rattle.model.specs.World.{IsIdle};
 ghost use Rattle.site.specs.World.{world_of};
 
 use builder::{Options, Report, build};
 use model::{Event, SiteFault};
-use site::{Call, Sim, Site, Timing, Toy, Trouble};
+use site::{Call, Sim, Site, Timing, Toy};
 use std::alloc::{AllocError, Global};
-use std::io::{self, Write};
 use std::process::Abort;
 use std::test::Fail;
 use text::Text;
 
-const RULES: &str = "rule cat\n  command = cat $out $in\nrule fail\n  command = fail $out $in\n";
+/// Two commands, of which one makes an output in a folder.
+const BUILD_FILE: &[u8] = b"rule cat
+  command = cat $out $in
+build folder/b: cat a
+build c: cat folder/b a
+";
 
-/// Build files behind the rules, each with a file `more` and the outputs that are looked at.
-const CASES: [(&str, &str, &str); 3] = [
-    // Two commands, of which one makes an output in a folder.
-    (
-        "build folder/b: cat a\nbuild c: cat folder/b a\n",
-        "",
-        "folder/b c",
-    ),
-    // All kinds of inputs, phony edges, and a file that is included.
-    (
-        "include more\nbuild all: phony c || folder/d\nbuild c: cat b a | i |@ v\n",
-        "builddir = logs\nbuild b: cat a\nbuild folder/d: cat b i\nbuild v: cat a\n",
-        "b c folder/d v",
-    ),
-    // A command that fails.
-    (
-        "build folder/b: cat a\nbuild c: fail folder/b\nbuild d: cat c\n",
-        "",
-        "folder/b c d",
-    ),
-];
-
-/// The calls that each of these builds makes at least once.
+/// The calls that a build makes, each at least once.
 const CALLS: [Call; 6] = [
     Call::Read,
     Call::Stat,
@@ -47,52 +29,18 @@ const CALLS: [Call; 6] = [
     Call::WaitAny,
 ];
 
-/// The calls that no build makes yet.
-const OTHER_CALLS: [Call; 5] = [
-    Call::Append,
-    Call::Replace,
-    Call::Write,
-    Call::Remove,
-    Call::Show,
-];
-
-/// More calls of a kind than these builds make.
+/// More calls of a kind than this build makes.
 const MANY: u64 = 100;
 
-/// What goes wrong in a build, and where.
-#[derive(Clone, Copy, Debug)]
-struct Place {
-    call: Call,
-    number: u64,
-    trouble: Trouble,
-    timing: Timing,
-}
-
-/// A fresh site with the files of a case and two sources.
-fn fresh(alloc: Global, case: (&str, &str, &str), timing: Timing) -> Result<Sim<Toy>, AllocError>
+/// A fresh site with a build file and the source `a`.
+fn fresh(alloc: Global, timing: Timing) -> Result<Sim<Toy>, AllocError>
     ensures { IfOk result (λ site. IsIdle (world_of site).events) }
 {
-    let (edges, more, _) = case;
-    let file = format!(in alloc; "{RULES}{edges}")?;
     let mut site = Sim::new(alloc, Toy);
-    site.put("build.ninja", file.as_bytes())?;
-    site.put("more", more.as_bytes())?;
+    site.put("build.ninja", BUILD_FILE)?;
     site.put("a", b"x")?;
-    site.put("i", b"y")?;
     site.timing(timing);
-    start_again(&mut site);
     Ok(site)
-}
-
-/// Names what is to go wrong.
-fn name(site: &mut Sim<Toy>, place: Place) -> Result<(), AllocError>
-    ensures { OnOk result (world_of site.new ≡ world_of site.old) }
-{
-    match place.trouble {
-        Trouble::Refused => site.fail(place.call, place.number)?,
-        Trouble::Stop { bytes } => site.stop_at(place.call, place.number, bytes)?,
-    }
-    Ok(())
 }
 
 /// Starts the site again, with no call named any more.
@@ -123,142 +71,97 @@ fn running(events: &[Event]) -> usize {
     events.len().saturating_sub(ended).saturating_sub(ended)
 }
 
-/// What a build gave: its report, and what the outputs hold.
-fn given(alloc: Global, report: &Report, site: &Sim<Toy>, outputs: &str) -> io::Result<Vec<u8>> {
-    let mut given = Vec::new(alloc);
-    write!(&mut given, "{report:?}")?;
-    for output in outputs.split(' ') {
-        let content = site.content(output).map(|content| content.as_slice());
-        write!(&mut given, " {output}={content:?}")?;
-    }
-    Ok(given)
+/// What a build from a fresh site gives.
+fn is_built(rt: &impl Abort, report: &Report, site: &Sim<Toy>, place: &str) {
+    assert!(rt;
+        matches!(report, Report::Success { started: 2 }),
+        "{place}: {report:?}"
+    );
+    let content = site.content("c").map(|content| content.as_slice());
+    assert_eq!(rt; content, Some(b"xx".as_slice()), "{place}");
 }
 
-/// Builds where something goes wrong, then starts the site again and builds anew, which gives what is expected. Answers
-/// whether the first build made so many calls of the kind.
-fn meets(
+/// The device refuses the call of this number. Gives whether the build made so many.
+fn refuse(
     rt: &impl Abort,
     alloc: Global,
-    case: (&str, &str, &str),
-    place: Place,
-    expected: &[u8],
+    call: Call,
+    number: u64,
+    timing: Timing,
 ) -> Result<bool, Fail> {
-    let mut site = fresh(alloc, case, place.timing)?;
-    name(&mut site, place)?;
+    let mut site = fresh(alloc, timing)?;
+    site.fail(call, number)?;
     let report = build_all(alloc, &mut site)?;
-    let Some(fault) = fault_in(&report) else {
-        is_given(rt, alloc, &report, &site, case.2, place, expected)?;
+    if matches!(&report, Report::Success { .. }) {
+        is_built(rt, &report, &site, "no call was refused");
         return Ok(false);
-    };
-    is_expected(rt, place, fault, site.events());
+    }
+    assert!(rt;
+        matches!(&report, Report::Fault(SiteFault::Device)),
+        "{call:?} {number}: {report:?}"
+    );
+    // A refused wait ends the build with its command running; after any other fault it is taken in.
+    let left = if call == Call::WaitAny { 1 } else { 0 };
+    assert_eq!(rt; running(site.events()), left, "{call:?} {number}");
     start_again(&mut site);
     let report = build_all(alloc, &mut site)?;
-    is_given(rt, alloc, &report, &site, case.2, place, expected)?;
+    is_built(rt, &report, &site, "after a refused call");
     Ok(true)
 }
 
-/// The fault that is answered, if one is.
-fn fault_in(report: &Report) -> Option<SiteFault> {
-    match report {
-        Report::Fault(fault) => Some(*fault),
-        _ => None,
-    }
-}
-
-/// This was given, whatever went wrong before.
-fn is_given(
+/// The site stops in the call of this number. Gives whether the build made so many.
+fn stop(
     rt: &impl Abort,
     alloc: Global,
-    report: &Report,
-    site: &Sim<Toy>,
-    outputs: &str,
-    place: Place,
-    expected: &[u8],
-) -> Result<(), Fail> {
-    let given = given(alloc, report, site, outputs)?;
-    assert!(rt; given.as_slice() == expected, "{place:?}");
-    Ok(())
-}
-
-/// The fault is that of the place. A refused wait ends the build with commands running; after any other refused call they
-/// are taken in.
-fn is_expected(rt: &impl Abort, place: Place, fault: SiteFault, events: &[Event]) {
-    assert_eq!(rt; fault, fault_of(place.trouble), "{place:?}");
-    if fault == SiteFault::Device {
-        let waits = matches!(place.call, Call::WaitAny);
-        assert_eq!(rt; running(events) > 0, waits, "{place:?}");
-    }
-}
-
-/// The fault that a build answers.
-fn fault_of(trouble: Trouble) -> SiteFault {
-    match trouble {
-        Trouble::Refused => SiteFault::Device,
-        Trouble::Stop { .. } => SiteFault::Stopped,
-    }
-}
-
-/// Each call of each kind in turn meets this.
-fn sweep(
-    rt: &impl Abort,
-    alloc: Global,
-    case: (&str, &str, &str),
-    trouble: Trouble,
-    timing: Timing,
-) -> Result<(), Fail> {
-    let mut site = fresh(alloc, case, timing)?;
-    let report = build_all(alloc, &mut site)?;
-    let expected = given(alloc, &report, &site, case.2)?;
-    for call in CALLS {
-        let calls = count(rt, alloc, case, call, trouble, timing, &expected)?;
-        assert!(rt; calls > 0 && calls < MANY, "{call:?}");
-    }
-    for call in OTHER_CALLS {
-        let calls = count(rt, alloc, case, call, trouble, timing, &expected)?;
-        assert_eq!(rt; calls, 0, "{call:?}");
-    }
-    Ok(())
-}
-
-/// Each call of this kind in turn meets this. Answers how many there are.
-fn count(
-    rt: &impl Abort,
-    alloc: Global,
-    case: (&str, &str, &str),
     call: Call,
-    trouble: Trouble,
+    number: u64,
     timing: Timing,
-    expected: &[u8],
-) -> Result<u64, Fail> {
-    for number in 1..=MANY {
-        let place = Place {
-            call,
-            number,
-            trouble,
-            timing,
-        };
-        if !meets(rt, alloc, case, place, expected)? {
-            return Ok(number - 1);
-        }
+) -> Result<bool, Fail> {
+    let mut site = fresh(alloc, timing)?;
+    site.stop_at(call, number, 0)?;
+    let report = build_all(alloc, &mut site)?;
+    if matches!(&report, Report::Success { .. }) {
+        is_built(rt, &report, &site, "the site did not stop");
+        return Ok(false);
     }
-    Ok(MANY)
+    assert!(rt;
+        matches!(&report, Report::Fault(SiteFault::Stopped)),
+        "{call:?} {number}: {report:?}"
+    );
+    start_again(&mut site);
+    let report = build_all(alloc, &mut site)?;
+    is_built(rt, &report, &site, "after a stop");
+    Ok(true)
 }
 
 #[test]
 fn each_call_is_refused_in_turn(rt: HostRuntime) -> Result<(), Fail> {
-    for case in CASES {
-        sweep(&rt, rt.alloc(), case, Trouble::Refused, Timing::Early)?;
-        sweep(&rt, rt.alloc(), case, Trouble::Refused, Timing::Late)?;
+    let alloc = rt.alloc();
+    for call in CALLS {
+        for timing in [Timing::Early, Timing::Late] {
+            assert!(rt; refuse(&rt, alloc, call, 1, timing)?, "{call:?}");
+            for number in 2..MANY {
+                if !refuse(&rt, alloc, call, number, timing)? {
+                    break;
+                }
+            }
+        }
     }
     Ok(())
 }
 
 #[test]
 fn the_site_stops_in_each_call_in_turn(rt: HostRuntime) -> Result<(), Fail> {
-    for case in CASES {
-        let stop = Trouble::Stop { bytes: 0 };
-        sweep(&rt, rt.alloc(), case, stop, Timing::Early)?;
-        sweep(&rt, rt.alloc(), case, stop, Timing::Late)?;
+    let alloc = rt.alloc();
+    for call in CALLS {
+        for timing in [Timing::Early, Timing::Late] {
+            assert!(rt; stop(&rt, alloc, call, 1, timing)?, "{call:?}");
+            for number in 2..MANY {
+                if !stop(&rt, alloc, call, number, timing)? {
+                    break;
+                }
+            }
+        }
     }
     Ok(())
 }
