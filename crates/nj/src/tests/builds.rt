@@ -67,7 +67,7 @@ fn tells_failed_commands(rt: HostRuntime) -> Result<(), Fail> {
             "rule r\n  command = {command}\nbuild b: r\nbuild c: r\n"
         )?;
         folder.write("build.ninja", build.as_str())?;
-        let ran = folder.run(&[])?;
+        let ran = folder.run(&["-j1"])?;
         assert_eq!(rt; ran.status, 1, "{command}");
         assert_eq!(rt; ran.out.as_str(), "", "{command}");
         assert_eq!(rt;
