@@ -3,6 +3,7 @@ pub mod PlannedSteps
 pub mod PlannedCounts
 pub mod Judging
 pub mod Places
+pub mod Runs
 pub mod Starting
 pub mod Lowering
 pub mod Arriving

@@ -127,6 +127,9 @@ module _ (task : Task) where
   pub failed_once : (steps : List Step) → IsLawful task steps → IsOnce (failed_in steps)
   failed_once steps lawful = (once_lawful steps lawful).failed
 
+  pub started_once : (steps : List Step) → IsLawful task steps → IsOnce (started_in steps)
+  started_once steps lawful = (once_lawful steps lawful).started
+
   pub well_once : (steps : List Step) → IsLawful task steps → IsOnce (well_in steps)
   well_once steps lawful = (once_lawful steps lawful).well
 

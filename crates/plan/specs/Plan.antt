@@ -61,6 +61,7 @@ raised flags left e = if slice_index left e == 1 then slice_set flags e true els
 -- each command of the cone is in the pool that it names, where that has a limit
 pub record IsPooled (graph : Graph) (standings : List Standing) (turns : Turns) : Type 0 where
   pub depths : turns.depths ≡ depths_of graph.manifest.pools
+  pub fits : length turns.running ≡ length turns.depths
   pub groups : (e : ℕ) → is_outside (standing_at standings e) ≡ false → group_at turns e ≡ place_in graph.manifest.pools (pool_of (get_or graph.manifest.actions e no_action))
 
 -- ---- what is said next, and what a call changes

@@ -27,6 +27,7 @@ pub record IsPlanOver (graph : Graph) (plan : Plan) : Type 0 where
   pub over : IsOver (links_of graph) (length graph.manifest.paths) plan.standings.items plan.left.items plan.there.items
   pub settled : AreNone plan.pending
   pub pooled : IsPooled graph plan.standings.items plan.queue
+  pub flags : length plan.changed.items ≡ length graph.manifest.paths
 
 -- nothing but what edges wait for is changed
 pub record IsStill (old new : Plan) : Type 0 where
