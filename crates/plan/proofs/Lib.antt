@@ -4,6 +4,8 @@ pub mod PlannedCounts
 pub mod Judging
 pub mod Places
 pub mod Runs
+pub mod Stepping
+pub mod Taking
 pub mod Starting
 pub mod Lowering
 pub mod Arriving

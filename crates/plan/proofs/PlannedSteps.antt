@@ -149,10 +149,10 @@ module _ (task : Task) (steps : List Step) (lawful : IsLawful task steps) where
   pub failed_stands : (i : ℕ) → is_failed (standing_in steps i) ≡ has_number (failed_in steps) i
   failed_stands i = failed_flags (has_number (well_in steps) i) (has_number (failed_in steps) i) (has_number (started_in steps) i) (has_number (out_of_date_in steps) i) (has_number (clean_in steps) i) (kept.well_or_failed i)
 
-  not_started : (i : ℕ) → has_number (out_of_date_in steps) i ≡ false → has_number (started_in steps) i ≡ false
+  pub not_started : (i : ℕ) → has_number (out_of_date_in steps) i ≡ false → has_number (started_in steps) i ≡ false
   not_started i none = not_within (has_number (started_in steps) i) (has_number (out_of_date_in steps) i) (kept.started i) none
 
-  not_ended : (i : ℕ) → has_number (started_in steps) i ≡ false → has_number (ended_in steps) i ≡ false
+  pub not_ended : (i : ℕ) → has_number (started_in steps) i ≡ false → has_number (ended_in steps) i ≡ false
   not_ended i none = not_within (has_number (ended_in steps) i) (has_number (started_in steps) i) (kept.ended i) none
 
   not_well : (i : ℕ) → has_number (ended_in steps) i ≡ false → has_number (well_in steps) i ≡ false

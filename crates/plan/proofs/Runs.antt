@@ -1,7 +1,7 @@
 -- How many commands of a pool run, after one more step.
 use Rattle.std.proofs.Common.{◌≡◌, ◌⊎◌, inl, inr, ℕ, zero, suc, ◌+◌, ◌-◌, ◌<◌, ◌==◌, ◌&&◌, ◌||◌, not, cond, filter, Bool, true, false, List, [], ◌∷◌, ◌++◌, Option, Some, None, length, get_or, refl, sym, ◌∙◌, ap, subst, arith}
 use Rattle.std.proofs.Math.ListN.{set}
-use Rattle.std.proofs.lemmas.List.{append-nil, get_or-set_same, get_or-set_other}
+use Rattle.std.proofs.lemmas.List.{append-nil, length-set, get_or-set_same, get_or-set_other}
 use Rattle.std.proofs.lemmas.List.Elements.{filter-append}
 use Rattle.std.proofs.lemmas.Bool.{false≢true, true≢false, or_cases, or_left, or_right, eq-eqb, eqb-true, cases_eq, false_from_ne_true}
 use Rattle.model.specs.Graph.{has_number}
@@ -19,10 +19,10 @@ filter_cons : (p : ℕ → Bool) (x : ℕ) (xs : List ℕ) → length (filter p 
 filter_cons p x xs = by (p x)
   where
     by : (b : Bool) → length (cond b (x ∷ filter p xs) (filter p xs)) ≡ one_if b + length (filter p xs)
-    by true = refl
-    by false = refl
+    by true = omega arith
+    by false = omega arith
 
-same_filter : (p q : ℕ → Bool) (xs : List ℕ) → ((i : ℕ) → has_number xs i ≡ true → p i ≡ q i) → filter p xs ≡ filter q xs
+pub same_filter : (p q : ℕ → Bool) (xs : List ℕ) → ((i : ℕ) → has_number xs i ≡ true → p i ≡ q i) → filter p xs ≡ filter q xs
 same_filter p q [] same = refl
 same_filter p q (x ∷ xs) same =
     ap (λ (b : Bool). cond b (x ∷ filter p xs) (filter p xs)) (same x (or_left (x == x) (has_number xs x) (eq-eqb x x refl)))
@@ -30,18 +30,16 @@ same_filter p q (x ∷ xs) same =
 
 filter_both : (p q : ℕ → Bool) (xs : List ℕ) → length (filter p (filter q xs)) ≡ length (filter (λ i. q i && p i) xs)
 filter_both p q [] = refl
-filter_both p q (x ∷ xs) = by (q x) refl
+filter_both p q (x ∷ xs) = by (q x) refl (filter_both p q xs)
   where
-    by : (b : Bool) → q x ≡ b → length (filter p (filter q (x ∷ xs))) ≡ length (filter (λ i. q i && p i) (x ∷ xs))
-    by true is =
-        let rest = filter_both p q xs in
+    by : (b : Bool) → q x ≡ b → length (filter p (filter q xs)) ≡ length (filter (λ i. q i && p i) xs) → length (filter p (filter q (x ∷ xs))) ≡ length (filter (λ i. q i && p i) (x ∷ xs))
+    by true is rest =
         let a : length (filter p (filter q (x ∷ xs))) ≡ length (filter p (x ∷ filter q xs)) = ap (λ (c : Bool). length (filter p (cond c (x ∷ filter q xs) (filter q xs)))) is in
         let b = filter_cons p x (filter q xs) in
         let d = filter_cons (λ i. q i && p i) x xs in
         let e : one_if (q x && p x) ≡ one_if (p x) = ap (λ (c : Bool). one_if (c && p x)) is in
         omega (arith, rest, a, b, d, e)
-    by false is =
-        let rest = filter_both p q xs in
+    by false is rest =
         let a : length (filter p (filter q (x ∷ xs))) ≡ length (filter p (filter q xs)) = ap (λ (c : Bool). length (filter p (cond c (x ∷ filter q xs) (filter q xs)))) is in
         let d = filter_cons (λ i. q i && p i) x xs in
         let e : one_if (q x && p x) ≡ 0 = ap (λ (c : Bool). one_if (c && p x)) is in
@@ -69,6 +67,14 @@ one_less s t i (x ∷ xs) once here off other = elim (cases_eq i x) [
     inside : ((x == i) ≡ true) ⊎ (has_number xs i ≡ true) → (i ≡ x → ⊥) → has_number xs i ≡ true
     inside (inl same) apart = absurd (apart (sym (eqb-true x i same)))
     inside (inr rest) apart = rest
+
+pub filter_push : (p : ℕ → Bool) (xs : List ℕ) (y : ℕ) → length (filter p (xs ++ y ∷ [])) ≡ length (filter p xs) + one_if (p y)
+filter_push p [] y = let a = filter_cons p y [] in omega (arith, a)
+filter_push p (x ∷ xs) y =
+    let a = filter_cons p x (xs ++ y ∷ []) in
+    let b = filter_cons p x xs in
+    let rest = filter_push p xs y in
+    omega (arith, a, b, rest)
 
 abbrev ends : List Step → ℕ → Bool
 ends steps j = not (has_number (ended_in steps) j)
@@ -121,10 +127,14 @@ module _ (steps : List Step) where
 
 -- ---- and how many are counted
 
-at_least : (xs : List ℕ) (k : ℕ) → 0 < get_or xs k 0 → k < length xs
+pub at_least : (xs : List ℕ) (k : ℕ) → 0 < get_or xs k 0 → k < length xs
 at_least [] k some = absurd (omega (arith, some))
 at_least (x ∷ xs) zero some = omega arith
 at_least (x ∷ xs) (suc k) some = let rest = at_least xs k some in omega (arith, rest)
+
+pub runs_length : (running : List ℕ) (group : Option ℕ) (count : ℕ) → length (set_runs running group count) ≡ length running
+runs_length running None count = refl
+runs_length running (Some h) count = length-set running h count
 
 module _ (running : List ℕ) (group : Option ℕ) where
   pub one_more_runs : ((h : ℕ) → group ≡ Some h → h < length running) → (g : ℕ) → get_or (set_runs running group (suc (runs_in running group))) g 0 ≡ get_or running g 0 + one_if (is_place group g)
