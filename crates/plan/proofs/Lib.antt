@@ -6,6 +6,7 @@ pub mod Places
 pub mod Runs
 pub mod Stepping
 pub mod Taking
+pub mod Passing
 pub mod Starting
 pub mod Lowering
 pub mod Arriving
