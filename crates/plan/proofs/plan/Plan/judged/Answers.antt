@@ -1,4 +1,5 @@
 use Rattle.std.proofs.Common.{◌≡◌, ◌⊎◌, inl, inr, ◌∙◌, ◌∷◌, ◌++◌, [], ℕ, suc, true, false, List, Some, length, refl, sym, ap, subst}
+use Rattle.std.proofs.Math.ListN.{set}
 use Rattle.std.proofs.lemmas.Bool.{false≢true}
 use Rattle.model.specs.Schedule.{Judged, done_in}
 use Rattle.queue.specs.Turns.{Turns}
@@ -9,7 +10,7 @@ use Rattle.plan.specs.declared.step.Verdict.TheVariants as verdict
 use Rattle.plan.specs.Standing.{is_out_of_date, is_outside, is_settled}
 use Rattle.plan.specs.Plan.{standing_by, IsSettling}
 use Rattle.plan.specs.Planned.{IsPlanned, is_stale}
-use Rattle.plan.proofs.Stepping.{waits_same, waits_next, counted_next, ahead_sound, ahead_complete, over_same, pooled_next, half_of}
+use Rattle.plan.proofs.Stepping.{waits_same, waits_next, counted_next, ahead_sound, ahead_complete, over_same, pooled_next, IsHalf, half_of}
 use Rattle.plan.proofs.Passing.{stood, within, sets_now, tallied_judged, half_clean, half_stale, half_after, pooled_after, settling_alone, settling}
 use Rattle.plan.proofs.plan.Plan.judged.Goals as goal
 
@@ -130,7 +131,7 @@ returns-in-OutOfDate-clause-stands c =
     let plan = c.args.self.now in
     let e = c.index-place.result in
     let lt = within plan.standings.items plan.left.items plan.ready plan.pending plan.sets e c.args.edge c.index-place.ensures.place c.requires.ready in
-    subst (λ (v : Verdict). IsSettling plan.standings.items _ c.args.edge (standing_by v)) (sym c.in-OutOfDate.is)
+    subst (λ (v : Verdict). IsSettling plan.standings.items (set plan.standings.items e OutOfDate) c.args.edge (standing_by v)) (sym c.in-OutOfDate.is)
     (settling_alone plan.standings.items e c.args.edge c.index-place.ensures.place OutOfDate lt)
 
 pub returns-in-OutOfDate-clause-planned : goal.returns-in-OutOfDate-clause-planned
@@ -139,8 +140,8 @@ returns-in-OutOfDate-clause-planned c = λ task steps at lawful next.
     let e = c.index-place.result in
     let lt = within plan.standings.items plan.left.items plan.ready plan.pending plan.sets e c.args.edge c.index-place.ensures.place c.requires.ready in
     let stands = stood plan.standings.items plan.left.items plan.ready plan.pending plan.sets e c.args.edge c.index-place.ensures.place c.requires.ready in
-    let half = half_stale plan.standings.items plan.left.items plan.ready plan.pending plan.sets e c.args.edge c.index-place.ensures.place c.requires.ready task plan.queue steps lawful (half_of task c.args.graph.now plan steps at) next.0.once c.put.new.self c.put.ensures in
-    subst (λ (v : Verdict). IsPlanned task c.args.graph.now _ (steps ++ Judged (suc c.args.edge) (is_stale v) ∷ [])) (sym c.in-OutOfDate.is) record {
+    let half = subst (λ (v : Verdict). IsHalf task (set plan.standings.items e OutOfDate) c.put.new.self (steps ++ Judged (suc c.args.edge) (is_stale v) ∷ [])) (sym c.in-OutOfDate.is) (half_stale plan.standings.items plan.left.items plan.ready plan.pending plan.sets e c.args.edge c.index-place.ensures.place c.requires.ready task plan.queue steps lawful (half_of task c.args.graph.now plan steps at) next.0.once c.put.new.self c.put.ensures) in
+    record {
       stated = at.stated;
       limits = at.limits;
       over = record {
