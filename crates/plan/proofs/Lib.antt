@@ -7,6 +7,7 @@ pub mod Runs
 pub mod Stepping
 pub mod Taking
 pub mod Passing
+pub mod Noting
 pub mod Starting
 pub mod Lowering
 pub mod Arriving

@@ -1,7 +1,9 @@
 //! The plan, and what it is told.
 
-ghost use Rattle.std.specs.Prelude.{◌≡◌, ◌≤◌, ◌^◌, ◌+◌, length, vec_len};
-ghost use Rattle.plan.specs.Plan.{IsReady, IsWaiting, IsTallied};
+ghost use Rattle.std.specs.Prelude.{◌≡◌, ◌<◌, ◌≤◌, ◌^◌, ◌+◌, ℕ, true, length, vec_len};
+ghost use Rattle.model.specs.Graph.{has_number};
+ghost use Rattle.links.specs.Held.{StandOnce};
+ghost use Rattle.plan.specs.Plan.{IsReady, IsWaiting, IsTallied, AreFlagged};
 
 use crate::first::{first_counts, first_ready, first_standings, sources};
 use crate::pools::queue_of;
@@ -230,7 +232,13 @@ impl Plan {
 }
 
 /// Notes for each of these paths whether it was changed.
-fn note_changes(flags: &mut [bool], paths: &[PathId], changed: &[bool]) {
+fn note_changes(flags: &mut [bool], paths: &[PathId], changed: &[bool])
+    requires fits { length changed.now ≡ length paths.now }
+    requires once { StandOnce paths.now }
+    requires within { (p : ℕ) → has_number paths.now p ≡ true → p < length flags.old }
+    ensures length { length flags.new ≡ length flags.old }
+    ensures flags { AreFlagged flags.old flags.new paths.now changed.now }
+{
     for (path, flag) in paths.iter().zip(changed) {
         let place = path.index();
         if place < flags.len() {
