@@ -8,6 +8,7 @@ pub mod Stepping
 pub mod Taking
 pub mod Passing
 pub mod Noting
+pub mod Ending
 pub mod Starting
 pub mod Lowering
 pub mod Arriving

@@ -1,5 +1,5 @@
 -- Flags that are handed in for paths.
-use Rattle.std.proofs.Common.{◌≡◌, ◌≢◌, ℕ, zero, suc, ◌+◌, ◌<◌, ◌≤◌, ◌==◌, cond, Bool, true, false, List, [], ◌∷◌, length, get_or, refl, sym, ◌∙◌, ap, subst, arith}
+use Rattle.std.proofs.Common.{◌≡◌, ◌≢◌, ◌⊎◌, inl, inr, ℕ, zero, suc, ◌+◌, ◌<◌, ◌≤◌, ◌==◌, cond, Bool, true, false, List, [], ◌∷◌, length, get_or, refl, sym, ◌∙◌, ap, subst, arith}
 use Rattle.std.proofs.Math.ListN.{set}
 use Rattle.std.proofs.lemmas.List.{length-set, get_or-set_same, get_or-set_other}
 use Rattle.std.proofs.lemmas.Bool.{false≢true, or_left, or_right, eq-eqb}
@@ -14,9 +14,11 @@ noted flags [] marks = flags
 noted flags (p ∷ paths) [] = flags
 noted flags (p ∷ paths) (mark ∷ marks) = noted (set flags p mark) paths marks
 
-pub nothing_noted : (flags : List Bool) (paths : List ℕ) → noted flags paths [] ≡ flags
-nothing_noted flags [] = refl
-nothing_noted flags (p ∷ paths) = refl
+pub all_noted : (flags : List Bool) (paths : List ℕ) (marks : List Bool) → (length paths ≡ 0) ⊎ (length marks ≡ 0) → noted flags paths marks ≡ flags
+all_noted flags [] marks none = refl
+all_noted flags (p ∷ paths) [] none = refl
+all_noted flags (p ∷ paths) (mark ∷ marks) (inl none) = absurd (omega (arith, none))
+all_noted flags (p ∷ paths) (mark ∷ marks) (inr none) = absurd (omega (arith, none))
 
 one_of : (b : Bool) (n : ℕ) → n ≤ cond b (suc n) n
 one_of true n = omega arith
@@ -66,3 +68,11 @@ noted_flagged flags new paths marks is fits once within = subst (λ (l : List Bo
   given = noted_given flags paths marks fits once within;
   others = λ q apart. noted_other flags paths marks q apart;
 }
+
+set_past : (flags : List Bool) (p : ℕ) (mark : Bool) → length flags ≤ p → set flags p mark ≡ flags
+set_past [] p mark past = refl
+set_past (x ∷ flags) zero mark past = absurd (omega (arith, past))
+set_past (x ∷ flags) (suc p) mark past = ap (λ (l : List Bool). x ∷ l) (set_past flags p mark (omega (arith, past)))
+
+pub not_noted : (flags : List Bool) (p : ℕ) (mark : Bool) (paths : List ℕ) (marks : List Bool) → length flags ≤ p → noted flags paths marks ≡ noted flags (p ∷ paths) (mark ∷ marks)
+not_noted flags p mark paths marks past = ap (λ (l : List Bool). noted l paths marks) (sym (set_past flags p mark past))

@@ -3,4 +3,4 @@ use Rattle.plan.proofs.Noting.{noted}
 use Rattle.plan.proofs.plan.note_changes.Given as goal
 
 abbrev pub invariant-loop-path : goal.invariant-loop-path
-invariant-loop-path l = noted l.flags l.path-iterator.a.rest l.path-iterator.b.rest ≡ noted l.fn.flags l.fn.paths l.fn.changed
+invariant-loop-path l = noted l.flags l.path-iterator.a.rest.now l.path-iterator.b.rest.now ≡ noted l.fn.flags l.fn.paths l.fn.changed
