@@ -87,7 +87,7 @@ AliasesOnly old new = (k : ℕ) → (standing_at new k ≡ standing_at old k) �
 
 pub half_after : (task : Task) (standings now : List Standing) (turns new : Turns) (steps : List Step) → IsHalf task standings turns steps → new ≡ turns → AliasesOnly standings now
     → (((k : ℕ) → standing_at standings k ≡ Alias → (edge_at task.graph.edges (suc k)).phony ≡ true) → ((k : ℕ) → is_settled (standing_at standings k) ≡ true → IsSettled task.graph.edges (done_in steps) (suc k))
-        → (k : ℕ) → is_settled (standing_at now k) ≡ true → IsSettled task.graph.edges (done_in steps) (suc k))
+    → (k : ℕ) → is_settled (standing_at now k) ≡ true → IsSettled task.graph.edges (done_in steps) (suc k))
     → IsHalf task now new steps
 half_after task standings now turns new steps half is each sound =
     half_settled task standings turns steps half now new is each (sound (λ k stands. sym (half.kinds k (ap is_outside stands)) ∙ ap is_phony stands) half.settled)

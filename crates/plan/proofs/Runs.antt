@@ -102,7 +102,7 @@ module _ (steps : List Step) where
       let both = running_parts steps i runs in
       let a = filter_both p (ends steps) (started_in steps) in
       let now : length (filter p (running_in (steps ++ step ∷ []))) ≡ length (filter p (filter (ends (steps ++ step ∷ [])) (started_in steps)))
-          = ap (λ (l : List ℕ). length (filter p (filter (ends (steps ++ step ∷ [])) l))) (started-append steps (step ∷ []) ∙ append-nil (started_in steps)) in
+      = ap (λ (l : List ℕ). length (filter p (filter (ends (steps ++ step ∷ [])) l))) (started-append steps (step ∷ []) ∙ append-nil (started_in steps)) in
       let b = filter_both p (ends (steps ++ step ∷ [])) (started_in steps) in
       let here : one_if (ends steps i && p i) ≡ one_if (p i) = ap (λ (c : Bool). one_if (not c && p i)) both.1 in
       let less = one_less (λ j. ends steps j && p j) (λ j. ends (steps ++ step ∷ []) j && p j) i (started_in steps) (started_once task steps lawful) both.0 gone others in

@@ -77,6 +77,6 @@ module _ (standings : List Standing) (turns : Turns) (waits : IsWaiting standing
             let c = half.runs g in
             let d : length (filter (is_grouped turns g) (running_in steps ++ suc e ∷ [])) ≡ length (filter (is_grouped turns g) (running_in steps)) + one_if (is_place (group_at turns e) g) = filter_push (is_grouped turns g) (running_in steps) (suc e) in
             let f : length (filter (is_grouped turns g) (running_in (steps ++ Started (suc e) ∷ []))) ≡ length (filter (is_grouped turns g) (running_in steps ++ suc e ∷ []))
-                = ap (λ (l : List ℕ). length (filter (is_grouped turns g) l)) (running_started steps (suc e) (not_ended task steps lawful (suc e) first)) in
+            = ap (λ (l : List ℕ). length (filter (is_grouped turns g) l)) (running_started steps (suc e) (not_ended task steps lawful (suc e) first)) in
             let h = same_groups turns new (ap (λ (t : Turns). t.groups) is) g (running_in (steps ++ Started (suc e) ∷ [])) in
             omega (arith, a, b, c, d, f, h)

@@ -21,7 +21,7 @@ loop-path-preserved c =
     ∙ c.loop-path.invariant)
 
 pub returns-clause-flags : goal.returns-clause-flags
-returns-clause-flags c = noted_flagged c.args.flags.now c.loop-path.flags c.args.paths.now c.args.changed.now 
+returns-clause-flags c = noted_flagged c.args.flags.now c.loop-path.flags c.args.paths.now c.args.changed.now
     (sym (all_noted c.loop-path.flags c.loop-path.path-iterator.a.rest.now c.loop-path.path-iterator.b.rest.now (elim c.in-None.ensures.steps [
       | inl ends ↦ inl ends.1.0
       | inr ends ↦ inr ends.1.0

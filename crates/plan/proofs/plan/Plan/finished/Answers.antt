@@ -139,18 +139,23 @@ returns-then-ok-clause-planned c = λ task steps at lawful next.
     let rest = c.settle.ensures.rest in
     let half = half_well plan.standings.items e c.args.edge c.index-place.ensures.place c.requires.running plan.queue c.release.new.self c.release.ensures task steps lawful (half_of task c.args.graph.now plan steps at) next.0 in
     let last = half_after task _ c.settle.new.self.standings.items c.release.new.self c.settle.new.self.queue (steps ++ Ended (suc c.args.edge) true ∷ []) half rest.queue rest.stands
-        (λ phony old. c.settle.ensures.sound task (done_in (steps ++ Ended (suc c.args.edge) true ∷ [])) at.stated phony old) in
+    (λ phony old. c.settle.ensures.sound task (done_in (steps ++ Ended (suc c.args.edge) true ∷ [])) at.stated phony old) in
     subst (λ (b : Bool). IsPlanned task c.args.graph.now c.settle.new.self (steps ++ Ended (suc c.args.edge) b ∷ [])) (sym c.if-ok.true) record {
-    stated = at.stated;
-    limits = (rest.jobs ∙ at.limits.0, rest.keep ∙ at.limits.1);
-    over = record {
-      over = c.settle.ensures.over;
-      settled = c.settle.ensures.none;
-      pooled = pooled_after c.args.graph.now _ c.settle.new.self.standings.items c.release.new.self c.settle.new.self.queue rest.queue rest.stands
-          (pooled_ended plan.standings.items e c.args.edge c.index-place.ensures.place c.requires.running plan.queue c.release.new.self c.release.ensures c.args.graph.now Well refl c.requires.over.pooled);
-      flags = ap (λ v. length v.items) rest.changed ∙ flags;
-    };
-    within = last.within; inside = last.inside; kinds = last.kinds; stands = last.stands; settled = last.settled; runs = last.runs;
+      stated = at.stated;
+      limits = (rest.jobs ∙ at.limits.0, rest.keep ∙ at.limits.1);
+      over = record {
+        over = c.settle.ensures.over;
+        settled = c.settle.ensures.none;
+        pooled = pooled_after c.args.graph.now _ c.settle.new.self.standings.items c.release.new.self c.settle.new.self.queue rest.queue rest.stands
+            (pooled_ended plan.standings.items e c.args.edge c.index-place.ensures.place c.requires.running plan.queue c.release.new.self c.release.ensures c.args.graph.now Well refl c.requires.over.pooled);
+        flags = ap (λ v. length v.items) rest.changed ∙ flags;
+      };
+      within = last.within;
+      inside = last.inside;
+      kinds = last.kinds;
+      stands = last.stands;
+      settled = last.settled;
+      runs = last.runs;
     }
 
 pub returns-else-ok-clause-planned : goal.returns-else-ok-clause-planned
@@ -162,15 +167,20 @@ returns-else-ok-clause-planned c = λ task steps at lawful next.
     let size : length c.note_changes.new.flags ≡ plan.changed.len = omega (arith, c.note_changes.ensures.length, ap (λ (l : List Bool). length l) c.deref_mut.ensures.value, plan.changed.ok.0) in
     let flags = ap (λ (l : List Bool). length l) (with_items_is plan.changed c.note_changes.new.flags size) ∙ (c.note_changes.ensures.length ∙ (ap (λ (l : List Bool). length l) c.deref_mut.ensures.value ∙ c.requires.over.flags)) in
     let half = subst (λ (b : Bool). IsHalf task (set plan.standings.items e Failed) c.release.new.self (steps ++ Ended (suc c.args.edge) b ∷ [])) (sym c.if-ok.false)
-        (half_failed plan.standings.items e c.args.edge c.index-place.ensures.place c.requires.running plan.queue c.release.new.self c.release.ensures task steps lawful (half_of task c.args.graph.now plan steps at) next.0) in
+    (half_failed plan.standings.items e c.args.edge c.index-place.ensures.place c.requires.running plan.queue c.release.new.self c.release.ensures task steps lawful (half_of task c.args.graph.now plan steps at) next.0) in
     record {
-    stated = at.stated;
-    limits = at.limits;
-    over = record {
-      over = over_same plan.standings.items e Failed lt (links_of c.args.graph.now) _ plan.left.items plan.there.items c.requires.over.over (λ h. absurd (false≢true h)) (sym (ap is_settled stands));
-      settled = c.requires.over.settled;
-      pooled = pooled_ended plan.standings.items e c.args.edge c.index-place.ensures.place c.requires.running plan.queue c.release.new.self c.release.ensures c.args.graph.now Failed refl c.requires.over.pooled;
-      flags = flags;
-    };
-    within = half.within; inside = half.inside; kinds = half.kinds; stands = half.stands; settled = half.settled; runs = half.runs;
+      stated = at.stated;
+      limits = at.limits;
+      over = record {
+        over = over_same plan.standings.items e Failed lt (links_of c.args.graph.now) _ plan.left.items plan.there.items c.requires.over.over (λ h. absurd (false≢true h)) (sym (ap is_settled stands));
+        settled = c.requires.over.settled;
+        pooled = pooled_ended plan.standings.items e c.args.edge c.index-place.ensures.place c.requires.running plan.queue c.release.new.self c.release.ensures c.args.graph.now Failed refl c.requires.over.pooled;
+        flags = flags;
+      };
+      within = half.within;
+      inside = half.inside;
+      kinds = half.kinds;
+      stands = half.stands;
+      settled = half.settled;
+      runs = half.runs;
     }

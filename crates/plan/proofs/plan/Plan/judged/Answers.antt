@@ -93,7 +93,7 @@ returns-in-Clean-clause-planned c = λ task steps at lawful next.
     let rest = c.settle.ensures.rest in
     let half = half_clean plan.standings.items plan.left.items plan.ready plan.pending plan.sets e c.args.edge c.index-place.ensures.place c.requires.ready task plan.queue steps lawful (half_of task c.args.graph.now plan steps at) next.0.once next.0.command in
     let last = half_after task _ c.settle.new.self.standings.items plan.queue c.settle.new.self.queue (steps ++ Judged (suc c.args.edge) false ∷ []) half rest.queue rest.stands
-        (λ phony old. c.settle.ensures.sound task (done_in (steps ++ Judged (suc c.args.edge) false ∷ [])) at.stated phony old) in
+    (λ phony old. c.settle.ensures.sound task (done_in (steps ++ Judged (suc c.args.edge) false ∷ [])) at.stated phony old) in
     subst (λ (v : Verdict). IsPlanned task c.args.graph.now c.settle.new.self (steps ++ Judged (suc c.args.edge) (is_stale v) ∷ [])) (sym c.in-Clean.is) record {
       stated = at.stated;
       limits = (rest.jobs ∙ at.limits.0, rest.keep ∙ at.limits.1);
