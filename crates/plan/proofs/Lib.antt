@@ -1,0 +1,15 @@
+pub mod CountBy
+pub mod PlannedSteps
+pub mod PlannedCounts
+pub mod Judging
+pub mod Places
+pub mod Runs
+pub mod Stepping
+pub mod Taking
+pub mod Passing
+pub mod Noting
+pub mod Ending
+pub mod Starting
+pub mod Lowering
+pub mod Arriving
+pub mod Settling

@@ -1,0 +1,4 @@
+pub mod Standing
+pub mod Pools
+pub mod Plan
+pub mod Planned

@@ -1,0 +1,11 @@
+//! The plan of a build: which edge is judged and which command is started next.
+#![tactic(auto)]
+
+mod first;
+mod plan;
+mod pools;
+mod settle;
+mod step;
+
+pub use plan::Plan;
+pub use step::{End, Standing, Step, Verdict};
