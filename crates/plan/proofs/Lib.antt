@@ -13,3 +13,4 @@ pub mod Starting
 pub mod Lowering
 pub mod Arriving
 pub mod Settling
+pub mod Beginning

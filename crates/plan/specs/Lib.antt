@@ -1,4 +1,5 @@
 pub mod Standing
 pub mod Pools
 pub mod Plan
+pub mod First
 pub mod Planned

@@ -1,5 +1,12 @@
 //! How a plan begins.
 
+ghost use Rattle.std.specs.Prelude.{◌≡◌, ◌<◌, ◌≤◌, IfOk, length, vec_len, is_none, count_by, true, slice_set, if◌then◌else◌};
+ghost use Rattle.lowest.specs.Flags.{has, AreNone};
+ghost use Rattle.links.specs.Links.{links_of, needs_at};
+ghost use Rattle.plan.specs.Standing.{is_unjudged, is_alias};
+ghost use Rattle.plan.specs.Plan.{is_missing, IsReady};
+ghost use Rattle.plan.specs.First.{first_at, AreFirst, AreSources, AreCounts};
+
 use crate::step::Standing;
 use links::{Cone, Graph};
 use lowest::Lowest;
@@ -11,7 +18,10 @@ pub fn first_standings(
     alloc: Global,
     graph: &Graph,
     cone: &Cone,
-) -> Result<Vec<Standing>, AllocError> {
+) -> Result<Vec<Standing>, AllocError>
+    requires { vec_len cone.now.marks ≡ length graph.now.manifest.lines }
+    ensures { IfOk result (λ standings. AreFirst (links_of graph.now) cone.now.marks.items standings.items) }
+{
     let mut standings = Vec::with_capacity(alloc, graph.edges())?;
     for place in 0..graph.edges() {
         standings.push(first_standing(graph, cone, graph.manifest.edge(place)))?;
@@ -19,7 +29,11 @@ pub fn first_standings(
     Ok(standings)
 }
 
-fn first_standing(graph: &Graph, cone: &Cone, edge: EdgeId) -> Standing {
+fn first_standing(graph: &Graph, cone: &Cone, edge: EdgeId) -> Standing
+    requires edge { edge < length graph.now.manifest.lines }
+    requires marks { vec_len cone.now.marks ≡ length graph.now.manifest.lines }
+    ensures { result ≡ first_at (links_of graph.now) cone.now.marks.items edge }
+{
     if !cone.has(edge) {
         return Standing::Outside;
     }
@@ -30,12 +44,20 @@ fn first_standing(graph: &Graph, cone: &Cone, edge: EdgeId) -> Standing {
 }
 
 /// For each path, whether it is a source.
-pub fn sources(alloc: Global, graph: &Graph) -> Result<Vec<bool>, AllocError> {
+pub fn sources(alloc: Global, graph: &Graph) -> Result<Vec<bool>, AllocError>
+    ensures { IfOk result (λ there. AreSources (links_of graph.now) (length graph.now.manifest.paths) there.items) }
+{
     let mut there = Vec::with_capacity(alloc, graph.paths())?;
     for place in 0..graph.paths() {
-        there.push(!matches!(graph.makers.get(place), Some(Some(_))))?;
+        there.push(is_source(graph, place))?;
     }
     Ok(there)
+}
+
+fn is_source(graph: &Graph, place: usize) -> bool
+    ensures { result ≡ is_none ((links_of graph.now).maker place) }
+{
+    graph.makers.get(place).copied().flatten().is_none()
 }
 
 /// For each edge of the cone, how many of its inputs and recorded inputs are not there.
@@ -44,7 +66,10 @@ pub fn first_counts(
     graph: &Graph,
     standings: &[Standing],
     there: &[bool],
-) -> Result<Vec<usize>, AllocError> {
+) -> Result<Vec<usize>, AllocError>
+    requires { length standings.now ≡ length graph.now.manifest.lines }
+    ensures { IfOk result (λ left. AreCounts (links_of graph.now) standings.now there.now left.items) }
+{
     let mut left = Vec::with_capacity(alloc, standings.len())?;
     for (place, standing) in standings.iter().enumerate() {
         left.push(match standing {
@@ -56,16 +81,22 @@ pub fn first_counts(
 }
 
 /// How many inputs and recorded inputs of the edge are not there.
-fn missing_inputs(graph: &Graph, there: &[bool], edge: EdgeId) -> usize {
-    missing(there, graph.inputs(edge)) + missing(there, graph.recorded_inputs(edge))
+fn missing_inputs(graph: &Graph, there: &[bool], edge: EdgeId) -> usize
+    requires { edge < length graph.now.manifest.lines }
+    ensures { result ≡ count_by (is_missing there.now) (needs_at (links_of graph.now) edge) }
+{
+    let mut count = 0;
+    for place in 0..graph.need_count(edge) {
+        if !is_there(there, graph.need(edge, place)) {
+            count += 1;
+        }
+    }
+    count
 }
 
-/// How many of the paths are not there.
-fn missing(there: &[bool], paths: &[PathId]) -> usize {
-    paths.iter().filter(|path| !is_there(there, **path)).count()
-}
-
-fn is_there(there: &[bool], path: PathId) -> bool {
+fn is_there(there: &[bool], path: PathId) -> bool
+    ensures { result ≡ has there.now path }
+{
     matches!(there.get(path.index()), Some(true))
 }
 
@@ -75,14 +106,33 @@ pub fn first_ready(
     left: &[usize],
     ready: &mut Lowest,
     pending: &mut Lowest,
-) {
+)
+    requires fits { length left.now ≡ length standings.now }
+    requires room { length standings.now ≤ length ready.old }
+    requires rest { length standings.now ≤ length pending.old }
+    requires none { AreNone ready.old }
+    requires nothing { AreNone pending.old }
+    ensures sets { IsReady standings.now left.now ready.new pending.new }
+    ensures room { length ready.new ≡ length ready.old }
+    ensures rest { length pending.new ≡ length pending.old }
+{
     for (place, standing) in standings.iter().enumerate() {
         if left[place] == 0 {
-            match standing {
-                Standing::Unjudged => ready.insert(place),
-                Standing::Alias => pending.insert(place),
-                _ => {}
-            }
+            insert(place, *standing, ready, pending);
         }
+    }
+}
+
+/// Puts an edge that waits for nothing among the commands or the aliases that do.
+fn insert(place: usize, standing: Standing, ready: &mut Lowest, pending: &mut Lowest)
+    requires room { place < length ready.old }
+    requires rest { place < length pending.old }
+    ensures ready { ready.new ≡ (if is_unjudged standing then slice_set ready.old place true else ready.old) }
+    ensures pending { pending.new ≡ (if is_alias standing then slice_set pending.old place true else pending.old) }
+{
+    match standing {
+        Standing::Unjudged => ready.insert(place),
+        Standing::Alias => pending.insert(place),
+        _ => {}
     }
 }

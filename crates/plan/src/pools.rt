@@ -1,5 +1,10 @@
 //! The pools of a cone's edges.
 
+ghost use Rattle.std.specs.Prelude.{◌≡◌, ◌<◌, IfOk, length, get_or};
+ghost use Rattle.paths.specs.Commands.{no_action};
+ghost use Rattle.plan.specs.Pools.{limited, place_of, place_in, pool_of, depths_of};
+ghost use Rattle.plan.specs.First.{AreGroups, IsIdle};
+
 use crate::step::Standing;
 use links::Graph;
 use model::Pool;
@@ -11,21 +16,39 @@ use std::alloc::{AllocError, Global};
 const CONSOLE: &str = "console";
 
 /// No edge waits for its start. The pools are the declared ones, and behind them the one for the terminal.
-pub fn queue_of(alloc: Global, graph: &Graph, standings: &[Standing]) -> Result<Queue, AllocError> {
+pub fn queue_of(alloc: Global, graph: &Graph, standings: &[Standing]) -> Result<Queue, AllocError>
+    requires { length standings.now ≡ length graph.now.manifest.lines }
+    ensures { IfOk result (IsIdle graph.now standings.now) }
+{
+    let groups = groups_of(alloc, graph, standings)?;
+    let depths = depths_of(alloc, graph.manifest.pools.as_slice())?;
+    Queue::new(alloc, groups, &depths)
+}
+
+/// The pool of each edge of the cone, where it has one with a limit.
+fn groups_of(
+    alloc: Global,
+    graph: &Graph,
+    standings: &[Standing],
+) -> Result<Vec<Option<usize>>, AllocError>
+    requires { length standings.now ≡ length graph.now.manifest.lines }
+    ensures { IfOk result (λ groups. AreGroups graph.now standings.now groups.items) }
+{
     let pools = graph.manifest.pools.as_slice();
     let mut groups = Vec::with_capacity(alloc, standings.len())?;
     for (place, standing) in standings.iter().enumerate() {
         groups.push(match standing {
-            Standing::Unjudged => group_of(graph, pools, graph.manifest.edge(place)),
-            _ => None,
+            Standing::Outside => None,
+            _ => group_of(pools, graph.manifest.action(graph.manifest.edge(place))),
         })?;
     }
-    let depths = depths_of(alloc, pools)?;
-    Queue::new(alloc, groups, &depths)
+    Ok(groups)
 }
 
 /// How many commands of each pool may run at once.
-fn depths_of(alloc: Global, pools: &[Pool]) -> Result<Vec<usize>, AllocError> {
+fn depths_of(alloc: Global, pools: &[Pool]) -> Result<Vec<usize>, AllocError>
+    ensures { IfOk result (λ depths. depths.items ≡ depths_of pools.now) }
+{
     let mut depths = Vec::with_capacity(alloc, pools.len())?;
     for pool in pools {
         depths.push(pool.depth as usize)?;
@@ -34,9 +57,11 @@ fn depths_of(alloc: Global, pools: &[Pool]) -> Result<Vec<usize>, AllocError> {
     Ok(depths)
 }
 
-/// The pool of the edge, where it has one with a limit.
-fn group_of(graph: &Graph, pools: &[Pool], edge: EdgeId) -> Option<usize> {
-    match graph.manifest.action(edge) {
+/// The pool of an edge that does this, where it has one with a limit.
+fn group_of(pools: &[Pool], action: &Action) -> Option<usize>
+    ensures { result ≡ place_in pools.now (pool_of action.now) }
+{
+    match action {
         Action::Alias => None,
         Action::Command(command) => match &command.pool {
             None => None,
@@ -46,10 +71,19 @@ fn group_of(graph: &Graph, pools: &[Pool], edge: EdgeId) -> Option<usize> {
 }
 
 /// The place of the pool with this name, where it has a limit.
-fn place_of(pools: &[Pool], name: &str) -> Option<usize> {
+fn place_of(pools: &[Pool], name: &str) -> Option<usize>
+    ensures { result ≡ place_of pools.now name.now }
+{
     if name == CONSOLE {
         return Some(pools.len());
     }
+    limited(pools, name)
+}
+
+/// The place of the first declared pool with this name, where it has a limit.
+fn limited(pools: &[Pool], name: &str) -> Option<usize>
+    ensures { result ≡ limited pools.now name.now }
+{
     for (place, pool) in pools.iter().enumerate() {
         if pool.name.as_str() == name {
             return if pool.depth == 0 { None } else { Some(place) };
