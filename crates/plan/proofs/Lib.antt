@@ -14,3 +14,4 @@ pub mod Lowering
 pub mod Arriving
 pub mod Settling
 pub mod Beginning
+pub mod Begun

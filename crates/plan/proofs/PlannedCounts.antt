@@ -44,7 +44,7 @@ once_filter test (x ∷ xs) once = by_test (once_filter test xs once.1) (test x)
 abbrev one_if : Bool → ℕ
 one_if b = cond b 1 0
 
-count_nothing : (test : Standing → Bool) (ss : List Standing) → ((e : ℕ) → test (standing_at ss e) ≡ false) → count_by test ss ≡ 0
+pub count_nothing : (test : Standing → Bool) (ss : List Standing) → ((e : ℕ) → test (standing_at ss e) ≡ false) → count_by test ss ≡ 0
 count_nothing test [] none = refl
 count_nothing test (s ∷ ss) none =
     let e : count_by test (s ∷ ss) ≡ one_if (test s) + count_by test ss = sum_by-cons (λ (x : Standing). one_if (test x)) s ss in

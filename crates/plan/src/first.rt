@@ -101,12 +101,7 @@ fn is_there(there: &[bool], path: PathId) -> bool
 }
 
 /// Puts each edge that waits for nothing among the commands or the aliases that do.
-pub fn first_ready(
-    standings: &[Standing],
-    left: &[usize],
-    ready: &mut Lowest,
-    pending: &mut Lowest,
-)
+pub fn first_ready(standings: &[Standing], left: &[usize], ready: &mut Lowest, pending: &mut Lowest)
     requires fits { length left.now ≡ length standings.now }
     requires room { length standings.now ≤ length ready.old }
     requires rest { length standings.now ≤ length pending.old }

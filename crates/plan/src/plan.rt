@@ -58,6 +58,7 @@ impl Plan {
     ghost use Rattle.links.specs.Linked.{IsConeOf};
     ghost use Rattle.plan.specs.Standing.{standing_at};
     ghost use Rattle.plan.specs.Plan.{standing_by, standing_after, has_limits, IsSettling, AreFlagged};
+    ghost use Rattle.plan.specs.First.{IsBegun};
     ghost use Rattle.plan.specs.Planned.{IsPlanOver, IsTaskOf, IsPlanned, IsNextOf, IsOffered, is_stale};
 
     /// A plan in which no edge of the cone is judged.
@@ -73,6 +74,22 @@ impl Plan {
         ensures flags { IfOk result (λ plan. (p : ℕ) → has plan.changed.items p ≡ false) }
         ensures planned { IfOk result (λ plan. (task : Task) → IsTaskOf task graph.now → task.jobs ≡ jobs → task.keep ≡ keep → IsConeOf task.graph.edges task.recorded task.targets cone.now.order.items cone.now.marks.items → IsPlanned task graph.now plan []) }
     {
+        let mut plan = Plan::begin(alloc, graph, cone, jobs, keep)?;
+        plan.settle_pending(graph);
+        Ok(plan)
+    }
+
+    /// A plan in which nothing is settled.
+    fn begin(
+        alloc: Global,
+        graph: &Graph,
+        cone: &Cone,
+        jobs: usize,
+        keep: usize,
+    ) -> Result<Plan, AllocError>
+        requires { vec_len cone.now.marks ≡ length graph.now.manifest.lines }
+        ensures { IfOk result (IsBegun graph.now cone.now.marks.items jobs keep) }
+    {
         let edges = graph.edges();
         let standings = first_standings(alloc, graph, cone)?;
         let there = sources(alloc, graph)?;
@@ -82,7 +99,7 @@ impl Plan {
         first_ready(&standings, &left, &mut ready, &mut pending);
         let queue = queue_of(alloc, graph, &standings)?;
         let changed = vec![in alloc; false; graph.paths()]?;
-        let mut plan = Plan {
+        Ok(Plan {
             standings,
             left,
             there,
@@ -95,9 +112,7 @@ impl Plan {
             well: 0,
             jobs,
             keep,
-        };
-        plan.settle_pending(graph);
-        Ok(plan)
+        })
     }
 
     /// What is to be done next: a judgement before a start, and the lowest edge first.

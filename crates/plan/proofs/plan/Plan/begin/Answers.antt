@@ -1,0 +1,54 @@
+use Rattle.std.proofs.Common.{◌≡◌, ◌∙◌, ◌≤◌, ◌^◌, ℕ, List, Bool, false, length, replicate, refl, sym, ap, subst, arith}
+use Rattle.links.specs.Links.{links_of}
+use Rattle.plan.specs.declared.step.Standing.{Standing}
+use Rattle.plan.specs.Plan.{IsReady}
+use Rattle.plan.specs.First.{AreFirst, AreSources, AreCounts, IsIdle}
+use Rattle.plan.proofs.Begun.{none_counted, none_waits, over_first}
+use Rattle.plan.proofs.plan.Plan.begin.Goals as goal
+
+pub invariant_of-result-clause-fits : goal.invariant_of-result-clause-fits
+invariant_of-result-clause-fits c =
+    let counts = c.in_ok-left.ensures in
+    omega (arith, counts.fits, ap (λ (l : List Standing). length l) c.deref.ensures.value, c.in_ok-standings.standings.ok.0, c.in_ok-left.left.ok.0)
+
+pub invariant_of-result-clause-few : goal.invariant_of-result-clause-few
+invariant_of-result-clause-few c =
+    let first = c.in_ok-standings.ensures in
+    omega (arith, first.fits, c.args.graph.now.manifest.few, c.in_ok-standings.standings.ok.0)
+
+pub invariant_of-result-clause-room : goal.invariant_of-result-clause-room
+invariant_of-result-clause-room c =
+    let first = c.in_ok-standings.ensures in
+    omega (arith, first.fits, c.in_ok-standings.standings.ok.0, c.edges-edges.ensures, c.in_ok-ready.ensures.room, c.first_ready.ensures.room)
+
+pub invariant_of-result-clause-rest : goal.invariant_of-result-clause-rest
+invariant_of-result-clause-rest c =
+    let first = c.in_ok-standings.ensures in
+    omega (arith, first.fits, c.in_ok-standings.standings.ok.0, c.edges-edges.ensures, c.in_ok-pending.ensures.room, c.first_ready.ensures.rest)
+
+pub invariant_of-result-clause-sets : goal.invariant_of-result-clause-sets
+invariant_of-result-clause-sets c =
+    subst (λ (l : List Standing). IsReady l c.in_ok-left.left.items c.first_ready.new.ready c.first_ready.new.pending) c.deref-3.ensures.value
+    (subst (λ (l : List ℕ). IsReady c.deref-3.result.now l c.first_ready.new.ready c.first_ready.new.pending) c.deref-4.ensures.value c.first_ready.ensures.sets)
+
+pub invariant_of-result-clause-waits : goal.invariant_of-result-clause-waits
+invariant_of-result-clause-waits c =
+    none_waits (links_of c.args.graph.now) c.args.cone.now.marks.items c.in_ok-standings.standings.items c.in_ok-standings.ensures c.args.graph.now c.in_ok-queue.queue
+    (subst (λ (l : List Standing). IsIdle c.args.graph.now l c.in_ok-queue.queue) c.deref-5.ensures.value c.in_ok-queue.ensures)
+
+pub invariant_of-result-clause-tallied : goal.invariant_of-result-clause-tallied
+invariant_of-result-clause-tallied c = none_counted (links_of c.args.graph.now) c.args.cone.now.marks.items c.in_ok-standings.standings.items c.in_ok-standings.ensures
+
+pub returns : goal.returns
+returns c =
+    let links = links_of c.args.graph.now in
+    let standings = c.in_ok-standings.standings.items in
+    record {
+      first = c.in_ok-standings.ensures;
+      over = over_first links c.args.cone.now.marks.items standings c.in_ok-standings.ensures (length c.args.graph.now.manifest.paths) c.in_ok-there.there.items c.in_ok-left.left.items c.in_ok-there.ensures
+          (subst (λ (l : List Standing). AreCounts links l c.in_ok-there.there.items c.in_ok-left.left.items) c.deref.ensures.value
+          (subst (λ (l : List Bool). AreCounts links c.deref.result.now l c.in_ok-left.left.items) c.deref-2.ensures.value c.in_ok-left.ensures));
+      idle = subst (λ (l : List Standing). IsIdle c.args.graph.now l c.in_ok-queue.queue) c.deref-5.ensures.value c.in_ok-queue.ensures;
+      flags = c.in_ok-changed.ensures.items_if_clones_equal (λ y h. h) ∙ ap (λ (n : ℕ). replicate n false) c.paths.ensures;
+      limits = (refl, refl);
+    }
