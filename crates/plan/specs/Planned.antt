@@ -8,6 +8,7 @@ use Rattle.queue.specs.Turns.{Turns, group_at, may}
 use Rattle.links.specs.declared.graph.Graph.{Graph}
 use Rattle.links.specs.Links.{links_of, needs_at}
 use Rattle.links.specs.Linked.{IsLinksOf}
+use Rattle.links.specs.Told.{declared_by, recorded_by, AreSameInputs}
 use Rattle.paths.specs.Commands.{no_action}
 use Rattle.plan.specs.declared.plan.Plan.{Plan}
 use Rattle.plan.specs.declared.step.Standing.{Standing}
@@ -70,6 +71,12 @@ pub record IsTaskOf (task : Task) (graph : Graph) : Type 0 where
   pub pools : task.graph.pools ≡ graph.manifest.pools
   pub pool : (e : ℕ) → (edge_at task.graph.edges (suc e)).pool ≡ pool_of (get_or graph.manifest.actions e no_action)
   pub bare : (i : ℕ) → (edge_at task.graph.edges i).phony ≡ true → task.recorded i ≡ []
+
+-- the task is to build what the graph declares, with the inputs that it has recorded, and none are of aliases
+pub record IsDeclaredTask (task : Task) (graph : Graph) : Type 0 where
+  pub declared : task.graph ≡ declared_by graph
+  pub recorded : AreSameInputs task.recorded (recorded_by graph)
+  pub bare : (i : ℕ) → (edge_at (declared_by graph).edges i).phony ≡ true → recorded_by graph i ≡ []
 
 -- what has become of a command of the cone by these steps
 abbrev pub standing_in : List Done → ℕ → Standing

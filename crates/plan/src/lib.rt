@@ -2,10 +2,12 @@
 #![tactic(auto)]
 
 mod first;
+mod laws;
 mod plan;
 mod pools;
 mod settle;
 mod step;
 
+pub use laws::task_of;
 pub use plan::Plan;
 pub use step::{End, Standing, Step, Verdict};
