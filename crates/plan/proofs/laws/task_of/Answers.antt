@@ -1,4 +1,4 @@
-use Rattle.std.proofs.Common.{◌≡◌, ◌∙◌, ℕ, suc, List, [], ◌∷◌, Bool, true, false, Option, refl, sym, ap, subst}
+use Rattle.std.proofs.Common.{◌≡◌, ◌∙◌, ℕ, suc, List, [], ◌∷◌, true, false, get_or, refl, sym, ap, subst}
 use Rattle.std.proofs.lemmas.Bool.{false≢true}
 use Rattle.model.specs.declared.graph.BuildGraph.{BuildGraph}
 use Rattle.model.specs.declared.graph.Edge.{Edge}
@@ -39,8 +39,8 @@ returns c = λ task is.
     record {
       linked = subst (λ (es : List Edge). IsLinksOf es task.recorded (links_of graph)) (sym edges) (law.linked task.recorded is.recorded);
       numbered = law.numbered;
-      phony = λ e. phony_is paths (line e) _ ∙ sym (ap (λ (es : List Edge). (edge_at es (suc e)).phony) edges ∙ ap (λ (edge : Edge). edge.phony) (law.edges e));
+      phony = λ e. phony_is paths (line e) (get_or graph.manifest.actions e no_action) ∙ sym (ap (λ (es : List Edge). (edge_at es (suc e)).phony) edges ∙ ap (λ (edge : Edge). edge.phony) (law.edges e));
       pools = ap (λ (g : BuildGraph). g.pools) is.declared;
-      pool = λ e. ap (λ (es : List Edge). (edge_at es (suc e)).pool) edges ∙ (ap (λ (edge : Edge). edge.pool) (law.edges e) ∙ pool_is paths (line e) _);
+      pool = λ e. ap (λ (es : List Edge). (edge_at es (suc e)).pool) edges ∙ (ap (λ (edge : Edge). edge.pool) (law.edges e) ∙ pool_is paths (line e) (get_or graph.manifest.actions e no_action));
       bare = λ i phony. none_there (task.recorded i) (λ p. is.recorded i p ∙ ap (λ (texts : List (List ℕ)). has texts p) (is.bare i (sym (ap (λ (es : List Edge). (edge_at es i).phony) edges) ∙ phony)));
     }
