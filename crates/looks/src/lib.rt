@@ -1,0 +1,8 @@
+//! What is there of each path, and which source is missing.
+#![tactic(auto)]
+
+mod lack;
+mod table;
+
+pub use lack::{Lack, first_lack};
+pub use table::{Look, Looks};

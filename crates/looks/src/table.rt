@@ -1,0 +1,98 @@
+//! What was seen of each path.
+
+ghost use Rattle.std.specs.Prelude.{◌≡◌, ◌<◌, List, ℕ, IfOk, true, false, length, slice_set, OnOk};
+ghost use Rattle.std.proofs.Math.ListN.{replicate};
+ghost use Rattle.model.specs.World.{file_at, stamp_of};
+ghost use Rattle.model.specs.Calls.{OnlyLooks, HasCause};
+ghost use Rattle.paths.specs.Told.{text_at};
+ghost use Rattle.looks.specs.Seen.{look_at, look_of, is_asked, IfStays, AreSeen};
+
+use links::Graph;
+use model::SiteFault;
+use paths::PathId;
+use site::Site;
+use std::alloc::{AllocError, Global};
+
+/// What was seen of a path.
+#[derive(Clone, Copy, Debug, PartialEq, Eq)]
+pub enum Look {
+    /// It was not asked for.
+    Unasked,
+    /// There was no file.
+    Absent,
+    /// The stamp of its file.
+    Stamp(u64),
+}
+
+/// What was seen of each path of a graph, by its number: 16 bytes for each. A path is asked of the site once, until what was
+/// seen is forgotten.
+#[derive(Drop)]
+pub struct Looks {
+    pub seen: Vec<Look>,
+}
+
+impl Looks {
+    /// Nothing was asked for.
+    pub fn new(alloc: Global, graph: &Graph) -> Result<Looks, AllocError>
+        ensures { IfOk result (λ looks. looks.seen.items ≡ replicate (length graph.now.manifest.paths) Look.Unasked) }
+    {
+        Ok(Looks {
+            seen: vec![in alloc; Look::Unasked; graph.paths()]?,
+        })
+    }
+
+    /// The stamp of the file at the path, or nothing where there is no file. The site is asked where the path was not asked
+    /// for yet. Where it fails, what was seen stays as it was.
+    pub fn stamp<S: Site>(
+        &mut self,
+        site: &mut S,
+        graph: &Graph,
+        path: PathId,
+    ) -> Result<Option<u64>, SiteFault>
+        requires running { (S.world site.old).stopped ≡ false }
+        requires fits { length self.old.seen.items ≡ length graph.now.manifest.paths }
+        requires within { path < length graph.now.manifest.paths }
+        ensures looks { OnlyLooks S.tells (S.world site.old) (S.world site.new) }
+        ensures cause { HasCause (S.world site.old) (S.world site.new) result }
+        ensures seen { IfOk result (λ stamp. self.new.seen.items ≡ slice_set self.old.seen.items path (look_of stamp)) }
+        ensures once { is_asked (look_at self.old.seen.items path) ≡ true → (S.world site.new ≡ S.world site.old) }
+        ensures asked { is_asked (look_at self.old.seen.items path) ≡ true → IfOk result (λ stamp. look_at self.old.seen.items path ≡ look_of stamp) }
+        ensures stamp { is_asked (look_at self.old.seen.items path) ≡ false → IfOk result (λ stamp. IfStays S.tells (S.world site.old) (S.world site.new) (λ files. stamp ≡ stamp_of (file_at files (text_at graph.now.manifest.paths path)))) }
+        ensures err { OnErr result (self.new ≡ self.old) }
+    {
+        let place = path.index();
+        match self.seen[place] {
+            Look::Absent => Ok(None),
+            Look::Stamp(stamp) => Ok(Some(stamp)),
+            Look::Unasked => {
+                let stamp = site.stat(graph.text(path))?;
+                self.seen[place] = look_of(stamp);
+                Ok(stamp)
+            }
+        }
+    }
+
+    /// Forgets what was seen of these paths.
+    pub fn forget(&mut self, paths: &[PathId])
+        ensures forgotten { (p : ℕ) → has_number paths.now p ≡ true → look_at self.new.seen.items p ≡ Look.Unasked }
+        ensures others { (p : ℕ) → has_number paths.now p ≡ false → look_at self.new.seen.items p ≡ look_at self.old.seen.items p }
+        ensures fits { length self.new.seen.items ≡ length self.old.seen.items }
+    {
+        for path in paths {
+            let place = path.index();
+            if place < self.seen.len() {
+                self.seen[place] = Look::Unasked;
+            }
+        }
+    }
+}
+
+/// What a stamp says of a path.
+fn look_of(stamp: Option<u64>) -> Look
+    ensures { result ≡ look_of stamp }
+{
+    match stamp {
+        Some(stamp) => Look::Stamp(stamp),
+        None => Look::Absent,
+    }
+}
