@@ -1,9 +1,10 @@
 //! What was seen of each path.
 
-ghost use Rattle.std.specs.Prelude.{◌≡◌, ◌<◌, List, ℕ, IfOk, true, false, length, slice_set, OnOk};
+ghost use Rattle.std.specs.Prelude.{◌≡◌, ◌<◌, ℕ, IfOk, OnErr, true, false, length, slice_set};
 ghost use Rattle.std.proofs.Math.ListN.{replicate};
 ghost use Rattle.model.specs.World.{file_at, stamp_of};
 ghost use Rattle.model.specs.Calls.{OnlyLooks, HasCause};
+ghost use Rattle.model.specs.Graph.{has_number};
 ghost use Rattle.paths.specs.Told.{text_at};
 ghost use Rattle.looks.specs.Seen.{look_at, look_of, is_asked, IfStays, AreSeen};
 
