@@ -24,3 +24,4 @@ pub mod Starting
 pub mod Builds
 pub mod Counts
 pub mod Stated
+pub mod Calls

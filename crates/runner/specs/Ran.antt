@@ -15,7 +15,7 @@ use Rattle.plan.specs.Planned.{IsNextOf}
 use Rattle.runner.specs.declared.cut.Cut.{Cut}
 use Rattle.runner.specs.declared.summary.Summary.{Summary}
 use Rattle.runner.specs.declared.summary.Summary.TheVariants.{Well, Failed}
-use Rattle.runner.specs.Seen.{IsSeen}
+use Rattle.build_theory.specs.Seen.{IsSeen}
 use Rattle.runner.specs.Cut.{fault_of}
 
 -- the task is to build what the graph declares, and the file that ticks touch is the program's own

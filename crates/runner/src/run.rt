@@ -6,7 +6,7 @@ ghost use Rattle.model.specs.Records.{OwnFiles};
 ghost use Rattle.model.specs.Schedule.{Task};
 ghost use Rattle.model.specs.SingleBuild.{PassesNoFault};
 ghost use Rattle.plan.specs.Planned.{IsPlanned};
-ghost use Rattle.runner.specs.Seen.{Looked};
+ghost use Rattle.build_theory.specs.Seen.{Looked};
 ghost use Rattle.runner.specs.Cut.{IsLeft};
 ghost use Rattle.runner.specs.Ran.{Suits, HasRun, AreEdgesOf, answer_of};
 
