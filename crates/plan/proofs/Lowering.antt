@@ -7,7 +7,8 @@ use Rattle.lowest.specs.Flags.{has}
 use Rattle.plan.specs.declared.step.Standing.{Standing}
 use Rattle.plan.specs.declared.step.Standing.TheVariants.{Unjudged, Alias}
 use Rattle.plan.specs.Standing.{standing_at, is_unjudged, is_alias}
-use Rattle.plan.specs.Plan.{IsReady, lowered, raised}
+use Rattle.plan.specs.Plan.{IsReady}
+use Rattle.plan.specs.Settling.{lowered, raised}
 
 module _ (standings : List Standing) (left : List ℕ) (user : ℕ) (within : user < length left) (some : 0 < get_or left user 0) where
   left_here : get_or (lowered left user) user 0 ≡ get_or left user 0 - 1

@@ -16,7 +16,8 @@ use Rattle.plan.specs.declared.plan.Plan.{Plan}
 use Rattle.plan.specs.declared.step.Standing.{Standing}
 use Rattle.plan.specs.declared.step.Standing.TheVariants.{Outside, Alias, Known}
 use Rattle.plan.specs.Standing.{standing_at, is_unjudged, is_alias, is_out_of_date, is_running, is_failed, is_well, is_outside, is_phony, is_settled, awaits, maker_settled}
-use Rattle.plan.specs.Plan.{IsReady, IsWaiting, IsTallied, IsOver, IsCounted, IsPooled, is_missing}
+use Rattle.plan.specs.Plan.{IsReady, IsWaiting, IsTallied, IsOver, IsPooled, is_missing}
+use Rattle.plan.specs.Settling.{IsCounted}
 use Rattle.plan.specs.Planned.{standing_in, is_place, is_grouped, IsPlanned}
 use Rattle.plan.proofs.PlannedSteps.{edge_of, stands_other, done_more}
 use Rattle.plan.proofs.Runs.{one_if, same_filter}

@@ -1,5 +1,5 @@
 -- The pools of edges.
-use Rattle.std.specs.Prelude.{◌≡◌, ℕ, suc, ◌==◌, if◌then◌else◌, Bool, List, [], ◌∷◌, ◌++◌, map, length, Option, None, Some, bytes_eq}
+use Rattle.std.specs.Prelude.{ℕ, ◌==◌, if◌then◌else◌, List, [], ◌∷◌, ◌++◌, map, length, Option, None, Some, bytes_eq}
 use Rattle.model.specs.declared.graph.Pool.{Pool}
 use Rattle.model.specs.Graph.{console, later_number}
 use Rattle.paths.specs.declared.manifest.Action.{Action}

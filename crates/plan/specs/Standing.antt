@@ -1,7 +1,5 @@
 -- How far edges have come.
-use Rattle.std.specs.Prelude.{◌≡◌, ◌⊎◌, ℕ, ◌==◌, ◌&&◌, not, Bool, true, false, List, length, slice_index, slice_index_or, count_by, Option, Some, None}
-use Rattle.lowest.specs.Flags.{has}
-use Rattle.links.specs.Links.{Links, needs_at}
+use Rattle.std.specs.Prelude.{ℕ, not, Bool, true, false, List, slice_index_or, Option, Some, None}
 use Rattle.plan.specs.declared.step.Standing.{Standing}
 use Rattle.plan.specs.declared.step.Standing.TheVariants.{Outside, Unjudged, Clean, OutOfDate, Running, Well, Failed, Alias, Known}
 

@@ -6,7 +6,8 @@ use Rattle.links.specs.Links.{links_of}
 use Rattle.plan.specs.declared.step.Standing.TheVariants.{Alias}
 use Rattle.plan.specs.Standing.{standing_at, is_alias}
 use Rattle.plan.specs.Plan.{IsOver}
-use Rattle.plan.specs.Planned.{SettlesAliases, IsTaskOf, IsSound}
+use Rattle.plan.specs.Planned.{IsTaskOf}
+use Rattle.plan.specs.Settling.{SettlesAliases, IsSound}
 use Rattle.plan.proofs.plan.Plan.settle_pending.Given as goal
 
 abbrev pub invariant-loop-place : goal.invariant-loop-place
