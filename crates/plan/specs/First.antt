@@ -19,6 +19,7 @@ use Rattle.plan.specs.Planned.{IsOverIn}
 abbrev pub first_of : Bool → Bool → Standing
 first_of listed phony = if listed then (if phony then Alias else Unjudged) else Outside
 
+-- where an edge stands before the first step
 abbrev pub first_at : Links → List Mark → ℕ → Standing
 first_at links marks e = first_of (is_listed (mark_at marks e)) (links.phony e)
 

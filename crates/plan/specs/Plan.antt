@@ -24,6 +24,7 @@ pub record IsWaiting (standings : List Standing) (turns : Turns) : Type 0 where
   pub fits : length turns.waiting ≡ length standings
   pub waits : (e : ℕ) → has turns.waiting e ≡ is_out_of_date (standing_at standings e)
 
+-- so many commands run, have failed, and have ended well
 pub record IsTallied (standings : List Standing) (running failed well : ℕ) : Type 0 where
   pub runs : running ≡ count_by is_running standings
   pub fails : failed ≡ count_by is_failed standings
@@ -52,10 +53,12 @@ pub record IsPooled (graph : Graph) (standings : List Standing) (turns : Turns) 
 
 -- ---- what is said next, and what a call changes
 
+-- where an edge stands by a verdict over it
 abbrev pub standing_by : Verdict → Standing
 standing_by verdict.Clean = Clean
 standing_by verdict.OutOfDate = OutOfDate
 
+-- where an edge stands after its command ended, well or not
 abbrev pub standing_after : Bool → Standing
 standing_after true = Well
 standing_after false = Failed

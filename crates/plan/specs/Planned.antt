@@ -34,7 +34,8 @@ pub record IsPlanOver (graph : Graph) (plan : Plan) : Type 0 where
   pub pooled : IsPooled graph plan.standings.items plan.queue
   pub flags : length plan.changed.items ≡ length graph.manifest.paths
 
--- the task is to build what the graph declares; aliases have no recorded inputs
+-- the numbers of the graph say who waits for whom among the task's edges, which of them are aliases, and in which pools
+-- they are; aliases have no recorded inputs
 pub record IsTaskOf (task : Task) (graph : Graph) : Type 0 where
   pub linked : IsLinksOf task.graph.edges task.recorded (links_of graph)
   pub numbered : (e k : ℕ) → k < length (needs_at (links_of graph) e) → slice_index (needs_at (links_of graph) e) k < length graph.manifest.paths
@@ -59,6 +60,7 @@ standing_in steps i =
     else if has_number (clean_in steps) i then Clean
     else Unjudged
 
+-- whether it is this place
 abbrev pub is_place : Option ℕ → ℕ → Bool
 is_place None g = false
 is_place (Some h) g = h == g

@@ -19,6 +19,7 @@ pub record IsCounted (links : Links) (paths : ℕ) (standings : List Standing) (
   pub known : length there ≡ paths
   pub counts : (e : ℕ) → awaits (standing_at standings e) ≡ true → slice_index left e ≡ count_by (is_missing there) (needs_at links e)
 
+-- so are those that the plan keeps
 abbrev pub IsCountedIn : Graph → Plan → Type 0
 IsCountedIn graph plan = IsCounted (links_of graph) (length graph.manifest.paths) plan.standings.items plan.left.items plan.there.items
 

@@ -7,22 +7,27 @@ use Rattle.plan.specs.declared.step.Standing.TheVariants.{Outside, Unjudged, Cle
 abbrev pub standing_at : List Standing → ℕ → Standing
 standing_at standings e = slice_index_or standings e Outside
 
+-- a command of the cone that was not judged
 abbrev pub is_unjudged : Standing → Bool
 is_unjudged Unjudged = true
 is_unjudged _ = false
 
+-- a command that is to be started
 abbrev pub is_out_of_date : Standing → Bool
 is_out_of_date OutOfDate = true
 is_out_of_date _ = false
 
+-- a command that was started and has not ended
 abbrev pub is_running : Standing → Bool
 is_running Running = true
 is_running _ = false
 
+-- a command that failed
 abbrev pub is_failed : Standing → Bool
 is_failed Failed = true
 is_failed _ = false
 
+-- a command that ended well
 abbrev pub is_well : Standing → Bool
 is_well Well = true
 is_well _ = false
@@ -32,6 +37,7 @@ abbrev pub is_alias : Standing → Bool
 is_alias Alias = true
 is_alias _ = false
 
+-- an edge that is not in the cone
 abbrev pub is_outside : Standing → Bool
 is_outside Outside = true
 is_outside _ = false
