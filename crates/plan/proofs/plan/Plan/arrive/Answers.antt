@@ -1,5 +1,4 @@
 use Rattle.std.proofs.Common.{◌≡◌, ◌∙◌, ℕ, ◌+◌, ◌<◌, Bool, true, false, cond, List, length, get_or, take, sym, ap, subst, arith}
-use Rattle.std.proofs.Math.ListN.{set}
 use Rattle.lowest.specs.Flags.{has}
 use Rattle.links.specs.Held.{times}
 use Rattle.links.specs.Links.{links_of, needs_at}

@@ -1,5 +1,4 @@
 use Rattle.std.proofs.Common.{◌≡◌, ℕ, suc, List, true, length, count_by}
-use Rattle.model.specs.declared.graph.Edge.{Edge}
 use Rattle.model.specs.Graph.{edge_at}
 use Rattle.model.specs.Schedule.{Task}
 use Rattle.links.specs.Links.{links_of}

@@ -1,4 +1,4 @@
-use Rattle.std.proofs.Common.{◌≡◌, ◌∙◌, ℕ, false, refl, sym, ap}
+use Rattle.std.proofs.Common.{false, refl, sym, ap}
 use Rattle.std.proofs.lemmas.Bool.{false≢true}
 use Rattle.queue.specs.Turns.{Turns}
 use Rattle.links.specs.Links.{links_of}
