@@ -60,7 +60,8 @@ impl Plan {
     ghost use Rattle.plan.specs.First.{IsBegun};
     ghost use Rattle.plan.specs.Planned.{IsPlanOver, IsFirstPlan, TakesStep, IsCountIn, IsLawfulNext, IsOffered, is_stale};
 
-    /// A plan in which no edge of the cone is judged.
+    /// A plan in which no edge of the cone is judged. At most `jobs` commands run at once, and after `keep` failures none is
+    /// started; 0 is no limit. `AllocError` where memory is refused.
     pub fn new(
         alloc: Global,
         graph: &Graph,
