@@ -1,15 +1,15 @@
 -- What a plan keeps.
-use Rattle.std.specs.Prelude.{◌≡◌, ◌⊎◌, ◌≢◌, ℕ, ◌==◌, ◌<◌, ◌&&◌, ◌||◌, nat_lt, not, Bool, true, false, List, length, slice_index, count_by, get_or}
+use Rattle.std.specs.Prelude.{◌≡◌, ◌≢◌, ℕ, ◌==◌, ◌<◌, ◌&&◌, ◌||◌, nat_lt, not, Bool, true, false, List, length, slice_index, count_by, get_or}
 use Rattle.lowest.specs.Flags.{has}
 use Rattle.queue.specs.Turns.{Turns, group_at}
 use Rattle.links.specs.Links.{Links, needs_at}
 use Rattle.links.specs.declared.graph.Graph.{Graph}
 use Rattle.paths.specs.Commands.{no_action}
 use Rattle.plan.specs.declared.step.Standing.{Standing}
-use Rattle.plan.specs.declared.step.Standing.TheVariants.{Clean, OutOfDate, Well, Failed, Alias, Known}
+use Rattle.plan.specs.declared.step.Standing.TheVariants.{Clean, OutOfDate, Well, Failed}
 use Rattle.plan.specs.declared.step.Verdict.{Verdict}
 use Rattle.plan.specs.declared.step.Verdict.TheVariants as verdict
-use Rattle.plan.specs.Standing.{standing_at, is_unjudged, is_out_of_date, is_running, is_failed, is_well, is_alias, is_outside, awaits, maker_settled}
+use Rattle.plan.specs.Standing.{standing_at, is_unjudged, is_out_of_date, is_running, is_failed, is_well, is_alias, is_outside, awaits, maker_settled, StaysOrSettles}
 use Rattle.plan.specs.Pools.{place_in, pool_of, depths_of}
 
 -- ---- what holds of any plan
@@ -71,7 +71,7 @@ has_limits jobs keep running failed = ((jobs == 0) || nat_lt running jobs) && ((
 pub record IsSettling (old new : List Standing) (edge : ℕ) (standing : Standing) : Type 0 where
   pub fits : length new ≡ length old
   pub here : standing_at new edge ≡ standing
-  pub others : (e : ℕ) → e ≢ edge → (standing_at new e ≡ standing_at old e) ⊎ ((standing_at old e ≡ Alias) × (standing_at new e ≡ Known))
+  pub others : (e : ℕ) → e ≢ edge → StaysOrSettles (standing_at old e) (standing_at new e)
 
 -- the flags are those handed in for these paths, and for other paths as before
 pub record AreFlagged (old new : List Bool) (paths : List ℕ) (flags : List Bool) : Type 0 where

@@ -8,8 +8,8 @@ use Rattle.links.specs.declared.graph.Graph.{Graph}
 use Rattle.links.specs.Links.{Links, needs_at, links_of}
 use Rattle.plan.specs.declared.plan.Plan.{Plan}
 use Rattle.plan.specs.declared.step.Standing.{Standing}
-use Rattle.plan.specs.declared.step.Standing.TheVariants.{Alias, Known}
-use Rattle.plan.specs.Standing.{standing_at, awaits, is_settled, maker_settled}
+use Rattle.plan.specs.declared.step.Standing.TheVariants.{Alias}
+use Rattle.plan.specs.Standing.{standing_at, awaits, is_settled, maker_settled, StaysOrSettles}
 use Rattle.plan.specs.Plan.{is_missing}
 use Rattle.plan.specs.Planned.{IsTaskOf}
 
@@ -45,7 +45,7 @@ pub record IsStill (old new : Plan) : Type 0 where
 -- an alias may only be settled; nothing else is changed but what edges wait for
 pub record SettlesAliases (old new : Plan) : Type 0 where
   pub fits : length new.standings.items ≡ length old.standings.items
-  pub stands : (e : ℕ) → (standing_at new.standings.items e ≡ standing_at old.standings.items e) ⊎ ((standing_at old.standings.items e ≡ Alias) × (standing_at new.standings.items e ≡ Known))
+  pub stands : (e : ℕ) → StaysOrSettles (standing_at old.standings.items e) (standing_at new.standings.items e)
   pub queue : new.queue ≡ old.queue
   pub changed : new.changed ≡ old.changed
   pub running : new.running ≡ old.running

@@ -1,5 +1,5 @@
 -- How far edges have come.
-use Rattle.std.specs.Prelude.{ℕ, Bool, true, false, List, slice_index_or, Option, Some, None}
+use Rattle.std.specs.Prelude.{◌≡◌, ◌⊎◌, ℕ, Bool, true, false, List, slice_index_or, Option, Some, None}
 use Rattle.plan.specs.declared.step.Standing.{Standing}
 use Rattle.plan.specs.declared.step.Standing.TheVariants.{Outside, Unjudged, Clean, OutOfDate, Running, Well, Failed, Alias, Known}
 
@@ -65,3 +65,7 @@ is_settled _ = false
 abbrev pub maker_settled : List Standing → Option ℕ → Bool
 maker_settled standings None = true
 maker_settled standings (Some e) = is_settled (standing_at standings e)
+
+-- an edge stands as before, or is an alias that was settled
+abbrev pub StaysOrSettles : Standing → Standing → Type 0
+StaysOrSettles old new = (new ≡ old) ⊎ ((old ≡ Alias) × (new ≡ Known))
