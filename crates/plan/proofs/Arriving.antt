@@ -8,13 +8,14 @@ use Rattle.model.specs.Graph.{has_number}
 use Rattle.lowest.specs.Flags.{has}
 use Rattle.links.specs.Held.{times, list_at}
 use Rattle.links.specs.declared.graph.Graph.{Graph}
-use Rattle.links.specs.Links.{Links, needs_at, links_of}
+use Rattle.links.specs.Links.{needs_at, links_of}
 use Rattle.paths.specs.Lists.{line_at, line_inputs, no_line}
 use Rattle.plan.specs.declared.plan.Plan.{Plan}
-use Rattle.plan.specs.Planned.{IsStill}
+use Rattle.plan.specs.Settling.{IsStill}
 use Rattle.plan.specs.declared.step.Standing.{Standing}
 use Rattle.plan.specs.Standing.{standing_at, awaits}
-use Rattle.plan.specs.Plan.{is_missing, IsCounted, lowered}
+use Rattle.plan.specs.Plan.{is_missing}
+use Rattle.plan.specs.Settling.{IsCounted, lowered}
 
 abbrev one_if : Bool → ℕ
 one_if b = cond b 1 0

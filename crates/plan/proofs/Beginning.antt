@@ -1,18 +1,17 @@
 -- What a plan is made of, edge by edge.
-use Rattle.std.proofs.Common.{◌≡◌, ◌≢◌, ◌⊎◌, inl, inr, ℕ, zero, suc, ◌+◌, ◌<◌, ◌≤◌, ◌==◌, ◌&&◌, cond, Bool, true, false, List, [], ◌∷◌, ◌++◌, Option, None, Some, take, length, get_or, refl, sym, ◌∙◌, ap, subst, arith}
+use Rattle.std.proofs.Common.{◌≡◌, ◌≢◌, inl, inr, ℕ, zero, suc, ◌+◌, ◌<◌, ◌==◌, ◌&&◌, cond, Bool, true, false, List, [], ◌∷◌, ◌++◌, Option, None, Some, take, length, get_or, refl, sym, ◌∙◌, ap, subst, arith}
 use Rattle.std.proofs.Math.ListN.{set}
 use Rattle.std.proofs.Math.Seq.{get_or-append_seam}
 use Rattle.std.proofs.lemmas.List.{get_or_append_left, get_or-set_same, get_or-set_other, length-set, length-append}
 use Rattle.std.proofs.lemmas.Bool.{cases_eq, eqb-true, false_from_ne_true}
 use Rattle.model.specs.declared.graph.Pool.{Pool}
-use Rattle.model.specs.Graph.{depth_of}
 use Rattle.lowest.specs.Flags.{has}
 use Rattle.queue.specs.Turns.{AreWithin}
 use Rattle.plan.specs.declared.step.Standing.{Standing}
 use Rattle.plan.specs.declared.step.Standing.TheVariants.{Outside}
 use Rattle.plan.specs.Standing.{standing_at, is_unjudged, is_alias}
 use Rattle.plan.specs.Plan.{IsReady}
-use Rattle.plan.specs.Pools.{place_in, place_of, depths_of}
+use Rattle.plan.specs.Pools.{place_in, depths_of}
 use Rattle.plan.proofs.Places.{place_depth}
 use Rattle.plan.proofs.Runs.{at_least}
 

@@ -1,8 +1,8 @@
 -- A plan in which nothing was done.
-use Rattle.std.proofs.Common.{◌≡◌, ℕ, zero, suc, ◌<◌, ◌||◌, cond, Bool, true, false, List, [], ◌∷◌, Option, Some, None, map, replicate, length, get_or, count_by, refl, sym, ◌∙◌, ap, subst, arith}
+use Rattle.std.proofs.Common.{◌≡◌, ℕ, zero, suc, ◌<◌, Bool, true, false, List, [], ◌∷◌, Option, Some, None, map, replicate, length, refl, sym, ◌∙◌, ap, arith}
 use Rattle.std.specs.Option.{is_none}
 use Rattle.std.proofs.lemmas.Bool.{false≢true, true≢false}
-use Rattle.model.specs.Graph.{has_number, edge_at, IsCommand}
+use Rattle.model.specs.Graph.{has_number}
 use Rattle.model.specs.Schedule.{Task}
 use Rattle.lowest.specs.Flags.{has}
 use Rattle.queue.specs.Turns.{Turns}

@@ -2,8 +2,8 @@
 use Rattle.std.proofs.Common.{◌≡◌, ℕ, suc, ◌+◌, ◌-◌, ◌<◌, filter, Bool, true, false, List, [], ◌∷◌, ◌++◌, Option, Some, length, get_or, refl, sym, ◌∙◌, ap, subst, arith}
 use Rattle.std.proofs.Math.ListN.{set}
 use Rattle.std.proofs.lemmas.Bool.{false≢true, eq-eqb}
-use Rattle.model.specs.Graph.{has_number, IsCommand}
-use Rattle.model.specs.Schedule.{Task, Step, Ended, running_in, done_in, Done, IsLawful}
+use Rattle.model.specs.Graph.{has_number}
+use Rattle.model.specs.Schedule.{Task, Step, Ended, running_in, Done, IsLawful}
 use Rattle.build_theory.proofs.Lists.{has_number-one}
 use Rattle.queue.specs.Turns.{Turns, group_at, runs_at, runs_in, set_runs, with_running}
 use Rattle.links.specs.declared.graph.Graph.{Graph}

@@ -1,24 +1,23 @@
 -- The edges that may be judged are those that a plan has ready.
-use Rattle.std.proofs.Common.{◌≡◌, ◌⊎◌, inl, inr, ℕ, zero, suc, ◌+◌, ◌<◌, ◌==◌, ◌&&◌, ◌||◌, not, cond, Bool, true, false, List, [], ◌∷◌, ◌++◌, Option, Some, None, length, get_or, count_by, refl, sym, ◌∙◌, ap, subst, arith}
-use Rattle.std.proofs.lemmas.Bool.{false≢true, true≢false, or_cases, or_left, or_right, and_parts, and_from, eq-eqb, eqb-true, cases_Bool, false_from_ne_true}
+use Rattle.std.proofs.Common.{◌≡◌, ◌⊎◌, inl, inr, ℕ, zero, suc, ◌+◌, ◌<◌, ◌==◌, ◌||◌, not, cond, Bool, true, false, List, [], ◌∷◌, Option, Some, None, length, get_or, count_by, refl, sym, ◌∙◌, ap, subst, arith}
+use Rattle.std.proofs.lemmas.Bool.{false≢true, true≢false, and_parts, and_from, eq-eqb, eqb-true, false_from_ne_true}
 use Rattle.std.proofs.lemmas.List.Sums.{sum_by-cons}
-use Rattle.model.specs.declared.graph.Edge.{Edge}
 use Rattle.model.specs.Graph.{has, has_number, edge_at, inputs, maker, IsCommand}
-use Rattle.model.specs.Reading.{IsInCone, Needed, needs}
-use Rattle.model.specs.Schedule.{Task, Step, Judged, Started, Ended, running_in, failed_in, well_in, clean_in, started_in, ended_in, out_of_date_in, done_in, IsSettled, Done, Alias as ByAlias, MayBeJudged, NoneMayBeJudged, IsLawfulStep, IsLawful}
-use Rattle.build_theory.proofs.Lists.{has-left, has-cases, has_number-append}
+use Rattle.model.specs.Reading.{IsInCone, Needed}
+use Rattle.model.specs.Schedule.{Task, Step, Judged, failed_in, well_in, clean_in, started_in, out_of_date_in, done_in, IsSettled, Done, Alias as ByAlias, MayBeJudged, NoneMayBeJudged, IsLawfulStep, IsLawful}
+use Rattle.build_theory.proofs.Lists.{has-cases, has_number-append}
 use Rattle.build_theory.proofs.Steps.{kept_lawful}
 use Rattle.lowest.specs.Flags.{has as flagged, IsFirst, AreNone}
 use Rattle.links.specs.declared.graph.Graph.{Graph}
 use Rattle.links.specs.Links.{links_of, needs_at}
 use Rattle.links.specs.Cone.{maker_at}
-use Rattle.links.specs.Linked.{HasMaker, IsMakerFor, IsLinksOf}
+use Rattle.links.specs.Linked.{HasMaker, IsMakerFor}
 use Rattle.plan.specs.declared.plan.Plan.{Plan}
 use Rattle.plan.specs.declared.step.Standing.{Standing}
 use Rattle.plan.specs.declared.step.Standing.TheVariants.{Outside, Unjudged, Clean, OutOfDate, Running, Well, Failed, Alias, Known}
 use Rattle.plan.specs.Standing.{standing_at, is_unjudged, is_alias, is_outside, is_phony, awaits, is_settled, maker_settled}
 use Rattle.plan.specs.Plan.{is_missing}
-use Rattle.plan.specs.Planned.{standing_in, IsTaskOf, IsPlanOver, IsPlanned}
+use Rattle.plan.specs.Planned.{standing_in, IsPlanned}
 use Rattle.plan.proofs.PlannedSteps as stands
 use Rattle.plan.proofs.CountBy.{count_none}
 

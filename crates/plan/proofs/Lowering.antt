@@ -1,13 +1,14 @@
 -- One input less is waited for.
 use Rattle.std.proofs.Common.{◌≡◌, inl, inr, ℕ, zero, suc, ◌-◌, ◌<◌, ◌==◌, ◌&&◌, cond, Bool, true, false, List, [], ◌∷◌, length, get_or, refl, sym, ◌∙◌, ap, subst, arith}
 use Rattle.std.proofs.Math.ListN.{set}
-use Rattle.std.proofs.lemmas.List.{length-set, get_or-set_same, get_or-set_other}
-use Rattle.std.proofs.lemmas.Bool.{false≢true, true≢false, eq-eqb, eqb-true, cases_Bool, cases_eq, false_from_ne_true}
+use Rattle.std.proofs.lemmas.List.{get_or-set_same, get_or-set_other}
+use Rattle.std.proofs.lemmas.Bool.{false≢true, eq-eqb, eqb-true, cases_eq, false_from_ne_true}
 use Rattle.lowest.specs.Flags.{has}
 use Rattle.plan.specs.declared.step.Standing.{Standing}
 use Rattle.plan.specs.declared.step.Standing.TheVariants.{Unjudged, Alias}
 use Rattle.plan.specs.Standing.{standing_at, is_unjudged, is_alias}
-use Rattle.plan.specs.Plan.{IsReady, lowered, raised}
+use Rattle.plan.specs.Plan.{IsReady}
+use Rattle.plan.specs.Settling.{lowered, raised}
 
 module _ (standings : List Standing) (left : List ℕ) (user : ℕ) (within : user < length left) (some : 0 < get_or left user 0) where
   left_here : get_or (lowered left user) user 0 ≡ get_or left user 0 - 1

@@ -1,17 +1,17 @@
 -- An edge was judged, or its command ended, and aliases are settled by it.
-use Rattle.std.proofs.Common.{◌≡◌, ◌≢◌, ◌⊎◌, inl, inr, ℕ, zero, suc, ◌+◌, ◌<◌, ◌==◌, ◌&&◌, filter, Bool, true, false, List, [], ◌∷◌, ◌++◌, Option, Some, None, length, get_or, refl, sym, ◌∙◌, ap, subst, arith}
+use Rattle.std.proofs.Common.{◌≡◌, ◌≢◌, ◌⊎◌, inl, inr, ℕ, zero, suc, ◌<◌, ◌==◌, filter, Bool, true, false, List, [], ◌∷◌, ◌++◌, length, get_or, refl, sym, ◌∙◌, ap, subst, arith}
 use Rattle.std.proofs.Math.ListN.{set}
-use Rattle.std.proofs.lemmas.List.{length-set, get_or-set_same, get_or-set_other}
+use Rattle.std.proofs.lemmas.List.{length-set, get_or-set_other}
 use Rattle.std.proofs.lemmas.Bool.{false≢true, true≢false, and_parts}
 use Rattle.model.specs.Graph.{has_number, edge_at, IsCommand}
 use Rattle.model.specs.Schedule.{Task, Step, Judged, judged_in, running_in, done_in, IsSettled, Done, IsLawful}
 use Rattle.build_theory.proofs.Lists.{has_number-one}
 use Rattle.lowest.specs.Flags.{has}
-use Rattle.queue.specs.Turns.{Turns, group_at, with_waiting}
+use Rattle.queue.specs.Turns.{Turns, with_waiting}
 use Rattle.links.specs.declared.graph.Graph.{Graph}
 use Rattle.plan.specs.declared.step.Standing.{Standing}
 use Rattle.plan.specs.declared.step.Standing.TheVariants.{Outside, Unjudged, Clean, OutOfDate, Running, Well, Failed, Alias, Known}
-use Rattle.plan.specs.Standing.{standing_at, is_unjudged, is_alias, is_out_of_date, is_running, is_failed, is_well, is_outside, is_phony, is_settled}
+use Rattle.plan.specs.Standing.{standing_at, is_unjudged, is_alias, is_running, is_failed, is_well, is_outside, is_phony, is_settled}
 use Rattle.plan.specs.Plan.{IsReady, IsTallied, IsPooled, IsSettling}
 use Rattle.plan.specs.Planned.{is_grouped}
 use Rattle.plan.proofs.PlannedSteps.{stands_clean, stands_stale, done_new}

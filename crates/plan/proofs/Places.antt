@@ -1,10 +1,10 @@
 -- The places of pools, and their depths.
-use Rattle.std.proofs.Common.{◌≡◌, ◌⊎◌, inl, inr, ℕ, zero, suc, ◌<◌, ◌==◌, cond, Bool, true, false, List, [], ◌∷◌, ◌++◌, Option, Some, None, map, length, get_or, bytes_eq, refl, sym, ◌∙◌, ap, subst, arith}
-use Rattle.std.proofs.lemmas.Bool.{false≢true, true≢false, eq-eqb, eqb-true, cases_Bool, false_from_ne_true}
+use Rattle.std.proofs.Common.{◌≡◌, ℕ, zero, suc, ◌<◌, ◌==◌, cond, Bool, true, false, List, [], ◌∷◌, ◌++◌, Option, Some, None, map, length, get_or, bytes_eq, refl, sym, ◌∙◌, ap, subst, arith}
+use Rattle.std.proofs.lemmas.Bool.{false≢true, eq-eqb, eqb-true}
 use Rattle.std.proofs.lemmas.List.{length-map}
 use Rattle.model.specs.declared.graph.Pool.{Pool}
 use Rattle.model.specs.Graph.{console, declared_depth, depth_of, later_number}
-use Rattle.build_theory.proofs.Lists.{same_bytes, bytes_same}
+use Rattle.build_theory.proofs.Lists.{same_bytes}
 use Rattle.plan.specs.Pools.{limited, place_of, depths_of}
 
 none_some : {X : Type 0} (g : ℕ) → None ≡ Some g → X

@@ -1,14 +1,16 @@
 -- An alias is settled.
-use Rattle.std.proofs.Common.{◌≡◌, ◌⊎◌, inl, inr, ℕ, zero, suc, ◌+◌, ◌<◌, ◌==◌, ◌&&◌, not, Bool, true, false, List, [], ◌∷◌, Option, Some, None, length, get_or, count_by, refl, sym, ◌∙◌, ap, subst, arith}
+use Rattle.std.proofs.Common.{◌≡◌, ◌⊎◌, inl, inr, ℕ, zero, suc, ◌<◌, ◌==◌, ◌&&◌, not, Bool, true, false, List, [], ◌∷◌, Option, Some, None, length, get_or, count_by, refl, sym, ◌∙◌, ap, subst, arith}
 use Rattle.std.proofs.Math.ListN.{set}
-use Rattle.std.proofs.lemmas.List.{length-set, get_or-set_same, get_or-set_other}
+use Rattle.std.proofs.lemmas.List.{get_or-set_same, get_or-set_other}
 use Rattle.std.proofs.lemmas.Bool.{false≢true, true≢false, and_parts, eqb-true, cases_Bool, cases_eq}
 use Rattle.lowest.specs.Flags.{has}
 use Rattle.plan.specs.declared.step.Standing.{Standing}
 use Rattle.plan.specs.declared.step.Standing.TheVariants.{Outside, Unjudged, Clean, OutOfDate, Running, Well, Failed, Alias, Known}
-use Rattle.plan.specs.Standing.{standing_at, is_unjudged, is_alias, is_out_of_date, is_running, is_failed, is_well, is_settled, awaits, maker_settled}
-use Rattle.plan.specs.Plan.{IsReady, IsTallied, IsOver, IsCounted, is_missing}
-use Rattle.plan.specs.Planned.{IsTaskOf, IsAhead, IsStill, SettlesAliases}
+use Rattle.plan.specs.Standing.{standing_at, is_unjudged, is_alias, is_running, is_failed, is_well, is_settled, awaits, maker_settled}
+use Rattle.plan.specs.Plan.{IsReady, IsTallied, IsOver, is_missing}
+use Rattle.plan.specs.Settling.{IsCounted}
+use Rattle.plan.specs.Planned.{IsTaskOf}
+use Rattle.plan.specs.Settling.{IsAhead, IsStill, SettlesAliases}
 use Rattle.plan.specs.declared.plan.Plan.{Plan}
 use Rattle.model.specs.Graph.{has_number, edge_at, inputs}
 use Rattle.model.specs.Schedule.{Task, IsSettled, Alias as ByAlias}

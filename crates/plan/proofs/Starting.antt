@@ -1,24 +1,24 @@
 -- The edges that may start are those that a plan's queue lets start, where its limits do.
-use Rattle.std.proofs.Common.{◌≡◌, ◌⊎◌, inl, inr, ℕ, zero, suc, ◌+◌, ◌<◌, ◌≤◌, ◌==◌, ◌&&◌, ◌||◌, nat_lt, not, cond, filter, Bool, true, false, List, [], ◌∷◌, ◌++◌, Option, Some, None, length, get_or, count_by, bytes_eq, refl, sym, ◌∙◌, ap, subst, arith}
-use Rattle.std.proofs.lemmas.Bool.{false≢true, true≢false, or_cases, or_left, or_right, and_parts, and_from, eq-eqb, eqb-true, lt-ltb, ltb-true, cases_Bool, false_from_ne_true, cond-true, cond-false}
+use Rattle.std.proofs.Common.{◌≡◌, inl, inr, ℕ, zero, suc, ◌<◌, ◌==◌, ◌||◌, nat_lt, cond, filter, Bool, true, false, List, [], ◌∷◌, Option, Some, None, length, get_or, count_by, bytes_eq, refl, sym, ◌∙◌, ap, arith}
+use Rattle.std.proofs.lemmas.Bool.{false≢true, true≢false, or_cases, or_left, or_right, and_parts, and_from, eq-eqb, eqb-true, lt-ltb, ltb-true, cases_Bool, false_from_ne_true}
 use Rattle.model.specs.Graph.{has_number, edge_at, depth_of, IsCommand}
 use Rattle.model.specs.Reading.{IsInCone}
-use Rattle.model.specs.Schedule.{Task, Step, Judged, Started, Ended, running_in, failed_in, well_in, out_of_date_in, started_in, IsBelow, is_in_pool, HasPoolRoom, MayStart, NoneMayStart, IsLawfulStep, IsLawful}
+use Rattle.model.specs.Schedule.{Task, Step, Started, running_in, failed_in, well_in, IsBelow, is_in_pool, MayStart, NoneMayStart, IsLawfulStep, IsLawful}
 use Rattle.build_theory.proofs.Lists.{same_bytes, bytes_same}
 use Rattle.lowest.specs.Flags.{has as flagged, AreNone}
-use Rattle.queue.specs.Turns.{Turns, group_at, room, may, IsFirstTurn, NoTurn}
+use Rattle.queue.specs.Turns.{group_at, room, may, IsFirstTurn, NoTurn}
 use Rattle.links.specs.declared.graph.Graph.{Graph}
 use Rattle.plan.specs.declared.plan.Plan.{Plan}
 use Rattle.plan.specs.declared.step.Standing.{Standing}
 use Rattle.plan.specs.declared.step.Standing.TheVariants.{Outside, Unjudged, Clean, OutOfDate, Running, Well, Failed, Alias, Known}
 use Rattle.plan.specs.Standing.{standing_at, is_out_of_date, is_running, is_failed, is_well, is_outside, is_phony}
-use Rattle.plan.specs.Pools.{place_of, place_in, depths_of}
+use Rattle.plan.specs.Pools.{place_of, place_in}
 use Rattle.plan.specs.Plan.{has_limits}
-use Rattle.plan.specs.Planned.{standing_in, is_place, is_grouped, IsTaskOf, IsPlanOver, IsPlanned}
+use Rattle.plan.specs.Planned.{standing_in, is_place, is_grouped, IsPlanned}
 use Rattle.plan.proofs.PlannedSteps as stands
 use Rattle.plan.proofs.PlannedCounts.{IsOnce, count_listed, running_once, failed_once, well_once}
 use Rattle.plan.proofs.Places.{place_free, place_depth, place_name}
-use Rattle.plan.proofs.Judging.{InCone, stand, known, none_judged}
+use Rattle.plan.proofs.Judging.{known, none_judged}
 
 out_of_date_is : (s : Standing) → is_out_of_date s ≡ true → is_phony s ≡ false
 out_of_date_is Outside h = absurd (false≢true h)

@@ -1,22 +1,23 @@
 -- One edge stands otherwise after a step.
-use Rattle.std.proofs.Common.{◌≡◌, ◌⊎◌, inl, inr, ℕ, zero, suc, ◌+◌, ◌<◌, ◌==◌, ◌&&◌, not, cond, filter, Bool, true, false, List, [], ◌∷◌, ◌++◌, Option, Some, None, length, get_or, count_by, refl, sym, ◌∙◌, ap, subst, arith}
+use Rattle.std.proofs.Common.{◌≡◌, ◌⊎◌, inl, inr, ℕ, zero, suc, ◌+◌, ◌<◌, ◌==◌, ◌&&◌, filter, Bool, true, false, List, [], ◌∷◌, ◌++◌, Option, Some, None, length, get_or, count_by, refl, sym, ◌∙◌, ap, subst, arith}
 use Rattle.std.proofs.Math.ListN.{set}
 use Rattle.std.proofs.lemmas.List.{length-set, get_or-set_same, get_or-set_other}
 use Rattle.std.proofs.lemmas.List.Sums.{sum_by-set}
-use Rattle.std.proofs.lemmas.Bool.{false≢true, true≢false, cases_eq}
-use Rattle.model.specs.Graph.{has_number, edge_at, IsCommand}
+use Rattle.std.proofs.lemmas.Bool.{true≢false, cases_eq}
+use Rattle.model.specs.Graph.{edge_at, IsCommand}
 use Rattle.model.specs.Reading.{IsInCone}
-use Rattle.model.specs.Schedule.{Task, Step, Judged, Started, Ended, running_in, done_in, IsSettled, IsLawful}
+use Rattle.model.specs.Schedule.{Task, Step, running_in, done_in, IsSettled}
 use Rattle.build_theory.proofs.Settled.{settled_more}
 use Rattle.lowest.specs.Flags.{has}
-use Rattle.queue.specs.Turns.{Turns, group_at, runs_in, set_runs}
+use Rattle.queue.specs.Turns.{Turns}
 use Rattle.links.specs.declared.graph.Graph.{Graph}
-use Rattle.links.specs.Links.{Links, links_of, needs_at}
+use Rattle.links.specs.Links.{Links}
 use Rattle.plan.specs.declared.plan.Plan.{Plan}
 use Rattle.plan.specs.declared.step.Standing.{Standing}
 use Rattle.plan.specs.declared.step.Standing.TheVariants.{Outside, Alias, Known}
 use Rattle.plan.specs.Standing.{standing_at, is_unjudged, is_alias, is_out_of_date, is_running, is_failed, is_well, is_outside, is_phony, is_settled, awaits, maker_settled}
-use Rattle.plan.specs.Plan.{IsReady, IsWaiting, IsTallied, IsOver, IsCounted, IsPooled, is_missing}
+use Rattle.plan.specs.Plan.{IsReady, IsWaiting, IsTallied, IsOver, IsPooled}
+use Rattle.plan.specs.Settling.{IsCounted}
 use Rattle.plan.specs.Planned.{standing_in, is_place, is_grouped, IsPlanned}
 use Rattle.plan.proofs.PlannedSteps.{edge_of, stands_other, done_more}
 use Rattle.plan.proofs.Runs.{one_if, same_filter}

@@ -1,5 +1,5 @@
 -- How a plan begins.
-use Rattle.std.specs.Prelude.{◌≡◌, ◌⊎◌, ℕ, ◌<◌, Bool, true, false, if◌then◌else◌, List, replicate, length, slice_index, slice_index_or, get_or, count_by, Option, None, is_none}
+use Rattle.std.specs.Prelude.{◌≡◌, ℕ, ◌<◌, Bool, true, false, if◌then◌else◌, List, replicate, length, slice_index, slice_index_or, get_or, count_by, Option, None, is_none}
 use Rattle.lowest.specs.Flags.{has, AreNone}
 use Rattle.queue.specs.Turns.{Turns, AreWithin}
 use Rattle.links.specs.declared.cone.Mark.{Mark}
@@ -12,12 +12,14 @@ use Rattle.plan.specs.declared.step.Standing.{Standing}
 use Rattle.plan.specs.declared.step.Standing.TheVariants.{Outside, Unjudged, Alias}
 use Rattle.plan.specs.Standing.{standing_at, is_outside, awaits}
 use Rattle.plan.specs.Pools.{place_in, pool_of, depths_of}
-use Rattle.plan.specs.Plan.{is_missing, IsOver, IsPooled}
+use Rattle.plan.specs.Plan.{is_missing, IsPooled}
+use Rattle.plan.specs.Planned.{IsOverIn}
 
 -- an edge of the cone waits to be judged or, where it has no command, for its inputs
 abbrev pub first_of : Bool → Bool → Standing
 first_of listed phony = if listed then (if phony then Alias else Unjudged) else Outside
 
+-- where an edge stands before the first step
 abbrev pub first_at : Links → List Mark → ℕ → Standing
 first_at links marks e = first_of (is_listed (mark_at marks e)) (links.phony e)
 
@@ -52,7 +54,7 @@ pub record AreGroups (graph : Graph) (standings : List Standing) (groups : List 
 -- a plan in which nothing is settled
 pub record IsBegun (graph : Graph) (marks : List Mark) (jobs keep : ℕ) (plan : Plan) : Type 0 where
   pub first : AreFirst (links_of graph) marks plan.standings.items
-  pub over : IsOver (links_of graph) (length graph.manifest.paths) plan.standings.items plan.left.items plan.there.items
+  pub over : IsOverIn graph plan
   pub idle : IsIdle graph plan.standings.items plan.queue
   pub flags : plan.changed.items ≡ replicate (length graph.manifest.paths) false
   pub limits : (plan.jobs ≡ jobs) × (plan.keep ≡ keep)

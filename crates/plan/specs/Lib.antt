@@ -3,3 +3,4 @@ pub mod Pools
 pub mod Plan
 pub mod First
 pub mod Planned
+pub mod Settling

@@ -1,15 +1,15 @@
 -- What a plan keeps.
-use Rattle.std.specs.Prelude.{◌≡◌, ◌⊎◌, ◌≢◌, ℕ, ◌==◌, ◌<◌, ◌≤◌, ◌-◌, ◌&&◌, ◌||◌, nat_lt, if◌then◌else◌, not, slice_set, Bool, true, false, List, length, slice_index, slice_index_or, count_by, Option, Some, None, get_or}
-use Rattle.lowest.specs.Flags.{has, AreNone, IsFirst}
-use Rattle.queue.specs.Turns.{Turns, group_at, may, IsFirstTurn, NoTurn}
-use Rattle.links.specs.Links.{Links, needs_at, links_of}
+use Rattle.std.specs.Prelude.{◌≡◌, ◌≢◌, ℕ, ◌==◌, ◌<◌, ◌&&◌, ◌||◌, nat_lt, not, Bool, true, false, List, length, slice_index, count_by, get_or}
+use Rattle.lowest.specs.Flags.{has}
+use Rattle.queue.specs.Turns.{Turns, group_at}
+use Rattle.links.specs.Links.{Links, needs_at}
 use Rattle.links.specs.declared.graph.Graph.{Graph}
 use Rattle.paths.specs.Commands.{no_action}
 use Rattle.plan.specs.declared.step.Standing.{Standing}
-use Rattle.plan.specs.declared.step.Standing.TheVariants.{Outside, Unjudged, Clean, OutOfDate, Running, Well, Failed, Alias, Known}
+use Rattle.plan.specs.declared.step.Standing.TheVariants.{Clean, OutOfDate, Well, Failed}
 use Rattle.plan.specs.declared.step.Verdict.{Verdict}
 use Rattle.plan.specs.declared.step.Verdict.TheVariants as verdict
-use Rattle.plan.specs.Standing.{standing_at, is_unjudged, is_out_of_date, is_running, is_failed, is_well, is_alias, is_phony, is_outside, awaits, is_settled, maker_settled}
+use Rattle.plan.specs.Standing.{standing_at, is_unjudged, is_out_of_date, is_running, is_failed, is_well, is_alias, is_outside, awaits, maker_settled, StaysOrSettles}
 use Rattle.plan.specs.Pools.{place_in, pool_of, depths_of}
 
 -- ---- what holds of any plan
@@ -24,6 +24,7 @@ pub record IsWaiting (standings : List Standing) (turns : Turns) : Type 0 where
   pub fits : length turns.waiting ≡ length standings
   pub waits : (e : ℕ) → has turns.waiting e ≡ is_out_of_date (standing_at standings e)
 
+-- so many commands run, have failed, and have ended well
 pub record IsTallied (standings : List Standing) (running failed well : ℕ) : Type 0 where
   pub runs : running ≡ count_by is_running standings
   pub fails : failed ≡ count_by is_failed standings
@@ -44,20 +45,6 @@ pub record IsOver (links : Links) (paths : ℕ) (standings : List Standing) (lef
   pub sound : (p : ℕ) → has there p ≡ true → maker_settled standings (links.maker p) ≡ true
   pub complete : (p : ℕ) → p < paths → maker_settled standings (links.maker p) ≡ true → has there p ≡ true
 
--- the counts alone, while what a settled edge makes comes in path by path
-pub record IsCounted (links : Links) (paths : ℕ) (standings : List Standing) (left : List ℕ) (there : List Bool) : Type 0 where
-  pub edges : length standings ≡ links.count
-  pub known : length there ≡ paths
-  pub counts : (e : ℕ) → awaits (standing_at standings e) ≡ true → slice_index left e ≡ count_by (is_missing there) (needs_at links e)
-
--- one less is left of the edge
-abbrev pub lowered : List ℕ → ℕ → List ℕ
-lowered left e = slice_set left e (slice_index left e - 1)
-
--- the edge is in the set where no more than one was left
-abbrev pub raised : List Bool → List ℕ → ℕ → List Bool
-raised flags left e = if slice_index left e == 1 then slice_set flags e true else flags
-
 -- each command of the cone is in the pool that it names, where that has a limit
 pub record IsPooled (graph : Graph) (standings : List Standing) (turns : Turns) : Type 0 where
   pub depths : turns.depths ≡ depths_of graph.manifest.pools
@@ -66,10 +53,12 @@ pub record IsPooled (graph : Graph) (standings : List Standing) (turns : Turns) 
 
 -- ---- what is said next, and what a call changes
 
+-- where an edge stands by a verdict over it
 abbrev pub standing_by : Verdict → Standing
 standing_by verdict.Clean = Clean
 standing_by verdict.OutOfDate = OutOfDate
 
+-- where an edge stands after its command ended, well or not
 abbrev pub standing_after : Bool → Standing
 standing_after true = Well
 standing_after false = Failed
@@ -82,7 +71,7 @@ has_limits jobs keep running failed = ((jobs == 0) || nat_lt running jobs) && ((
 pub record IsSettling (old new : List Standing) (edge : ℕ) (standing : Standing) : Type 0 where
   pub fits : length new ≡ length old
   pub here : standing_at new edge ≡ standing
-  pub others : (e : ℕ) → e ≢ edge → (standing_at new e ≡ standing_at old e) ⊎ ((standing_at old e ≡ Alias) × (standing_at new e ≡ Known))
+  pub others : (e : ℕ) → e ≢ edge → StaysOrSettles (standing_at old e) (standing_at new e)
 
 -- the flags are those handed in for these paths, and for other paths as before
 pub record AreFlagged (old new : List Bool) (paths : List ℕ) (flags : List Bool) : Type 0 where

@@ -1,69 +1,41 @@
 -- What a plan knows of a build, and what it says next, by the steps so far.
-use Rattle.std.specs.Prelude.{◌≡◌, ◌≢◌, ◌⊎◌, ℕ, zero, suc, ◌==◌, ◌<◌, Bool, true, false, if◌then◌else◌, List, [], length, slice_index, filter, Option, None, Some, get_or}
+use Rattle.std.specs.Prelude.{◌≡◌, ◌≢◌, ℕ, zero, suc, ◌==◌, ◌<◌, Bool, true, false, if◌then◌else◌, List, [], ◌∷◌, ◌++◌, length, slice_index, filter, Option, None, Some, get_or}
 use Rattle.model.specs.Graph.{has_number, edge_at, IsCommand}
 use Rattle.model.specs.Reading.{IsInCone}
-use Rattle.model.specs.Schedule.{Task, Step as Done, Judged, Started, IsLawfulStep, NoneMayBeJudged, NoneMayStart, IsSettled, clean_in, out_of_date_in, started_in, well_in, failed_in, running_in, done_in}
+use Rattle.model.specs.Schedule.{Task, Step as Done, Judged, Started, IsLawful, IsLawfulStep, NoneMayBeJudged, NoneMayStart, IsSettled, clean_in, out_of_date_in, started_in, well_in, failed_in, running_in, done_in}
 use Rattle.lowest.specs.Flags.{has, AreNone}
 use Rattle.queue.specs.Turns.{Turns, group_at, may}
 use Rattle.links.specs.declared.graph.Graph.{Graph}
 use Rattle.links.specs.Links.{links_of, needs_at}
-use Rattle.links.specs.Linked.{IsLinksOf}
+use Rattle.links.specs.declared.cone.Cone.{Cone}
+use Rattle.links.specs.Linked.{IsLinksOf, IsConeOf}
 use Rattle.links.specs.Told.{declared_by, recorded_by, AreSameInputs}
 use Rattle.paths.specs.Commands.{no_action}
 use Rattle.plan.specs.declared.plan.Plan.{Plan}
 use Rattle.plan.specs.declared.step.Standing.{Standing}
-use Rattle.plan.specs.declared.step.Standing.TheVariants.{Outside, Unjudged, Clean, OutOfDate, Running, Well, Failed, Alias, Known}
+use Rattle.plan.specs.declared.step.Standing.TheVariants.{Unjudged, Clean, OutOfDate, Running, Well, Failed}
 use Rattle.plan.specs.declared.step.Verdict.{Verdict}
 use Rattle.plan.specs.declared.step.Verdict.TheVariants as verdict
 use Rattle.plan.specs.declared.step.End.TheVariants as ending
 use Rattle.plan.specs.declared.step.Step.{Step}
 use Rattle.plan.specs.declared.step.Step.TheVariants.{Judge, Start, Wait, Ended as Over}
-use Rattle.plan.specs.Standing.{standing_at, is_outside, is_phony, is_settled, maker_settled}
+use Rattle.plan.specs.Standing.{standing_at, is_outside, is_phony, is_settled}
 use Rattle.plan.specs.Pools.{pool_of}
-use Rattle.model.specs.declared.graph.Edge.{Edge}
-use Rattle.plan.specs.Plan.{IsOver, IsCounted, IsPooled}
+use Rattle.plan.specs.Plan.{IsOver, IsPooled}
+
+-- the plan keeps what is there, and what edges wait for, by the graph
+abbrev pub IsOverIn : Graph → Plan → Type 0
+IsOverIn graph plan = IsOver (links_of graph) (length graph.manifest.paths) plan.standings.items plan.left.items plan.there.items
 
 -- a plan in which all that follows from what it was told is settled
 pub record IsPlanOver (graph : Graph) (plan : Plan) : Type 0 where
-  pub over : IsOver (links_of graph) (length graph.manifest.paths) plan.standings.items plan.left.items plan.there.items
+  pub over : IsOverIn graph plan
   pub settled : AreNone plan.pending
   pub pooled : IsPooled graph plan.standings.items plan.queue
   pub flags : length plan.changed.items ≡ length graph.manifest.paths
 
--- nothing but what edges wait for is changed
-pub record IsStill (old new : Plan) : Type 0 where
-  pub standings : new.standings.items ≡ old.standings.items
-  pub queue : new.queue ≡ old.queue
-  pub changed : new.changed ≡ old.changed
-  pub running : new.running ≡ old.running
-  pub failed : new.failed ≡ old.failed
-  pub well : new.well ≡ old.well
-  pub jobs : new.jobs ≡ old.jobs
-  pub keep : new.keep ≡ old.keep
-
--- an alias may only be settled; nothing else is changed but what edges wait for
-pub record SettlesAliases (old new : Plan) : Type 0 where
-  pub fits : length new.standings.items ≡ length old.standings.items
-  pub stands : (e : ℕ) → (standing_at new.standings.items e ≡ standing_at old.standings.items e) ⊎ ((standing_at old.standings.items e ≡ Alias) × (standing_at new.standings.items e ≡ Known))
-  pub queue : new.queue ≡ old.queue
-  pub changed : new.changed ≡ old.changed
-  pub running : new.running ≡ old.running
-  pub failed : new.failed ≡ old.failed
-  pub well : new.well ≡ old.well
-  pub jobs : new.jobs ≡ old.jobs
-  pub keep : new.keep ≡ old.keep
-
--- what is settled in the plan is so by what was done
-abbrev pub IsSound : List Edge → List ℕ → Plan → Type 0
-IsSound edges done plan = (e : ℕ) → is_settled (standing_at plan.standings.items e) ≡ true → IsSettled edges done (suc e)
-
--- what the edge makes may not be there yet; what else settled edges make is
-pub record IsAhead (graph : Graph) (edge : ℕ) (plan : Plan) : Type 0 where
-  pub counted : IsCounted (links_of graph) (length graph.manifest.paths) plan.standings.items plan.left.items plan.there.items
-  pub sound : (p : ℕ) → has plan.there.items p ≡ true → maker_settled plan.standings.items ((links_of graph).maker p) ≡ true
-  pub complete : (p : ℕ) → p < length graph.manifest.paths → maker_settled plan.standings.items ((links_of graph).maker p) ≡ true → (has plan.there.items p ≡ true) ⊎ ((links_of graph).maker p ≡ Some edge)
-
--- the task is to build what the graph declares; aliases have no recorded inputs
+-- the numbers of the graph say who waits for whom among the task's edges, which of them are aliases, and in which pools
+-- they are; aliases have no recorded inputs
 pub record IsTaskOf (task : Task) (graph : Graph) : Type 0 where
   pub linked : IsLinksOf task.graph.edges task.recorded (links_of graph)
   pub numbered : (e k : ℕ) → k < length (needs_at (links_of graph) e) → slice_index (needs_at (links_of graph) e) k < length graph.manifest.paths
@@ -88,6 +60,7 @@ standing_in steps i =
     else if has_number (clean_in steps) i then Clean
     else Unjudged
 
+-- whether it is this place
 abbrev pub is_place : Option ℕ → ℕ → Bool
 is_place None g = false
 is_place (Some h) g = h == g
@@ -109,6 +82,21 @@ pub record IsPlanned (task : Task) (graph : Graph) (plan : Plan) (steps : List D
   pub settled : (e : ℕ) → is_settled (standing_at plan.standings.items e) ≡ true → IsSettled task.graph.edges (done_in steps) (suc e)
   pub runs : (g : ℕ) → slice_index plan.queue.running g ≡ length (filter (is_grouped plan.queue g) (running_in steps))
 
+-- whatever is to be built of this cone under these limits, the plan is that of its beginning
+abbrev pub IsFirstPlan : Graph → Cone → ℕ → ℕ → Plan → Type 0
+IsFirstPlan graph cone jobs keep plan =
+    (task : Task) → IsTaskOf task graph → task.jobs ≡ jobs → task.keep ≡ keep
+    → IsConeOf task.graph.edges task.recorded task.targets cone.order.items cone.marks.items → IsPlanned task graph plan []
+
+-- whatever is built, the plan after lawful steps is, with one more of these, that of the steps and it
+abbrev pub TakesStep : Graph → Plan → Plan → Done → Type 0
+TakesStep graph old new step =
+    (task : Task) (steps : List Done) → IsPlanned task graph old steps → IsLawful task steps → IsLawfulStep task steps step → IsPlanned task graph new (steps ++ step ∷ [])
+
+-- so many edges stand in this list of the steps, whatever lawful steps the plan is that of
+abbrev pub IsCountIn : Plan → (List Done → List ℕ) → ℕ → Type 0
+IsCountIn plan list count = (task : Task) (graph : Graph) (steps : List Done) → IsPlanned task graph plan steps → IsLawful task steps → count ≡ length (list steps)
+
 -- whether the verdict says that the command has to run
 abbrev pub is_stale : Verdict → Bool
 is_stale verdict.Clean = false
@@ -121,6 +109,10 @@ IsNextOf task steps (Start e) = IsLawfulStep task steps (Started (suc e))
 IsNextOf task steps Wait = NoneMayBeJudged task steps × NoneMayStart task steps × (running_in steps ≢ [])
 IsNextOf task steps (Over ending.Well) = NoneMayBeJudged task steps × NoneMayStart task steps × (running_in steps ≡ []) × (failed_in steps ≡ [])
 IsNextOf task steps (Over ending.Failed) = NoneMayBeJudged task steps × NoneMayStart task steps × (running_in steps ≡ []) × (failed_in steps ≢ [])
+
+-- so it is for whatever lawful steps the plan is that of
+abbrev pub IsLawfulNext : Plan → Step → Type 0
+IsLawfulNext plan step = (task : Task) (graph : Graph) (steps : List Done) → IsPlanned task graph plan steps → IsLawful task steps → IsNextOf task steps step
 
 -- what is said may be told to the plan
 abbrev pub IsOffered : Plan → Step → Type 0

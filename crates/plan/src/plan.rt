@@ -1,6 +1,6 @@
 //! The plan, and what it is told.
 
-ghost use Rattle.std.specs.Prelude.{◌≡◌, ◌<◌, ◌≤◌, ◌^◌, ◌+◌, ℕ, true, length, vec_len};
+ghost use Rattle.std.specs.Prelude.{◌≡◌, ◌<◌, ◌≤◌, ◌^◌, ℕ, true, length, vec_len};
 ghost use Rattle.model.specs.Graph.{has_number};
 ghost use Rattle.links.specs.Held.{StandOnce};
 ghost use Rattle.plan.specs.Plan.{IsReady, IsWaiting, IsTallied, AreFlagged};
@@ -49,19 +49,19 @@ pub struct Plan {
 }
 
 impl Plan {
-    ghost use Rattle.std.specs.Prelude.{◌≡◌, ◌<◌, ◌++◌, ◌∷◌, ℕ, suc, true, false, List, [], length, vec_len, slice_set, IfOk};
-    ghost use Rattle.model.specs.Schedule.{Task, Step as Done, Judged, Started, Ended as Finished, IsLawful, IsLawfulStep, well_in, running_in, failed_in};
+    ghost use Rattle.std.specs.Prelude.{◌≡◌, ◌<◌, ℕ, suc, true, false, length, vec_len, slice_set, IfOk};
+    ghost use Rattle.model.specs.Schedule.{Judged, Started, Ended as Finished, well_in, running_in, failed_in};
     ghost use Rattle.lowest.specs.Flags.{has};
     ghost use Rattle.queue.specs.Turns.{may};
     ghost use Rattle.links.specs.declared.graph.Graph.{Graph};
     ghost use Rattle.links.specs.Links.{links_of};
-    ghost use Rattle.links.specs.Linked.{IsConeOf};
     ghost use Rattle.plan.specs.Standing.{standing_at};
     ghost use Rattle.plan.specs.Plan.{standing_by, standing_after, has_limits, IsSettling, AreFlagged};
     ghost use Rattle.plan.specs.First.{IsBegun};
-    ghost use Rattle.plan.specs.Planned.{IsPlanOver, IsTaskOf, IsPlanned, IsNextOf, IsOffered, is_stale};
+    ghost use Rattle.plan.specs.Planned.{IsPlanOver, IsFirstPlan, TakesStep, IsCountIn, IsLawfulNext, IsOffered, is_stale};
 
-    /// A plan in which no edge of the cone is judged.
+    /// A plan in which no edge of the cone is judged. At most `jobs` commands run at once, and after `keep` failures none is
+    /// started; 0 is no limit. `AllocError` where memory is refused.
     pub fn new(
         alloc: Global,
         graph: &Graph,
@@ -72,7 +72,7 @@ impl Plan {
         requires { vec_len cone.now.marks ≡ length graph.now.manifest.lines }
         ensures over { IfOk result (IsPlanOver graph.now) }
         ensures flags { IfOk result (λ plan. (p : ℕ) → has plan.changed.items p ≡ false) }
-        ensures planned { IfOk result (λ plan. (task : Task) → IsTaskOf task graph.now → task.jobs ≡ jobs → task.keep ≡ keep → IsConeOf task.graph.edges task.recorded task.targets cone.now.order.items cone.now.marks.items → IsPlanned task graph.now plan []) }
+        ensures planned { IfOk result (IsFirstPlan graph.now cone.now jobs keep) }
     {
         let mut plan = Plan::begin(alloc, graph, cone, jobs, keep)?;
         plan.settle_pending(graph);
@@ -118,7 +118,7 @@ impl Plan {
     /// What is to be done next: a judgement before a start, and the lowest edge first.
     pub fn next(&self) -> Step
         ensures offered { IsOffered self.now result }
-        ensures lawful { (task : Task) (graph : Graph) (steps : List Done) → IsPlanned task graph self.now steps → IsLawful task steps → IsNextOf task steps result }
+        ensures lawful { IsLawfulNext self.now result }
     {
         if let Some(place) = self.ready.first() {
             return Step::Judge(EdgeId::at_below(place));
@@ -144,7 +144,7 @@ impl Plan {
         ensures over { IsPlanOver graph.now self.new }
         ensures stands { IsSettling self.old.standings.items self.new.standings.items edge (standing_by verdict) }
         ensures flags { self.new.changed ≡ self.old.changed }
-        ensures planned { (task : Task) (steps : List Done) → IsPlanned task graph.now self.old steps → IsLawful task steps → IsLawfulStep task steps (Judged (suc edge) (is_stale verdict)) → IsPlanned task graph.now self.new (steps ++ Judged (suc edge) (is_stale verdict) ∷ []) }
+        ensures planned { TakesStep graph.now self.old self.new (Judged (suc edge) (is_stale verdict)) }
     {
         let place = edge.index();
         self.ready.remove(place);
@@ -166,7 +166,7 @@ impl Plan {
         ensures over { (graph : Graph) → IsPlanOver graph self.old → IsPlanOver graph self.new }
         ensures stands { self.new.standings.items ≡ slice_set self.old.standings.items edge Standing.Running }
         ensures flags { self.new.changed ≡ self.old.changed }
-        ensures planned { (task : Task) (graph : Graph) (steps : List Done) → IsPlanned task graph self.old steps → IsLawful task steps → IsLawfulStep task steps (Started (suc edge)) → IsPlanned task graph self.new (steps ++ Started (suc edge) ∷ []) }
+        ensures planned { (graph : Graph) → TakesStep graph self.old self.new (Started (suc edge)) }
     {
         let place = edge.index();
         self.queue.take(place);
@@ -183,7 +183,7 @@ impl Plan {
         ensures over { IsPlanOver graph.now self.new }
         ensures stands { IsSettling self.old.standings.items self.new.standings.items edge (standing_after ok) }
         ensures flags { AreFlagged self.old.changed.items self.new.changed.items ((links_of graph.now).outputs edge) changed.now }
-        ensures planned { (task : Task) (steps : List Done) → IsPlanned task graph.now self.old steps → IsLawful task steps → IsLawfulStep task steps (Finished (suc edge) ok) → IsPlanned task graph.now self.new (steps ++ Finished (suc edge) ok ∷ []) }
+        ensures planned { TakesStep graph.now self.old self.new (Finished (suc edge) ok) }
     {
         let place = edge.index();
         note_changes(&mut self.changed, graph.outputs(edge), changed);
@@ -209,7 +209,7 @@ impl Plan {
     /// How many commands run.
     pub fn running(&self) -> usize
         ensures value { result ≡ self.now.running }
-        ensures steps { (task : Task) (graph : Graph) (steps : List Done) → IsPlanned task graph self.now steps → IsLawful task steps → result ≡ length (running_in steps) }
+        ensures steps { IsCountIn self.now running_in result }
     {
         self.running
     }
@@ -217,7 +217,7 @@ impl Plan {
     /// How many commands failed.
     pub fn failed(&self) -> usize
         ensures value { result ≡ self.now.failed }
-        ensures steps { (task : Task) (graph : Graph) (steps : List Done) → IsPlanned task graph self.now steps → IsLawful task steps → result ≡ length (failed_in steps) }
+        ensures steps { IsCountIn self.now failed_in result }
     {
         self.failed
     }
@@ -225,7 +225,7 @@ impl Plan {
     /// How many commands ended well.
     pub fn well(&self) -> usize
         ensures value { result ≡ self.now.well }
-        ensures steps { (task : Task) (graph : Graph) (steps : List Done) → IsPlanned task graph self.now steps → IsLawful task steps → result ≡ length (well_in steps) }
+        ensures steps { IsCountIn self.now well_in result }
     {
         self.well
     }

@@ -1,7 +1,7 @@
 //! What is settled once an edge is.
 
 ghost use Rattle.std.specs.Prelude.{◌≡◌, ◌<◌, ◌-◌, length, slice_index};
-ghost use Rattle.plan.specs.Plan.{lowered, raised};
+ghost use Rattle.plan.specs.Settling.{lowered, raised};
 
 use crate::plan::Plan;
 use crate::step::Standing;
@@ -10,25 +10,23 @@ use lowest::Lowest;
 use paths::{EdgeId, PathId};
 
 impl Plan {
-    ghost use Rattle.std.specs.Prelude.{◌≡◌, ◌<◌, ℕ, suc, true, false, List, if◌then◌else◌, length, vec_len, slice_index, slice_set};
-    ghost use Rattle.model.specs.declared.graph.Edge.{Edge};
-    ghost use Rattle.model.specs.Graph.{has_number, edge_at};
-    ghost use Rattle.model.specs.Schedule.{Task, IsSettled};
+    ghost use Rattle.std.specs.Prelude.{◌≡◌, ◌<◌, ℕ, true, false, if◌then◌else◌, length, vec_len, slice_index, slice_set};
+    ghost use Rattle.model.specs.Graph.{has_number};
     ghost use Rattle.lowest.specs.Flags.{has, AreNone};
     ghost use Rattle.links.specs.Links.{links_of};
     ghost use Rattle.plan.specs.Standing.{standing_at, awaits, is_settled};
-    ghost use Rattle.plan.specs.Plan.{IsOver, IsCounted, lowered};
-    ghost use Rattle.plan.specs.Planned.{IsStill, IsTaskOf, SettlesAliases, IsSound, IsAhead};
+    ghost use Rattle.plan.specs.Planned.{IsOverIn};
+    ghost use Rattle.plan.specs.Settling.{IsCountedIn, lowered, IsStill, SettlesAliases, KeepsSound, IsAhead};
 
     /// What the edge makes is there, and what aliases make that waited for nothing else.
     pub fn settle(&mut self, graph: &Graph, edge: EdgeId)
         requires ahead { IsAhead graph.now edge self.old }
         requires within { edge < vec_len self.old.standings }
         requires settled { is_settled (standing_at self.old.standings.items edge) ≡ true }
-        ensures over { IsOver (links_of graph.now) (length graph.now.manifest.paths) self.new.standings.items self.new.left.items self.new.there.items }
+        ensures over { IsOverIn graph.now self.new }
         ensures none { AreNone self.new.pending }
         ensures rest { SettlesAliases self.old self.new }
-        ensures sound { (task : Task) (done : List ℕ) → IsTaskOf task graph.now → ((e : ℕ) → standing_at self.old.standings.items e ≡ Standing.Alias → (edge_at task.graph.edges (suc e)).phony ≡ true) → IsSound task.graph.edges done self.old → IsSound task.graph.edges done self.new }
+        ensures sound { KeepsSound graph.now self.old self.new }
     {
         self.arrive_all(graph, edge);
         self.settle_pending(graph);
@@ -36,11 +34,11 @@ impl Plan {
 
     /// Settles the aliases that wait for nothing, and those that wait for nothing then.
     pub fn settle_pending(&mut self, graph: &Graph)
-        requires { IsOver (links_of graph.now) (length graph.now.manifest.paths) self.old.standings.items self.old.left.items self.old.there.items }
-        ensures over { IsOver (links_of graph.now) (length graph.now.manifest.paths) self.new.standings.items self.new.left.items self.new.there.items }
+        requires { IsOverIn graph.now self.old }
+        ensures over { IsOverIn graph.now self.new }
         ensures none { AreNone self.new.pending }
         ensures rest { SettlesAliases self.old self.new }
-        ensures sound { (task : Task) (done : List ℕ) → IsTaskOf task graph.now → ((e : ℕ) → standing_at self.old.standings.items e ≡ Standing.Alias → (edge_at task.graph.edges (suc e)).phony ≡ true) → IsSound task.graph.edges done self.old → IsSound task.graph.edges done self.new }
+        ensures sound { KeepsSound graph.now self.old self.new }
     {
         while let Some(place) = self.pending.first() {
             self.pending.remove(place);
@@ -51,9 +49,9 @@ impl Plan {
 
     /// What the edge makes is there.
     fn arrive_all(&mut self, graph: &Graph, edge: EdgeId)
-        requires counted { IsCounted (links_of graph.now) (length graph.now.manifest.paths) self.old.standings.items self.old.left.items self.old.there.items }
+        requires counted { IsCountedIn graph.now self.old }
         requires within { edge < vec_len self.old.standings }
-        ensures counted { IsCounted (links_of graph.now) (length graph.now.manifest.paths) self.new.standings.items self.new.left.items self.new.there.items }
+        ensures counted { IsCountedIn graph.now self.new }
         ensures made { (p : ℕ) → p < length graph.now.manifest.paths → has_number ((links_of graph.now).outputs edge) p ≡ true → has self.new.there.items p ≡ true }
         ensures others { (p : ℕ) → has_number ((links_of graph.now).outputs edge) p ≡ false → has self.new.there.items p ≡ has self.old.there.items p }
         ensures rest { IsStill self.old self.new }
@@ -65,8 +63,8 @@ impl Plan {
 
     /// The path is there: the edges that name it wait for it no more.
     fn arrive(&mut self, graph: &Graph, path: PathId)
-        requires { IsCounted (links_of graph.now) (length graph.now.manifest.paths) self.old.standings.items self.old.left.items self.old.there.items }
-        ensures counted { IsCounted (links_of graph.now) (length graph.now.manifest.paths) self.new.standings.items self.new.left.items self.new.there.items }
+        requires { IsCountedIn graph.now self.old }
+        ensures counted { IsCountedIn graph.now self.new }
         ensures there { self.new.there.items ≡ slice_set self.old.there.items path true }
         ensures rest { IsStill self.old self.new }
     {

@@ -1,5 +1,4 @@
-use Rattle.std.proofs.Common.{◌≡◌, ◌∙◌, ◌+◌, ◌<◌, List, Bool, take, length, sym, ap, subst, arith}
-use Rattle.std.proofs.lemmas.List.{length-set}
+use Rattle.std.proofs.Common.{◌∙◌, ◌+◌, ◌<◌, List, Bool, take, length, sym, ap, subst, arith}
 use Rattle.plan.specs.Plan.{IsReady}
 use Rattle.plan.specs.Standing.{is_unjudged, is_alias, standing_at}
 use Rattle.plan.proofs.Beginning.{put_in, left_out, length-put}

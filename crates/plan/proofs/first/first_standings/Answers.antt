@@ -1,5 +1,4 @@
-use Rattle.std.proofs.Common.{◌≡◌, ◌∙◌, ℕ, ap, length, arith}
-use Rattle.plan.specs.declared.step.Standing.{Standing}
+use Rattle.std.proofs.Common.{◌≡◌, ◌∙◌, ℕ, ap}
 use Rattle.plan.specs.declared.step.Standing.TheVariants.{Outside}
 use Rattle.links.specs.Links.{links_of}
 use Rattle.plan.specs.First.{first_at}

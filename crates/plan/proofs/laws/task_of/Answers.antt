@@ -1,4 +1,4 @@
-use Rattle.std.proofs.Common.{◌≡◌, ◌∙◌, ℕ, suc, List, [], ◌∷◌, true, false, get_or, refl, sym, ap, subst}
+use Rattle.std.proofs.Common.{◌≡◌, ◌∙◌, ℕ, suc, List, [], ◌∷◌, false, get_or, refl, sym, ap, subst}
 use Rattle.std.proofs.lemmas.Bool.{false≢true}
 use Rattle.model.specs.declared.graph.BuildGraph.{BuildGraph}
 use Rattle.model.specs.declared.graph.Edge.{Edge}
@@ -13,7 +13,7 @@ use Rattle.paths.specs.Commands.{no_action}
 use Rattle.paths.specs.Told.{edge_of}
 use Rattle.links.specs.Links.{links_of, is_alias}
 use Rattle.links.specs.Linked.{IsLinksOf}
-use Rattle.links.specs.Told.{declared_by, recorded_by}
+use Rattle.links.specs.Told.{declared_by}
 use Rattle.plan.specs.Pools.{pool_of}
 use Rattle.plan.proofs.laws.task_of.Goals as goal
 

@@ -1,4 +1,4 @@
-use Rattle.std.proofs.Common.{◌≡◌, ℕ, map, take}
+use Rattle.std.proofs.Common.{◌≡◌, map, take}
 use Rattle.model.specs.declared.graph.Pool.{Pool}
 use Rattle.plan.proofs.pools.depths_of.Given as goal
 

@@ -1,4 +1,4 @@
-use Rattle.std.proofs.Common.{◌≡◌, ◌<◌, ℕ, false, Option, None, length, get_or}
+use Rattle.std.proofs.Common.{◌≡◌, ◌<◌, ℕ, false, None, length, get_or}
 use Rattle.queue.specs.Turns.{AreWithin}
 use Rattle.paths.specs.Commands.{no_action}
 use Rattle.plan.specs.Standing.{standing_at, is_outside}

@@ -1,11 +1,10 @@
 use Rattle.std.proofs.Common.{◌≡◌, ◌∙◌, ℕ, ◌+◌, ◌<◌, Bool, true, false, cond, List, length, get_or, take, sym, ap, subst, arith}
-use Rattle.std.proofs.Math.ListN.{set}
 use Rattle.lowest.specs.Flags.{has}
 use Rattle.links.specs.Held.{times}
 use Rattle.links.specs.Links.{links_of, needs_at}
 use Rattle.plan.specs.declared.step.Standing.{Standing}
 use Rattle.plan.specs.Standing.{standing_at, awaits}
-use Rattle.plan.specs.Plan.{IsCounted, lowered}
+use Rattle.plan.specs.Settling.{IsCounted, lowered}
 use Rattle.plan.proofs.Arriving.{IsTold, next_within, next_some, counted_all, told_next, still_more, read_number, read_flag, take_all}
 use Rattle.plan.proofs.plan.Plan.arrive.Goals as goal
 

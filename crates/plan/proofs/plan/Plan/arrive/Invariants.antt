@@ -1,6 +1,5 @@
 use Rattle.std.proofs.Common.{◌≡◌, take}
-use Rattle.std.proofs.Math.ListN.{set}
-use Rattle.plan.specs.Planned.{IsStill}
+use Rattle.plan.specs.Settling.{IsStill}
 use Rattle.plan.proofs.Arriving.{IsTold}
 use Rattle.plan.proofs.plan.Plan.arrive.Given as goal
 

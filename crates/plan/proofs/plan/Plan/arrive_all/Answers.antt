@@ -1,6 +1,6 @@
-use Rattle.std.proofs.Common.{◌≡◌, ◌∙◌, ℕ, Bool, true, List, length, get_or, refl, ap}
+use Rattle.std.proofs.Common.{◌≡◌, ◌∙◌, ℕ, true, length, get_or, refl, ap}
 use Rattle.std.proofs.Math.ListN.{set}
-use Rattle.plan.proofs.Arriving.{come_none, come_next, still_more, still_same, read_number}
+use Rattle.plan.proofs.Arriving.{come_next, still_more, read_number}
 use Rattle.plan.proofs.plan.Plan.arrive_all.Goals as goal
 
 pub loop-path-preserved : goal.loop-path-preserved

@@ -1,7 +1,7 @@
 use Rattle.std.proofs.Common.{length, take}
 use Rattle.links.specs.Links.{links_of}
-use Rattle.plan.specs.Plan.{IsCounted}
-use Rattle.plan.specs.Planned.{IsStill}
+use Rattle.plan.specs.Settling.{IsCounted}
+use Rattle.plan.specs.Settling.{IsStill}
 use Rattle.plan.proofs.Arriving.{HaveCome}
 use Rattle.plan.proofs.plan.Plan.arrive_all.Given as goal
 

@@ -1,8 +1,8 @@
-use Rattle.std.proofs.Common.{◌≡◌, ◌∙◌, ◌≤◌, ◌^◌, ℕ, List, Bool, false, length, replicate, refl, sym, ap, subst, arith}
+use Rattle.std.proofs.Common.{◌∙◌, ℕ, List, Bool, false, length, replicate, refl, ap, subst, arith}
 use Rattle.links.specs.Links.{links_of}
 use Rattle.plan.specs.declared.step.Standing.{Standing}
 use Rattle.plan.specs.Plan.{IsReady}
-use Rattle.plan.specs.First.{AreFirst, AreSources, AreCounts, IsIdle}
+use Rattle.plan.specs.First.{AreCounts, IsIdle}
 use Rattle.plan.proofs.Begun.{none_counted, none_waits, over_first}
 use Rattle.plan.proofs.plan.Plan.begin.Goals as goal
 

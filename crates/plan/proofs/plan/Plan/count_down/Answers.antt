@@ -3,7 +3,7 @@ use Rattle.std.specs.Vec.{with_items}
 use Rattle.std.proofs.lemmas.List.{with_items_is}
 use Rattle.plan.specs.declared.step.Standing.TheVariants.{Unjudged, Alias}
 use Rattle.plan.specs.Standing.{awaits}
-use Rattle.plan.specs.Plan.{lowered, raised}
+use Rattle.plan.specs.Settling.{lowered, raised}
 use Rattle.plan.proofs.Lowering.{command_lowered, alias_lowered, read_standing}
 use Rattle.plan.proofs.plan.Plan.count_down.Goals as goal
 

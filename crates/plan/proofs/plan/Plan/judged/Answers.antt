@@ -1,4 +1,4 @@
-use Rattle.std.proofs.Common.{◌≡◌, ◌⊎◌, inl, inr, ◌∙◌, ◌∷◌, ◌++◌, [], ℕ, suc, true, false, List, Some, length, refl, sym, ap, subst}
+use Rattle.std.proofs.Common.{inl, inr, ◌∙◌, ◌∷◌, ◌++◌, [], ℕ, suc, true, false, Some, length, refl, sym, ap, subst}
 use Rattle.std.proofs.Math.ListN.{set}
 use Rattle.std.proofs.lemmas.Bool.{false≢true}
 use Rattle.model.specs.Schedule.{Judged, done_in}
@@ -6,7 +6,6 @@ use Rattle.queue.specs.Turns.{Turns}
 use Rattle.links.specs.Links.{links_of}
 use Rattle.plan.specs.declared.step.Standing.TheVariants.{Clean, OutOfDate}
 use Rattle.plan.specs.declared.step.Verdict.{Verdict}
-use Rattle.plan.specs.declared.step.Verdict.TheVariants as verdict
 use Rattle.plan.specs.Standing.{is_out_of_date, is_outside, is_settled}
 use Rattle.plan.specs.Plan.{standing_by, IsSettling}
 use Rattle.plan.specs.Planned.{IsPlanned, is_stale}

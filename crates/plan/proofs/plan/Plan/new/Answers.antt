@@ -1,4 +1,4 @@
-use Rattle.std.proofs.Common.{◌≡◌, ◌∙◌, ℕ, List, [], Bool, Vec, Global, length, replicate, sym, ap}
+use Rattle.std.proofs.Common.{◌∙◌, List, [], Bool, Vec, Global, length, sym, ap}
 use Rattle.std.proofs.lemmas.List.{length-replicate}
 use Rattle.lowest.specs.Flags.{has}
 use Rattle.plan.proofs.Begun.{half_first, none_flagged}

@@ -1,4 +1,4 @@
-use Rattle.std.proofs.Common.{◌≡◌, ◌∙◌, ℕ, suc, sym, subst, arith}
+use Rattle.std.proofs.Common.{◌∙◌, ℕ, suc, sym, subst, arith}
 use Rattle.std.proofs.lemmas.Bool.{false≢true}
 use Rattle.model.specs.Schedule.{IsLawfulStep, Judged, Started}
 use Rattle.plan.proofs.Judging.{judge_lawful, none_judged}

@@ -1,6 +1,5 @@
-use Rattle.std.proofs.Common.{◌≡◌, ◌∙◌, ℕ, List, true, sym, subst, ap}
+use Rattle.std.proofs.Common.{◌∙◌, List, sym, ap}
 use Rattle.plan.specs.declared.step.Standing.{Standing}
-use Rattle.plan.specs.declared.step.Standing.TheVariants.{Alias}
 use Rattle.plan.specs.Standing.{standing_at, is_settled}
 use Rattle.plan.proofs.Settling.{ahead_over, still_aliases}
 use Rattle.plan.proofs.plan.Plan.settle.Goals as goal

@@ -1,13 +1,13 @@
-use Rattle.std.proofs.Common.{◌≡◌, ◌∙◌, ℕ, false, List, Bool, length, refl, sym, subst, ap}
+use Rattle.std.proofs.Common.{◌∙◌, ℕ, List, Bool, length, refl, sym, subst, ap}
 use Rattle.std.proofs.Math.ListN.{set}
 use Rattle.model.specs.Graph.{has_number}
 use Rattle.links.specs.Links.{links_of}
 use Rattle.std.proofs.lemmas.List.{length-set}
 use Rattle.plan.specs.declared.step.Standing.{Standing}
-use Rattle.plan.specs.declared.step.Standing.TheVariants.{Known, Alias}
-use Rattle.plan.specs.Standing.{standing_at, is_out_of_date}
+use Rattle.plan.specs.declared.step.Standing.TheVariants.{Known}
+use Rattle.plan.specs.Standing.{is_out_of_date}
 use Rattle.plan.specs.Plan.{IsReady}
-use Rattle.plan.proofs.Settling.{known_sets, known_same, known_tallied, now_known, was_alias, none_left, in_range, over_next, alias_settled, sound_next, aliases_next, alias_first}
+use Rattle.plan.proofs.Settling.{known_sets, known_same, known_tallied, now_known, was_alias, none_left, over_next, alias_settled, sound_next, aliases_next, alias_first}
 use Rattle.plan.proofs.plan.Plan.settle_pending.Goals as goal
 
 pub invariant_of-self-clause-sets : goal.invariant_of-self-clause-sets

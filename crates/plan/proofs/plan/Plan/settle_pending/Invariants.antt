@@ -1,12 +1,12 @@
 use Rattle.std.proofs.Common.{◌≡◌, ℕ, suc, List, true, length, count_by}
-use Rattle.model.specs.declared.graph.Edge.{Edge}
 use Rattle.model.specs.Graph.{edge_at}
 use Rattle.model.specs.Schedule.{Task}
 use Rattle.links.specs.Links.{links_of}
 use Rattle.plan.specs.declared.step.Standing.TheVariants.{Alias}
 use Rattle.plan.specs.Standing.{standing_at, is_alias}
 use Rattle.plan.specs.Plan.{IsOver}
-use Rattle.plan.specs.Planned.{SettlesAliases, IsTaskOf, IsSound}
+use Rattle.plan.specs.Planned.{IsTaskOf}
+use Rattle.plan.specs.Settling.{SettlesAliases, IsSound}
 use Rattle.plan.proofs.plan.Plan.settle_pending.Given as goal
 
 abbrev pub invariant-loop-place : goal.invariant-loop-place

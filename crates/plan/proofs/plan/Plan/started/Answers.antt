@@ -1,4 +1,4 @@
-use Rattle.std.proofs.Common.{◌≡◌, ◌∙◌, ℕ, false, refl, sym, ap}
+use Rattle.std.proofs.Common.{false, refl, sym, ap}
 use Rattle.std.proofs.lemmas.Bool.{false≢true}
 use Rattle.queue.specs.Turns.{Turns}
 use Rattle.links.specs.Links.{links_of}
@@ -40,7 +40,7 @@ returns-clause-over c = λ graph at.
     }
 
 pub returns-clause-planned : goal.returns-clause-planned
-returns-clause-planned c = λ task graph steps at lawful next.
+returns-clause-planned c = λ graph task steps at lawful next.
     let plan = c.args.self.now in
     let e = c.index-place.result in
     let stands = stood plan.standings.items plan.queue plan.waits e c.args.edge c.index-place.ensures.place c.requires in
