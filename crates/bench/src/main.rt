@@ -8,8 +8,8 @@ mod one_file;
 use crate::one_file::OneFile;
 use anyhow::{Result, bail};
 use build_log::{Log, Tail};
-use graph::{ConeFault, Graph};
 use lexer::{Statement, statements};
+use links::{ConeFault, Graph};
 use manifest::{Manifest, Texts};
 use std::alloc::Global;
 use std::io::{Print, Read};
@@ -75,11 +75,9 @@ fn count_graph(rt: &impl Print, alloc: Global, bytes: Vec<u8>) -> Result<()> {
 fn count_cone(rt: &impl Print, alloc: Global, bytes: Vec<u8>) -> Result<()> {
     let manifest = read(alloc, &mut OneFile::new(bytes))?;
     print_sizes(rt, &manifest)?;
-    let manifest = manifest.texts(alloc)?;
-    let graph = Graph::build(alloc, &manifest)?;
-    let paths = graph.paths.len();
-    let outputs = graph.links.makers.len();
-    println!(rt; "{paths} paths, {outputs} of them outputs")?;
+    let graph = Graph::build(alloc, manifest)?;
+    let paths = graph.paths();
+    println!(rt; "{paths} paths")?;
     let needed = match graph.cone(alloc, &[]) {
         Ok(cone) => cone.order.len(),
         Err(ConeFault::Memory) => bail!("out of memory"),

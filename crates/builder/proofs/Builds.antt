@@ -1,5 +1,5 @@
 -- What one build has come to, in the words of its contract.
-use Rattle.std.proofs.Common.{◌≡◌, ◌⊎◌, inl, inr, ℕ, zero, suc, ◌<◌, Bool, true, false, bytes_eq, ◌∷◌, IsTrue, List, [], ◌++◌, Option, Some, None, map, length, Err, refl, sym, ◌∙◌, ap, subst, arith}
+use Rattle.std.proofs.Common.{◌≡◌, ◌⊎◌, inl, inr, ℕ, zero, suc, ◌<◌, Bool, true, false, bytes_eq, ◌∷◌, IsTrue, List, [], ◌++◌, Option, Some, None, map, length, Result, Ok, Err, Vec, Global, refl, sym, ◌∙◌, ap, subst, arith}
 use Rattle.std.proofs.lemmas.List.{append-nil}
 use Rattle.model.specs.declared.graph.BuildGraph.{BuildGraph}
 use Rattle.model.specs.declared.event.Event.{Event}
@@ -8,7 +8,8 @@ use Rattle.model.specs.declared.fault.SiteFault.{SiteFault}
 use Rattle.model.specs.declared.fault.SiteFault.TheVariants.{Device, Stopped, Memory}
 use Rattle.model.specs.World.{World, View, view_of, IsIdle}
 use Rattle.model.specs.Calls.{OnlyLooks, HasCause, is_stop}
-use Rattle.model.specs.Graph.{has, targets_of, IsMadeOnce}
+use Rattle.model.specs.declared.graph.Edge.{Edge}
+use Rattle.model.specs.Graph.{has, edge_at, first_output, targets_of, IsMadeOnce}
 use Rattle.model.specs.Outcome.{Behaviour}
 use Rattle.model.specs.OutOfDate.{NothingIsMissing}
 use Rattle.model.specs.Phases.{IsPointAfter, WasNothingMissing, WasNothingMissingIn}
@@ -28,27 +29,36 @@ use Rattle.build_theory.proofs.Looks.{looks_nothing, looks_then, frame_of_looks,
 use Rattle.build_theory.proofs.Ready.{ready_of_none}
 use Rattle.build_theory.proofs.Stated.{loads_come_first}
 use Rattle.build_theory.proofs.Turns.{settled_at_end}
-use Rattle.graph.specs.declared.cone.Cone.{Cone}
-use Rattle.graph.specs.declared.cone.ConeFault.{ConeFault}
-use Rattle.graph.specs.declared.cone.ConeFault.TheVariants as cone_fault
-use Rattle.graph.specs.declared.graph.GraphFault.{GraphFault}
-use Rattle.graph.specs.declared.graph.GraphFault.TheVariants as graph_fault
+use Rattle.build_theory.specs.Seen.{IsSeen, Unrefused, Looked}
+use Rattle.build_theory.proofs.Calls.{seen_of, cause_then, unrefused_none, unrefused_then}
+use Rattle.paths.specs.Told.{text_at, texts_at}
+use Rattle.links.specs.declared.cone.ConeFault.{ConeFault}
+use Rattle.links.specs.declared.cone.ConeFault.TheVariants as cone_fault
+use Rattle.links.specs.declared.cone.Mark.{Mark}
+use Rattle.links.specs.declared.graph.Graph.{Graph}
+use Rattle.links.specs.declared.fault.GraphFault.{GraphFault}
+use Rattle.links.specs.declared.fault.GraphFault.TheVariants as graph_fault
+use Rattle.links.specs.Linked.{IsConeOf, IsFaultOf}
+use Rattle.links.specs.Targets.{IsFirstUnknown, IsNoCone}
+use Rattle.links.specs.Told.{declared_by}
+use Rattle.looks.specs.Seen.{StaysAt}
+use Rattle.manifest.specs.Answer.{IsGraph}
+use Rattle.runner.specs.declared.cut.Cut.{Cut}
+use Rattle.runner.specs.declared.summary.Summary.{Summary}
+use Rattle.runner.specs.declared.summary.Summary.TheVariants.{Well, Failed as SomeFailed}
+use Rattle.runner.specs.Cut.{fault_of}
+use Rattle.runner.specs.Ran.{HasRun}
 use Rattle.builder.specs.declared.asked.Limits.{Limits}
 use Rattle.builder.specs.declared.report.Missing.{Missing}
+use Rattle.builder.specs.declared.report.Refusal.{Refusal}
+use Rattle.builder.specs.declared.report.Refusal.TheVariants as refusal
 use Rattle.builder.specs.declared.report.Report.{Report}
 use Rattle.builder.specs.declared.report.Report.TheVariants.{Success, Failed, Refused, Fault}
-use Rattle.builder.specs.declared.report.Refusal.TheVariants as refusal
-use Rattle.builder.specs.Answers.{IsSeen, Unrefused, Looked, ungraphed, Uncut}
-use Rattle.builder.specs.Build.{no_logs, asked_of, task_for, missing_answer, Builds}
-use Rattle.builder.specs.Ended.{HasRun, run_answer}
-use Rattle.graph.specs.Linked.{path_at, IsFaultOf}
-use Rattle.graph.specs.Targets.{IsFirstUnknown, IsConeFor, IsNoCone}
-use Rattle.builder.specs.Missing.{IsFound, IsMissingFor, StaysAt}
-use Rattle.builder.specs.Taken.{IsTaken, IsFirstNotTaken}
-use Rattle.manifest.specs.Answer.{IsGraph}
-use Rattle.builder.proofs.Calls.{seen_of, unrefused_none, unrefused_then}
+use Rattle.builder.specs.Build.{no_logs, asked_of, task_for, missing_answer, Says, Builds}
+use Rattle.builder.specs.Reports.{ungraphed, ShowsFault, SaysNotTaken, SaysNoCone, IsMissingFor, SaysLacking, SaysResult, SaysRun, run_answer}
+use Rattle.builder.specs.Taken.{IsTaken}
 use Rattle.builder.proofs.Formed.{have_outputs, no_depfile, no_response, no_dyndep, names_no_other}
-use Rattle.builder.proofs.Slices.{suc_has}
+use Rattle.builder.proofs.Slices.{suc_has, map_suc}
 
 nothing_told : (own : OwnFiles) (files : View) → no_records ≡ store_in no_logs own files
 nothing_told own files = by_logs (files own.build_log) (files own.deps_log)
@@ -67,13 +77,13 @@ none_before : (before after : List Done) (step : Done) → [] ≡ before ++ step
 none_before [] after step is = cc
 none_before (s ∷ before) after step is = cc
 
-path_has : (ps : List (List ℕ)) (k : ℕ) → k < length ps → has ps (path_at ps k) ≡ true
+path_has : (ps : List (List ℕ)) (k : ℕ) → k < length ps → has ps (text_at ps k) ≡ true
 path_has [] k lt = absurd (omega (arith, lt))
 path_has (p ∷ ps) zero lt = has-left (p ∷ []) ps p (has_one p)
   where
     has_one : (p : List ℕ) → has (p ∷ []) p ≡ true
     has_one p = or_left (bytes_eq p p) false (bytes_same p)
-path_has (p ∷ ps) (suc k) lt = has-right (p ∷ []) ps (path_at ps k) (path_has ps k (omega (arith, lt)))
+path_has (p ∷ ps) (suc k) lt = has-right (p ∷ []) ps (text_at ps k) (path_has ps k (omega (arith, lt)))
 
 nothing_held : (content : List ℕ) → None ≡ Some content → ⊥
 nothing_held content is = cc
@@ -175,20 +185,20 @@ module _ (tells : Bool) (B : Behaviour) (own : OwnFiles) (graph : BuildGraph) (f
 
   -- ---- something is not taken yet
 
-  pub builds_not_taken : Looked tells entry now → (path : List ℕ) → IsFirstNotTaken graph.edges path → (report : Report) → (report ≡ Refused (refusal.NotTaken path)) ⊎ (report ≡ Fault Memory)
-      → Builds tells B own graph folder limits given targets entry now report
-  builds_not_taken looked path first report (inl is) =
-      subst (λ (r : Report). Builds tells B own graph folder limits given targets entry now r) (sym {A = Report} is) record {
-        taken = inr record { path = path; first = first; says = inl refl; looks = looked.looks };
+  pub builds_not_taken : Looked tells entry now → (report : Report) → SaysNotTaken graph.edges report → Builds tells B own graph folder limits given targets entry now report
+  builds_not_taken looked report not_taken = by_report not_taken.says
+    where
+      by_report : (report ≡ Refused (refusal.NotTaken not_taken.path)) ⊎ (report ≡ Fault Memory) → Builds tells B own graph folder limits given targets entry now report
+      by_report (inl is) = record {
+        taken = inr record { path = not_taken.path; first = not_taken.first; says = inl is; looks = looked.looks };
         answer = answer.Refused;
-        said = (refl, first);
+        said = subst (λ (r : Report). Says graph.edges given targets r answer.Refused) (sym {A = Report} is) (refl, not_taken.first);
         build = built_refusal looked answer.Refused (λ h. h) ((λ none. looked.looks), inl refl);
       }
-  builds_not_taken looked path first report (inr is) =
-      subst (λ (r : Report). Builds tells B own graph folder limits given targets entry now r) (sym {A = Report} is) record {
-        taken = inr record { path = path; first = first; says = inr refl; looks = looked.looks };
+      by_report (inr is) = record {
+        taken = inr record { path = not_taken.path; first = not_taken.first; says = inr is; looks = looked.looks };
         answer = answer.Fault Memory;
-        said = refl;
+        said = subst (λ (r : Report). Says graph.edges given targets r (answer.Fault Memory)) (sym {A = Report} is) refl;
         build = built_memory looked;
       }
 
@@ -212,12 +222,12 @@ module _ (tells : Bool) (B : Behaviour) (own : OwnFiles) (graph : BuildGraph) (f
     builds_ungraphed looked (graph_fault.NoDyndepInput path) is =
         record { taken = inl taken; answer = answer.NoDyndepInput path; said = refl; build = built_refusal looked (answer.NoDyndepInput path) (λ h. h) ((λ none. looked.looks), refl, is.0) }
 
-    pub builds_unknown : Looked tells entry now → (place : ℕ) → IsFirstUnknown graph.edges targets place → Builds tells B own graph folder limits given targets entry now (Refused (refusal.UnknownTarget (path_at given place)))
+    pub builds_unknown : Looked tells entry now → (place : ℕ) → IsFirstUnknown graph.edges targets place → Builds tells B own graph folder limits given targets entry now (Refused (refusal.UnknownTarget (text_at given place)))
     builds_unknown looked place first = record {
       taken = inl taken;
-      answer = answer.Unknown (path_at targets place);
-      said = (path_at targets place, refl, record { place = place; first = first; text_is = refl; path_is = refl });
-      build = built_refusal looked (answer.Unknown (path_at targets place)) (λ h. h) ((λ none. looked.looks), refl, path_has targets place first.within, first.unknown);
+      answer = answer.Unknown (text_at targets place);
+      said = (text_at targets place, refl, record { place = place; first = first; text_is = refl; path_is = refl });
+      build = built_refusal looked (answer.Unknown (text_at targets place)) (λ h. h) ((λ none. looked.looks), refl, path_has targets place first.within, first.unknown);
     }
 
     pub builds_cycle : Looked tells entry now → (paths : List (List ℕ)) → answer.AllNamed (asked_of graph folder limits targets) → IsShownCycle (asked_of graph folder limits targets) no_records paths
@@ -232,15 +242,19 @@ module _ (tells : Bool) (B : Behaviour) (own : OwnFiles) (graph : BuildGraph) (f
     of_memory : Looked tells entry now → (report : Report) → report ≡ Fault Memory → Builds tells B own graph folder limits given targets entry now report
     of_memory looked report is = subst (λ (r : Report). Builds tells B own graph folder limits given targets entry now r) (sym {A = Report} is) (builds_memory looked)
 
-    pub builds_uncut : Looked tells entry now → (paths : List (List ℕ)) (fault : ConeFault) (report : Report) → IsNoCone (asked_of graph folder limits targets) no_records paths fault → Uncut given paths fault report
-        → Builds tells B own graph folder limits given targets entry now report
-    builds_uncut looked paths cone_fault.Memory report none is = of_memory looked report is
-    builds_uncut looked paths (cone_fault.Unknown place) report none (inl is) =
-        subst (λ (r : Report). Builds tells B own graph folder limits given targets entry now r) (sym {A = Report} is) (builds_unknown looked place none)
-    builds_uncut looked paths (cone_fault.Unknown place) report none (inr is) = of_memory looked report is
-    builds_uncut looked paths (cone_fault.Cycle numbers) report none (inl is) =
-        subst (λ (r : Report). Builds tells B own graph folder limits given targets entry now r) (sym {A = Report} is) (builds_cycle looked (map (path_at paths) numbers) none.0 none.1)
-    builds_uncut looked paths (cone_fault.Cycle numbers) report none (inr is) = of_memory looked report is
+    of_refusal : Looked tells entry now → (paths : List (List ℕ)) (fault : ConeFault) → IsNoCone (asked_of graph folder limits targets) no_records paths fault → (refused : Refusal) → ShowsFault paths given fault refused
+        → Builds tells B own graph folder limits given targets entry now (Refused refused)
+    of_refusal looked paths cone_fault.Memory none refused shows = absurd shows
+    of_refusal looked paths (cone_fault.Unknown place) none refused shows =
+        subst (λ (r : Refusal). Builds tells B own graph folder limits given targets entry now (Refused r)) (sym {A = Refusal} shows) (builds_unknown looked place none)
+    of_refusal looked paths (cone_fault.Cycle numbers) none refused shows =
+        subst (λ (r : Refusal). Builds tells B own graph folder limits given targets entry now (Refused r)) (sym {A = Refusal} shows) (builds_cycle looked (texts_at paths numbers) none.0 none.1)
+
+    pub builds_uncut : Looked tells entry now → (numbers : Graph) → graph ≡ declared_by numbers → (report : Report) → SaysNoCone numbers given targets report → Builds tells B own graph folder limits given targets entry now report
+    builds_uncut looked numbers same report (inl is) = of_memory looked report is
+    builds_uncut looked numbers same report (inr (refused, is, cause)) =
+        subst (λ (r : Report). Builds tells B own graph folder limits given targets entry now r) (sym {A = Report} is)
+        (of_refusal looked numbers.manifest.paths cause.fault (cause.is (asked_of graph folder limits targets) refl same refl) refused cause.shows)
 
     -- ---- a build that has run commands
 
@@ -286,9 +300,10 @@ module _ (tells : Bool) (B : Behaviour) (own : OwnFiles) (graph : BuildGraph) (f
           (settled success) premises;
     }
 
-    module _ (the_cone : Cone) (is_cone : IsConeFor graph (recorded_inputs no_records graph.edges) targets the_cone) where
+    module _ (order : List ℕ) (marks : List Mark) (listed : IsConeOf graph.edges (recorded_inputs no_records graph.edges) (targets_of graph targets) order marks)
+             (named : answer.AllNamed (asked_of graph folder limits targets)) (acyclic : answer.HasNoCycle (asked_of graph folder limits targets) no_records) where
       -- a source is missing
-      pub builds_missing : Looked tells entry now → (missing : Missing) → (IsTrue tells → NothingIsEdited entry.history now.history → IsFound graph.edges (targets_of graph targets) entry.history (Some missing))
+      pub builds_missing : Looked tells entry now → (missing : Missing) → (IsTrue tells → NothingIsEdited entry.history now.history → IsMissingFor graph.edges (targets_of graph targets) entry.history missing.path missing.needed_by)
           → Builds tells B own graph folder limits given targets entry now (Refused (refusal.Missing missing))
       builds_missing looked missing found = record { taken = inl taken; answer = missing_answer missing.path missing.needed_by; said = refl; build = by_needed missing.needed_by found }
         where
@@ -304,12 +319,12 @@ module _ (tells : Bool) (B : Behaviour) (own : OwnFiles) (graph : BuildGraph) (f
           by_needed : (needed : Option (List ℕ)) → (IsTrue tells → NothingIsEdited entry.history now.history → IsMissingFor graph.edges (targets_of graph targets) entry.history missing.path needed)
               → SingleBuild tells B no_logs own (asked_of graph folder limits targets) entry now (missing_answer missing.path needed)
           by_needed None so =
-              built_refusal looked (answer.MissingTarget missing.path) (λ h. h) ((λ none. looked.looks), is_cone.named, is_cone.acyclic, at_once, λ tell kept. (entry.history, at_entry tell, so tell kept.edits))
+              built_refusal looked (answer.MissingTarget missing.path) (λ h. h) ((λ none. looked.looks), named, acyclic, at_once, λ tell kept. (entry.history, at_entry tell, so tell kept.edits))
           by_needed (Some output) so =
               built_refusal looked (answer.MissingInput missing.path output) (λ h. h) (
                 (λ none. looked.looks),
-                is_cone.named,
-                is_cone.acyclic,
+                named,
+                acyclic,
                 at_once,
                 λ tell kept. let here = so tell kept.edits in (here.0, here.1, (entry.history, at_entry tell, here.2)),
               )
@@ -319,8 +334,8 @@ module _ (tells : Bool) (B : Behaviour) (own : OwnFiles) (graph : BuildGraph) (f
         in_order = record {
           made_once = once;
           dyndep = names_no_other graph.edges taken;
-          named = is_cone.named;
-          no_cycle = is_cone.acyclic;
+          named = named;
+          no_cycle = acyclic;
           sources = λ tell kept none at point. subst (λ (files : List Moment). NothingIsMissing graph.edges no_records [] files (targets_of graph targets)) (sym {A = List Moment} (point.entry refl)) (sources tell kept);
         }
 
@@ -329,8 +344,8 @@ module _ (tells : Bool) (B : Behaviour) (own : OwnFiles) (graph : BuildGraph) (f
         was_in_order steps = record {
           made_once = once;
           dyndep = names_no_other graph.edges taken;
-          named = is_cone.named;
-          no_cycle = is_cone.acyclic;
+          named = named;
+          no_cycle = acyclic;
           sources = λ tell kept. by_steps steps (in_order.sources tell kept);
         }
           where
@@ -344,9 +359,9 @@ module _ (tells : Bool) (B : Behaviour) (own : OwnFiles) (graph : BuildGraph) (f
         all_settled : (steps : List Done) → HasEnded (asked_of graph folder limits targets) no_records steps now → running_in steps ≡ [] → failed_in steps ≡ []
             → (i : ℕ) → InCone (asked_of graph folder limits targets) no_records i → IsSettled graph.edges (done_in steps) i
         all_settled steps ended none fine i within =
-            settled_at_end (task_for graph limits targets) steps ended.judged ended.started none fine (map suc the_cone.order.items) is_cone.listed.ordered
-            (λ k listed. let place = suc_has the_cone.order.items k listed in in_cone k place.0 place.1 (is_cone.listed.within place.0 place.2))
-            i (is_cone.listed.all i within)
+            settled_at_end (task_for graph limits targets) steps ended.judged ended.started none fine (map suc order) listed.ordered
+            (λ k within. let place = suc_has order k within in in_cone k place.0 place.1 (listed.within place.0 place.2))
+            i (listed.all i within)
 
         all_well : (steps : List Done) → IsRun tells own (task_for graph limits targets) steps entry now → running_in steps ≡ [] → failed_in steps ≡ [] → length (started_in steps) ≡ length (well_in steps)
         all_well steps run none fine =
@@ -359,51 +374,75 @@ module _ (tells : Bool) (B : Behaviour) (own : OwnFiles) (graph : BuildGraph) (f
         ended_so : (steps : List Done) → (run : IsRun tells own (task_for graph limits targets) steps entry now) → now.events ≡ entry.events ++ (run.events ++ [])
         ended_so steps run = run.grows ∙ ap (λ (l : List Event). entry.events ++ l) (sym (append-nil run.events))
 
-        pub builds_run : (report : Report) → HasRun tells own (task_for graph limits targets) entry now report → PassesNoFault entry now (run_answer report) → Builds tells B own graph folder limits given targets entry now report
-        builds_run (Success started) ran passes =
-            let run = ran.ends.0 in
-            let over = ran.ends.1 in
-            let ended = has_ended tells own (asked_of graph folder limits targets) no_records ran.steps entry now idle run over.2 over.0 over.1 (none_is_due (task_for graph limits targets) ran.steps (no_dyndep graph.edges taken)) in
-            let settled = all_settled ran.steps ended over.2 over.3 in
-            record {
-              taken = inl taken;
-              answer = answer.Success started;
-              said = refl;
-              build = built_running ran.steps ran.lawful ran.rest ran.stale once (answer.Success started) run.events [] (ended_so ran.steps run) run.of_steps tt (λ fine. refl)
-                  (in_order, ended, settled, over.3, all_well ran.steps run over.2 over.3 ∙ sym ran.ends.2) (λ success. settled) (was_in_order ran.steps) passes (λ fine. ended.idle);
-            }
-        builds_run (Failed outputs) ran passes =
-            let run = ran.ends.0 in
-            let over = ran.ends.1 in
-            let ended = has_ended tells own (asked_of graph folder limits targets) no_records ran.steps entry now idle run over.2 over.0 over.1 (none_is_due (task_for graph limits targets) ran.steps (no_dyndep graph.edges taken)) in
-            record {
-              taken = inl taken;
-              answer = answer.Failed outputs;
-              said = refl;
-              build = built_running ran.steps ran.lawful ran.rest ran.stale once (answer.Failed outputs) run.events [] (ended_so ran.steps run) run.of_steps tt (λ fine. refl)
-                  (in_order, ended, sym ran.ends.2, over.3) (λ success. absurd success) (was_in_order ran.steps) passes (λ fine. ended.idle);
-            }
-        builds_run (Refused r) ran passes = absurd ran.ends
-        builds_run (Fault fault) ran passes = by_fault fault ran.ends passes
-          where
-            of_fault : (fault : SiteFault) → IsAnswer tells B own none_loaded (asked_of graph folder limits targets) no_records [] ran.steps ran.steps entry now (answer.Fault fault) → PassesNoFault entry now (answer.Fault fault)
-                → Builds tells B own graph folder limits given targets entry now (Fault fault)
-            of_fault fault is passes = record {
-              taken = inl taken;
-              answer = answer.Fault fault;
-              said = refl;
-              build = built_running ran.steps ran.lawful ran.rest ran.stale once (answer.Fault fault) ran.rest.first ran.rest.later ran.rest.grows ran.rest.of_steps ran.rest.finishes (λ fine. absurd (false≢true (sym fine))) is
-                  (λ success. absurd success) (was_in_order ran.steps) passes (λ fine. absurd (false≢true (sym fine)));
-            }
+        module _ (numbers : Graph) (same : (declared_by numbers).edges ≡ graph.edges) (report : Report) (passes : PassesNoFault entry now (run_answer report)) where
+          passes_as : (told : Report) → report ≡ told → PassesNoFault entry now (run_answer told)
+          passes_as told is = subst (λ (r : Report). PassesNoFault entry now (run_answer r)) is passes
 
-            by_fault : (fault : SiteFault) → IsSeen entry now fault → PassesNoFault entry now (answer.Fault fault) → Builds tells B own graph folder limits given targets entry now (Fault fault)
-            by_fault Device seen passes = of_fault Device seen passes
-            by_fault Stopped seen passes = of_fault Stopped seen passes
-            by_fault Memory seen passes = of_fault Memory tt passes
+          tells_as : (told : Report) → report ≡ told → Builds tells B own graph folder limits given targets entry now told → Builds tells B own graph folder limits given targets entry now report
+          tells_as told is builds = subst (λ (r : Report). Builds tells B own graph folder limits given targets entry now r) (sym {A = Report} is) builds
+
+          by_fault : (result : Result Summary Cut) → HasRun tells own (task_for graph limits targets) entry now result → (fault : SiteFault) → report ≡ Fault fault → IsSeen entry now fault → Builds tells B own graph folder limits given targets entry now report
+          by_fault result ran fault is seen = tells_as (Fault fault) is (of_seen fault (passes_as (Fault fault) is) seen)
+            where
+              of_fault : (fault : SiteFault) → IsAnswer tells B own none_loaded (asked_of graph folder limits targets) no_records [] ran.steps ran.steps entry now (answer.Fault fault) → PassesNoFault entry now (answer.Fault fault)
+                  → Builds tells B own graph folder limits given targets entry now (Fault fault)
+              of_fault fault is passes = record {
+                taken = inl taken;
+                answer = answer.Fault fault;
+                said = refl;
+                build = built_running ran.steps ran.lawful ran.rest ran.stale once (answer.Fault fault) ran.rest.first ran.rest.later ran.rest.grows ran.rest.of_steps ran.rest.finishes (λ fine. absurd (false≢true (sym fine))) is
+                    (λ success. absurd success) (was_in_order ran.steps) passes (λ fine. absurd (false≢true (sym fine)));
+              }
+
+              of_seen : (fault : SiteFault) → PassesNoFault entry now (answer.Fault fault) → IsSeen entry now fault → Builds tells B own graph folder limits given targets entry now (Fault fault)
+              of_seen Device passes seen = of_fault Device seen passes
+              of_seen Stopped passes seen = of_fault Stopped seen passes
+              of_seen Memory passes seen = of_fault Memory tt passes
+
+          ended_well : (started : ℕ) → HasRun tells own (task_for graph limits targets) entry now (Ok (Well started)) → report ≡ Success started → Builds tells B own graph folder limits given targets entry now report
+          ended_well started ran is =
+              let run = ran.ends.0 in
+              let over = ran.ends.1 in
+              let ended = has_ended tells own (asked_of graph folder limits targets) no_records ran.steps entry now idle run over.2 over.0 over.1 (none_is_due (task_for graph limits targets) ran.steps (no_dyndep graph.edges taken)) in
+              let settled = all_settled ran.steps ended over.2 over.3 in
+              tells_as (Success started) is record {
+                taken = inl taken;
+                answer = answer.Success started;
+                said = refl;
+                build = built_running ran.steps ran.lawful ran.rest ran.stale once (answer.Success started) run.events [] (ended_so ran.steps run) run.of_steps tt (λ fine. refl)
+                    (in_order, ended, settled, over.3, all_well ran.steps run over.2 over.3 ∙ sym ran.ends.2) (λ success. settled) (was_in_order ran.steps) (passes_as (Success started) is) (λ fine. ended.idle);
+              }
+
+          ended_badly : (edges : Vec ℕ Global) → HasRun tells own (task_for graph limits targets) entry now (Ok (SomeFailed edges)) → report ≡ Failed (map (λ e. first_output (edge_at (declared_by numbers).edges (suc e))) edges.items)
+              → Builds tells B own graph folder limits given targets entry now report
+          ended_badly edges ran is =
+              let run = ran.ends.0 in
+              let over = ran.ends.1 in
+              let outputs = map (λ e. first_output (edge_at (declared_by numbers).edges (suc e))) edges.items in
+              let told : map (λ i. first_output (edge_at graph.edges i)) (failed_in ran.steps) ≡ outputs =
+                  ap (λ (l : List ℕ). map (λ i. first_output (edge_at graph.edges i)) l) (sym ran.ends.2)
+                  ∙ (ap (λ (es : List Edge). map (λ i. first_output (edge_at es i)) (map suc edges.items)) (sym same) ∙ sym (map_suc (λ i. first_output (edge_at (declared_by numbers).edges i)) edges.items)) in
+              let ended = has_ended tells own (asked_of graph folder limits targets) no_records ran.steps entry now idle run over.2 over.0 over.1 (none_is_due (task_for graph limits targets) ran.steps (no_dyndep graph.edges taken)) in
+              tells_as (Failed outputs) is record {
+                taken = inl taken;
+                answer = answer.Failed outputs;
+                said = refl;
+                build = built_running ran.steps ran.lawful ran.rest ran.stale once (answer.Failed outputs) run.events [] (ended_so ran.steps run) run.of_steps tt (λ fine. refl)
+                    (in_order, ended, told, over.3) (λ success. absurd success) (was_in_order ran.steps) (passes_as (Failed outputs) is) (λ fine. ended.idle);
+              }
+
+          by_result : (result : Result Summary Cut) → HasRun tells own (task_for graph limits targets) entry now result → (report ≡ Fault Memory) ⊎ SaysResult numbers result report → Builds tells B own graph folder limits given targets entry now report
+          by_result result ran (inl is) = by_fault result ran Memory is tt
+          by_result (Ok (Well started)) ran (inr is) = ended_well started ran is
+          by_result (Ok (SomeFailed edges)) ran (inr is) = ended_badly edges ran is
+          by_result (Err cut) ran (inr is) = by_fault (Err cut) ran (fault_of cut) is ran.ends
+
+          pub builds_run : SaysRun tells own (task_for graph limits targets) numbers entry now report → Builds tells B own graph folder limits given targets entry now report
+          builds_run says = by_result says.result says.ran says.says
 
 -- what a run that only looked first has added to the history
-pub run_grows : (tells : Bool) (own : OwnFiles) (task : Task) (entry now : World) (report : Report) → HasRun tells own task entry now report → IsTrue tells → (later : List Moment) × (now.history ≡ entry.history ++ later)
-run_grows tells own task entry now report ran tell = let told = ran.rest.history tell in (told.more, told.grows)
+pub run_grows : (tells : Bool) (own : OwnFiles) (task : Task) (entry now : World) (result : Result Summary Cut) → HasRun tells own task entry now result → IsTrue tells → (later : List Moment) × (now.history ≡ entry.history ++ later)
+run_grows tells own task entry now result ran tell = let told = ran.rest.history tell in (told.more, told.grows)
 
 -- ---- calls that only looked
 
@@ -412,6 +451,9 @@ looked_nothing tells w runs = record { looks = looks_nothing tells w; unrefused 
 
 pub looked_more : (tells : Bool) (entry old new : World) → Looked tells entry old → OnlyLooks tells old new → Unrefused old new → Looked tells entry new
 looked_more tells entry old new looked looks more = record { looks = looks_then tells entry old new looked.looks looks; unrefused = unrefused_then entry old new looked.unrefused more }
+
+pub idle_after : (tells : Bool) (old new : World) → OnlyLooks tells old new → IsIdle old.events → IsIdle new.events
+idle_after tells old new looks idle = subst IsIdle (sym {A = List Event} looks.events) idle
 
 -- after such calls the files are those of the entry, if nobody edits: `exit` is the end of the build
 pub stays_at_entry : (tells : Bool) (entry old new : World) (exit later : List Moment) → IsIdle entry.events → Looked tells entry old → OnlyLooks tells old new → exit ≡ new.history ++ later
@@ -434,3 +476,16 @@ own_in folder = record { build_log = refl; deps_log = refl; is_log = refl; is_de
 pub builds_grow : (tells : Bool) (B : Behaviour) (own : OwnFiles) (graph : BuildGraph) (folder : List ℕ) (limits : Limits) (given targets : List (List ℕ)) (old new : World) (report : Report)
     → Builds tells B own graph folder limits given targets old new report → IsTrue tells → (later : List Moment) × (new.history ≡ old.history ++ later)
 builds_grow tells B own graph folder limits given targets old new report builds tell = let frame = builds.build.frame tell in (frame.more, frame.grows)
+
+-- a source is missing, or that was not to be seen
+pub builds_lacking : (tells : Bool) (B : Behaviour) (own : OwnFiles) (graph : BuildGraph) (folder : List ℕ) (limits : Limits) (given targets : List (List ℕ)) (entry old now : World) → IsIdle entry.events
+    → IsGraph graph → IsTaken graph.edges → (order : List ℕ) (marks : List Mark) → IsConeOf graph.edges (recorded_inputs no_records graph.edges) (targets_of graph targets) order marks
+    → answer.AllNamed (asked_of graph folder limits targets) → answer.HasNoCycle (asked_of graph folder limits targets) no_records → Looked tells entry old → OnlyLooks tells old now
+    → (report : Report) → SaysLacking tells graph.edges (targets_of graph targets) old now report → Builds tells B own graph folder limits given targets entry now report
+builds_lacking tells B own graph folder limits given targets entry old now idle formed taken order marks listed named acyclic looked looks report (inl so) =
+    subst (λ (r : Report). Builds tells B own graph folder limits given targets entry now r) (sym {A = Report} so.says)
+    (builds_fault tells B own graph folder limits given targets entry now idle formed taken (looks_then tells entry old now looked.looks looks) so.fault (cause_then entry old now (Err so.fault) looked.unrefused so.cause))
+builds_lacking tells B own graph folder limits given targets entry old now idle formed taken order marks listed named acyclic looked looks report (inr so) =
+    subst (λ (r : Report). Builds tells B own graph folder limits given targets entry now r) (sym {A = Report} so.says)
+    (builds_missing tells B own graph folder limits given targets entry now idle formed taken order marks listed named acyclic (looked_more tells entry old now looked looks so.unrefused) so.missing
+    (λ tell edits. so.is tell entry.history (stays_at_entry tells entry old now now.history [] idle looked looks (sym (append-nil now.history)) tell edits)))

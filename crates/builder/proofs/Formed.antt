@@ -7,7 +7,7 @@ use Rattle.model.specs.Graph.{edge_at, no_edge, outputs}
 use Rattle.model.specs.SingleBuild.{NamesOther}
 use Rattle.build_theory.proofs.Lists.{all_weaker}
 use Rattle.build_theory.proofs.Makers.{each_edge}
-use Rattle.builder.specs.Missing.{HaveOutputs}
+use Rattle.looks.specs.Lacks.{HaveOutputs}
 use Rattle.builder.specs.Taken.{IsTakenEdge, IsTaken}
 use Rattle.manifest.specs.Answer.{IsWellFormed, IsGraph}
 
@@ -27,9 +27,6 @@ module _ (edges : List Edge) (taken : IsTaken edges) where
 
   pub no_response : (i : ℕ) → (edge_at edges i).act.response_path ≡ []
   no_response = of_taken (λ e. e.act.response_path ≡ []) refl (λ e is. is.response_path)
-
-  pub no_pool : (i : ℕ) → (edge_at edges i).pool ≡ None
-  no_pool = of_taken (λ e. e.pool ≡ None) refl (λ e is. is.pool)
 
   pub no_dyndep : (i : ℕ) → (edge_at edges i).dyndep ≡ None
   no_dyndep = of_taken (λ e. e.dyndep ≡ None) refl (λ e is. is.dyndep)

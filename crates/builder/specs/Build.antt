@@ -21,11 +21,12 @@ use Rattle.builder.specs.declared.report.Report.{Report}
 use Rattle.builder.specs.declared.report.Options.{Options}
 use Rattle.builder.specs.declared.asked.Limits.{Limits}
 use Rattle.builder.specs.declared.report.Report.TheVariants.{Success, Failed, Refused, Fault}
-use Rattle.builder.specs.Answers.{Looked, unread}
+use Rattle.build_theory.specs.Seen.{Looked}
+use Rattle.builder.specs.Reports.{unread}
 use Rattle.builder.specs.Asked.{AreTargets, IsFolder}
-use Rattle.graph.specs.Linked.{path_at}
+use Rattle.paths.specs.Told.{text_at}
 use Rattle.builder.specs.Taken.{IsTaken, IsFirstNotTaken}
-use Rattle.graph.specs.Targets.{IsFirstUnknown}
+use Rattle.links.specs.Targets.{IsFirstUnknown}
 use Rattle.manifest.specs.Answer.{IsGraph}
 
 -- no logs are read yet
@@ -52,8 +53,8 @@ missing_answer path (Some output) = answer.MissingInput path output
 pub record IsUnknown (edges : List Edge) (given targets : List (List ℕ)) (text path : List ℕ) : Type 0 where
   pub place : ℕ
   pub first : IsFirstUnknown edges targets place
-  pub text_is : text ≡ path_at given place
-  pub path_is : path ≡ path_at targets place
+  pub text_is : text ≡ text_at given place
+  pub path_is : path ≡ text_at targets place
 
 -- the report gives this answer, where targets were given so and have these canonical paths; none where the build files have a
 -- fault

@@ -1,11 +1,4 @@
-pub mod Answers
 pub mod Asked
 pub mod Build
-pub mod Cut
-pub mod Ended
-pub mod Missing
-pub mod Plan
-pub mod PlanOf
-pub mod Planned
-pub mod Run
+pub mod Reports
 pub mod Taken

@@ -1,4 +1,4 @@
--- Which graphs are taken so far: those without response files, pools, depfiles, `restat` and dyndep files.
+-- Which graphs are taken so far: those without response files, depfiles, `restat` and dyndep files.
 use Rattle.std.specs.Prelude.{◌≡◌, ℕ, false, List, [], ◌∷◌, ◌++◌, None}
 use Rattle.std.specs.List.{AllByRecursion}
 use Rattle.model.specs.declared.graph.Edge.{Edge}
@@ -8,7 +8,6 @@ use Rattle.model.specs.Graph.{first_output}
 pub record IsTakenEdge (edge : Edge) : Type 0 where
   pub depfile : edge.act.depfile ≡ []
   pub response_path : edge.act.response_path ≡ []
-  pub pool : edge.pool ≡ None
   pub dyndep : edge.dyndep ≡ None
   pub restat : edge.restat ≡ false
 

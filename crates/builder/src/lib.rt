@@ -2,15 +2,12 @@
 #![tactic(auto)]
 
 mod asked;
-mod cut;
-mod due;
-mod missing;
+mod names;
 mod one_build;
-mod plan;
 mod report;
-mod run;
-mod start;
+mod sources;
 mod taken;
+mod tick;
 
 pub use one_build::build;
 pub use report::{Missing, Options, Refusal, Report};

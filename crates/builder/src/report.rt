@@ -1,7 +1,10 @@
 //! What a build is asked, and what it answers.
 
-use manifest::FileFault;
+use links::GraphFault;
+use manifest::{FileFault, ReadError};
 use model::SiteFault;
+use runner::Cut;
+use std::alloc::AllocError;
 use std::error::Error;
 use std::fmt;
 use text::{Items, Path, Text};
@@ -26,8 +29,8 @@ pub enum Refusal {
     MadeTwice(Path),
     /// A dyndep file is none of the inputs of an edge that names it.
     NoDyndepInput(Path),
-    /// The edge with this first output has something that is not taken yet: a response file, a pool, a depfile, `restat`
-    /// or a dyndep file.
+    /// The edge with this first output has something that is not taken yet: a response file, a depfile, `restat` or a
+    /// dyndep file.
     NotTaken(Path),
     /// No build statement names the target; it stands here as it was given.
     UnknownTarget(Text),
@@ -99,4 +102,69 @@ pub enum Report {
     Refused(Refusal),
     /// The site failed or stopped, or memory was refused.
     Fault(SiteFault),
+}
+
+impl From<ReadError> for Report {
+    ghost use Rattle.std.specs.Prelude.{◌≡◌};
+    ghost use Rattle.builder.specs.Reports.{unread};
+
+    ghost from_gives = { λ error report. report ≡ unread error };
+
+    fn from(error: ReadError) -> Report {
+        match error {
+            ReadError::Refused(fault) => Report::Refused(Refusal::File(fault)),
+            ReadError::Site(fault) => Report::Fault(fault),
+            ReadError::Memory => Report::Fault(SiteFault::Memory),
+        }
+    }
+}
+
+impl From<GraphFault> for Report {
+    ghost use Rattle.std.specs.Prelude.{◌≡◌};
+    ghost use Rattle.builder.specs.Reports.{ungraphed};
+
+    ghost from_gives = { λ fault report. report ≡ ungraphed fault };
+
+    fn from(fault: GraphFault) -> Report {
+        match fault {
+            GraphFault::Memory => Report::Fault(SiteFault::Memory),
+            GraphFault::MadeTwice(path) => Report::Refused(Refusal::MadeTwice(path)),
+            GraphFault::NoDyndepInput(path) => Report::Refused(Refusal::NoDyndepInput(path)),
+        }
+    }
+}
+
+impl From<SiteFault> for Report {
+    ghost use Rattle.std.specs.Prelude.{◌≡◌};
+    ghost use Rattle.builder.specs.declared.report.Report.TheVariants.{Fault};
+
+    ghost from_gives = { λ fault report. report ≡ Fault fault };
+
+    fn from(fault: SiteFault) -> Report {
+        Report::Fault(fault)
+    }
+}
+
+impl From<Cut> for Report {
+    ghost use Rattle.std.specs.Prelude.{◌≡◌};
+    ghost use Rattle.builder.specs.declared.report.Report.TheVariants.{Fault};
+    ghost use Rattle.runner.specs.Cut.{fault_of};
+
+    ghost from_gives = { λ cut report. report ≡ Fault (fault_of cut) };
+
+    fn from(cut: Cut) -> Report {
+        Report::Fault(cut.fault())
+    }
+}
+
+impl From<AllocError> for Report {
+    ghost use Rattle.std.specs.Prelude.{◌≡◌};
+    ghost use Rattle.model.specs.declared.fault.SiteFault.TheVariants.{Memory};
+    ghost use Rattle.builder.specs.declared.report.Report.TheVariants.{Fault};
+
+    ghost from_gives = { λ _ report. report ≡ Fault Memory };
+
+    fn from(_: AllocError) -> Report {
+        Report::Fault(SiteFault::Memory)
+    }
 }

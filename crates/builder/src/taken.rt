@@ -1,30 +1,53 @@
 //! What is not taken yet.
 
-ghost use Rattle.std.specs.Prelude.{◌↔◌, ◌≡◌, true, MatchOption};
-ghost use Rattle.model.specs.Graph.{first_output};
+ghost use Rattle.std.specs.Prelude.{◌↔◌, ◌≡◌, ◌<◌, suc, true, length, List, ℕ, MatchOption, OnOk, IfErr};
+ghost use Rattle.model.specs.Graph.{edge_at, first_output};
+ghost use Rattle.paths.specs.declared.line.Line.{Line};
+ghost use Rattle.paths.specs.Told.{edge_of, graph_of};
+ghost use Rattle.builder.specs.Reports.{SaysNotTaken};
 ghost use Rattle.builder.specs.Taken.{IsTakenEdge, IsTaken, IsFirstNotTaken};
 
-use model::Edge;
+use crate::names::first_output;
+use crate::report::{Refusal, Report};
+use paths::{Action, EdgeId, Manifest};
+use std::alloc::Global;
 
-/// The lowest edge that has something which is not taken yet: a response file, a pool, a depfile, `restat` or a dyndep
-/// file.
-pub fn first_not_taken(edges: &[Edge]) -> Option<&Edge>
-    ensures { MatchOption result (IsTaken edges.now) (λ edge. IsFirstNotTaken edges.now (first_output edge.now)) }
+/// Refuses a manifest in which something is not taken yet.
+pub fn check_taken(alloc: Global, manifest: &Manifest) -> Result<(), Report>
+    ensures taken { OnOk result (IsTaken (graph_of manifest.now).edges) }
+    ensures not_taken { IfErr result (SaysNotTaken (graph_of manifest.now).edges) }
 {
-    for edge in edges {
-        if !is_taken(edge) {
+    match first_not_taken(manifest) {
+        Some(edge) => Err(Report::Refused(Refusal::NotTaken(first_output(
+            alloc, manifest, edge,
+        )?))),
+        None => Ok(()),
+    }
+}
+
+/// The lowest edge that has something which is not taken yet: a response file, a depfile, `restat` or a dyndep file.
+fn first_not_taken(manifest: &Manifest) -> Option<EdgeId>
+    ensures { MatchOption result (IsTaken (graph_of manifest.now).edges) (λ edge. (edge < length manifest.now.lines) × IsFirstNotTaken (graph_of manifest.now).edges (first_output (edge_at (graph_of manifest.now).edges (suc edge)))) }
+{
+    for place in 0..manifest.lines.len() {
+        let edge = manifest.edge(place);
+        if !is_taken(manifest.action(edge)) {
             return Some(edge);
         }
     }
     None
 }
 
-fn is_taken(edge: &Edge) -> bool
-    ensures { (result ≡ true) ↔ IsTakenEdge edge.now }
+fn is_taken(action: &Action) -> bool
+    ensures { (paths : List (List ℕ)) (line : Line) → (result ≡ true) ↔ IsTakenEdge (edge_of paths line action.now) }
 {
-    edge.act.depfile.is_empty()
-        && edge.act.response_path.is_empty()
-        && edge.pool.is_none()
-        && edge.dyndep.is_none()
-        && !edge.restat
+    match action {
+        Action::Alias => true,
+        Action::Command(command) => {
+            command.act.depfile.is_empty()
+                && command.act.response_path.is_empty()
+                && command.dyndep.is_none()
+                && !command.restat
+        }
+    }
 }

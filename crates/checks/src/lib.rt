@@ -6,4 +6,6 @@ mod builds;
 #[cfg(test)]
 mod clean_builds;
 #[cfg(test)]
+mod large_builds;
+#[cfg(test)]
 mod refused_calls;

@@ -1,5 +1,6 @@
 -- What is built, and its cone.
 use Rattle.std.proofs.Common.{◌≡◌, inl, inr, ℕ, zero, suc, ◌+◌, ◌<◌, ◌==◌, not, Bool, true, false, cond, List, [], ◌∷◌, ◌++◌, Some, IfOk, Result, Ok, Err, filter, length, get_or, take, slice_get, refl, sym, ◌∙◌, ap, subst, arith}
+use Rattle.std.specs.Prelude.{All}
 use Rattle.std.specs.List.{AllByRecursion, flat_map}
 use Rattle.std.proofs.lemmas.Bool.{false≢true, true≢false}
 use Rattle.std.proofs.lemmas.List.{map-append, length-map}
@@ -138,13 +139,14 @@ module _ (graph : Graph) where
     makers = makers;
   }
 
-  pub cone_for : (recorded : ℕ → List (List ℕ)) → AreSameInputs recorded (recorded_by graph) → (asked : List (List ℕ)) (numbers requested : List ℕ) → texts_at graph.manifest.paths numbers ≡ targets_of (declared_by graph) asked
+  pub cone_for : (recorded : ℕ → List (List ℕ)) → AreSameInputs recorded (recorded_by graph) → (asked : List (List ℕ)) (numbers requested : List ℕ) → All (λ p. p < graph.manifest.named) numbers → texts_at graph.manifest.paths numbers ≡ targets_of (declared_by graph) asked
       → AllByRecursion (λ p. is_named (declared_by graph).edges p ≡ true) asked → AreMakersOf (declared_by graph).edges (texts_at graph.manifest.paths numbers) requested
       → (the_cone : Cone) → the_cone.targets.items ≡ numbers → IsConeForEach (links_of graph) requested the_cone.order.items the_cone.marks.items → IsConeFor graph recorded asked the_cone
-  cone_for recorded same asked numbers requested told named makers the_cone kept cone = record {
+  cone_for recorded same asked numbers requested within told named makers the_cone kept cone = record {
     listed = listed;
     named = named;
     acyclic = no_cycle (declared_by graph).edges recorded (targets_of (declared_by graph) asked) the_cone.order.items the_cone.marks.items listed;
+    within = subst (All (λ p. p < graph.manifest.named)) (sym {A = List ℕ} kept) within;
     numbers = ap (texts_at graph.manifest.paths) kept ∙ told;
   }
     where

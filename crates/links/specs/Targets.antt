@@ -32,7 +32,8 @@ pub record IsConeFor (graph : Graph) (recorded : ℕ → List (List ℕ)) (targe
   pub listed : IsConeOf (declared_by graph).edges recorded (targets_of (declared_by graph) targets) cone.order.items cone.marks.items
   pub named : AllByRecursion (λ p. is_named (declared_by graph).edges p ≡ true) targets
   pub acyclic : (i : ℕ) → IsInCone (declared_by graph).edges recorded (targets_of (declared_by graph) targets) i → IsCycle (declared_by graph).edges recorded i → ⊥
-  -- the numbers of what is built
+  -- the numbers of what is built, all of paths that build lines name
+  pub within : All (λ p. p < graph.manifest.named) cone.targets.items
   pub numbers : texts_at graph.manifest.paths cone.targets.items ≡ targets_of (declared_by graph) targets
 
 -- why what was asked for has no cone: a target that is unknown, or paths that lead round a cycle

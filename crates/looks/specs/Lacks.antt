@@ -1,8 +1,8 @@
 -- Which source is missing before the first judgement.
-use Rattle.std.specs.Prelude.{◌≡◌, ◌≢◌, ℕ, suc, ◌<◌, List, [], length, Option, Some, None}
+use Rattle.std.specs.Prelude.{◌≢◌, ℕ, suc, ◌<◌, List, [], length, Option, Some, None}
 use Rattle.model.specs.declared.event.Moment.{Moment}
 use Rattle.model.specs.declared.graph.Edge.{Edge}
-use Rattle.model.specs.Graph.{edge_at, inputs, outputs, IsCommand}
+use Rattle.model.specs.Graph.{edge_at, outputs, IsCommand}
 use Rattle.model.specs.Records.{recorded_inputs}
 use Rattle.model.specs.OutOfDate.{IsFirstMissing, NothingIsMissing, IsMissingInput}
 use Rattle.build_theory.specs.Order.{no_records}

@@ -1,2 +1,4 @@
 pub mod Seen
 pub mod Lacks
+pub mod Looking
+pub mod Dues

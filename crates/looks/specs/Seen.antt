@@ -1,5 +1,5 @@
 -- What was seen of paths.
-use Rattle.std.specs.Prelude.{◌≡◌, ℕ, ◌<◌, Bool, true, false, IsTrue, List, length, slice_index_or, Option, Some, None}
+use Rattle.std.specs.Prelude.{◌≡◌, ℕ, Bool, true, false, IsTrue, List, slice_index_or, Option, Some, None}
 use Rattle.model.specs.declared.event.Moment.{Moment}
 use Rattle.model.specs.World.{World, file_at, stamp_of}
 use Rattle.paths.specs.Told.{text_at}

@@ -1,12 +1,17 @@
 //! Which source is missing before the first judgement.
 
-ghost use Rattle.std.specs.Prelude.{◌≡◌, false, vec_len, length, IfOk, IfSome, List, ℕ};
+ghost use Rattle.std.specs.Prelude.{◌≡◌, ◌<◌, ◌↔◌, true, false, length, All, IfOk, IfSome, List, ℕ};
 ghost use Rattle.model.specs.Calls.{OnlyLooks, HasCause};
 ghost use Rattle.model.specs.Graph.{targets_of};
+ghost use Rattle.model.specs.OutOfDate.{IsMissing};
+ghost use Rattle.paths.specs.Told.{text_at};
 ghost use Rattle.links.specs.Told.{declared_by};
 ghost use Rattle.looks.specs.Seen.{IfStays, AreSeen};
 ghost use Rattle.looks.specs.Lacks.{HaveOutputs, IsConeUnrecorded, IsFound, IsLackOf};
+ghost use Rattle.looks.specs.Looking.{HasLooked, IfSeen};
+ghost use Rattle.looks.specs.Dues.{IsFirstIn, IsFirstFor, IsFoundOfDue};
 
+use crate::due::{due_edges, is_absent};
 use crate::table::Looks;
 use links::{Cone, Graph};
 use model::SiteFault;
@@ -32,15 +37,119 @@ pub fn first_lack<S: Site>(
     looks: &mut Looks,
 ) -> Result<Option<Lack>, SiteFault>
     requires running { (S.world site.old).stopped ≡ false }
-    requires fits { vec_len looks.old.seen ≡ length graph.now.manifest.paths }
+    requires fits { length looks.old.seen.items ≡ length graph.now.manifest.paths }
     requires cone { (targets : List (List ℕ)) × IsConeUnrecorded graph.now targets cone.now }
     requires outputs { HaveOutputs (declared_by graph.now).edges }
     ensures looks { OnlyLooks S.tells (S.world site.old) (S.world site.new) }
     ensures cause { HasCause (S.world site.old) (S.world site.new) result }
-    ensures fits { vec_len looks.new.seen ≡ length graph.now.manifest.paths }
+    ensures fits { length looks.new.seen.items ≡ length graph.now.manifest.paths }
     ensures seen { IfStays S.tells (S.world site.old) (S.world site.new) (λ files. AreSeen graph.now.manifest.paths files looks.old.seen.items → AreSeen graph.now.manifest.paths files looks.new.seen.items) }
-    ensures found { IfOk result (λ found. (targets : List (List ℕ)) → IsConeUnrecorded graph.now targets cone.now → IfStays S.tells (S.world site.old) (S.world site.new) (λ files. AreSeen graph.now.manifest.paths files looks.old.seen.items → IsFound graph.now (targets_of (declared_by graph.now) targets) files found)) }
+    ensures found { IfOk result (λ found. (targets : List (List ℕ)) → IsConeUnrecorded graph.now targets cone.now → IfSeen S.tells graph.now (S.world site.old) (S.world site.new) looks.old (λ files. IsFound graph.now (targets_of (declared_by graph.now) targets) files found)) }
     ensures within { IfOk result (λ found. IfSome found (IsLackOf graph.now)) }
 {
-    Err(SiteFault::Memory)
+    let targets = cone.targets.as_slice();
+    match first_missing(site, graph, looks, targets)? {
+        Some(path) => Ok(Some(Lack {
+            path,
+            needed_by: None,
+        })),
+        None => {
+            let due = due_edges(alloc, site, graph, cone, looks)?;
+            lack_of_due(site, graph, looks, &due)
+        }
+    }
+}
+
+/// The first missing input of the lowest due edge that has one.
+fn lack_of_due<S: Site>(
+    site: &mut S,
+    graph: &Graph,
+    looks: &mut Looks,
+    due: &[bool],
+) -> Result<Option<Lack>, SiteFault>
+    requires running { (S.world site.old).stopped ≡ false }
+    requires fits { length looks.old.seen.items ≡ length graph.now.manifest.paths }
+    requires due { length due.now ≡ length graph.now.manifest.lines }
+    ensures looked { HasLooked S.tells graph.now (S.world site.old) (S.world site.new) looks.old looks.new }
+    ensures cause { HasCause (S.world site.old) (S.world site.new) result }
+    ensures found { IfOk result (λ found. IfSeen S.tells graph.now (S.world site.old) (S.world site.new) looks.old (λ files. IsFoundOfDue graph.now due.now files found)) }
+    ensures within { IfOk result (λ found. IfSome found (IsLackOf graph.now)) }
+{
+    for place in 0..graph.edges() {
+        let edge = graph.manifest.edge(place);
+        if let Some(path) = missing_of_edge(site, graph, looks, due, edge)? {
+            return Ok(Some(Lack {
+                path,
+                needed_by: Some(edge),
+            }));
+        }
+    }
+    Ok(None)
+}
+
+/// The first missing input of the edge, where it is due.
+fn missing_of_edge<S: Site>(
+    site: &mut S,
+    graph: &Graph,
+    looks: &mut Looks,
+    due: &[bool],
+    edge: EdgeId,
+) -> Result<Option<PathId>, SiteFault>
+    requires running { (S.world site.old).stopped ≡ false }
+    requires fits { length looks.old.seen.items ≡ length graph.now.manifest.paths }
+    requires within { edge < length graph.now.manifest.lines }
+    requires due { length due.now ≡ length graph.now.manifest.lines }
+    ensures looked { HasLooked S.tells graph.now (S.world site.old) (S.world site.new) looks.old looks.new }
+    ensures cause { HasCause (S.world site.old) (S.world site.new) result }
+    ensures first { IfOk result (λ found. IfSeen S.tells graph.now (S.world site.old) (S.world site.new) looks.old (λ files. IsFirstFor graph.now due.now edge files found)) }
+    ensures within { IfOk result (λ found. IfSome found (λ p. p < length graph.now.manifest.paths)) }
+{
+    if due[edge.index()] {
+        first_missing(site, graph, looks, graph.inputs(edge))
+    } else {
+        Ok(None)
+    }
+}
+
+/// The first of these paths that is missing.
+fn first_missing<S: Site>(
+    site: &mut S,
+    graph: &Graph,
+    looks: &mut Looks,
+    paths: &[PathId],
+) -> Result<Option<PathId>, SiteFault>
+    requires running { (S.world site.old).stopped ≡ false }
+    requires fits { length looks.old.seen.items ≡ length graph.now.manifest.paths }
+    requires within { All (λ p. p < length graph.now.manifest.paths) paths.now }
+    ensures looked { HasLooked S.tells graph.now (S.world site.old) (S.world site.new) looks.old looks.new }
+    ensures cause { HasCause (S.world site.old) (S.world site.new) result }
+    ensures first { IfOk result (λ found. IfSeen S.tells graph.now (S.world site.old) (S.world site.new) looks.old (λ files. IsFirstIn graph.now paths.now files found)) }
+    ensures within { IfOk result (λ found. IfSome found (λ p. p < length graph.now.manifest.paths)) }
+{
+    for path in paths {
+        if is_missing(site, graph, looks, *path)? {
+            return Ok(Some(*path));
+        }
+    }
+    Ok(None)
+}
+
+/// Whether no edge makes the path and it is absent.
+fn is_missing<S: Site>(
+    site: &mut S,
+    graph: &Graph,
+    looks: &mut Looks,
+    path: PathId,
+) -> Result<bool, SiteFault>
+    requires running { (S.world site.old).stopped ≡ false }
+    requires fits { length looks.old.seen.items ≡ length graph.now.manifest.paths }
+    requires within { path < length graph.now.manifest.paths }
+    ensures looked { HasLooked S.tells graph.now (S.world site.old) (S.world site.new) looks.old looks.new }
+    ensures cause { HasCause (S.world site.old) (S.world site.new) result }
+    ensures missing { IfOk result (λ is. IfSeen S.tells graph.now (S.world site.old) (S.world site.new) looks.old (λ files. (is ≡ true) ↔ IsMissing (declared_by graph.now).edges files (text_at graph.now.manifest.paths path))) }
+{
+    match graph.maker(path) {
+        Some(_) => Ok(false),
+        None => is_absent(site, graph, looks, path),
+    }
 }

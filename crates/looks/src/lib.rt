@@ -1,6 +1,7 @@
 //! What is there of each path, and which source is missing.
 #![tactic(auto)]
 
+mod due;
 mod lack;
 mod table;
 

@@ -6,6 +6,7 @@ ghost use Rattle.model.specs.World.{file_at, stamp_of};
 ghost use Rattle.model.specs.Calls.{OnlyLooks, HasCause};
 ghost use Rattle.model.specs.Graph.{has_number};
 ghost use Rattle.paths.specs.Told.{text_at};
+ghost use Rattle.looks.specs.declared.table.Look.TheVariants.{Unasked};
 ghost use Rattle.looks.specs.Seen.{look_at, look_of, is_asked, IfStays, AreSeen};
 
 use links::Graph;
@@ -35,7 +36,7 @@ pub struct Looks {
 impl Looks {
     /// Nothing was asked for.
     pub fn new(alloc: Global, graph: &Graph) -> Result<Looks, AllocError>
-        ensures { IfOk result (λ looks. looks.seen.items ≡ replicate (length graph.now.manifest.paths) Look.Unasked) }
+        ensures { IfOk result (λ looks. looks.seen.items ≡ replicate (length graph.now.manifest.paths) Unasked) }
     {
         Ok(Looks {
             seen: vec![in alloc; Look::Unasked; graph.paths()]?,
@@ -75,15 +76,24 @@ impl Looks {
 
     /// Forgets what was seen of these paths.
     pub fn forget(&mut self, paths: &[PathId])
-        ensures forgotten { (p : ℕ) → has_number paths.now p ≡ true → look_at self.new.seen.items p ≡ Look.Unasked }
+        ensures forgotten { (p : ℕ) → has_number paths.now p ≡ true → look_at self.new.seen.items p ≡ Unasked }
         ensures others { (p : ℕ) → has_number paths.now p ≡ false → look_at self.new.seen.items p ≡ look_at self.old.seen.items p }
         ensures fits { length self.new.seen.items ≡ length self.old.seen.items }
     {
         for path in paths {
-            let place = path.index();
-            if place < self.seen.len() {
-                self.seen[place] = Look::Unasked;
-            }
+            self.forget_one(*path);
+        }
+    }
+
+    /// Forgets what was seen of the path.
+    fn forget_one(&mut self, path: PathId)
+        ensures forgotten { look_at self.new.seen.items path ≡ Unasked }
+        ensures others { (p : ℕ) → (p ≡ path → ⊥) → look_at self.new.seen.items p ≡ look_at self.old.seen.items p }
+        ensures fits { length self.new.seen.items ≡ length self.old.seen.items }
+    {
+        let place = path.index();
+        if place < self.seen.len() {
+            self.seen[place] = Look::Unasked;
         }
     }
 }

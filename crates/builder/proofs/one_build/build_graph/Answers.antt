@@ -1,27 +1,54 @@
-use Rattle.std.proofs.Common.{ℕ, List, refl, sym, subst}
-use Rattle.model.specs.Records.{recorded_inputs}
-use Rattle.build_theory.specs.Order.{no_records}
-use Rattle.build_theory.proofs.Nothing.{recorded_nothing}
-use Rattle.graph.specs.Linked.{paths_of}
-use Rattle.graph.specs.Targets.{IsConeFor}
-use Rattle.builder.specs.Build.{asked_of}
-use Rattle.builder.proofs.Reports.{answers_uncut}
-use Rattle.builder.proofs.Builds.{builds_uncut}
+use Rattle.std.proofs.Common.{refl, sym, subst}
+use Rattle.links.specs.Told.{declared_by}
+use Rattle.builder.specs.declared.report.Report.{Report}
+use Rattle.builder.specs.Build.{task_for}
+use Rattle.builder.specs.Reports.{report_in, run_answer, SaysNoCone, SaysLacking}
+use Rattle.model.specs.Graph.{targets_of}
+use Rattle.builder.proofs.Builds.{builds_uncut, builds_lacking, builds_run, passes_after, run_grows, looked_nothing, looked_more, idle_after, stays_at_entry}
+use Rattle.builder.proofs.Stages.{told_by}
+use Rattle.build_theory.specs.Seen.{Looked}
 use Rattle.builder.proofs.one_build.build_graph.Goals as goal
 
-pub build_cone-requires-clause-cone : goal.build_cone-requires-clause-cone
-build_cone-requires-clause-cone g c =
-    let edges = c.args.manifest.now.edges in
-    subst (λ (l : List (List ℕ)). IsConeFor c.args.manifest.now (recorded_inputs no_records edges) l c.in-Ok.cone) c.as_slice.ensures
-    (c.in-Ok.ensures.cone c.args.manifest.now (recorded_inputs no_records edges) c.requires.graph (λ i. recorded_nothing edges i))
+pub returns-in_err-cone : goal.returns-in_err-cone
+returns-in_err-cone g c B own entry owned idle looked =
+    let graph = c.args.graph.now in
+    let asked = c.args.asked.now in
+    let report = report_in c.from_residual.result in
+    builds_uncut g.S.Texts.tells B own (declared_by graph) asked.folder asked.limits asked.given.now asked.targets entry (g.S.Texts.world c.args.site.now) idle c.requires.formed c.requires.taken looked graph refl report
+    (subst (λ (r : Report). SaysNoCone graph asked.given.now asked.targets r) (sym {A = Report} (told_by _ c.from_residual.result c.from_residual.ensures.1)) c.in_err-cone.ensures.refused)
 
-pub returns-in-Err-clause-answers : goal.returns-in-Err-clause-answers
-returns-in-Err-clause-answers g c =
-    answers_uncut g.S.Texts.tells c.args.manifest.now.edges (g.S.Texts.world c.args.site.now) c.args.asked.now.given.now (paths_of c.args.graph.now) c.in-Err.fault c.no_cone.result c.no_cone.ensures
+pub returns-in_err-check_sources : goal.returns-in_err-check_sources
+returns-in_err-check_sources g c B own entry owned idle looked =
+    let graph = c.args.graph.now in
+    let asked = c.args.asked.now in
+    let cone = c.in_ok-cone.cone in
+    let is = c.in_ok-cone.ensures.cone in
+    let old = g.S.Texts.world c.args.site.now in
+    let new = g.S.Texts.world c.check_sources.new.site in
+    let report = report_in c.from_residual-in_err-check_sources.result in
+    builds_lacking g.S.Texts.tells B own (declared_by graph) asked.folder asked.limits asked.given.now asked.targets entry old new idle c.requires.formed c.requires.taken cone.order.items cone.marks.items
+    is.listed is.named is.acyclic looked c.check_sources.ensures.looks report
+    (subst (λ (r : Report). SaysLacking g.S.Texts.tells (declared_by graph).edges (targets_of (declared_by graph) asked.targets) old new r)
+    (sym {A = Report} (told_by _ c.from_residual-in_err-check_sources.result c.from_residual-in_err-check_sources.ensures.1)) (c.in_err-check_sources.ensures.lacking asked.targets is))
 
-pub returns-in-Err-clause-builds : goal.returns-in-Err-clause-builds
-returns-in-Err-clause-builds g c B own entry owned idle looked =
-    builds_uncut g.S.Texts.tells B own c.args.manifest.now c.args.asked.now.folder c.args.asked.now.limits c.args.asked.now.given.now c.args.asked.now.targets entry (g.S.Texts.world c.args.site.now) idle c.requires.formed c.requires.taken
-    looked (paths_of c.args.graph.now) c.in-Err.fault c.no_cone.result
-    (c.in-Err.ensures.fault (asked_of c.args.manifest.now c.args.asked.now.folder c.args.asked.now.limits c.args.asked.now.targets) no_records refl c.requires.graph (sym {A = List (List ℕ)} c.as_slice.ensures) (λ i. recorded_nothing c.args.manifest.now.edges i))
-    c.no_cone.ensures
+pub returns : goal.returns
+returns g c B own entry owned idle looked =
+    let tells = g.S.Texts.tells in
+    let graph = c.args.graph.now in
+    let asked = c.args.asked.now in
+    let targets = asked.targets in
+    let cone = c.in_ok-cone.cone in
+    let is = c.in_ok-cone.ensures.cone in
+    let old = g.S.Texts.world c.args.site.now in
+    let mid = g.S.Texts.world c.check_sources.new.site in
+    let exit = g.S.Texts.world c.run_cone.new.site in
+    let report = report_in c.run_cone.result in
+    let looks = c.check_sources.ensures.looks in
+    let passed = c.in_ok-check_sources.ensures.passed in
+    let here : Looked tells entry mid = looked_more tells entry old mid looked looks passed in
+    builds_run tells B own (declared_by graph) asked.folder asked.limits asked.given.now targets entry exit idle c.requires.formed c.requires.taken cone.order.items cone.marks.items is.listed is.named is.acyclic c.requires.once
+    (λ tell kept.
+    let says = c.run_cone.ensures.ran own mid owned (idle_after tells old mid looks c.requires.idle) (looked_nothing tells mid passed.goes_on) in
+    let later = run_grows tells own (task_for (declared_by graph) asked.limits targets) mid exit says.result says.ran tell in
+    c.in_ok-check_sources.ensures.sources targets is tell entry.history (stays_at_entry tells entry old mid exit.history later.0 idle looked looks later.1 tell kept.edits))
+    graph refl report (passes_after tells entry mid exit (run_answer report) here c.run_cone.ensures.faults) (c.run_cone.ensures.ran own entry owned idle here)

@@ -11,7 +11,7 @@ returns-clause-cone c =
     let graph = c.args.self.now in
     let numbers = c.in_ok-numbers.numbers in
     if_ok_both c.of.result c.of.ensures.cone_of c.of.ensures.targets (λ the_cone each kept recorded same.
-    cone_for graph recorded same c.args.targets.now numbers.items c.deref-2.result.now c.in_ok-numbers.ensures.targets c.in_ok-numbers.ensures.named
+    cone_for graph recorded same c.args.targets.now numbers.items c.deref-2.result.now c.in_ok-numbers.ensures.within c.in_ok-numbers.ensures.targets c.in_ok-numbers.ensures.named
     (subst (λ (l : List ℕ). AreMakersOf (declared_by graph).edges (texts_at graph.manifest.paths numbers.items) l) (sym {A = List ℕ} c.deref-2.ensures.value)
     (subst (λ (l : List ℕ). AreMakersOf (declared_by graph).edges (texts_at graph.manifest.paths l) c.in_ok-requested.requested.items) c.deref.ensures.value c.in_ok-requested.ensures.makers))
     the_cone (ap (λ v. v.items) kept) each)

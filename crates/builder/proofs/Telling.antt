@@ -1,0 +1,125 @@
+-- How a manifest in numbers is told in texts.
+use Rattle.std.proofs.Common.{◌≡◌, ℕ, zero, suc, ◌<◌, ◌≤◌, ◌+◌, List, [], ◌∷◌, ◌++◌, map, length, take, drop, get_or, slice_get, Option, Some, None, refl, sym, ◌∙◌, ap, subst, arith}
+use Rattle.std.specs.Option.{option_map}
+use Rattle.std.proofs.lemmas.List.{map-append, take_more, take_all}
+use Rattle.model.specs.declared.event.Moment.{Moment}
+use Rattle.model.specs.declared.graph.Edge.{Edge}
+use Rattle.model.specs.World.{stamp_of, file_at}
+use Rattle.model.specs.Graph.{edge_at, first_output, no_edge, outputs, has}
+use Rattle.model.specs.Records.{recorded_inputs}
+use Rattle.build_theory.specs.Order.{no_records}
+use Rattle.build_theory.proofs.Nothing.{recorded_nothing}
+use Rattle.paths.specs.declared.line.Line.{Line}
+use Rattle.paths.specs.declared.manifest.Action.{Action}
+use Rattle.paths.specs.declared.manifest.Action.TheVariants.{Alias, Command}
+use Rattle.paths.specs.declared.manifest.Manifest.{Manifest}
+use Rattle.paths.specs.Commands.{no_action}
+use Rattle.paths.specs.Lists.{line_at, line_outputs}
+use Rattle.paths.specs.Told.{text_at, texts_at, edge_of, edges_of, graph_of}
+use Rattle.links.specs.Told.{AreSameInputs}
+use Rattle.looks.specs.Lacks.{IsLackedBy}
+use Rattle.builder.specs.Reports.{IsMissingFor}
+use Rattle.builder.specs.Taken.{IsTakenEdge, IsTaken, IsFirstNotTaken}
+use Rattle.builder.proofs.Slices.{split_at, all_one_more}
+
+-- ---- texts of numbers
+
+pub none_text : (paths : List (List ℕ)) (number : ℕ) → slice_get paths number ≡ None → [] ≡ text_at paths number
+none_text [] number none = refl
+none_text (path ∷ paths) zero none = absurd (cc)
+none_text (path ∷ paths) (suc number) none = none_text paths number none
+
+-- one more of what numbers stand for
+pub map_next : {B : Type 0} (f : ℕ → B) (numbers : List ℕ) (i number : ℕ) (before after : List B) (one : B) → i < length numbers → number ≡ get_or numbers i number
+    → before ≡ map f (take i numbers) → after ≡ before ++ one ∷ [] → one ≡ f number → after ≡ map f (take (i + 1) numbers)
+map_next f numbers i number before after one low is was pushed same =
+    pushed ∙ (ap (λ (l : List _). l ++ one ∷ []) was ∙ (ap (λ t. map f (take i numbers) ++ t ∷ []) same
+    ∙ (sym (map-append f (take i numbers) (number ∷ [])) ∙ ap (map f) (sym (take_more numbers i number low ∙ ap (λ (n : ℕ). take i numbers ++ n ∷ []) (sym is))))))
+
+-- ---- the edges
+
+length_edges : (paths : List (List ℕ)) (lines : List Line) (actions : List Action) → length actions ≡ length lines → length (edges_of paths lines actions) ≡ length lines
+length_edges paths [] actions fits = refl
+length_edges paths (line ∷ lines) [] fits = absurd (omega (arith, fits))
+length_edges paths (line ∷ lines) (action ∷ actions) fits = ap suc (length_edges paths lines actions (omega (arith, fits)))
+
+edge_get : (paths : List (List ℕ)) (lines : List Line) (actions : List Action) (e : ℕ) → length actions ≡ length lines → get_or (edges_of paths lines actions) e no_edge ≡ edge_of paths (line_at lines e) (get_or actions e no_action)
+edge_get paths [] [] e fits = refl
+edge_get paths [] (action ∷ actions) e fits = absurd (omega (arith, fits))
+edge_get paths (line ∷ lines) [] e fits = absurd (omega (arith, fits))
+edge_get paths (line ∷ lines) (action ∷ actions) zero fits = refl
+edge_get paths (line ∷ lines) (action ∷ actions) (suc e) fits = edge_get paths lines actions e (omega (arith, fits))
+
+outputs_of : (paths : List (List ℕ)) (line : Line) (action : Action) → outputs (edge_of paths line action) ≡ texts_at paths (line_outputs line)
+outputs_of paths line Alias = sym (map-append (text_at paths) line.explicit_outputs line.implicit_outputs)
+outputs_of paths line (Command command) = sym (map-append (text_at paths) line.explicit_outputs line.implicit_outputs)
+
+first_of : (paths : List (List ℕ)) (numbers : List ℕ) (p : ℕ) → Some p ≡ slice_get numbers 0 → text_at paths p ≡ get_or (texts_at paths numbers) 0 []
+first_of paths [] p is = absurd (cc)
+first_of paths (n ∷ numbers) p is = let same : Some p ≡ Some n = is in ap (text_at paths) (cc)
+
+none_of : (paths : List (List ℕ)) (numbers : List ℕ) → None ≡ slice_get numbers 0 → [] ≡ get_or (texts_at paths numbers) 0 []
+none_of paths [] is = refl
+none_of paths (n ∷ numbers) is = absurd (cc)
+
+module _ (manifest : Manifest) where
+  abbrev told : List Edge
+  told = (graph_of manifest).edges
+
+  edge_is : (e : ℕ) → edge_at told (suc e) ≡ edge_of manifest.paths (line_at manifest.lines e) (get_or manifest.actions e no_action)
+  edge_is e = edge_get manifest.paths manifest.lines manifest.actions e manifest.fits
+
+  outputs_are : (e : ℕ) → outputs (edge_at told (suc e)) ≡ texts_at manifest.paths (line_outputs (line_at manifest.lines e))
+  outputs_are e = ap outputs (edge_is e) ∙ outputs_of manifest.paths (line_at manifest.lines e) (get_or manifest.actions e no_action)
+
+  pub first_some : (e p : ℕ) (numbers : List ℕ) → numbers ≡ line_outputs (line_at manifest.lines e) → Some p ≡ slice_get numbers 0 → text_at manifest.paths p ≡ first_output (edge_at told (suc e))
+  first_some e p numbers are is =
+      first_of manifest.paths numbers p is ∙ ap (λ (l : List (List ℕ)). get_or l 0 []) (ap (texts_at manifest.paths) are ∙ sym (outputs_are e))
+
+  pub first_none : (e : ℕ) (numbers : List ℕ) → numbers ≡ line_outputs (line_at manifest.lines e) → None ≡ slice_get numbers 0 → [] ≡ first_output (edge_at told (suc e))
+  first_none e numbers are is =
+      none_of manifest.paths numbers is ∙ ap (λ (l : List (List ℕ)). get_or l 0 []) (ap (texts_at manifest.paths) are ∙ sym (outputs_are e))
+
+  -- ---- what is taken
+
+  module _ (place e : ℕ) (action : Action) (low : place < length manifest.lines) (is : e ≡ place) (does : action ≡ get_or manifest.actions e no_action) where
+    within : place < length told
+    within = omega (arith, low, length_edges manifest.paths manifest.lines manifest.actions manifest.fits)
+
+    here : edge_of manifest.paths (line_at manifest.lines place) action ≡ get_or told place no_edge
+    here = ap (edge_of manifest.paths (line_at manifest.lines place)) (does ∙ ap (λ (k : ℕ). get_or manifest.actions k no_action) is) ∙ sym (edge_is place)
+
+    pub taken_next : IsTaken (take place told) → IsTakenEdge (edge_of manifest.paths (line_at manifest.lines place) action) → IsTaken (take (place + 1) told)
+    taken_next earlier one = all_one_more IsTakenEdge told place no_edge within earlier (subst IsTakenEdge here one)
+
+    pub taken_first : IsTaken (take place told) → (IsTakenEdge (edge_of manifest.paths (line_at manifest.lines place) action) → ⊥) → (e < length manifest.lines) × IsFirstNotTaken told (first_output (edge_at told (suc e)))
+    taken_first earlier none = (
+      omega (arith, low, is),
+      record {
+        before = take place told;
+        edge = get_or told place no_edge;
+        after = drop (place + 1) told;
+        splits = split_at told place no_edge within;
+        earlier = earlier;
+        not_taken = λ taken. none (subst IsTakenEdge (sym {A = Edge} here) taken);
+        is = ap (λ (k : ℕ). first_output (edge_at told (suc k))) is;
+      },
+    )
+
+  pub taken_all : (place count : ℕ) → count ≡ length manifest.lines → count ≤ place → IsTaken (take place told) → IsTaken told
+  taken_all place count all past taken = subst IsTaken (take_all place told (omega (arith, all, past, length_edges manifest.paths manifest.lines manifest.actions manifest.fits))) taken
+
+-- ---- nothing recorded
+
+pub same_nothing : (edges : List Edge) (others : ℕ → List (List ℕ)) → ((i : ℕ) → others i ≡ []) → AreSameInputs (recorded_inputs no_records edges) others
+same_nothing edges others none i p = ap (λ (l : List (List ℕ)). has l p) (recorded_nothing edges i ∙ sym (none i))
+
+-- ---- what is missing
+
+pub missing_told : (edges : List Edge) (requested : List (List ℕ)) (files : List Moment) (text path : List ℕ) (needed : Option ℕ) (needed_by : Option (List ℕ)) → path ≡ text
+    → needed_by ≡ option_map (λ e. first_output (edge_at edges (suc e))) needed → IsLackedBy edges requested files text needed → IsMissingFor edges requested files path needed_by
+missing_told edges requested files text path needed needed_by same by lacked = subst (λ (p : List ℕ). IsMissingFor edges requested files p needed_by) (sym same) (by_needed needed by lacked)
+  where
+    by_needed : (needed : Option ℕ) → needed_by ≡ option_map (λ e. first_output (edge_at edges (suc e))) needed → IsLackedBy edges requested files text needed → IsMissingFor edges requested files text needed_by
+    by_needed None is lacked = subst (λ (n : Option (List ℕ)). IsMissingFor edges requested files text n) (sym is) lacked
+    by_needed (Some e) is lacked = subst (λ (n : Option (List ℕ)). IsMissingFor edges requested files text n) (sym is) (suc e, refl, lacked)

@@ -1,9 +1,0 @@
-use Rattle.std.proofs.Common.{rules, ◌≡◌, ◌∙◌, count_by}
-use Rattle.builder.specs.Plan.{is_failed}
-use Rattle.builder.proofs.Planned.{failed_count}
-use Rattle.builder.proofs.plan.Plan.failed.Goals as goal
-
-pub returns-clause-steps : goal.returns-clause-steps
-returns-clause-steps c =
-    let counted : c.count.result ≡ count_by is_failed c.args.self.now.standings.items = search rules in
-    λ task steps at lawful. counted ∙ failed_count task c.args.self.now.links.now c.args.self.now.aliases.items c.args.self.now.jobs c.args.self.now.keep c.args.self.now.standings.items c.args.self.now.settled.items steps at lawful

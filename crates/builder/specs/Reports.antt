@@ -1,0 +1,134 @@
+-- What the stages of a build report.
+use Rattle.std.specs.Prelude.{◌≡◌, ◌⊎◌, ℕ, suc, Bool, List, [], map, Option, Some, None, Result, Ok, Err}
+use Rattle.model.specs.declared.event.Moment.{Moment}
+use Rattle.model.specs.declared.fault.SiteFault.{SiteFault}
+use Rattle.model.specs.declared.fault.SiteFault.TheVariants.{Memory}
+use Rattle.model.specs.declared.graph.Edge.{Edge}
+use Rattle.model.specs.World.{World}
+use Rattle.model.specs.Calls.{HasCause}
+use Rattle.model.specs.Graph.{edge_at, first_output}
+use Rattle.model.specs.OutOfDate.{IsFirstMissing, IsMissingInput}
+use Rattle.model.specs.Records.{OwnFiles}
+use Rattle.model.specs.Schedule.{Task}
+use Rattle.model.specs.SingleBuild as answer
+use Rattle.model.specs.SingleBuild.{Asked, Answer}
+use Rattle.build_theory.specs.Order.{no_records}
+use Rattle.build_theory.specs.Seen.{Unrefused}
+use Rattle.manifest.specs.declared.fault.ReadError.{ReadError}
+use Rattle.manifest.specs.declared.fault.ReadError.TheVariants as read
+use Rattle.paths.specs.Told.{text_at, texts_at}
+use Rattle.links.specs.declared.cone.ConeFault.{ConeFault}
+use Rattle.links.specs.declared.cone.ConeFault.TheVariants as cone
+use Rattle.links.specs.declared.graph.Graph.{Graph}
+use Rattle.links.specs.declared.fault.GraphFault.{GraphFault}
+use Rattle.links.specs.declared.fault.GraphFault.TheVariants as graph
+use Rattle.links.specs.Targets.{IsNoCone}
+use Rattle.links.specs.Told.{declared_by, recorded_by}
+use Rattle.looks.specs.Seen.{IfStays}
+use Rattle.runner.specs.declared.cut.Cut.{Cut}
+use Rattle.runner.specs.declared.summary.Summary.{Summary}
+use Rattle.runner.specs.declared.summary.Summary.TheVariants.{Well, Failed as SomeFailed}
+use Rattle.runner.specs.Cut.{fault_of}
+use Rattle.runner.specs.Ran.{HasRun}
+use Rattle.builder.specs.declared.report.Missing.{Missing as Lacking}
+use Rattle.builder.specs.declared.report.Refusal.{Refusal}
+use Rattle.builder.specs.declared.report.Refusal.TheVariants.{File, MadeTwice, NoDyndepInput, NotTaken, UnknownTarget, Cycle, Missing}
+use Rattle.builder.specs.declared.report.Report.{Report}
+use Rattle.builder.specs.declared.report.Report.TheVariants.{Success, Failed, Refused, Fault}
+use Rattle.builder.specs.Taken.{IsFirstNotTaken}
+
+-- a stage that ends the build gives its report as an error
+abbrev pub report_in : Result Report Report → Report
+report_in (Ok report) = report
+report_in (Err report) = report
+
+-- ---- before the graph
+
+-- the report of a build whose files were not read
+abbrev pub unread : ReadError → Report
+unread read.Memory = Fault Memory
+unread (read.Site fault) = Fault fault
+unread (read.Refused fault) = Refused (File fault)
+
+-- something is not taken yet, or there was no memory to say so
+pub record SaysNotTaken (edges : List Edge) (report : Report) : Type 0 where
+  pub path : List ℕ
+  pub first : IsFirstNotTaken edges path
+  pub says : (report ≡ Refused (NotTaken path)) ⊎ (report ≡ Fault Memory)
+
+-- the report of edges that are no graph
+abbrev pub ungraphed : GraphFault → Report
+ungraphed graph.Memory = Fault Memory
+ungraphed (graph.MadeTwice path) = Refused (MadeTwice path)
+ungraphed (graph.NoDyndepInput path) = Refused (NoDyndepInput path)
+
+-- ---- the cone
+
+-- no edge has a recorded input
+abbrev pub IsUnrecorded : Graph → Type 0
+IsUnrecorded graph = (i : ℕ) → recorded_by graph i ≡ []
+
+-- the refusal shows the fault: the target as it was given, or the paths round a cycle
+abbrev pub ShowsFault : List (List ℕ) → List (List ℕ) → ConeFault → Refusal → Type 0
+ShowsFault paths given cone.Memory refusal = ⊥
+ShowsFault paths given (cone.Unknown place) refusal = refusal ≡ UnknownTarget (text_at given place)
+ShowsFault paths given (cone.Cycle numbers) refusal = refusal ≡ Cycle (texts_at paths numbers)
+
+-- these canonical targets have no cone where no output has a record, and the refusal shows why
+pub record IsConeRefused (graph : Graph) (given targets : List (List ℕ)) (refusal : Refusal) : Type 0 where
+  pub fault : ConeFault
+  pub shows : ShowsFault graph.manifest.paths given fault refusal
+  pub is : (asked : Asked) → asked.declared ≡ asked.graph.edges → asked.graph ≡ declared_by graph → asked.targets ≡ targets → IsNoCone asked no_records graph.manifest.paths fault
+
+-- so it is told, or there was no memory
+abbrev pub SaysNoCone : Graph → List (List ℕ) → List (List ℕ) → Report → Type 0
+SaysNoCone graph given targets report = (report ≡ Fault Memory) ⊎ ((refusal : Refusal) × (report ≡ Refused refusal) × IsConeRefused graph given targets refusal)
+
+-- ---- missing sources
+
+-- why the path is named: it is one of those that are requested, or an input of the edge with this first output
+abbrev pub IsMissingFor : List Edge → List (List ℕ) → List Moment → List ℕ → Option (List ℕ) → Type 0
+IsMissingFor edges requested files path None = IsFirstMissing edges files requested path
+IsMissingFor edges requested files path (Some output) =
+    (i : ℕ) × (output ≡ first_output (edge_at edges i)) × IsMissingInput edges no_records [] files requested i path
+
+-- a call was refused, or there was no memory
+pub record SaysFault (old new : World) (report : Report) : Type 0 where
+  pub fault : SiteFault
+  pub says : report ≡ Fault fault
+  pub cause : HasCause {T = Unit {0}} old new (Err fault)
+
+-- a source is missing, and no call was refused
+pub record SaysMissing (tells : Bool) (edges : List Edge) (requested : List (List ℕ)) (old new : World) (report : Report) : Type 0 where
+  pub missing : Lacking
+  pub says : report ≡ Refused (Missing missing)
+  pub unrefused : Unrefused old new
+  pub is : IfStays tells old new (λ files. IsMissingFor edges requested files missing.path missing.needed_by)
+
+abbrev pub SaysLacking : Bool → List Edge → List (List ℕ) → World → World → Report → Type 0
+SaysLacking tells edges requested old new report = SaysFault old new report ⊎ SaysMissing tells edges requested old new report
+
+-- ---- the run
+
+-- the report of a run that was not cut off
+abbrev pub SaysEnd : Graph → Summary → Report → Type 0
+SaysEnd graph (Well started) report = report ≡ Success started
+SaysEnd graph (SomeFailed edges) report = report ≡ Failed (map (λ e. first_output (edge_at (declared_by graph).edges (suc e))) edges.items)
+
+-- the report of a run
+abbrev pub SaysResult : Graph → Result Summary Cut → Report → Type 0
+SaysResult graph (Ok summary) report = SaysEnd graph summary report
+SaysResult graph (Err cut) report = report ≡ Fault (fault_of cut)
+
+-- commands were run, and so it is told, or there was no memory to tell it
+pub record SaysRun (tells : Bool) (own : OwnFiles) (task : Task) (graph : Graph) (old new : World) (report : Report) : Type 0 where
+  pub result : Result Summary Cut
+  pub ran : HasRun tells own task old new result
+  pub says : (report ≡ Fault Memory) ⊎ SaysResult graph result report
+
+-- what a run answers
+abbrev pub run_answer : Report → Answer
+run_answer (Success started) = answer.Success started
+run_answer (Failed outputs) = answer.Failed outputs
+run_answer (Refused refusal) = answer.Refused
+run_answer (Fault fault) = answer.Fault fault

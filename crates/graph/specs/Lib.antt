@@ -1,6 +1,0 @@
-pub mod Cone
-pub mod ConeOf
-pub mod Linked
-pub mod Numbers
-pub mod ReadingOf
-pub mod Targets

@@ -1,0 +1,74 @@
+-- Lists, up to a place and from there on.
+use Rattle.std.proofs.Common.{◌≡◌, ◌⊎◌, inl, inr, ℕ, zero, suc, ◌+◌, ◌<◌, ◌==◌, Bool, true, false, List, [], ◌∷◌, ◌++◌, Result, Ok, Err, IfOk, map, get_or, length, take, refl, sym, ◌∙◌, ap, arith, subst}
+use Rattle.std.specs.List.{list_any}
+use Rattle.std.proofs.lemmas.Bool.{eqb-true, eq-eqb, or_cases, or_left, or_right, false≢true, cases_Bool}
+use Rattle.std.proofs.lemmas.List.{take_more}
+use Rattle.model.specs.Graph.{has_number}
+use Rattle.build_theory.proofs.Lists.{has_number-left, has_number-push, has_number-push_cases}
+
+pub if_ok_then : {T E : Type 0} {P Q : T → Type 0} (r : Result T E) → IfOk r P → ((x : T) → P x → Q x) → IfOk r Q
+if_ok_then (Ok x) p f = f x p
+if_ok_then (Err e) p f = tt
+
+pub same_or_other : (i j : ℕ) → (j ≡ i) ⊎ (j ≡ i → ⊥)
+same_or_other i j = elim (cases_Bool (j == i)) [
+  | inl is ↦ inl (eqb-true j i is)
+  | inr not ↦ inr (λ is. false≢true (sym not ∙ eq-eqb j i is))
+]
+
+-- ---- the numbers of a list
+
+pub has_here : (x : ℕ) (xs : List ℕ) → has_number (x ∷ xs) x ≡ true
+has_here x xs = or_left (x == x) (has_number xs x) (eq-eqb x x refl)
+
+pub at_has : (xs : List ℕ) (k d : ℕ) → k < length xs → has_number xs (get_or xs k d) ≡ true
+at_has [] k d lt = absurd (omega (arith, lt))
+at_has (x ∷ xs) zero d lt = has_here x xs
+at_has (x ∷ xs) (suc k) d lt = or_right (x == get_or xs k d) (has_number xs (get_or xs k d)) (at_has xs k d (omega (arith, lt)))
+
+pub within_by : (n : ℕ) (xs ys : List ℕ) → ys ≡ xs → ((p : ℕ) → has_number xs p ≡ true → p < n) → (k d : ℕ) → k < length ys → get_or ys k d < n
+within_by n xs ys same each k d lt = each (get_or ys k d) (subst (λ (l : List ℕ). has_number l (get_or ys k d) ≡ true) same (at_has ys k d lt))
+
+-- ---- the numbers up to a place
+
+module _ (xs : List ℕ) (k d : ℕ) (lt : k < length xs) (p : ℕ) where
+  pub there_before : has_number (take (k + 1) xs) p ≡ true → (p ≡ get_or xs k d → ⊥) → has_number (take k xs) p ≡ true
+  there_before h other = elim (has_number-push_cases (take k xs) (get_or xs k d) p (sym (ap (λ (l : List ℕ). has_number l p) (take_more xs k d lt)) ∙ h)) [
+    | inl before ↦ before
+    | inr here ↦ absurd (other (sym here))
+  ]
+
+  pub not_there : has_number (take (k + 1) xs) p ≡ false → (has_number (take k xs) p ≡ false) × (p ≡ get_or xs k d → ⊥)
+  not_there none = (
+    elim (cases_Bool (has_number (take k xs) p)) [
+      | inl before ↦ absurd (false≢true (sym pushed ∙ has_number-left (take k xs) (get_or xs k d ∷ []) p before))
+      | inr not ↦ not
+    ],
+    (λ is. false≢true (sym pushed ∙ (ap (has_number (take k xs ++ get_or xs k d ∷ [])) is ∙ has_number-push (take k xs) (get_or xs k d)))),
+  )
+    where
+      pushed : has_number (take k xs ++ get_or xs k d ∷ []) p ≡ false
+      pushed = sym (ap (λ (l : List ℕ). has_number l p) (take_more xs k d lt)) ∙ none
+
+pub has_suc : (xs : List ℕ) (e : ℕ) → has_number xs e ≡ true → has_number (map suc xs) (suc e) ≡ true
+has_suc [] e h = absurd (false≢true h)
+has_suc (x ∷ xs) e h = elim (or_cases (x == e) (has_number xs e) h) [
+  | inl here ↦ or_left (suc x == suc e) (has_number (map suc xs) (suc e)) (eq-eqb (suc x) (suc e) (ap suc (eqb-true x e here)))
+  | inr later ↦ or_right (suc x == suc e) (has_number (map suc xs) (suc e)) (has_suc xs e later)
+]
+
+-- ---- whether one passes a test
+
+pub any_number : (test : ℕ → Bool) (xs : List ℕ) → list_any test xs ≡ true → (n : ℕ) × (has_number xs n ≡ true) × (test n ≡ true)
+any_number test [] h = absurd (false≢true h)
+any_number test (x ∷ xs) h = elim (or_cases (test x) (list_any test xs) h) [
+  | inl here ↦ (x, has_here x xs, here)
+  | inr there ↦ let rest = any_number test xs there in (rest.0, or_right (x == rest.0) (has_number xs rest.0) rest.1, rest.2)
+]
+
+pub number_any : (test : ℕ → Bool) (xs : List ℕ) (n : ℕ) → has_number xs n ≡ true → test n ≡ true → list_any test xs ≡ true
+number_any test [] n h is = absurd (false≢true h)
+number_any test (x ∷ xs) n h is = elim (or_cases (x == n) (has_number xs n) h) [
+  | inl here ↦ or_left (test x) (list_any test xs) (ap test (eqb-true x n here) ∙ is)
+  | inr there ↦ or_right (test x) (list_any test xs) (number_any test xs n there is)
+]

@@ -1,0 +1,54 @@
+//! The graph that a build file declares.
+
+use links::{Cone, ConeFault, Graph, GraphFault};
+use manifest::{SiteFault, Texts, read};
+use std::alloc::Global;
+use std::test::Fail;
+use text::{Bytes, Path};
+
+/// A site with one file, which gives its bytes once.
+#[derive(Drop)]
+struct OneFile {
+    content: Option<Bytes>,
+}
+
+impl Texts for OneFile {
+    ghost use Rattle.std.specs.Prelude.{false, []};
+
+    ghost tells = { false };
+
+    ghost world = { λ _. record { history = []; earlier = []; events = []; ticked = 0; failures = 0; failures_at_start = 0; stopped = false } };
+
+    fn read(&mut self, _path: &str) -> Result<Option<Bytes>, SiteFault> {
+        Ok(self.content.take())
+    }
+
+    fn failures(&self) -> u64 {
+        0
+    }
+}
+
+/// The graph of a build file.
+pub fn graph_of(alloc: Global, text: String) -> Result<Graph, Fail> {
+    let mut site = OneFile {
+        content: Some(Bytes::from_vec(text.into_bytes())),
+    };
+    let manifest = read(alloc, &mut site, "build.ninja")?;
+    match Graph::build(alloc, manifest) {
+        Ok(graph) => Ok(graph),
+        Err(fault) => Err(fault.into()),
+    }
+}
+
+/// The cone of this target, or of what is built where there is none.
+pub fn cone_of(alloc: Global, graph: &Graph, target: Option<&str>) -> Result<Cone, Fail> {
+    let mut targets = Vec::new(alloc);
+    if let Some(target) = target {
+        targets.push(Path::from_str(alloc, target)?)?;
+    }
+    match graph.cone(alloc, &targets) {
+        Ok(cone) => Ok(cone),
+        Err(ConeFault::Memory) => Err("out of memory".into()),
+        Err(_) => Err("no cone".into()),
+    }
+}

@@ -1,0 +1,6 @@
+pub mod Waiting
+pub mod Counted
+pub mod Stood
+pub mod Deciding
+pub mod Telling
+pub mod Beginning

@@ -1,0 +1,174 @@
+//! The plan, and what it is told.
+
+ghost use Rattle.std.specs.Prelude.{◌≡◌, ◌<◌, ℕ, true, length};
+ghost use Rattle.model.specs.Graph.{has_number};
+ghost use Rattle.links.specs.Held.{StandOnce};
+ghost use Rattle.plan.specs.Plan.{standing_by, standing_after, AreFlagged};
+
+use crate::first::first_standings;
+use links::{Cone, Graph};
+use paths::{EdgeId, PathId};
+use plan::{End, Standing, Step, Verdict};
+use std::alloc::{AllocError, Global};
+
+/// How far each edge of a cone has come. Each call looks at all edges, and one that settles something may do so once for
+/// each alias. Only `new` takes memory.
+#[derive(Drop)]
+pub struct Plan {
+    pub standings: Vec<Standing>,
+    /// For each path, the flag that was handed in for it.
+    pub changed: Vec<bool>,
+    /// How many commands may run at once; 0 is no limit.
+    pub jobs: usize,
+    /// After how many failed commands nothing is started; 0 is no limit.
+    pub keep: usize,
+}
+
+impl Plan {
+    ghost use Rattle.std.specs.Prelude.{◌≡◌, ◌<◌, ◌++◌, ◌∷◌, ℕ, suc, true, false, List, [], length, vec_len, slice_set, slice_index_or, IfOk};
+    ghost use Rattle.model.specs.Schedule.{Task, Step as Done, Judged, Started, Ended as Finished, IsLawful, IsLawfulStep};
+    ghost use Rattle.links.specs.declared.graph.Graph.{Graph};
+    ghost use Rattle.links.specs.Links.{links_of};
+    ghost use Rattle.links.specs.Linked.{IsConeOf};
+    ghost use Rattle.plan.specs.Standing.{standing_at};
+    ghost use Rattle.plan.specs.Plan.{standing_by, standing_after, IsSettling, AreFlagged};
+    ghost use Rattle.plan.specs.Planned.{IsTaskOf, IsNextOf, is_stale};
+    ghost use Rattle.plan_plain.specs.Scan.{may_settle, NonePasses};
+    ghost use Rattle.plan_plain.specs.Planned.{IsPlanOver, IsPlanned, IsOffered, IsSound, AreAliases, SettlesAliases};
+
+    /// A plan in which no edge of the cone is judged.
+    pub fn new(
+        alloc: Global,
+        graph: &Graph,
+        cone: &Cone,
+        jobs: usize,
+        keep: usize,
+    ) -> Result<Plan, AllocError>
+        requires { vec_len cone.now.marks ≡ length graph.now.manifest.lines }
+        ensures over { IfOk result (IsPlanOver graph.now) }
+        ensures flags { IfOk result (λ plan. (p : ℕ) → slice_index_or plan.changed.items p false ≡ false) }
+        ensures planned { IfOk result (λ plan. (task : Task) → IsTaskOf task graph.now → task.jobs ≡ jobs → task.keep ≡ keep → IsConeOf task.graph.edges task.recorded task.targets cone.now.order.items cone.now.marks.items → IsPlanned task graph.now plan []) }
+    {
+        let mut plan = Plan {
+            standings: first_standings(alloc, graph, cone)?,
+            changed: vec![in alloc; false; graph.paths()]?,
+            jobs,
+            keep,
+        };
+        plan.settle_aliases(graph);
+        Ok(plan)
+    }
+
+    /// What is to be done next: a judgement before a start, and the lowest edge first.
+    pub fn next(&self, graph: &Graph) -> Step
+        requires { IsPlanOver graph.now self.now }
+        ensures offered { IsOffered self.now result }
+        ensures lawful { (task : Task) (steps : List Done) → IsPlanned task graph.now self.now steps → IsLawful task steps → IsNextOf task steps result }
+    {
+        if let Some(edge) = self.first_to_judge(graph) {
+            return Step::Judge(edge);
+        }
+        if self.has_room() {
+            if let Some(edge) = self.first_to_start(graph) {
+                return Step::Start(edge);
+            }
+        }
+        if self.running() > 0 {
+            return Step::Wait;
+        }
+        if self.failed() > 0 {
+            return Step::Ended(End::Failed);
+        }
+        Step::Ended(End::Well)
+    }
+
+    /// Notes the verdict over an edge that may be judged, and what is settled by it.
+    pub fn judged(&mut self, graph: &Graph, edge: EdgeId, verdict: Verdict)
+        requires over { IsPlanOver graph.now self.old }
+        requires ready { standing_at self.old.standings.items edge ≡ Standing.Unjudged }
+        ensures over { IsPlanOver graph.now self.new }
+        ensures stands { IsSettling self.old.standings.items self.new.standings.items edge (standing_by verdict) }
+        ensures flags { self.new.changed ≡ self.old.changed }
+        ensures planned { (task : Task) (steps : List Done) → IsPlanned task graph.now self.old steps → IsLawful task steps → IsLawfulStep task steps (Judged (suc edge) (is_stale verdict)) → IsPlanned task graph.now self.new (steps ++ Judged (suc edge) (is_stale verdict) ∷ []) }
+    {
+        self.standings[edge.index()] = standing_by(verdict);
+        self.settle_aliases(graph);
+    }
+
+    /// Notes that the command of an edge that may start was started.
+    pub fn started(&mut self, edge: EdgeId)
+        requires { standing_at self.old.standings.items edge ≡ Standing.OutOfDate }
+        ensures over { (graph : Graph) → IsPlanOver graph self.old → IsPlanOver graph self.new }
+        ensures stands { self.new.standings.items ≡ slice_set self.old.standings.items edge Standing.Running }
+        ensures flags { self.new.changed ≡ self.old.changed }
+        ensures planned { (task : Task) (graph : Graph) (steps : List Done) → IsPlanned task graph self.old steps → IsLawful task steps → IsLawfulStep task steps (Started (suc edge)) → IsPlanned task graph self.new (steps ++ Started (suc edge) ∷ []) }
+    {
+        self.standings[edge.index()] = Standing::Running;
+    }
+
+    /// Notes that the command of a running edge ended, whether it ended well, what is settled by that, and for each of its
+    /// outputs whether it was changed.
+    pub fn finished(&mut self, graph: &Graph, edge: EdgeId, ok: bool, changed: &[bool])
+        requires over { IsPlanOver graph.now self.old }
+        requires running { standing_at self.old.standings.items edge ≡ Standing.Running }
+        requires flags { length changed.now ≡ length ((links_of graph.now).outputs edge) }
+        ensures over { IsPlanOver graph.now self.new }
+        ensures stands { IsSettling self.old.standings.items self.new.standings.items edge (standing_after ok) }
+        ensures flags { AreFlagged self.old.changed.items self.new.changed.items ((links_of graph.now).outputs edge) changed.now }
+        ensures planned { (task : Task) (steps : List Done) → IsPlanned task graph.now self.old steps → IsLawful task steps → IsLawfulStep task steps (Finished (suc edge) ok) → IsPlanned task graph.now self.new (steps ++ Finished (suc edge) ok ∷ []) }
+    {
+        note_changes(&mut self.changed, graph.outputs(edge), changed);
+        self.standings[edge.index()] = standing_after(ok);
+        self.settle_aliases(graph);
+    }
+
+    /// Whether the path was changed by the command that makes it, as that was handed in; false where nothing was.
+    pub fn changed(&self, path: PathId) -> bool
+        ensures { result ≡ slice_index_or self.now.changed.items path false }
+    {
+        matches!(self.changed.get(path.index()), Some(true))
+    }
+
+    /// Settles each alias that waits for nothing, until there is none.
+    fn settle_aliases(&mut self, graph: &Graph)
+        requires { length self.old.standings.items ≡ length graph.now.manifest.lines }
+        ensures none { NonePasses (may_settle (links_of graph.now) self.new.standings.items) }
+        ensures rest { SettlesAliases self.old self.new }
+        ensures sound { (task : Task) (done : List ℕ) → IsTaskOf task graph.now → AreAliases task.graph.edges self.old.standings.items → IsSound task.graph.edges done self.old.standings.items → IsSound task.graph.edges done self.new.standings.items }
+    {
+        while let Some(edge) = self.first_to_settle(graph) {
+            self.standings[edge.index()] = Standing::Known;
+        }
+    }
+}
+
+fn standing_by(verdict: Verdict) -> Standing
+    ensures { result ≡ standing_by verdict }
+{
+    match verdict {
+        Verdict::Clean => Standing::Clean,
+        Verdict::OutOfDate => Standing::OutOfDate,
+    }
+}
+
+fn standing_after(ok: bool) -> Standing
+    ensures { result ≡ standing_after ok }
+{
+    if ok { Standing::Well } else { Standing::Failed }
+}
+
+/// Notes for each of these paths whether it was changed.
+fn note_changes(flags: &mut [bool], paths: &[PathId], changed: &[bool])
+    requires fits { length changed.now ≡ length paths.now }
+    requires once { StandOnce paths.now }
+    requires within { (p : ℕ) → has_number paths.now p ≡ true → p < length flags.old }
+    ensures length { length flags.new ≡ length flags.old }
+    ensures flags { AreFlagged flags.old flags.new paths.now changed.now }
+{
+    for (path, flag) in paths.iter().zip(changed) {
+        let place = path.index();
+        if place < flags.len() {
+            flags[place] = *flag;
+        }
+    }
+}
