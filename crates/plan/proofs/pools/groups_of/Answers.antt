@@ -1,4 +1,4 @@
-use Rattle.std.proofs.Common.{◌≡◌, ◌∙◌, ℕ, List, false, None, Some, length, get_or, sym, ap, ◌+◌, not, refl, arith}
+use Rattle.std.proofs.Common.{◌≡◌, ◌∙◌, ℕ, List, false, None, Some, length, get_or, sym, ap, not, refl, arith}
 use Rattle.std.proofs.lemmas.Bool.{true≢false}
 use Rattle.model.specs.declared.graph.Pool.{Pool}
 use Rattle.paths.specs.declared.manifest.Action.{Action}
