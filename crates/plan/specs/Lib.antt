@@ -1,5 +1,6 @@
 pub mod Standing
 pub mod Pools
+pub mod Places
 pub mod Plan
 pub mod First
 pub mod Planned

@@ -1,6 +1,7 @@
 //! The plan of a build: which edge is judged and which command is started next.
 #![tactic(auto)]
 
+mod by_name;
 mod first;
 mod laws;
 mod plan;

@@ -2,9 +2,11 @@
 
 ghost use Rattle.std.specs.Prelude.{◌≡◌, ◌<◌, IfOk, length, get_or};
 ghost use Rattle.paths.specs.Commands.{no_action};
-ghost use Rattle.plan.specs.Pools.{limited, place_of, place_in, pool_of, depths_of};
+ghost use Rattle.plan.specs.Pools.{place_of, place_in, pool_of, depths_of};
+ghost use Rattle.plan.specs.Places.{ArePlaces};
 ghost use Rattle.plan.specs.First.{AreGroups, IsIdle};
 
+use crate::by_name::Places;
 use crate::step::Standing;
 use links::Graph;
 use model::Pool;
@@ -35,11 +37,16 @@ fn groups_of(
     ensures { IfOk result (λ groups. AreGroups graph.now standings.now groups.items) }
 {
     let pools = graph.manifest.pools.as_slice();
+    let places = Places::of(alloc, pools)?;
     let mut groups = Vec::with_capacity(alloc, standings.len())?;
     for (place, standing) in standings.iter().enumerate() {
         groups.push(match standing {
             Standing::Outside => None,
-            _ => group_of(pools, graph.manifest.action(graph.manifest.edge(place))),
+            _ => group_of(
+                pools,
+                &places,
+                graph.manifest.action(graph.manifest.edge(place)),
+            ),
         })?;
     }
     Ok(groups)
@@ -58,36 +65,26 @@ fn depths_of(alloc: Global, pools: &[Pool]) -> Result<Vec<usize>, AllocError>
 }
 
 /// The pool of an edge that does this, where it has one with a limit.
-fn group_of(pools: &[Pool], action: &Action) -> Option<usize>
+fn group_of(pools: &[Pool], places: &Places, action: &Action) -> Option<usize>
+    requires { ArePlaces pools.now places.now }
     ensures { result ≡ place_in pools.now (pool_of action.now) }
 {
     match action {
         Action::Alias => None,
         Action::Command(command) => match &command.pool {
             None => None,
-            Some(name) => place_of(pools, name.as_str()),
+            Some(name) => place_of(pools, places, name.as_str()),
         },
     }
 }
 
 /// The place of the pool with this name, where it has a limit.
-fn place_of(pools: &[Pool], name: &str) -> Option<usize>
+fn place_of(pools: &[Pool], places: &Places, name: &str) -> Option<usize>
+    requires { ArePlaces pools.now places.now }
     ensures { result ≡ place_of pools.now name.now }
 {
     if name == CONSOLE {
         return Some(pools.len());
     }
-    limited(pools, name)
-}
-
-/// The place of the first declared pool with this name, where it has a limit.
-fn limited(pools: &[Pool], name: &str) -> Option<usize>
-    ensures { result ≡ limited pools.now name.now }
-{
-    for (place, pool) in pools.iter().enumerate() {
-        if pool.name.as_str() == name {
-            return if pool.depth == 0 { None } else { Some(place) };
-        }
-    }
-    None
+    places.get(name)
 }

@@ -1,10 +1,11 @@
-use Rattle.std.proofs.Common.{◌≡◌, ◌∙◌, ℕ, List, false, None, Some, length, get_or, sym, ap}
+use Rattle.std.proofs.Common.{◌≡◌, ◌∙◌, ℕ, List, false, None, Some, length, get_or, sym, ap, not, refl, arith}
 use Rattle.std.proofs.lemmas.Bool.{true≢false}
 use Rattle.model.specs.declared.graph.Pool.{Pool}
 use Rattle.paths.specs.declared.manifest.Action.{Action}
 use Rattle.paths.specs.Commands.{no_action}
 use Rattle.plan.specs.Standing.{standing_at, is_outside}
 use Rattle.plan.specs.Pools.{place_in, pool_of, depths_of}
+use Rattle.plan.proofs.PlannedCounts.{stands_within}
 use Rattle.plan.proofs.Beginning.{built, longer, within_built, place_within}
 use Rattle.plan.proofs.pools.groups_of.Goals as goal
 use Rattle.plan.proofs.pools.groups_of.Goals.{in-Outside, in_default}
@@ -31,3 +32,13 @@ loop-place-preserved c =
   where
     none_some : {X : Type 0} (g : ℕ) → None ≡ Some g → X
     none_some g e = cc
+
+pub returns : goal.returns
+returns c = record {
+  fits = let end = c.loop-place-test.false in omega (arith, end, c.loop-place.auto.place-end, c.loop-place.invariant.fits);
+  each = λ e inside.
+      let low = stands_within (λ s. not (is_outside s)) c.args.standings.now e refl (ap not inside) in
+      let end = c.loop-place-test.false in
+      c.loop-place.invariant.each e (omega (arith, low, end)) inside;
+  within = c.loop-place.invariant.within;
+}
