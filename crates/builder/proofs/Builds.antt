@@ -55,7 +55,7 @@ use Rattle.builder.specs.declared.report.Refusal.TheVariants as refusal
 use Rattle.builder.specs.declared.report.Report.{Report}
 use Rattle.builder.specs.declared.report.Report.TheVariants.{Success, Failed, Refused, Fault}
 use Rattle.builder.specs.Build.{no_logs, asked_of, task_for, missing_answer, Says, Builds}
-use Rattle.builder.specs.Reports.{ungraphed, ShowsFault, SaysNotTaken, SaysNoCone, IsMissingFor, SaysLacking, SaysResult, SaysRun, run_answer}
+use Rattle.builder.specs.Reports.{first_output_of, ungraphed, ShowsFault, SaysNotTaken, SaysNoCone, IsMissingFor, SaysFault, SaysMissing, SaysResult, SaysRun, run_answer}
 use Rattle.builder.specs.Taken.{IsTaken}
 use Rattle.builder.proofs.Formed.{have_outputs, no_depfile, no_response, no_dyndep, names_no_other}
 use Rattle.builder.proofs.Slices.{suc_has, map_suc}
@@ -301,7 +301,7 @@ module _ (tells : Bool) (B : Behaviour) (own : OwnFiles) (graph : BuildGraph) (f
     }
 
     module _ (order : List ℕ) (marks : List Mark) (listed : IsConeOf graph.edges (recorded_inputs no_records graph.edges) (targets_of graph targets) order marks)
-             (named : answer.AllNamed (asked_of graph folder limits targets)) (acyclic : answer.HasNoCycle (asked_of graph folder limits targets) no_records) where
+        (named : answer.AllNamed (asked_of graph folder limits targets)) (acyclic : answer.HasNoCycle (asked_of graph folder limits targets) no_records) where
       -- a source is missing
       pub builds_missing : Looked tells entry now → (missing : Missing) → (IsTrue tells → NothingIsEdited entry.history now.history → IsMissingFor graph.edges (targets_of graph targets) entry.history missing.path missing.needed_by)
           → Builds tells B own graph folder limits given targets entry now (Refused (refusal.Missing missing))
@@ -413,15 +413,15 @@ module _ (tells : Bool) (B : Behaviour) (own : OwnFiles) (graph : BuildGraph) (f
                     (in_order, ended, settled, over.3, all_well ran.steps run over.2 over.3 ∙ sym ran.ends.2) (λ success. settled) (was_in_order ran.steps) (passes_as (Success started) is) (λ fine. ended.idle);
               }
 
-          ended_badly : (edges : Vec ℕ Global) → HasRun tells own (task_for graph limits targets) entry now (Ok (SomeFailed edges)) → report ≡ Failed (map (λ e. first_output (edge_at (declared_by numbers).edges (suc e))) edges.items)
+          ended_badly : (edges : Vec ℕ Global) → HasRun tells own (task_for graph limits targets) entry now (Ok (SomeFailed edges)) → report ≡ Failed (map (first_output_of numbers.manifest) edges.items)
               → Builds tells B own graph folder limits given targets entry now report
           ended_badly edges ran is =
               let run = ran.ends.0 in
               let over = ran.ends.1 in
-              let outputs = map (λ e. first_output (edge_at (declared_by numbers).edges (suc e))) edges.items in
+              let outputs = map (first_output_of numbers.manifest) edges.items in
               let told : map (λ i. first_output (edge_at graph.edges i)) (failed_in ran.steps) ≡ outputs =
-                  ap (λ (l : List ℕ). map (λ i. first_output (edge_at graph.edges i)) l) (sym ran.ends.2)
-                  ∙ (ap (λ (es : List Edge). map (λ i. first_output (edge_at es i)) (map suc edges.items)) (sym same) ∙ sym (map_suc (λ i. first_output (edge_at (declared_by numbers).edges i)) edges.items)) in
+              ap (λ (l : List ℕ). map (λ i. first_output (edge_at graph.edges i)) l) (sym ran.ends.2)
+              ∙ (ap (λ (es : List Edge). map (λ i. first_output (edge_at es i)) (map suc edges.items)) (sym same) ∙ sym (map_suc (λ i. first_output (edge_at (declared_by numbers).edges i)) edges.items)) in
               let ended = has_ended tells own (asked_of graph folder limits targets) no_records ran.steps entry now idle run over.2 over.0 over.1 (none_is_due (task_for graph limits targets) ran.steps (no_dyndep graph.edges taken)) in
               tells_as (Failed outputs) is record {
                 taken = inl taken;
@@ -481,7 +481,7 @@ builds_grow tells B own graph folder limits given targets old new report builds 
 pub builds_lacking : (tells : Bool) (B : Behaviour) (own : OwnFiles) (graph : BuildGraph) (folder : List ℕ) (limits : Limits) (given targets : List (List ℕ)) (entry old now : World) → IsIdle entry.events
     → IsGraph graph → IsTaken graph.edges → (order : List ℕ) (marks : List Mark) → IsConeOf graph.edges (recorded_inputs no_records graph.edges) (targets_of graph targets) order marks
     → answer.AllNamed (asked_of graph folder limits targets) → answer.HasNoCycle (asked_of graph folder limits targets) no_records → Looked tells entry old → OnlyLooks tells old now
-    → (report : Report) → SaysLacking tells graph.edges (targets_of graph targets) old now report → Builds tells B own graph folder limits given targets entry now report
+    → (report : Report) → SaysFault old now report ⊎ SaysMissing tells graph.edges (targets_of graph targets) old now report → Builds tells B own graph folder limits given targets entry now report
 builds_lacking tells B own graph folder limits given targets entry old now idle formed taken order marks listed named acyclic looked looks report (inl so) =
     subst (λ (r : Report). Builds tells B own graph folder limits given targets entry now r) (sym {A = Report} so.says)
     (builds_fault tells B own graph folder limits given targets entry now idle formed taken (looks_then tells entry old now looked.looks looks) so.fault (cause_then entry old now (Err so.fault) looked.unrefused so.cause))

@@ -1,5 +1,5 @@
 -- From what stages give to what a build has come to.
-use Rattle.std.proofs.Common.{◌≡◌, ◌⊎◌, inl, inr, ℕ, zero, suc, Bool, true, false, IsTrue, List, [], ◌∷◌, ◌++◌, length, Option, None, Result, Ok, Err, refl, sym, ◌∙◌, ap, subst, replicate}
+use Rattle.std.proofs.Common.{◌≡◌, inr, ℕ, zero, suc, Bool, IsTrue, List, [], ◌++◌, None, Result, Ok, Err, refl, sym, ◌∙◌, ap, subst, replicate}
 use Rattle.std.specs.Result.{IsErrAnd}
 use Rattle.std.proofs.lemmas.Bool.{false≢true}
 use Rattle.model.specs.declared.act.Act.{Act}
@@ -7,7 +7,7 @@ use Rattle.model.specs.declared.event.Moment.{Moment}
 use Rattle.model.specs.declared.fault.SiteFault.TheVariants.{Memory}
 use Rattle.model.specs.declared.graph.BuildGraph.{BuildGraph}
 use Rattle.model.specs.declared.outcome.Outcome.{Outcome}
-use Rattle.model.specs.World.{World, View, IsIdle, stamp_of, file_at}
+use Rattle.model.specs.World.{World, View, IsIdle}
 use Rattle.model.specs.Calls.{OnlyLooks, HasCause}
 use Rattle.model.specs.Outcome.{Behaviour}
 use Rattle.model.specs.Records.{OwnFiles}
@@ -17,7 +17,6 @@ use Rattle.build_theory.proofs.Calls.{unrefused_call}
 use Rattle.build_theory.proofs.Runs.{run_begins, run_looks, rest_begins}
 use Rattle.manifest.specs.declared.fault.ReadError.{ReadError}
 use Rattle.manifest.specs.Answer.{IsGraph, ReadsFile}
-use Rattle.paths.specs.Told.{text_at}
 use Rattle.looks.specs.declared.table.Look.{Look}
 use Rattle.looks.specs.declared.table.Look.TheVariants.{Unasked}
 use Rattle.looks.specs.Seen.{look_at, is_asked, AreSeen}
@@ -51,12 +50,12 @@ ran_nothing tells own task entry now looks =
     record { steps = []; lawful = tt; rest = rest_begins tells own task entry [] now (run_looks tells own task entry [] entry now (run_begins tells own task entry) looks); stale = refl; ends = tt }
 
 module _ (tells : Bool) (outcome : Act → View → Outcome) (name : List ℕ) (limits : Limits) (given : List (List ℕ)) (old mid : World) (idle : IsIdle old.events) (looks : OnlyLooks tells old mid) (cause : HasCause {T = Unit {0}} old mid (Ok tt))
-         (graph : BuildGraph) (formed : IsGraph graph) (file : IsTrue tells → ReadsFile name old.history mid.history (Ok graph))
-         (asked : Asked) (given_is : asked.given.now ≡ given) (canonical : AreTargets given asked.targets) (in_folder : IsFolder graph.builddir asked.folder) (limits_is : asked.limits ≡ limits) where
+    (graph : BuildGraph) (formed : IsGraph graph) (file : IsTrue tells → ReadsFile name old.history mid.history (Ok graph))
+    (asked : Asked) (given_is : asked.given.now ≡ given) (canonical : AreTargets given asked.targets) (in_folder : IsFolder graph.builddir asked.folder) (limits_is : asked.limits ≡ limits) where
   looked : Looked tells old mid
   looked = record { looks = looks; unrefused = unrefused_call old mid _ cause }
 
-  built_on : (new : World) (report : Report) → (IsTrue tells → ReadsFile name old.history new.history (Ok graph)) → BuildsFor tells graph asked.folder asked.limits asked.given.now asked.targets mid new report
+  built_on : (new : World) (report : Report) → (IsTrue tells → ReadsFile name old.history new.history (Ok graph)) → BuildsFor tells graph asked mid new report
       → IsBuild tells outcome name limits given old new report
   built_on new report file builds = inr record {
     graph = graph;
@@ -73,11 +72,11 @@ module _ (tells : Bool) (outcome : Act → View → Outcome) (name : List ℕ) (
   }
 
   -- right after the files were read
-  pub built_here : (report : Report) → BuildsFor tells graph asked.folder asked.limits asked.given.now asked.targets mid mid report → IsBuild tells outcome name limits given old mid report
+  pub built_here : (report : Report) → BuildsFor tells graph asked mid mid report → IsBuild tells outcome name limits given old mid report
   built_here report builds = built_on mid report file builds
 
   pub built_later : ((name : List ℕ) (old mid new later : List Moment) (result : Result BuildGraph ReadError) → new ≡ mid ++ later → ReadsFile name old mid result → ReadsFile name old new result)
-      → (new : World) (report : Report) → BuildsFor tells graph asked.folder asked.limits asked.given.now asked.targets mid new report → IsBuild tells outcome name limits given old new report
+      → (new : World) (report : Report) → BuildsFor tells graph asked mid new report → IsBuild tells outcome name limits given old new report
   built_later longer new report builds = built_on new report (λ tell. let later = grown tell in longer name old.history mid.history new.history later.0 (Ok graph) later.1 (file tell)) builds
     where
       any : Behaviour

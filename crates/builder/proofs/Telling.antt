@@ -4,7 +4,6 @@ use Rattle.std.specs.Option.{option_map}
 use Rattle.std.proofs.lemmas.List.{map-append, take_more, take_all}
 use Rattle.model.specs.declared.event.Moment.{Moment}
 use Rattle.model.specs.declared.graph.Edge.{Edge}
-use Rattle.model.specs.World.{stamp_of, file_at}
 use Rattle.model.specs.Graph.{edge_at, first_output, no_edge, outputs, has}
 use Rattle.model.specs.Records.{recorded_inputs}
 use Rattle.build_theory.specs.Order.{no_records}
@@ -18,8 +17,8 @@ use Rattle.paths.specs.Lists.{line_at, line_outputs}
 use Rattle.paths.specs.Told.{text_at, texts_at, edge_of, edges_of, graph_of}
 use Rattle.links.specs.Told.{AreSameInputs}
 use Rattle.looks.specs.Lacks.{IsLackedBy}
-use Rattle.builder.specs.Reports.{IsMissingFor}
-use Rattle.builder.specs.Taken.{IsTakenEdge, IsTaken, IsFirstNotTaken}
+use Rattle.builder.specs.Reports.{IsMissingFor, IsNotTakenAt, first_output_of}
+use Rattle.builder.specs.Taken.{IsTakenEdge, IsTaken}
 use Rattle.builder.proofs.Slices.{split_at, all_one_more}
 
 -- ---- texts of numbers
@@ -72,11 +71,11 @@ module _ (manifest : Manifest) where
   outputs_are : (e : ℕ) → outputs (edge_at told (suc e)) ≡ texts_at manifest.paths (line_outputs (line_at manifest.lines e))
   outputs_are e = ap outputs (edge_is e) ∙ outputs_of manifest.paths (line_at manifest.lines e) (get_or manifest.actions e no_action)
 
-  pub first_some : (e p : ℕ) (numbers : List ℕ) → numbers ≡ line_outputs (line_at manifest.lines e) → Some p ≡ slice_get numbers 0 → text_at manifest.paths p ≡ first_output (edge_at told (suc e))
+  pub first_some : (e p : ℕ) (numbers : List ℕ) → numbers ≡ line_outputs (line_at manifest.lines e) → Some p ≡ slice_get numbers 0 → text_at manifest.paths p ≡ first_output_of manifest e
   first_some e p numbers are is =
       first_of manifest.paths numbers p is ∙ ap (λ (l : List (List ℕ)). get_or l 0 []) (ap (texts_at manifest.paths) are ∙ sym (outputs_are e))
 
-  pub first_none : (e : ℕ) (numbers : List ℕ) → numbers ≡ line_outputs (line_at manifest.lines e) → None ≡ slice_get numbers 0 → [] ≡ first_output (edge_at told (suc e))
+  pub first_none : (e : ℕ) (numbers : List ℕ) → numbers ≡ line_outputs (line_at manifest.lines e) → None ≡ slice_get numbers 0 → [] ≡ first_output_of manifest e
   first_none e numbers are is =
       none_of manifest.paths numbers is ∙ ap (λ (l : List (List ℕ)). get_or l 0 []) (ap (texts_at manifest.paths) are ∙ sym (outputs_are e))
 
@@ -92,19 +91,19 @@ module _ (manifest : Manifest) where
     pub taken_next : IsTaken (take place told) → IsTakenEdge (edge_of manifest.paths (line_at manifest.lines place) action) → IsTaken (take (place + 1) told)
     taken_next earlier one = all_one_more IsTakenEdge told place no_edge within earlier (subst IsTakenEdge here one)
 
-    pub taken_first : IsTaken (take place told) → (IsTakenEdge (edge_of manifest.paths (line_at manifest.lines place) action) → ⊥) → (e < length manifest.lines) × IsFirstNotTaken told (first_output (edge_at told (suc e)))
-    taken_first earlier none = (
-      omega (arith, low, is),
-      record {
+    pub taken_first : IsTaken (take place told) → (IsTakenEdge (edge_of manifest.paths (line_at manifest.lines place) action) → ⊥) → IsNotTakenAt manifest e
+    taken_first earlier none = record {
+      within = omega (arith, low, is);
+      first = record {
         before = take place told;
         edge = get_or told place no_edge;
         after = drop (place + 1) told;
         splits = split_at told place no_edge within;
         earlier = earlier;
         not_taken = λ taken. none (subst IsTakenEdge (sym {A = Edge} here) taken);
-        is = ap (λ (k : ℕ). first_output (edge_at told (suc k))) is;
-      },
-    )
+        is = ap (first_output_of manifest) is;
+      };
+    }
 
   pub taken_all : (place count : ℕ) → count ≡ length manifest.lines → count ≤ place → IsTaken (take place told) → IsTaken told
   taken_all place count all past taken = subst IsTaken (take_all place told (omega (arith, all, past, length_edges manifest.paths manifest.lines manifest.actions manifest.fits))) taken

@@ -15,14 +15,15 @@ use Rattle.model.specs.SingleBuild.{Asked, Answer, SingleBuild, task_of}
 use Rattle.model.specs.SingleBuild as answer
 use Rattle.manifest.specs.Answer.{ReadsFile, site_part}
 use Rattle.manifest.specs.declared.fault.ReadError.{ReadError}
+use Rattle.manifest.specs.declared.fault.ReadError.TheVariants as read
 use Rattle.build_theory.specs.Order.{no_records}
 use Rattle.builder.specs.declared.report.Refusal.TheVariants.{File, MadeTwice, NoDyndepInput, NotTaken, UnknownTarget, Cycle, Missing}
 use Rattle.builder.specs.declared.report.Report.{Report}
 use Rattle.builder.specs.declared.report.Options.{Options}
+use Rattle.builder.specs.declared.asked.Asked.{Asked as Request}
 use Rattle.builder.specs.declared.asked.Limits.{Limits}
 use Rattle.builder.specs.declared.report.Report.TheVariants.{Success, Failed, Refused, Fault}
 use Rattle.build_theory.specs.Seen.{Looked}
-use Rattle.builder.specs.Reports.{unread}
 use Rattle.builder.specs.Asked.{AreTargets, IsFolder}
 use Rattle.paths.specs.Told.{text_at}
 use Rattle.builder.specs.Taken.{IsTaken, IsFirstNotTaken}
@@ -84,11 +85,18 @@ pub record Builds (tells : Bool) (B : Behaviour) (own : OwnFiles) (graph : Build
   pub said : Says graph.edges given targets report answer
   pub build : SingleBuild tells B no_logs own (asked_of graph folder limits targets) old new answer
 
--- it was built from an entry on, since which there was only looked, for any own files of the program that lie in this folder
-abbrev pub BuildsFor : Bool → BuildGraph → List ℕ → Limits → List (List ℕ) → List (List ℕ) → World → World → Report → Type 0
-BuildsFor tells graph folder limits given targets old new report =
-    (B : Behaviour) (own : OwnFiles) (entry : World) → IsOwnIn own folder → IsIdle entry.events → Looked tells entry old
-    → Builds tells B own graph folder limits given targets entry new report
+-- what was asked for was built from an entry on, since which there was only looked, for any own files of the program that lie in
+-- this folder
+abbrev pub BuildsFor : Bool → BuildGraph → Request → World → World → Report → Type 0
+BuildsFor tells graph asked old new report =
+    (B : Behaviour) (own : OwnFiles) (entry : World) → IsOwnIn own asked.folder → IsIdle entry.events → Looked tells entry old
+    → Builds tells B own graph asked.folder asked.limits asked.given.now asked.targets entry new report
+
+-- the report of a build whose files were not read
+abbrev pub unread : ReadError → Report
+unread read.Memory = Fault Memory
+unread (read.Site fault) = Fault fault
+unread (read.Refused fault) = Refused (File fault)
 
 -- the files were not read, or there was no memory for what was asked: the site was only looked at, and the report is of the
 -- reader's error, or of such a one

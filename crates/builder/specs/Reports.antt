@@ -1,22 +1,22 @@
 -- What the stages of a build report.
-use Rattle.std.specs.Prelude.{◌≡◌, ◌⊎◌, ℕ, suc, Bool, List, [], map, Option, Some, None, Result, Ok, Err}
+use Rattle.std.specs.Prelude.{◌≡◌, ◌⊎◌, ◌<◌, ℕ, suc, Bool, List, [], length, map, Option, Some, None, Result, Ok, Err}
 use Rattle.model.specs.declared.event.Moment.{Moment}
 use Rattle.model.specs.declared.fault.SiteFault.{SiteFault}
 use Rattle.model.specs.declared.fault.SiteFault.TheVariants.{Memory}
 use Rattle.model.specs.declared.graph.Edge.{Edge}
-use Rattle.model.specs.World.{World}
+use Rattle.model.specs.World.{World, IsIdle}
 use Rattle.model.specs.Calls.{HasCause}
-use Rattle.model.specs.Graph.{edge_at, first_output}
-use Rattle.model.specs.OutOfDate.{IsFirstMissing, IsMissingInput}
-use Rattle.model.specs.Records.{OwnFiles}
+use Rattle.model.specs.Graph.{edge_at, first_output, targets_of}
+use Rattle.model.specs.OutOfDate.{IsFirstMissing, IsMissingInput, NothingIsMissing}
+use Rattle.model.specs.Records.{OwnFiles, IsOwnIn}
 use Rattle.model.specs.Schedule.{Task}
 use Rattle.model.specs.SingleBuild as answer
 use Rattle.model.specs.SingleBuild.{Asked, Answer}
 use Rattle.build_theory.specs.Order.{no_records}
-use Rattle.build_theory.specs.Seen.{Unrefused}
-use Rattle.manifest.specs.declared.fault.ReadError.{ReadError}
-use Rattle.manifest.specs.declared.fault.ReadError.TheVariants as read
-use Rattle.paths.specs.Told.{text_at, texts_at}
+use Rattle.build_theory.specs.Seen.{Looked, Unrefused}
+use Rattle.paths.specs.declared.manifest.Manifest.{Manifest}
+use Rattle.paths.specs.Told.{text_at, texts_at, graph_of}
+use Rattle.links.specs.declared.cone.Cone.{Cone}
 use Rattle.links.specs.declared.cone.ConeFault.{ConeFault}
 use Rattle.links.specs.declared.cone.ConeFault.TheVariants as cone
 use Rattle.links.specs.declared.graph.Graph.{Graph}
@@ -24,17 +24,23 @@ use Rattle.links.specs.declared.fault.GraphFault.{GraphFault}
 use Rattle.links.specs.declared.fault.GraphFault.TheVariants as graph
 use Rattle.links.specs.Targets.{IsNoCone}
 use Rattle.links.specs.Told.{declared_by, recorded_by}
+use Rattle.looks.specs.Lacks.{IsConeUnrecorded}
 use Rattle.looks.specs.Seen.{IfStays}
+use Rattle.plan.specs.declared.plan.Plan.{Plan}
+use Rattle.plan.specs.Planned.{IsPlanned}
 use Rattle.runner.specs.declared.cut.Cut.{Cut}
 use Rattle.runner.specs.declared.summary.Summary.{Summary}
 use Rattle.runner.specs.declared.summary.Summary.TheVariants.{Well, Failed as SomeFailed}
 use Rattle.runner.specs.Cut.{fault_of}
 use Rattle.runner.specs.Ran.{HasRun}
+use Rattle.builder.specs.declared.asked.Asked.{Asked as Request}
+use Rattle.builder.specs.declared.asked.Limits.{Limits}
 use Rattle.builder.specs.declared.report.Missing.{Missing as Lacking}
 use Rattle.builder.specs.declared.report.Refusal.{Refusal}
-use Rattle.builder.specs.declared.report.Refusal.TheVariants.{File, MadeTwice, NoDyndepInput, NotTaken, UnknownTarget, Cycle, Missing}
+use Rattle.builder.specs.declared.report.Refusal.TheVariants.{MadeTwice, NoDyndepInput, NotTaken, UnknownTarget, Cycle, Missing}
 use Rattle.builder.specs.declared.report.Report.{Report}
 use Rattle.builder.specs.declared.report.Report.TheVariants.{Success, Failed, Refused, Fault}
+use Rattle.builder.specs.Build.{task_for}
 use Rattle.builder.specs.Taken.{IsFirstNotTaken}
 
 -- a stage that ends the build gives its report as an error
@@ -44,11 +50,14 @@ report_in (Err report) = report
 
 -- ---- before the graph
 
--- the report of a build whose files were not read
-abbrev pub unread : ReadError → Report
-unread read.Memory = Fault Memory
-unread (read.Site fault) = Fault fault
-unread (read.Refused fault) = Refused (File fault)
+-- the first output of this edge
+abbrev pub first_output_of : Manifest → ℕ → List ℕ
+first_output_of manifest e = first_output (edge_at (graph_of manifest).edges (suc e))
+
+-- this edge is the lowest that has something which is not taken yet
+pub record IsNotTakenAt (manifest : Manifest) (edge : ℕ) : Type 0 where
+  pub within : edge < length manifest.lines
+  pub first : IsFirstNotTaken (graph_of manifest).edges (first_output_of manifest edge)
 
 -- something is not taken yet, or there was no memory to say so
 pub record SaysNotTaken (edges : List Edge) (report : Report) : Type 0 where
@@ -78,11 +87,13 @@ ShowsFault paths given (cone.Cycle numbers) refusal = refusal ≡ Cycle (texts_a
 pub record IsConeRefused (graph : Graph) (given targets : List (List ℕ)) (refusal : Refusal) : Type 0 where
   pub fault : ConeFault
   pub shows : ShowsFault graph.manifest.paths given fault refusal
-  pub is : (asked : Asked) → asked.declared ≡ asked.graph.edges → asked.graph ≡ declared_by graph → asked.targets ≡ targets → IsNoCone asked no_records graph.manifest.paths fault
+  pub is : (asked : Asked) → asked.declared ≡ asked.graph.edges → asked.graph ≡ declared_by graph → asked.targets ≡ targets
+      → IsNoCone asked no_records graph.manifest.paths fault
 
 -- so it is told, or there was no memory
 abbrev pub SaysNoCone : Graph → List (List ℕ) → List (List ℕ) → Report → Type 0
-SaysNoCone graph given targets report = (report ≡ Fault Memory) ⊎ ((refusal : Refusal) × (report ≡ Refused refusal) × IsConeRefused graph given targets refusal)
+SaysNoCone graph given targets report =
+    (report ≡ Fault Memory) ⊎ ((refusal : Refusal) × (report ≡ Refused refusal) × IsConeRefused graph given targets refusal)
 
 -- ---- missing sources
 
@@ -105,15 +116,29 @@ pub record SaysMissing (tells : Bool) (edges : List Edge) (requested : List (Lis
   pub unrefused : Unrefused old new
   pub is : IfStays tells old new (λ files. IsMissingFor edges requested files missing.path missing.needed_by)
 
-abbrev pub SaysLacking : Bool → List Edge → List (List ℕ) → World → World → Report → Type 0
-SaysLacking tells edges requested old new report = SaysFault old new report ⊎ SaysMissing tells edges requested old new report
+-- no source of this cone is missing
+abbrev pub HasSources : Bool → Graph → Cone → World → World → Type 0
+HasSources tells graph cone old new =
+    (targets : List (List ℕ)) → IsConeUnrecorded graph targets cone
+    → IfStays tells old new (λ files. NothingIsMissing (declared_by graph).edges no_records [] files (targets_of (declared_by graph) targets))
+
+-- a source of this cone is missing, or that was not to be seen
+abbrev pub LacksSource : Bool → Graph → Cone → World → World → Report → Type 0
+LacksSource tells graph cone old new report =
+    (targets : List (List ℕ)) → IsConeUnrecorded graph targets cone
+    → SaysFault old new report ⊎ SaysMissing tells (declared_by graph).edges (targets_of (declared_by graph) targets) old new report
 
 -- ---- the run
+
+-- in the plan of this cone nothing is judged yet
+abbrev pub IsPlanFor : Graph → Cone → Limits → Plan → Type 0
+IsPlanFor graph cone limits plan =
+    (targets : List (List ℕ)) → IsConeUnrecorded graph targets cone → IsPlanned (task_for (declared_by graph) limits targets) graph plan []
 
 -- the report of a run that was not cut off
 abbrev pub SaysEnd : Graph → Summary → Report → Type 0
 SaysEnd graph (Well started) report = report ≡ Success started
-SaysEnd graph (SomeFailed edges) report = report ≡ Failed (map (λ e. first_output (edge_at (declared_by graph).edges (suc e))) edges.items)
+SaysEnd graph (SomeFailed edges) report = report ≡ Failed (map (first_output_of graph.manifest) edges.items)
 
 -- the report of a run
 abbrev pub SaysResult : Graph → Result Summary Cut → Report → Type 0
@@ -125,6 +150,12 @@ pub record SaysRun (tells : Bool) (own : OwnFiles) (task : Task) (graph : Graph)
   pub result : Result Summary Cut
   pub ran : HasRun tells own task old new result
   pub says : (report ≡ Fault Memory) ⊎ SaysResult graph result report
+
+-- what was asked for was run from an entry on, since which there was only looked
+abbrev pub RunsFor : Bool → Graph → Request → World → World → Report → Type 0
+RunsFor tells graph asked old new report =
+    (own : OwnFiles) (entry : World) → IsOwnIn own asked.folder → IsIdle entry.events → Looked tells entry old
+    → SaysRun tells own (task_for (declared_by graph) asked.limits asked.targets) graph entry new report
 
 -- what a run answers
 abbrev pub run_answer : Report → Answer

@@ -1,8 +1,8 @@
 //! The texts by which paths and edges are told to the user.
 
-ghost use Rattle.std.specs.Prelude.{◌≡◌, ◌<◌, suc, IfOk, All, length, map};
-ghost use Rattle.model.specs.Graph.{edge_at, first_output};
-ghost use Rattle.paths.specs.Told.{graph_of, text_at, texts_at};
+ghost use Rattle.std.specs.Prelude.{◌≡◌, ◌<◌, IfOk, All, length, map};
+ghost use Rattle.paths.specs.Told.{text_at, texts_at};
+ghost use Rattle.builder.specs.Reports.{first_output_of};
 
 use paths::{EdgeId, Manifest, PathId};
 use std::alloc::{AllocError, Global};
@@ -11,7 +11,7 @@ use text::{Items, Path};
 /// The first output of an edge: explicit ones stand before implicit ones. No build statement is without an output.
 pub fn first_output(alloc: Global, manifest: &Manifest, edge: EdgeId) -> Result<Path, AllocError>
     requires { edge < length manifest.now.lines }
-    ensures { IfOk result (λ path. path ≡ first_output (edge_at (graph_of manifest.now).edges (suc edge))) }
+    ensures { IfOk result (λ path. path ≡ first_output_of manifest.now edge) }
 {
     match manifest.lines.outputs(edge).first() {
         Some(output) => path_text(alloc, manifest, *output),
@@ -26,7 +26,7 @@ pub fn first_outputs(
     edges: &[EdgeId],
 ) -> Result<Items<Path>, AllocError>
     requires { All (λ e. e < length manifest.now.lines) edges.now }
-    ensures { IfOk result (λ outputs. outputs ≡ map (λ e. first_output (edge_at (graph_of manifest.now).edges (suc e))) edges.now) }
+    ensures { IfOk result (λ outputs. outputs ≡ map (first_output_of manifest.now) edges.now) }
 {
     let mut outputs = Items::new(alloc);
     for edge in edges {

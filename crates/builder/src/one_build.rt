@@ -1,19 +1,16 @@
 //! One build.
 
-ghost use Rattle.std.specs.Prelude.{◌≡◌, ℕ, List, [], IfOk, IfErr, false, vec_len, length};
-ghost use Rattle.model.specs.World.{World, IsIdle};
+ghost use Rattle.std.specs.Prelude.{◌≡◌, IfOk, IfErr, false, vec_len, length};
+ghost use Rattle.model.specs.World.{IsIdle};
 ghost use Rattle.model.specs.Graph.{IsMadeOnce};
-ghost use Rattle.model.specs.Records.{OwnFiles, IsOwnIn};
 ghost use Rattle.model.specs.SingleBuild.{PassesNoFault};
-ghost use Rattle.build_theory.specs.Seen.{Looked};
 ghost use Rattle.links.specs.Told.{declared_by};
 ghost use Rattle.looks.specs.Lacks.{IsConeUnrecorded};
 ghost use Rattle.manifest.specs.Answer.{IsGraph};
 ghost use Rattle.paths.specs.Told.{text_at};
-ghost use Rattle.plan.specs.Planned.{IsPlanned};
 ghost use Rattle.runner.specs.Ran.{AreEdgesOf};
-ghost use Rattle.builder.specs.Build.{task_for, limits_of, BuildsFor, IsBuild};
-ghost use Rattle.builder.specs.Reports.{report_in, IsUnrecorded, SaysNoCone, ShowsFault, SaysEnd, SaysRun, run_answer};
+ghost use Rattle.builder.specs.Build.{limits_of, BuildsFor, IsBuild};
+ghost use Rattle.builder.specs.Reports.{report_in, IsUnrecorded, SaysNoCone, ShowsFault, IsPlanFor, SaysEnd, RunsFor, run_answer};
 ghost use Rattle.builder.specs.Taken.{IsTaken};
 
 use crate::asked::{Asked, Limits};
@@ -76,7 +73,7 @@ fn build_graph<S: Site>(
     requires taken { IsTaken (declared_by graph.now).edges }
     requires once { IsMadeOnce (declared_by graph.now).edges }
     requires unrecorded { IsUnrecorded graph.now }
-    ensures { BuildsFor S.tells (declared_by graph.now) asked.now.folder asked.now.limits asked.now.given.now asked.now.targets (S.world site.old) (S.world site.new) (report_in result) }
+    ensures { BuildsFor S.tells (declared_by graph.now) asked.now (S.world site.old) (S.world site.new) (report_in result) }
 {
     let cone = cone_of(alloc, graph, asked)?;
     check_sources(alloc, site, graph, &cone)?;
@@ -138,7 +135,7 @@ fn run_cone<S: Site>(
     requires unrecorded { IsUnrecorded graph.now }
     requires marks { vec_len cone.now.marks ≡ length graph.now.manifest.lines }
     requires cone { IsConeUnrecorded graph.now asked.now.targets cone.now }
-    ensures ran { (own : OwnFiles) (entry : World) → IsOwnIn own asked.now.folder → IsIdle entry.events → Looked S.tells entry (S.world site.old) → SaysRun S.tells own (task_for (declared_by graph.now) asked.now.limits asked.now.targets) graph.now entry (S.world site.new) (report_in result) }
+    ensures ran { RunsFor S.tells graph.now asked.now (S.world site.old) (S.world site.new) (report_in result) }
     ensures faults { PassesNoFault (S.world site.old) (S.world site.new) (run_answer (report_in result)) }
 {
     let tick = tick_path(alloc, asked.folder.as_str())?;
@@ -148,15 +145,10 @@ fn run_cone<S: Site>(
 }
 
 /// The plan of a cone within these limits, in which nothing is judged yet.
-fn plan_of(
-    alloc: Global,
-    graph: &Graph,
-    cone: &Cone,
-    limits: Limits,
-) -> Result<Plan, AllocError>
+fn plan_of(alloc: Global, graph: &Graph, cone: &Cone, limits: Limits) -> Result<Plan, AllocError>
     requires unrecorded { IsUnrecorded graph.now }
     requires marks { vec_len cone.now.marks ≡ length graph.now.manifest.lines }
-    ensures { IfOk result (λ plan. (targets : List (List ℕ)) → IsConeUnrecorded graph.now targets cone.now → IsPlanned (task_for (declared_by graph.now) limits targets) graph.now plan []) }
+    ensures { IfOk result (IsPlanFor graph.now cone.now limits) }
 {
     task_of(graph);
     Plan::new(

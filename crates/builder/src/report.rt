@@ -106,7 +106,7 @@ pub enum Report {
 
 impl From<ReadError> for Report {
     ghost use Rattle.std.specs.Prelude.{◌≡◌};
-    ghost use Rattle.builder.specs.Reports.{unread};
+    ghost use Rattle.builder.specs.Build.{unread};
 
     ghost from_gives = { λ error report. report ≡ unread error };
 

@@ -1,17 +1,13 @@
 //! Missing sources.
 
-ghost use Rattle.std.specs.Prelude.{◌≡◌, ℕ, List, [], false, suc, length, IfOk, IfErr, OnOk};
+ghost use Rattle.std.specs.Prelude.{◌≡◌, ℕ, List, false, length, IfOk, IfErr, OnOk};
 ghost use Rattle.std.specs.Option.{option_map};
 ghost use Rattle.model.specs.Calls.{OnlyLooks, HasCause};
-ghost use Rattle.model.specs.Graph.{edge_at, first_output, targets_of};
-ghost use Rattle.model.specs.OutOfDate.{NothingIsMissing};
-ghost use Rattle.build_theory.specs.Order.{no_records};
 ghost use Rattle.build_theory.specs.Seen.{Unrefused};
 ghost use Rattle.links.specs.Told.{declared_by};
 ghost use Rattle.paths.specs.Told.{text_at};
 ghost use Rattle.looks.specs.Lacks.{HaveOutputs, IsConeUnrecorded, IsEdgeBelow, IsLackOf};
-ghost use Rattle.looks.specs.Seen.{IfStays};
-ghost use Rattle.builder.specs.Reports.{SaysLacking};
+ghost use Rattle.builder.specs.Reports.{first_output_of, HasSources, LacksSource};
 
 use crate::names::{first_output, path_text};
 use crate::report::{Missing, Refusal, Report};
@@ -34,14 +30,12 @@ pub fn check_sources<S: Site>(
     requires outputs { HaveOutputs (declared_by graph.now).edges }
     ensures looks { OnlyLooks S.tells (S.world site.old) (S.world site.new) }
     ensures passed { OnOk result (Unrefused (S.world site.old) (S.world site.new)) }
-    ensures sources { OnOk result ((targets : List (List ℕ)) → IsConeUnrecorded graph.now targets cone.now → IfStays S.tells (S.world site.old) (S.world site.new) (λ files. NothingIsMissing (declared_by graph.now).edges no_records [] files (targets_of (declared_by graph.now) targets))) }
-    ensures lacking { IfErr result (λ report. (targets : List (List ℕ)) → IsConeUnrecorded graph.now targets cone.now → SaysLacking S.tells (declared_by graph.now).edges (targets_of (declared_by graph.now) targets) (S.world site.old) (S.world site.new) report) }
+    ensures sources { OnOk result (HasSources S.tells graph.now cone.now (S.world site.old) (S.world site.new)) }
+    ensures lacking { IfErr result (LacksSource S.tells graph.now cone.now (S.world site.old) (S.world site.new)) }
 {
     let mut looks = Looks::new(alloc, graph)?;
     match first_lack(alloc, site, graph, cone, &mut looks)? {
-        Some(lack) => Err(Report::Refused(Refusal::Missing(missing(
-            alloc, graph, lack,
-        )?))),
+        Some(lack) => Err(Report::Refused(Refusal::Missing(missing(alloc, graph, lack)?))),
         None => Ok(()),
     }
 }
@@ -50,7 +44,7 @@ pub fn check_sources<S: Site>(
 fn missing(alloc: Global, graph: &Graph, lack: Lack) -> Result<Missing, AllocError>
     requires { IsLackOf graph.now lack }
     ensures path { IfOk result (λ missing. missing.path ≡ text_at graph.now.manifest.paths lack.path) }
-    ensures needed_by { IfOk result (λ missing. missing.needed_by ≡ option_map (λ e. first_output (edge_at (declared_by graph.now).edges (suc e))) lack.needed_by) }
+    ensures needed_by { IfOk result (λ missing. missing.needed_by ≡ option_map (first_output_of graph.now.manifest) lack.needed_by) }
 {
     Ok(Missing {
         path: path_text(alloc, &graph.manifest, lack.path)?,
@@ -61,7 +55,7 @@ fn missing(alloc: Global, graph: &Graph, lack: Lack) -> Result<Missing, AllocErr
 /// The first output of the edge, where there is one.
 fn needing(alloc: Global, graph: &Graph, edge: Option<EdgeId>) -> Result<Option<Path>, AllocError>
     requires { IsEdgeBelow (length graph.now.manifest.lines) edge }
-    ensures { IfOk result (λ path. path ≡ option_map (λ e. first_output (edge_at (declared_by graph.now).edges (suc e))) edge) }
+    ensures { IfOk result (λ path. path ≡ option_map (first_output_of graph.now.manifest) edge) }
 {
     match edge {
         Some(edge) => Ok(Some(first_output(alloc, &graph.manifest, edge)?)),

@@ -1,11 +1,10 @@
 //! What is not taken yet.
 
-ghost use Rattle.std.specs.Prelude.{◌↔◌, ◌≡◌, ◌<◌, suc, true, length, List, ℕ, MatchOption, OnOk, IfErr};
-ghost use Rattle.model.specs.Graph.{edge_at, first_output};
+ghost use Rattle.std.specs.Prelude.{◌↔◌, ◌≡◌, true, List, ℕ, MatchOption, OnOk, IfErr};
 ghost use Rattle.paths.specs.declared.line.Line.{Line};
 ghost use Rattle.paths.specs.Told.{edge_of, graph_of};
-ghost use Rattle.builder.specs.Reports.{SaysNotTaken};
-ghost use Rattle.builder.specs.Taken.{IsTakenEdge, IsTaken, IsFirstNotTaken};
+ghost use Rattle.builder.specs.Reports.{IsNotTakenAt, SaysNotTaken};
+ghost use Rattle.builder.specs.Taken.{IsTakenEdge, IsTaken};
 
 use crate::names::first_output;
 use crate::report::{Refusal, Report};
@@ -18,16 +17,14 @@ pub fn check_taken(alloc: Global, manifest: &Manifest) -> Result<(), Report>
     ensures not_taken { IfErr result (SaysNotTaken (graph_of manifest.now).edges) }
 {
     match first_not_taken(manifest) {
-        Some(edge) => Err(Report::Refused(Refusal::NotTaken(first_output(
-            alloc, manifest, edge,
-        )?))),
+        Some(edge) => Err(Report::Refused(Refusal::NotTaken(first_output(alloc, manifest, edge)?))),
         None => Ok(()),
     }
 }
 
 /// The lowest edge that has something which is not taken yet: a response file, a depfile, `restat` or a dyndep file.
 fn first_not_taken(manifest: &Manifest) -> Option<EdgeId>
-    ensures { MatchOption result (IsTaken (graph_of manifest.now).edges) (λ edge. (edge < length manifest.now.lines) × IsFirstNotTaken (graph_of manifest.now).edges (first_output (edge_at (graph_of manifest.now).edges (suc edge)))) }
+    ensures { MatchOption result (IsTaken (graph_of manifest.now).edges) (IsNotTakenAt manifest.now) }
 {
     for place in 0..manifest.lines.len() {
         let edge = manifest.edge(place);

@@ -1,2 +1,4 @@
 pub mod Cut
 pub mod Ran
+pub mod Going
+pub mod Cutting

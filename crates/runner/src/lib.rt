@@ -2,8 +2,11 @@
 #![tactic(auto)]
 
 mod cut;
+mod rest;
 mod run;
+mod start;
 mod summary;
+mod turn;
 
 pub use cut::Cut;
 pub use run::run_plan;

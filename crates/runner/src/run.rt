@@ -1,6 +1,6 @@
 //! Running commands until a plan has ended.
 
-ghost use Rattle.std.specs.Prelude.{◌≡◌, ◌<◌, ℕ, [], false, length, IfOk, IfErr};
+ghost use Rattle.std.specs.Prelude.{◌≡◌, ◌<◌, ℕ, Bool, [], false, length, IfOk, IfErr, OnErr, Ok};
 ghost use Rattle.model.specs.World.{World, IsIdle};
 ghost use Rattle.model.specs.Records.{OwnFiles};
 ghost use Rattle.model.specs.Schedule.{Task};
@@ -9,12 +9,16 @@ ghost use Rattle.plan.specs.Planned.{IsPlanned};
 ghost use Rattle.build_theory.specs.Seen.{Looked};
 ghost use Rattle.runner.specs.Cut.{IsLeft};
 ghost use Rattle.runner.specs.Ran.{Suits, HasRun, AreEdgesOf, answer_of};
+ghost use Rattle.runner.specs.Going.{IsOn, IsGoing, IsOver, IsCut, AreEnough};
+ghost use Rattle.runner.specs.Cutting.{Cuts};
 
 use crate::cut::Cut;
+use crate::rest::take_in_rest;
 use crate::summary::Summary;
+use crate::turn::go_on;
 use links::Graph;
-use model::SiteFault;
-use plan::Plan;
+use paths::EdgeId;
+use plan::{End, Plan};
 use site::Site;
 use std::alloc::Global;
 
@@ -39,5 +43,77 @@ pub fn run_plan<S: Site>(
     ensures left { IfErr result (IsLeft (S.world site.new)) }
     ensures edges { IfOk result (AreEdgesOf graph.now) }
 {
-    Err(Cut::Other(SiteFault::Memory))
+    match try_run(alloc, site, graph, tick, plan) {
+        Ok(summary) => Ok(summary),
+        Err(cut) => Err(take_in_rest(site, plan.running(), cut)),
+    }
+}
+
+/// What the run comes to, where no fault cuts it off.
+fn try_run<S: Site>(
+    alloc: Global,
+    site: &mut S,
+    graph: &Graph,
+    tick: &str,
+    plan: &mut Plan,
+) -> Result<Summary, Cut>
+    requires running { (S.world site.old).stopped ≡ false }
+    requires going { IsGoing S.tells tick.now graph.now plan.old [] (S.world site.old) }
+    ensures cuts { Cuts (S.world site.old) (S.world site.new) result }
+    ensures ran { IfOk result (λ summary. (own : OwnFiles) (task : Task) (entry : World) → Suits own task tick.now graph.now → IsIdle entry.events → IsOn S.tells own task graph.now plan.old [] entry (S.world site.old) → HasRun S.tells own task entry (S.world site.new) (Ok summary)) }
+    ensures cut { OnErr result ((own : OwnFiles) (task : Task) (entry : World) → Suits own task tick.now graph.now → IsIdle entry.events → IsOn S.tells own task graph.now plan.old [] entry (S.world site.old) → IsCut S.tells own task graph.now plan.new entry (S.world site.new)) }
+    ensures edges { IfOk result (AreEdgesOf graph.now) }
+{
+    // All outputs of a command count as changed.
+    let flags = vec![in alloc; true; most_outputs(graph)]?;
+    let mut failed = Vec::new(alloc);
+    let end = run(site, graph, tick, plan, &mut failed, &flags)?;
+    Ok(summary(plan, failed, end))
+}
+
+/// How many outputs the edge with the most of them has.
+fn most_outputs(graph: &Graph) -> usize
+    ensures { AreEnough graph.now result }
+{
+    let mut most = 0;
+    for place in 0..graph.edges() {
+        most = most.max(graph.outputs(graph.manifest.edge(place)).len());
+    }
+    most
+}
+
+/// Does what the plan says until it has ended, and notes the edges whose command failed, in the order in which they
+/// ended.
+fn run<S: Site>(
+    site: &mut S,
+    graph: &Graph,
+    tick: &str,
+    plan: &mut Plan,
+    failed: &mut Vec<EdgeId>,
+    flags: &[bool],
+) -> Result<End, Cut>
+    requires running { (S.world site.old).stopped ≡ false }
+    requires going { IsGoing S.tells tick.now graph.now plan.old failed.old.items (S.world site.old) }
+    requires enough { AreEnough graph.now (length flags.now) }
+    ensures cuts { Cuts (S.world site.old) (S.world site.new) result }
+    ensures over { IfOk result (λ end. (own : OwnFiles) (task : Task) (entry : World) → Suits own task tick.now graph.now → IsIdle entry.events → IsOn S.tells own task graph.now plan.old failed.old.items entry (S.world site.old) → IsOver S.tells own task graph.now plan.new failed.new.items end entry (S.world site.new)) }
+    ensures cut { OnErr result ((own : OwnFiles) (task : Task) (entry : World) → Suits own task tick.now graph.now → IsIdle entry.events → IsOn S.tells own task graph.now plan.old failed.old.items entry (S.world site.old) → IsCut S.tells own task graph.now plan.new entry (S.world site.new)) }
+{
+    'run: loop {
+        if let Some(end) = go_on(site, graph, tick, plan, failed, flags)? {
+            return Ok(end);
+        }
+    }
+}
+
+/// What a run came to that has ended so.
+fn summary(plan: &Plan, failed: Vec<EdgeId>, end: End) -> Summary
+    ensures { (tells : Bool) (own : OwnFiles) (task : Task) (graph : Graph) (entry now : World) → IsOver tells own task graph plan.now failed.items end entry now → HasRun tells own task entry now (Ok result) × AreEdgesOf graph result }
+{
+    match end {
+        End::Well => Summary::Well {
+            started: plan.well(),
+        },
+        End::Failed => Summary::Failed { edges: failed },
+    }
 }

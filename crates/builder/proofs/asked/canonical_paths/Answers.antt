@@ -1,4 +1,4 @@
-use Rattle.std.proofs.Common.{◌≡◌, List, ℕ, ◌++◌, ◌∷◌, [], get_or, sym, ◌∙◌, ap, subst, arith, take}
+use Rattle.std.proofs.Common.{List, ℕ, ◌++◌, ◌∷◌, [], get_or, sym, ◌∙◌, subst, arith, take}
 use Rattle.std.proofs.lemmas.List.{take_more}
 use Rattle.std.proofs.lemmas.List.Elements.{AllZip-push}
 use Rattle.builder.specs.Asked.{IsPathOf, AreTargets}

@@ -1,4 +1,4 @@
-use Rattle.std.proofs.Common.{None, sym, ◌∙◌, ap}
+use Rattle.std.proofs.Common.{sym, ◌∙◌, ap}
 use Rattle.std.specs.Option.{option_map}
 use Rattle.std.specs.Map.Iter.{deref}
 use Rattle.builder.proofs.Telling.{none_text}

@@ -1,8 +1,8 @@
-use Rattle.std.proofs.Common.{refl, sym, subst}
+use Rattle.std.proofs.Common.{◌⊎◌, refl, sym, subst}
 use Rattle.links.specs.Told.{declared_by}
 use Rattle.builder.specs.declared.report.Report.{Report}
 use Rattle.builder.specs.Build.{task_for}
-use Rattle.builder.specs.Reports.{report_in, run_answer, SaysNoCone, SaysLacking}
+use Rattle.builder.specs.Reports.{report_in, run_answer, SaysNoCone, SaysFault, SaysMissing}
 use Rattle.model.specs.Graph.{targets_of}
 use Rattle.builder.proofs.Builds.{builds_uncut, builds_lacking, builds_run, passes_after, run_grows, looked_nothing, looked_more, idle_after, stays_at_entry}
 use Rattle.builder.proofs.Stages.{told_by}
@@ -28,7 +28,7 @@ returns-in_err-check_sources g c B own entry owned idle looked =
     let report = report_in c.from_residual-in_err-check_sources.result in
     builds_lacking g.S.Texts.tells B own (declared_by graph) asked.folder asked.limits asked.given.now asked.targets entry old new idle c.requires.formed c.requires.taken cone.order.items cone.marks.items
     is.listed is.named is.acyclic looked c.check_sources.ensures.looks report
-    (subst (λ (r : Report). SaysLacking g.S.Texts.tells (declared_by graph).edges (targets_of (declared_by graph) asked.targets) old new r)
+    (subst (λ (r : Report). SaysFault old new r ⊎ SaysMissing g.S.Texts.tells (declared_by graph).edges (targets_of (declared_by graph) asked.targets) old new r)
     (sym {A = Report} (told_by _ c.from_residual-in_err-check_sources.result c.from_residual-in_err-check_sources.ensures.1)) (c.in_err-check_sources.ensures.lacking asked.targets is))
 
 pub returns : goal.returns

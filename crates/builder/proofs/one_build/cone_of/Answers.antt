@@ -14,9 +14,13 @@ returns-in-Ok-clause-cone c =
     (c.in-Ok.ensures.cone (recorded_inputs no_records edges) (same_nothing edges (recorded_by graph) c.requires))
 
 pub returns-in_ok-refusal-in-Err-clause-refused : goal.returns-in_ok-refusal-in-Err-clause-refused
-returns-in_ok-refusal-in-Err-clause-refused c = inr (c.in_ok-refusal-in-Err.field-0, refl, record {
-  fault = c.in-Err.fault;
-  shows = c.in_ok-refusal-in-Err.ensures;
-  is = λ asked declared graph targets.
-      c.in-Err.ensures.fault asked no_records declared graph (targets ∙ sym {A = List (List ℕ)} c.as_slice.ensures) (same_nothing asked.graph.edges (recorded_by c.args.graph.now) c.requires);
-})
+returns-in_ok-refusal-in-Err-clause-refused c = inr (
+  c.in_ok-refusal-in-Err.field-0,
+  refl,
+  record {
+    fault = c.in-Err.fault;
+    shows = c.in_ok-refusal-in-Err.ensures;
+    is = λ asked declared graph targets.
+        c.in-Err.ensures.fault asked no_records declared graph (targets ∙ sym {A = List (List ℕ)} c.as_slice.ensures) (same_nothing asked.graph.edges (recorded_by c.args.graph.now) c.requires);
+  },
+)

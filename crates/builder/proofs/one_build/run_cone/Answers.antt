@@ -1,6 +1,6 @@
 use Rattle.std.proofs.Common.{inl, inr, Err, Ok, refl, ◌∙◌, ap}
 use Rattle.model.specs.declared.fault.SiteFault.TheVariants.{Memory}
-use Rattle.model.specs.Records.{OwnFiles, file_in, tick_name}
+use Rattle.model.specs.Records.{file_in, tick_name}
 use Rattle.links.specs.Told.{declared_by}
 use Rattle.runner.specs.declared.cut.Cut.TheVariants.{Other}
 use Rattle.builder.specs.Build.{task_for}

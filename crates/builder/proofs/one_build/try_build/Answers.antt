@@ -68,4 +68,4 @@ returns g c =
     built_later tells g.S.Site.outcome c.args.options.now.file (limits_of c.args.options.now) c.args.targets.now old mid c.requires c.read.ensures.looks c.in_ok-manifest.ensures.cause graph c.in_ok-manifest.ensures.graph
     (λ tell. subst (λ (n : List ℕ). ReadsFile n old.history mid.history (Ok graph)) c.as_str.ensures (c.in_ok-manifest.ensures.file tell))
     asked c.in_ok-asked.ensures.given c.in_ok-asked.ensures.targets c.in_ok-asked.ensures.folder c.in_ok-asked.ensures.limits c.reads_longer.ensures new report
-    (subst (λ (m : Manifest). BuildsFor tells (graph_of m) asked.folder asked.limits asked.given.now asked.targets mid new report) c.in_ok-graph.ensures.manifest c.build_graph.ensures)
+    (subst (λ (m : Manifest). BuildsFor tells (graph_of m) asked mid new report) c.in_ok-graph.ensures.manifest c.build_graph.ensures)

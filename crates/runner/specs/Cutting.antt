@@ -1,0 +1,49 @@
+-- What a fault tells of the site, and what runs then.
+use Rattle.std.specs.Prelude.{◌≡◌, ℕ, ◌≤◌, true, List, length, Result, Ok, Err, IfErr}
+use Rattle.model.specs.declared.fault.SiteFault.{SiteFault}
+use Rattle.model.specs.declared.event.Event.{Event}
+use Rattle.model.specs.World.{World, runs}
+use Rattle.model.specs.Calls.{HasCause, is_stop}
+use Rattle.model.specs.Graph.{has_number}
+use Rattle.build_theory.specs.Seen.{StartsUnrefused}
+use Rattle.links.specs.Held.{StandOnce}
+use Rattle.runner.specs.declared.cut.Cut.{Cut}
+use Rattle.runner.specs.declared.cut.Cut.TheVariants.{Waiting, Other}
+use Rattle.runner.specs.Cut.{fault_of}
+
+abbrev pub SomeRuns : World → Type 0
+SomeRuns now = (job : ℕ) × (runs job now.events ≡ true)
+
+-- so many commands run: these, each of which stands here once
+pub record SoManyRun (count : ℕ) (events : List Event) : Type 0 where
+  pub jobs : List ℕ
+  pub once : StandOnce jobs
+  pub all : (job : ℕ) → runs job events ≡ has_number jobs job
+  pub many : count ≡ length jobs
+
+-- so it is where a wait was refused
+abbrev pub IfWaiting : Cut → Type 0 → Type 0
+IfWaiting (Waiting fault) So = So
+IfWaiting (Other fault) So = Unit {0}
+
+-- the answer that the site gave
+abbrev pub site_answer : {T : Type 0} → Result T Cut → Result T SiteFault
+site_answer (Ok value) = Ok value
+site_answer (Err cut) = Err (fault_of cut)
+
+-- a fault has its cause, nothing is started after one, and a wait is refused only where commands run
+pub record Cuts {T : Type 0} (old new : World) (result : Result T Cut) : Type 0 where
+  pub cause : HasCause old new (site_answer result)
+  pub starts : StartsUnrefused old new
+  pub waits : IfErr result (λ cut. IfWaiting cut (SomeRuns new))
+
+-- the site has stopped exactly where this is the fault
+abbrev pub IsStoppedBy : World → Cut → Type 0
+IsStoppedBy world cut = world.stopped ≡ is_stop {T = Unit {0}} (Err (fault_of cut))
+
+-- nothing was started, no refused call was forgotten, and the fault is that the site has stopped exactly where it has
+pub record TakesIn (old new : World) (cut : Cut) : Type 0 where
+  pub grows : old.failures ≤ new.failures
+  pub at_start : new.failures_at_start ≡ old.failures_at_start
+  pub stopped : IsStoppedBy new cut
+  pub earlier : new.earlier ≡ old.earlier

@@ -1,0 +1,56 @@
+//! Taking in what runs after a fault.
+
+ghost use Rattle.std.specs.Prelude.{◌≡◌, ◌⊎◌, ℕ, List, false, OnOk, OnErr};
+ghost use Rattle.model.specs.World.{World, IsIdle};
+ghost use Rattle.model.specs.Records.{OwnFiles};
+ghost use Rattle.model.specs.Schedule.{Task, Step as Done};
+ghost use Rattle.model.specs.Calls.{HasCause};
+ghost use Rattle.build_theory.specs.Run.{IsRunOrRest};
+ghost use Rattle.build_theory.specs.Seen.{IsSeen};
+ghost use Rattle.runner.specs.Cut.{fault_of, IsLeft};
+ghost use Rattle.runner.specs.Cutting.{IfWaiting, SomeRuns, SoManyRun, IsStoppedBy, TakesIn};
+
+use crate::cut::Cut;
+use model::SiteFault;
+use site::Site;
+
+/// Takes in the commands that run after a fault, of which there are so many, until a wait is refused, and gives the fault of
+/// the run: that the site stopped, where it did, and else the first. After a final fault the site is not asked.
+pub fn take_in_rest<S: Site>(site: &mut S, count: usize, cut: Cut) -> Cut
+    requires many { SoManyRun count (S.world site.old).events }
+    requires waits { IfWaiting cut (SomeRuns (S.world site.old)) }
+    requires stopped { IsStoppedBy (S.world site.old) cut }
+    ensures seen { (entry : World) → IsSeen entry (S.world site.old) (fault_of cut) → IsSeen entry (S.world site.new) (fault_of result) }
+    ensures first { (fault_of result ≡ fault_of cut) ⊎ (fault_of result ≡ SiteFault.Stopped) }
+    ensures still { IfWaiting cut (S.world site.new ≡ S.world site.old) }
+    ensures left { IsLeft (S.world site.new) result }
+    ensures takes_in { TakesIn (S.world site.old) (S.world site.new) result }
+    ensures rest { (own : OwnFiles) (task : Task) (steps : List Done) (entry : World) → IsRunOrRest S.tells own task steps entry (S.world site.old) → IsRunOrRest S.tells own task steps entry (S.world site.new) }
+{
+    if cut.is_final() {
+        return cut;
+    }
+    match take_in_all(site, count) {
+        Ok(()) => cut,
+        Err(SiteFault::Stopped) => Cut::Waiting(SiteFault::Stopped),
+        Err(_) => Cut::Waiting(cut.fault()),
+    }
+}
+
+/// Takes in so many commands, which are all that run, until a wait is refused.
+fn take_in_all<S: Site>(site: &mut S, count: usize) -> Result<(), SiteFault>
+    requires running { (S.world site.old).stopped ≡ false }
+    requires many { SoManyRun count (S.world site.old).events }
+    ensures cause { HasCause (S.world site.old) (S.world site.new) result }
+    ensures at_start { (S.world site.new).failures_at_start ≡ (S.world site.old).failures_at_start }
+    ensures runs { OnErr result (SomeRuns (S.world site.new)) }
+    ensures idle { OnOk result (IsIdle (S.world site.new).events) }
+    ensures rest { (own : OwnFiles) (task : Task) (steps : List Done) (entry : World) → IsRunOrRest S.tells own task steps entry (S.world site.old) → IsRunOrRest S.tells own task steps entry (S.world site.new) }
+{
+    let mut left = count;
+    'rest: while left > 0 {
+        site.wait_any()?;
+        left -= 1;
+    }
+    Ok(())
+}
