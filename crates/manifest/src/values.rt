@@ -31,7 +31,12 @@ impl Values {
     /// # Errors
     /// `Circle` where texts of the rule that a variable needs name each other in a circle, else `TooLarge` where some
     /// value has more than 16 MiB.
-    pub fn of(alloc: Global, scopes: &Scopes, at: &Use<'_>, room: &mut String) -> Result<Values, UseFault>
+    pub fn of(
+        alloc: Global,
+        scopes: &Scopes,
+        at: &Use<'_>,
+        room: &mut String,
+    ) -> Result<Values, UseFault>
         requires { at.now.scope < vec_len scopes.now.scopes }
         ensures values { IfOk result (λ values. (past : List Move) → IsScopesOf scopes.now past → AreValuesAt at.now past values) }
         ensures size { IfOk result AreSmall }
@@ -49,7 +54,12 @@ impl Values {
     }
 }
 
-fn expand_all(alloc: Global, scopes: &Scopes, at: &Use<'_>, room: &mut String) -> Result<Values, UseFault>
+fn expand_all(
+    alloc: Global,
+    scopes: &Scopes,
+    at: &Use<'_>,
+    room: &mut String,
+) -> Result<Values, UseFault>
     requires { at.now.scope < vec_len scopes.now.scopes }
     ensures values { IfOk result (λ values. (past : List Move) → IsScopesOf scopes.now past → AreValuesAt at.now past values) }
     ensures size { IfOk result AreSmall }
@@ -70,7 +80,12 @@ fn expand_all(alloc: Global, scopes: &Scopes, at: &Use<'_>, room: &mut String) -
 }
 
 /// Refuses a circle that some variable leads into: it goes before a value that is too large.
-fn check_circles(alloc: Global, scopes: &Scopes, at: &Use<'_>, room: &mut String) -> Result<(), UseFault>
+fn check_circles(
+    alloc: Global,
+    scopes: &Scopes,
+    at: &Use<'_>,
+    room: &mut String,
+) -> Result<(), UseFault>
     requires { at.now.scope < vec_len scopes.now.scopes }
     ensures none { OnOk result ((past : List Move) → IsScopesOf scopes.now past → LeadsIntoCircleAt at.now → ⊥) }
     ensures circle { IsErrOf result Circle → LeadsIntoCircleAt at.now }
@@ -88,7 +103,13 @@ fn check_circles(alloc: Global, scopes: &Scopes, at: &Use<'_>, room: &mut String
 }
 
 /// Refuses a circle that this variable leads into.
-fn check_circle(alloc: Global, scopes: &Scopes, at: &Use<'_>, name: &str, room: &mut String) -> Result<(), UseFault>
+fn check_circle(
+    alloc: Global,
+    scopes: &Scopes,
+    at: &Use<'_>,
+    name: &str,
+    room: &mut String,
+) -> Result<(), UseFault>
     requires { at.now.scope < vec_len scopes.now.scopes }
     ensures none { OnOk result ((past : List Move) → IsScopesOf scopes.now past → HasCircle (opened at.now) name.now → ⊥) }
     ensures circle { IsErrOf result Circle → HasCircle (opened at.now) name.now }
