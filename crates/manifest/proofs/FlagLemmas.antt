@@ -1,9 +1,11 @@
 -- What is noted of paths, one path after the other.
-use Rattle.std.proofs.Common.{◌≡◌, ◌<◌, ◌≤◌, ◌||◌, true, false, ℕ, Bool, List, [], ◌∷◌, ◌++◌, length, Option, refl, sym, ap, subst, ◌∙◌, arith}
+use Rattle.std.proofs.Common.{◌≡◌, ◌≢◌, ◌<◌, ◌≤◌, ◌||◌, true, false, ℕ, Bool, List, [], ◌∷◌, ◌++◌, length, Option, Some, refl, sym, ap, subst, ◌∙◌, arith}
 use Rattle.std.proofs.Math.Bool.{or-false, or-true, or_assoc}
+use Rattle.lexer.specs.Path.{IsCanonical}
 use Rattle.lexer.specs.Said.{Fragments}
 use Rattle.scopes.specs.Texts.{largest_value}
 use Rattle.manifest.specs.declared.path_reader.PathReader.{PathReader}
+use Rattle.manifest.specs.Edges.{IsPathOrNone}
 use Rattle.manifest.specs.Expansion.{text_of, some_text, is_empty, is_large}
 use Rattle.manifest.specs.Flags.{FlagsAfter, IsPathFound}
 use Rattle.manifest.proofs.TextLemmas.{large_false, large_true, some_text_append}
@@ -53,3 +55,21 @@ flags_before old new value texts flags empty large = (left_false _ _ (sym flags.
 
 pub found_same : (text other : List ℕ) (path : Option (List ℕ)) → text ≡ other → IsPathFound text path → IsPathFound other path
 found_same text other path same found = subst (λ (bytes : List ℕ). IsPathFound bytes path) same found
+
+-- ---- a path that is canonical as it stands
+
+not_empty : (text : List ℕ) → text ≢ [] → is_empty text ≡ false
+not_empty [] some = absurd (some refl)
+not_empty (b ∷ bytes) some = refl
+
+pub flags_settled : (reader : PathReader) (value : List ℕ → List ℕ) (path : Fragments) (text : List ℕ) → text ≡ text_of value path → length text ≤ largest_value
+    → text ≢ [] → FlagsAfter reader reader value (path ∷ [])
+flags_settled reader value path text same small some =
+    flags_small reader reader value path text same small refl (sym (ap (λ (flag : Bool). reader.has_empty || flag) (not_empty text some) ∙ or-false reader.has_empty))
+
+pub found_settled : (text other path : List ℕ) → text ≡ other → path ≡ text → IsCanonical text text → IsPathFound other (Some path)
+found_settled text other path same is canonical = subst (λ (bytes : List ℕ). IsCanonical bytes path) same (subst (λ (bytes : List ℕ). IsCanonical text bytes) (sym is) canonical)
+
+pub settled_or_none : (text : List ℕ) → IsCanonical text text → IsPathOrNone text text
+settled_or_none [] canonical = refl
+settled_or_none (b ∷ bytes) canonical = canonical

@@ -26,6 +26,7 @@ use indexmap::IndexMap;
 use lexer::{is_bare_path, quote};
 use paths::{Action, EdgeId, Lines, PathId, Paths as Table};
 use scopes::{Paths, Rule, Scopes, Use, UseFault, values_are_unique};
+use smallvec::SmallVec;
 use std::alloc::{AllocError, Global};
 use text::{Items, Path, Text};
 
@@ -39,6 +40,7 @@ impl ReadEdge {
         table: &mut Table,
         lines: &Lines,
         edge: EdgeId,
+        room: &mut String,
     ) -> Result<Action, ReadError>
         requires scope { self.now.scope < vec_len scopes.now.scopes }
         requires edge { edge < length lines.now }
@@ -57,7 +59,7 @@ impl ReadEdge {
                 inputs: inputs.as_slice(),
                 outputs: outputs.as_slice(),
             };
-            self.values(alloc, scopes, pools, rule, plain)?
+            self.values(alloc, scopes, pools, rule, plain, room)?
         };
         Ok(Action::Command(command_of(alloc, table, values)?))
     }
@@ -70,11 +72,12 @@ impl ReadEdge {
         pools: &IndexMap<String, u32>,
         rule: &Rule,
         plain: Paths<'_>,
+        room: &mut String,
     ) -> Result<Values, ReadError>
         requires { self.now.scope < vec_len scopes.now.scopes }
         ensures { (past : List Move) (said : List Pool) (build : Build) → IsScopesOf scopes.now past → ArePools pools.now.entries said → IsBuildOf self.now build → ShowsPaths plain.entry build → IsAnswerOf (CommandValues past said build rule.now) result }
     {
-        let values = self.expand(alloc, scopes, rule, plain)?;
+        let values = self.expand(alloc, scopes, rule, plain, room)?;
         self.check_pool(alloc, pools, &values)?;
         self.check_deps(alloc, &values)?;
         Ok(values)
@@ -86,13 +89,14 @@ impl ReadEdge {
         scopes: &Scopes,
         rule: &Rule,
         plain: Paths<'_>,
+        room: &mut String,
     ) -> Result<Values, ReadError>
         requires { self.now.scope < vec_len scopes.now.scopes }
         ensures { (past : List Move) (build : Build) → IsScopesOf scopes.now past → IsBuildOf self.now build → ShowsPaths plain.entry build → IsAnswerOf (ExpandedValues past build rule.now) result }
     {
         // as nearly all
         if are_bare(plain.inputs) && are_bare(plain.outputs) {
-            return self.expand_quoted(alloc, scopes, rule, plain, plain);
+            return self.expand_quoted(alloc, scopes, rule, plain, plain, room);
         }
         let inputs = quote_all(alloc, plain.inputs)?;
         let outputs = quote_all(alloc, plain.outputs)?;
@@ -102,7 +106,7 @@ impl ReadEdge {
             inputs: input_words.as_slice(),
             outputs: output_words.as_slice(),
         };
-        self.expand_quoted(alloc, scopes, rule, plain, quoted)
+        self.expand_quoted(alloc, scopes, rule, plain, quoted, room)
     }
 
     /// The same, with the paths as words of a command.
@@ -113,6 +117,7 @@ impl ReadEdge {
         rule: &Rule,
         plain: Paths<'_>,
         quoted: Paths<'_>,
+        room: &mut String,
     ) -> Result<Values, ReadError>
         requires { self.now.scope < vec_len scopes.now.scopes }
         ensures { (past : List Move) (build : Build) → IsScopesOf scopes.now past → IsBuildOf self.now build → ShowsPaths plain.entry build → ShowsQuoted quoted.entry build → IsAnswerOf (ExpandedValues past build rule.now) result }
@@ -125,7 +130,7 @@ impl ReadEdge {
             quoted,
         };
         values_are_unique();
-        match Values::of(alloc, scopes, &at) {
+        match Values::of(alloc, scopes, &at, room) {
             Ok(values) => Ok(values),
             Err(fault) => self.refuse_use(alloc, fault),
         }
@@ -188,11 +193,11 @@ fn texts<'a>(
     alloc: Global,
     table: &'a Table,
     numbers: &[PathId],
-) -> Result<Vec<&'a str>, AllocError>
+) -> Result<SmallVec<&'a str, 8>, AllocError>
     requires { AllByRecursion (λ n. n < length table.now) numbers.now }
     ensures { IfOk result (λ texts. map deref texts.items ≡ texts_at table.now numbers.now) }
 {
-    let mut texts = Vec::with_capacity(alloc, numbers.len())?;
+    let mut texts = SmallVec::new(alloc);
     for number in numbers {
         texts.push(table.text(*number))?;
     }

@@ -104,9 +104,10 @@ fn expand_all(
     ensures dyndeps { IfOk result (AllByRecursion (λ action. dyndep_stop action ≤ length table.new)) }
 {
     let mut actions = Items::from_vec(Vec::with_capacity(alloc, read.len())?);
+    let mut room = String::new(alloc);
     for edge in read {
         let place = EdgeId::at_below(actions.len());
-        actions.push(edge.action(alloc, scopes, pools, table, lines, place)?)?;
+        actions.push(edge.action(alloc, scopes, pools, table, lines, place, &mut room)?)?;
     }
     Ok(actions)
 }

@@ -14,7 +14,7 @@ ghost use Rattle.manifest.specs.InNumbers.{IsLonger, paths_at, HasNumbers, numbe
 use crate::fault::ReadError;
 use crate::values::Values;
 use indexmap::IndexSet;
-use lexer::{ReadFault, canonical};
+use lexer::{ReadFault, canonical, is_settled};
 use model::{Act, Deps};
 use paths::{Command, Line, PathId, Paths};
 use std::alloc::{AllocError, Global};
@@ -27,8 +27,8 @@ pub fn command_of(alloc: Global, table: &mut Paths, values: Values) -> Result<Co
     ensures dyndep { IfOk result (λ command. stop_of command.dyndep ≤ length table.new) }
     ensures memory { IfErr result (λ error. error ≡ ReadError.Memory) }
 {
-    let depfile = path_or_none(alloc, &values.depfile)?;
-    let response_path = path_or_none(alloc, &values.rspfile)?;
+    let depfile = path_or_none(alloc, values.depfile)?;
+    let response_path = path_or_none(alloc, values.rspfile)?;
     let dyndep = file_or_none(alloc, table, &values.dyndep)?;
     let deps = deps_of(&values.deps);
     let restat = !values.restat.is_empty();
@@ -98,10 +98,13 @@ fn without(
 }
 
 /// The canonical path; an empty text stays empty.
-fn path_or_none(alloc: Global, text: &Text) -> Result<Text, ReadError>
-    ensures path { IfOk result (IsPathOrNone text.now) }
+fn path_or_none(alloc: Global, text: Text) -> Result<Text, ReadError>
+    ensures path { IfOk result (IsPathOrNone text) }
     ensures memory { IfErr result (λ error. error ≡ ReadError.Memory) }
 {
+    if is_settled(text.as_str()) {
+        return Ok(text);
+    }
     match canonical(alloc, text.as_str()) {
         Ok(path) => Ok(Text::from_string(path)),
         Err(ReadFault::EmptyPath) => Ok(Text::new(alloc)),

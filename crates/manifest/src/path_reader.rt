@@ -1,10 +1,12 @@
 //! The paths of build lines (manual: "Build statements").
 
-ghost use Rattle.std.specs.Prelude.{◌≡◌, List, [], ◌∷◌, ◌||◌, false, IfOk, IfErr, OnOk};
+ghost use Rattle.std.specs.Prelude.{◌≡◌, ◌≢◌, ◌≤◌, ℕ, List, [], ◌∷◌, ◌||◌, false, length, IfOk, IfErr, IfSome, OnOk};
+ghost use Rattle.lexer.specs.Path.{IsCanonical};
 ghost use Rattle.lexer.specs.Said.{fragments_of, paths_of, build_of};
 ghost use Rattle.scopes.specs.Moves.{Move};
 ghost use Rattle.scopes.specs.Scopes.{IsScopesOf};
 ghost use Rattle.scopes.specs.Place.{value_of_name};
+ghost use Rattle.scopes.specs.Texts.{expansion_of_pieces, largest_value};
 ghost use Rattle.manifest.specs.Expansion.{text_of, is_empty, ArePaths};
 ghost use Rattle.manifest.specs.Declarations.{PathsOf};
 ghost use Rattle.manifest.specs.Answer.{IsAnswerOf};
@@ -16,7 +18,7 @@ ghost use Rattle.manifest.specs.Flags.{FlagsAfter, IsPathFound, NoneIsWrong};
 
 use crate::fault::{FaultKind, ReadError};
 use crate::place::Place;
-use lexer::{BuildLine, ReadFault, Value, canonical};
+use lexer::{BuildLine, ReadFault, Value, canonical, is_settled};
 use paths::{Line, PathId, Paths};
 use scopes::{Block, ExpandFault, Scopes, as_it_stands, expand};
 use std::alloc::Global;
@@ -140,6 +142,26 @@ impl<'a> PathReader<'a> {
         ensures found { IfOk result (λ number. (past : List Move) → IsScopesOf self.old.scopes.now past → self.new.has_empty ≡ false → self.new.has_large ≡ false → IsPathFound (text_of (value_of_name self.old.block.now past) (fragments_of value.now)) (option_map (text_at table.new) number)) }
         ensures memory { IfErr result (λ error. error ≡ ReadError.Memory) }
     {
+        match settled(value) {
+            Some(text) => Ok(Some(table.add(alloc, text)?)),
+            None => self.expanded_number(alloc, table, value),
+        }
+    }
+
+    /// The same, by way of a text of its own.
+    fn expanded_number(
+        &mut self,
+        alloc: Global,
+        table: &mut Paths,
+        value: &Value<'_>,
+    ) -> Result<Option<PathId>, ReadError>
+        ensures scopes { self.new.scopes.now ≡ self.old.scopes.now }
+        ensures block { self.new.block.now ≡ self.old.block.now }
+        ensures flags { OnOk result ((past : List Move) → IsScopesOf self.old.scopes.now past → FlagsAfter self.old self.new (value_of_name self.old.block.now past) (fragments_of value.now ∷ [])) }
+        ensures added { IfOk result (λ number. AreAdded table.old table.new (option_to_list number)) }
+        ensures found { IfOk result (λ number. (past : List Move) → IsScopesOf self.old.scopes.now past → self.new.has_empty ≡ false → self.new.has_large ≡ false → IsPathFound (text_of (value_of_name self.old.block.now past) (fragments_of value.now)) (option_map (text_at table.new) number)) }
+        ensures memory { IfErr result (λ error. error ≡ ReadError.Memory) }
+    {
         match self.path(alloc, value)? {
             Some(path) => Ok(Some(table.add(alloc, path.as_str())?)),
             None => Ok(None),
@@ -184,4 +206,18 @@ impl<'a> PathReader<'a> {
             Err(ReadFault::Memory) => Err(ReadError::Memory),
         }
     }
+}
+
+/// The characters of a path that is canonical as it stands, as nearly all are.
+fn settled<'a>(value: &Value<'a>) -> Option<&'a str>
+    ensures value { IfSome result (λ text. (named : List ℕ → List ℕ) → text.now ≡ expansion_of_pieces named value.now.pieces) }
+    ensures size { IfSome result (λ text. length text.now ≤ largest_value) }
+    ensures some { IfSome result (λ text. text.now ≢ []) }
+    ensures canonical { IfSome result (λ text. IsCanonical text.now text.now) }
+{
+    let text = as_it_stands(value)?;
+    if text.is_empty() || !is_settled(text) {
+        return None;
+    }
+    Some(text)
 }

@@ -31,7 +31,12 @@ impl Values {
     /// # Errors
     /// `Circle` where texts of the rule that a variable needs name each other in a circle, else `TooLarge` where some
     /// value has more than 16 MiB.
-    pub fn of(alloc: Global, scopes: &Scopes, at: &Use<'_>) -> Result<Values, UseFault>
+    pub fn of(
+        alloc: Global,
+        scopes: &Scopes,
+        at: &Use<'_>,
+        room: &mut String,
+    ) -> Result<Values, UseFault>
         requires { at.now.scope < vec_len scopes.now.scopes }
         ensures values { IfOk result (λ values. (past : List Move) → IsScopesOf scopes.now past → AreValuesAt at.now past values) }
         ensures size { IfOk result AreSmall }
@@ -39,9 +44,9 @@ impl Values {
         ensures no_circle { IsErrOf result TooLarge → (past : List Move) → IsScopesOf scopes.now past → LeadsIntoCircleAt at.now → ⊥ }
         ensures large { IsErrOf result TooLarge → (past : List Move) → IsScopesOf scopes.now past → HasLargeValueAt at.now past }
     {
-        match expand_all(alloc, scopes, at) {
+        match expand_all(alloc, scopes, at, room) {
             Err(UseFault::TooLarge) => {
-                check_circles(alloc, scopes, at)?;
+                check_circles(alloc, scopes, at, room)?;
                 Err(UseFault::TooLarge)
             }
             other => other,
@@ -49,7 +54,12 @@ impl Values {
     }
 }
 
-fn expand_all(alloc: Global, scopes: &Scopes, at: &Use<'_>) -> Result<Values, UseFault>
+fn expand_all(
+    alloc: Global,
+    scopes: &Scopes,
+    at: &Use<'_>,
+    room: &mut String,
+) -> Result<Values, UseFault>
     requires { at.now.scope < vec_len scopes.now.scopes }
     ensures values { IfOk result (λ values. (past : List Move) → IsScopesOf scopes.now past → AreValuesAt at.now past values) }
     ensures size { IfOk result AreSmall }
@@ -57,45 +67,56 @@ fn expand_all(alloc: Global, scopes: &Scopes, at: &Use<'_>) -> Result<Values, Us
     ensures large { IsErrOf result TooLarge → (past : List Move) → IsScopesOf scopes.now past → HasLargeValueAt at.now past }
 {
     Ok(Values {
-        command: expand_use(alloc, scopes, at, "command")?,
-        depfile: expand_use(alloc, scopes, at, "depfile")?,
-        deps: expand_use(alloc, scopes, at, "deps")?,
-        dyndep: expand_use(alloc, scopes, at, "dyndep")?,
-        description: expand_use(alloc, scopes, at, "description")?,
-        pool: expand_use(alloc, scopes, at, "pool")?,
-        restat: expand_use(alloc, scopes, at, "restat")?,
-        rspfile: expand_use(alloc, scopes, at, "rspfile")?,
-        rspfile_content: expand_use(alloc, scopes, at, "rspfile_content")?,
+        command: expand_use(alloc, scopes, at, "command", room)?,
+        depfile: expand_use(alloc, scopes, at, "depfile", room)?,
+        deps: expand_use(alloc, scopes, at, "deps", room)?,
+        dyndep: expand_use(alloc, scopes, at, "dyndep", room)?,
+        description: expand_use(alloc, scopes, at, "description", room)?,
+        pool: expand_use(alloc, scopes, at, "pool", room)?,
+        restat: expand_use(alloc, scopes, at, "restat", room)?,
+        rspfile: expand_use(alloc, scopes, at, "rspfile", room)?,
+        rspfile_content: expand_use(alloc, scopes, at, "rspfile_content", room)?,
     })
 }
 
 /// Refuses a circle that some variable leads into: it goes before a value that is too large.
-fn check_circles(alloc: Global, scopes: &Scopes, at: &Use<'_>) -> Result<(), UseFault>
+fn check_circles(
+    alloc: Global,
+    scopes: &Scopes,
+    at: &Use<'_>,
+    room: &mut String,
+) -> Result<(), UseFault>
     requires { at.now.scope < vec_len scopes.now.scopes }
     ensures none { OnOk result ((past : List Move) → IsScopesOf scopes.now past → LeadsIntoCircleAt at.now → ⊥) }
     ensures circle { IsErrOf result Circle → LeadsIntoCircleAt at.now }
     ensures not_large { IsErrOf result TooLarge → ⊥ }
 {
-    check_circle(alloc, scopes, at, "command")?;
-    check_circle(alloc, scopes, at, "depfile")?;
-    check_circle(alloc, scopes, at, "deps")?;
-    check_circle(alloc, scopes, at, "dyndep")?;
-    check_circle(alloc, scopes, at, "description")?;
-    check_circle(alloc, scopes, at, "pool")?;
-    check_circle(alloc, scopes, at, "restat")?;
-    check_circle(alloc, scopes, at, "rspfile")?;
-    check_circle(alloc, scopes, at, "rspfile_content")
+    check_circle(alloc, scopes, at, "command", room)?;
+    check_circle(alloc, scopes, at, "depfile", room)?;
+    check_circle(alloc, scopes, at, "deps", room)?;
+    check_circle(alloc, scopes, at, "dyndep", room)?;
+    check_circle(alloc, scopes, at, "description", room)?;
+    check_circle(alloc, scopes, at, "pool", room)?;
+    check_circle(alloc, scopes, at, "restat", room)?;
+    check_circle(alloc, scopes, at, "rspfile", room)?;
+    check_circle(alloc, scopes, at, "rspfile_content", room)
 }
 
 /// Refuses a circle that this variable leads into.
-fn check_circle(alloc: Global, scopes: &Scopes, at: &Use<'_>, name: &str) -> Result<(), UseFault>
+fn check_circle(
+    alloc: Global,
+    scopes: &Scopes,
+    at: &Use<'_>,
+    name: &str,
+    room: &mut String,
+) -> Result<(), UseFault>
     requires { at.now.scope < vec_len scopes.now.scopes }
     ensures none { OnOk result ((past : List Move) → IsScopesOf scopes.now past → HasCircle (opened at.now) name.now → ⊥) }
     ensures circle { IsErrOf result Circle → HasCircle (opened at.now) name.now }
     ensures not_large { IsErrOf result TooLarge → ⊥ }
 {
     values_are_unique();
-    match expand_use(alloc, scopes, at, name) {
+    match expand_use(alloc, scopes, at, name, room) {
         Ok(_) => Ok(()),
         Err(UseFault::TooLarge) => Ok(()),
         Err(fault) => Err(fault),

@@ -6,3 +6,4 @@ pub mod Walking
 pub mod Valuing
 mod Knowing
 mod Alone
+mod Special

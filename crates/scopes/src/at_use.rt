@@ -19,13 +19,10 @@ use crate::buffer::{append, append_joined};
 use crate::fault::{ExpandFault, UseFault};
 use crate::order::order_of;
 use crate::template::{Part, Template};
-use crate::usage::{Paths, Use};
+use crate::usage::{Paths, Use, begins_as_special};
 use indexmap::IndexMap;
 use std::alloc::Global;
 use text::Text;
-
-/// The bytes for which a value takes memory at first. What is left is given back.
-const USUAL_ROOM: usize = 128;
 
 /// The value of a name where a rule is used, with the scope of the build statement as it stands by now: to be called when
 /// all files are read.
@@ -40,6 +37,7 @@ pub fn expand_use(
     scopes: &Scopes,
     at: &Use<'_>,
     asked: &str,
+    room: &mut String,
 ) -> Result<Text, UseFault>
     requires { at.now.scope < vec_len scopes.now.scopes }
     ensures value { IfOk result (λ text. (past : List Move) → IsScopesOf scopes.now past → IsValueAtUse (opened at.now) (fixed at.now asked.now past) asked.now text) }
@@ -52,9 +50,9 @@ pub fn expand_use(
         return Ok(known.of_name(alloc, asked)?);
     };
     if stands_alone(at, template) {
-        return Ok(known.of_template(alloc, template)?);
+        return Ok(known.of_template(alloc, template, room)?);
     }
-    expand_in_order(alloc, scopes, at, asked)
+    expand_in_order(alloc, scopes, at, asked, room)
 }
 
 /// The same, where the rule's text may name others of its texts, which are expanded first.
@@ -63,6 +61,7 @@ fn expand_in_order(
     scopes: &Scopes,
     at: &Use<'_>,
     asked: &str,
+    room: &mut String,
 ) -> Result<Text, UseFault>
     requires { at.now.scope < vec_len scopes.now.scopes }
     ensures value { IfOk result (λ text. (past : List Move) → IsScopesOf scopes.now past → IsValueAtUse (opened at.now) (fixed at.now asked.now past) asked.now text) }
@@ -75,9 +74,9 @@ fn expand_in_order(
     for name in order.as_slice() {
         let name = name.as_str();
         if name == asked {
-            return Ok(known.expand(alloc, asked)?);
+            return Ok(known.expand(alloc, asked, room)?);
         }
-        known.learn(alloc, name)?;
+        known.learn(alloc, name, room)?;
     }
     Ok(known.of_name(alloc, asked)?)
 }
@@ -130,7 +129,7 @@ impl<'a> Known<'a> {
     }
 
     /// Expands the text of the rule that this name stands for, and keeps its value.
-    fn learn(&mut self, alloc: Global, name: &str) -> Result<(), UseFault>
+    fn learn(&mut self, alloc: Global, name: &str, room: &mut String) -> Result<(), UseFault>
         requires { self.old.at.now.scope < vec_len self.old.scopes.now.scopes }
         ensures scopes { self.new.scopes ≡ self.old.scopes }
         ensures at { self.new.at ≡ self.old.at }
@@ -139,35 +138,39 @@ impl<'a> Known<'a> {
         ensures large { IsErrOf result TooLarge → (template : Template) → opened self.old.at.now name.now ≡ Some template → (past : List Move) → IsScopesOf self.old.scopes.now past → largest_value < length (text_of self.old past template) }
         ensures no_circle { IsErrOf result Circle → ⊥ }
     {
-        let value = self.expand(alloc, name)?;
+        let value = self.expand(alloc, name, room)?;
         self.values.insert(String::from_str(alloc, name)?, value)?;
         Ok(())
     }
 
     /// The text of the rule that this name stands for, expanded.
-    fn expand(&self, alloc: Global, name: &str) -> Result<Text, ExpandFault>
+    fn expand(&self, alloc: Global, name: &str, room: &mut String) -> Result<Text, ExpandFault>
         requires { self.now.at.now.scope < vec_len self.now.scopes.now.scopes }
         ensures value { IfOk result (λ text. (template : Template) → opened self.now.at.now name.now ≡ Some template → (past : List Move) → IsScopesOf self.now.scopes.now past → text ≡ text_of self.now past template) }
         ensures size { IfOk result (λ text. length text ≤ largest_value) }
         ensures large { IsErrOf result Larger → (template : Template) → opened self.now.at.now name.now ≡ Some template → (past : List Move) → IsScopesOf self.now.scopes.now past → largest_value < length (text_of self.now past template) }
     {
         match self.at.template(name) {
-            Some(template) => self.of_template(alloc, template),
+            Some(template) => self.of_template(alloc, template, room),
             None => Ok(Text::new(alloc)),
         }
     }
 
     /// The text, expanded.
-    fn of_template(&self, alloc: Global, template: &Template) -> Result<Text, ExpandFault>
+    fn of_template(
+        &self,
+        alloc: Global,
+        template: &Template,
+        room: &mut String,
+    ) -> Result<Text, ExpandFault>
         requires { self.now.at.now.scope < vec_len self.now.scopes.now.scopes }
         ensures value { IfOk result (λ text. (past : List Move) → IsScopesOf self.now.scopes.now past → text ≡ text_of self.now past template.now) }
         ensures size { IfOk result (λ text. length text ≤ largest_value) }
         ensures large { IsErrOf result Larger → (past : List Move) → IsScopesOf self.now.scopes.now past → largest_value < length (text_of self.now past template.now) }
     {
-        let mut text = String::with_capacity(alloc, USUAL_ROOM)?;
-        self.append_parts(&mut text, template.parts.as_slice())?;
-        text.shrink_to_fit();
-        Ok(Text::from_string(text))
+        room.clear();
+        self.append_parts(room, template.parts.as_slice())?;
+        Ok(Text::from_str(alloc, room.as_str())?)
     }
 
     /// What a name stands for, as a value of its own.
@@ -213,6 +216,9 @@ impl<'a> Known<'a> {
         ensures size { length (string_bytes text.old) ≤ largest_value → length (string_bytes text.new) ≤ largest_value }
         ensures large { IsErrOf result Larger → (past : List Move) → IsScopesOf self.now.scopes.now past → largest_value < length (string_bytes text.old ++ known_value self.now past name.now) }
     {
+        if !begins_as_special(name) {
+            return append(text, self.value(name));
+        }
         match name {
             "in" => append_joined(text, " ", self.paths.inputs),
             "out" => append_joined(text, " ", self.paths.outputs),

@@ -1,6 +1,6 @@
 //! The use of a rule by an edge.
 
-ghost use Rattle.std.specs.Prelude.{◌≡◌, true, None, Some, codes, IsTrue, ◌↔◌, ◌||◌};
+ghost use Rattle.std.specs.Prelude.{◌≡◌, ◌==◌, true, false, None, Some, codes, IsTrue, ◌↔◌, ◌||◌};
 ghost use Rattle.std.specs.Option.{option_copied, option_map};
 ghost use Rattle.scopes.specs.Use.{opened, paths_for, is_special, is_unquoted};
 
@@ -31,7 +31,25 @@ pub struct Use<'a> {
 fn is_special(name: &str) -> bool
     ensures { result ≡ is_special name.now }
 {
-    matches!(name, "in" | "out" | "in_newline")
+    begins_as_special(name) && matches!(name, "in" | "out" | "in_newline")
+}
+
+/// Whether the name begins as those that stand for paths, which few others do.
+#[inline(always)]
+pub fn begins_as_special(name: &str) -> bool
+    ensures { result ≡ false → is_special name.now ≡ false }
+{
+    match name.as_bytes() {
+        [first, ..] => is_i_or_o(*first),
+        [] => false,
+    }
+}
+
+#[inline(always)]
+fn is_i_or_o(byte: u8) -> bool
+    ensures { result ≡ (byte == 105 || byte == 111) }
+{
+    matches!(byte, b'i' | b'o')
 }
 
 /// Whether the value asked for is a path itself, so that paths in it are not quoted.

@@ -163,7 +163,8 @@ impl Used {
         if self.scope >= scopes.len() {
             return Ok(Text::from_str(alloc, "no scope")?);
         }
-        match expand_use(alloc, scopes, &at, asked) {
+        let mut room = String::new(alloc);
+        match expand_use(alloc, scopes, &at, asked, &mut room) {
             Ok(text) => Ok(text),
             Err(UseFault::Circle) => Ok(Text::from_str(alloc, "circle")?),
             Err(UseFault::TooLarge) => Ok(Text::from_str(alloc, "too large")?),

@@ -7,4 +7,4 @@ text-requires c = below_at _ c.args.numbers.now c.loop-number.number-index c.num
 pub loop-number-preserved : goal.loop-number-preserved
 loop-number-preserved c =
     texts_next c.args.table.now c.args.numbers.now c.loop-number.number-index c.number-item.result c.loop-number.texts.items _ c.text.result c.loop-number-test.true c.number-item.is
-    c.loop-number.invariant c.in_ok-push.ensures.items c.text.ensures
+    c.loop-number.invariant c.in_ok-push.ensures.ok c.text.ensures

@@ -25,8 +25,8 @@ returns-in_err-values-clause-edge c = λ past said build of are is for.
     let line = line_at c.args.lines.now c.args.edge in
     let some = rule_is build c.args.self.now.rule c.in-Some.rule c.deref.result.now is.rule c.in-Some.is c.deref.ensures in
     let plain = shows past said build c.args.table.now line for c.deref.result.now some (record { inputs = c.as_slice.result; outputs = c.as_slice-2.result })
-    (ap (map deref) c.as_slice.ensures.value ∙ (c.in_ok-inputs.ensures ∙ ap (texts_at c.args.table.now) c.explicit_inputs.ensures))
-    (ap (map deref) c.as_slice-2.ensures.value ∙ (c.in_ok-outputs.ensures ∙ ap (texts_at c.args.table.now) c.explicit_outputs.ensures)) in
+    (ap (map deref) c.as_slice.ensures ∙ (c.in_ok-inputs.ensures ∙ ap (texts_at c.args.table.now) c.explicit_inputs.ensures))
+    (ap (map deref) c.as_slice-2.ensures ∙ (c.in_ok-outputs.ensures ∙ ap (texts_at c.args.table.now) c.explicit_outputs.ensures)) in
     let failed = err_from_is_err_and c.from_residual-in_err-values.result c.from_residual-in_err-values.ensures.1 in
     rw (failed.1, failed.2) (values_fault past said build c.args.table.now line for c.deref.result.now some _ (c.in_err-values.ensures past said build of are is plain))
 
@@ -35,7 +35,7 @@ returns-clause-edge c = λ past said build of are is for.
     let line = line_at c.args.lines.now c.args.edge in
     let some = rule_is build c.args.self.now.rule c.in-Some.rule c.deref.result.now is.rule c.in-Some.is c.deref.ensures in
     let plain = shows past said build c.args.table.now line for c.deref.result.now some (record { inputs = c.as_slice.result; outputs = c.as_slice-2.result })
-    (ap (map deref) c.as_slice.ensures.value ∙ (c.in_ok-inputs.ensures ∙ ap (texts_at c.args.table.now) c.explicit_inputs.ensures))
-    (ap (map deref) c.as_slice-2.ensures.value ∙ (c.in_ok-outputs.ensures ∙ ap (texts_at c.args.table.now) c.explicit_outputs.ensures)) in
+    (ap (map deref) c.as_slice.ensures ∙ (c.in_ok-inputs.ensures ∙ ap (texts_at c.args.table.now) c.explicit_inputs.ensures))
+    (ap (map deref) c.as_slice-2.ensures ∙ (c.in_ok-outputs.ensures ∙ ap (texts_at c.args.table.now) c.explicit_outputs.ensures)) in
     command_made past said build c.args.table.now line for c.deref.result.now some c.command_of.new.table c.in_ok-values.values c.in_ok-command_of.field-0 c.in_ok-command_of.ensures.grows
     (c.in_ok-values.ensures past said build of are is plain) (c.in_ok-command_of.ensures.command line)
