@@ -1,25 +1,43 @@
 //! Builds in which the device refuses one call, or the site stops in one, and the builds that come next.
 
-ghost use Rattle.std.specs.Prelude.{IfOk};
+ghost use Rattle.std.specs.Prelude.{◌≡◌, IfOk, OnOk};
 ghost use Rattle.model.specs.World.{IsIdle};
 ghost use Rattle.site.specs.World.{world_of};
 
 use builder::{Options, Report, build};
 use model::{Event, SiteFault};
-use site::{Call, Sim, Site, Timing, Toy};
+use site::{Call, Sim, Site, Timing, Toy, Trouble};
 use std::alloc::{AllocError, Global};
+use std::io::{self, Write};
 use std::process::Abort;
 use std::test::Fail;
 use text::Text;
 
-/// Two commands, of which one makes an output in a folder.
-const BUILD_FILE: &[u8] = b"rule cat
-  command = cat $out $in
-build folder/b: cat a
-build c: cat folder/b a
-";
+const RULES: &str = "rule cat\n  command = cat $out $in\nrule fail\n  command = fail $out $in\n";
 
-/// The calls that a build makes, each at least once.
+/// Build files behind the rules, each with a file `more` and the outputs that are looked at.
+const CASES: [(&str, &str, &str); 3] = [
+    // Two commands, of which one makes an output in a folder.
+    (
+        "build folder/b: cat a\nbuild c: cat folder/b a\n",
+        "",
+        "folder/b c",
+    ),
+    // All kinds of inputs, phony edges, and a file that is included.
+    (
+        "include more\nbuild all: phony c || folder/d\nbuild c: cat b a | i |@ v\n",
+        "builddir = logs\nbuild b: cat a\nbuild folder/d: cat b i\nbuild v: cat a\n",
+        "b c folder/d v",
+    ),
+    // A command that fails.
+    (
+        "build folder/b: cat a\nbuild c: fail folder/b\nbuild d: cat c\n",
+        "",
+        "folder/b c d",
+    ),
+];
+
+/// The calls that each of these builds makes at least once.
 const CALLS: [Call; 6] = [
     Call::Read,
     Call::Stat,
@@ -29,18 +47,52 @@ const CALLS: [Call; 6] = [
     Call::WaitAny,
 ];
 
-/// More calls of a kind than this build makes.
+/// The calls that no build makes yet.
+const OTHER_CALLS: [Call; 5] = [
+    Call::Append,
+    Call::Replace,
+    Call::Write,
+    Call::Remove,
+    Call::Show,
+];
+
+/// More calls of a kind than these builds make.
 const MANY: u64 = 100;
 
-/// A fresh site with a build file and the source `a`.
-fn fresh(alloc: Global, timing: Timing) -> Result<Sim<Toy>, AllocError>
+/// What goes wrong in a build, and where.
+#[derive(Clone, Copy, Debug)]
+struct Place {
+    call: Call,
+    number: u64,
+    trouble: Trouble,
+    timing: Timing,
+}
+
+/// A fresh site with the files of a case and two sources.
+fn fresh(alloc: Global, case: (&str, &str, &str), timing: Timing) -> Result<Sim<Toy>, AllocError>
     ensures { IfOk result (λ site. IsIdle (world_of site).events) }
 {
+    let (edges, more, _) = case;
+    let file = format!(in alloc; "{RULES}{edges}")?;
     let mut site = Sim::new(alloc, Toy);
-    site.put("build.ninja", BUILD_FILE)?;
+    site.put("build.ninja", file.as_bytes())?;
+    site.put("more", more.as_bytes())?;
     site.put("a", b"x")?;
+    site.put("i", b"y")?;
     site.timing(timing);
+    start_again(&mut site);
     Ok(site)
+}
+
+/// Names what is to go wrong.
+fn name(site: &mut Sim<Toy>, place: Place) -> Result<(), AllocError>
+    ensures { OnOk result (world_of site.new ≡ world_of site.old) }
+{
+    match place.trouble {
+        Trouble::Refused => site.fail(place.call, place.number)?,
+        Trouble::Stop { bytes } => site.stop_at(place.call, place.number, bytes)?,
+    }
+    Ok(())
 }
 
 /// Starts the site again, with no call named any more.
@@ -71,97 +123,201 @@ fn running(events: &[Event]) -> usize {
     events.len().saturating_sub(ended).saturating_sub(ended)
 }
 
-/// What a build from a fresh site gives.
-fn is_built(rt: &impl Abort, report: &Report, site: &Sim<Toy>, place: &str) {
-    assert!(rt;
-        matches!(report, Report::Success { started: 2 }),
-        "{place}: {report:?}"
-    );
-    let content = site.content("c").map(|content| content.as_slice());
-    assert_eq!(rt; content, Some(b"xx".as_slice()), "{place}");
+/// What a build gave: its report, and what the outputs hold.
+fn given(alloc: Global, report: &Report, site: &Sim<Toy>, outputs: &str) -> io::Result<Vec<u8>> {
+    let mut given = Vec::new(alloc);
+    write!(&mut given, "{report:?}")?;
+    for output in outputs.split(' ') {
+        let content = site.content(output).map(|content| content.as_slice());
+        write!(&mut given, " {output}={content:?}")?;
+    }
+    Ok(given)
 }
 
-/// The device refuses the call of this number. Gives whether the build made so many.
-fn refuse(
-    rt: &impl Abort,
+/// Builds on a fresh site in which something goes wrong.
+fn build_troubled(
     alloc: Global,
-    call: Call,
-    number: u64,
-    timing: Timing,
-) -> Result<bool, Fail> {
-    let mut site = fresh(alloc, timing)?;
-    site.fail(call, number)?;
+    case: (&str, &str, &str),
+    place: Place,
+) -> Result<(Report, Sim<Toy>), AllocError> {
+    let mut site = fresh(alloc, case, place.timing)?;
+    name(&mut site, place)?;
     let report = build_all(alloc, &mut site)?;
-    if matches!(&report, Report::Success { .. }) {
-        is_built(rt, &report, &site, "no call was refused");
-        return Ok(false);
-    }
-    assert!(rt;
-        matches!(&report, Report::Fault(SiteFault::Device)),
-        "{call:?} {number}: {report:?}"
-    );
-    // A refused wait ends the build with its command running; after any other fault it is taken in.
-    let left = if call == Call::WaitAny { 1 } else { 0 };
-    assert_eq!(rt; running(site.events()), left, "{call:?} {number}");
-    start_again(&mut site);
-    let report = build_all(alloc, &mut site)?;
-    is_built(rt, &report, &site, "after a refused call");
-    Ok(true)
+    Ok((report, site))
 }
 
-/// The site stops in the call of this number. Gives whether the build made so many.
-fn stop(
-    rt: &impl Abort,
-    alloc: Global,
-    call: Call,
-    number: u64,
-    timing: Timing,
-) -> Result<bool, Fail> {
-    let mut site = fresh(alloc, timing)?;
-    site.stop_at(call, number, 0)?;
-    let report = build_all(alloc, &mut site)?;
-    if matches!(&report, Report::Success { .. }) {
-        is_built(rt, &report, &site, "the site did not stop");
-        return Ok(false);
-    }
-    assert!(rt;
-        matches!(&report, Report::Fault(SiteFault::Stopped)),
-        "{call:?} {number}: {report:?}"
-    );
+/// Starts the site again and builds anew.
+fn build_again(alloc: Global, mut site: Sim<Toy>) -> Result<(Report, Sim<Toy>), AllocError> {
     start_again(&mut site);
     let report = build_all(alloc, &mut site)?;
-    is_built(rt, &report, &site, "after a stop");
-    Ok(true)
+    Ok((report, site))
+}
+
+/// Builds where something goes wrong, then starts the site again and builds anew, which gives what is expected. Answers
+/// whether the first build made so many calls of the kind.
+fn meets(
+    rt: &impl Abort,
+    alloc: Global,
+    case: (&str, &str, &str),
+    place: Place,
+    expected: &[u8],
+) -> Result<bool, Fail> {
+    let (met, site) = meets_first(rt, alloc, case, place, expected)?;
+    meets_again(rt, alloc, site, case.2, place, expected)?;
+    Ok(met)
+}
+
+/// The build in which something goes wrong answers so, or gives what is expected where it made fewer calls of the kind.
+/// Answers which.
+fn meets_first(
+    rt: &impl Abort,
+    alloc: Global,
+    case: (&str, &str, &str),
+    place: Place,
+    expected: &[u8],
+) -> Result<(bool, Sim<Toy>), Fail> {
+    let (report, site) = build_troubled(alloc, case, place)?;
+    let met = is_met(rt, alloc, &report, &site, case.2, place, expected)?;
+    Ok((met, site))
+}
+
+/// The fault is that of the place, and true is answered; or this was given.
+fn is_met(
+    rt: &impl Abort,
+    alloc: Global,
+    report: &Report,
+    site: &Sim<Toy>,
+    outputs: &str,
+    place: Place,
+    expected: &[u8],
+) -> Result<bool, Fail> {
+    match fault_in(report) {
+        None => {
+            is_given(rt, alloc, report, site, outputs, place, expected)?;
+            Ok(false)
+        }
+        Some(fault) => {
+            is_expected(rt, place, fault, site.events());
+            Ok(true)
+        }
+    }
+}
+
+/// The build after the one in which something went wrong gives what is expected.
+fn meets_again(
+    rt: &impl Abort,
+    alloc: Global,
+    site: Sim<Toy>,
+    outputs: &str,
+    place: Place,
+    expected: &[u8],
+) -> Result<(), Fail> {
+    let (report, site) = build_again(alloc, site)?;
+    is_given(rt, alloc, &report, &site, outputs, place, expected)
+}
+
+/// The fault that is answered, if one is.
+fn fault_in(report: &Report) -> Option<SiteFault> {
+    match report {
+        Report::Fault(fault) => Some(*fault),
+        _ => None,
+    }
+}
+
+/// This was given, whatever went wrong before.
+fn is_given(
+    rt: &impl Abort,
+    alloc: Global,
+    report: &Report,
+    site: &Sim<Toy>,
+    outputs: &str,
+    place: Place,
+    expected: &[u8],
+) -> Result<(), Fail> {
+    let given = given(alloc, report, site, outputs)?;
+    assert!(rt; given.as_slice() == expected, "{place:?}");
+    Ok(())
+}
+
+/// The fault is that of the place. A refused wait ends the build with commands running; after any other refused call they
+/// are taken in.
+fn is_expected(rt: &impl Abort, place: Place, fault: SiteFault, events: &[Event]) {
+    assert_eq!(rt; fault, fault_of(place.trouble), "{place:?}");
+    if fault == SiteFault::Device {
+        let waits = matches!(place.call, Call::WaitAny);
+        assert_eq!(rt; running(events) > 0, waits, "{place:?}");
+    }
+}
+
+/// The fault that a build answers.
+fn fault_of(trouble: Trouble) -> SiteFault {
+    match trouble {
+        Trouble::Refused => SiteFault::Device,
+        Trouble::Stop { .. } => SiteFault::Stopped,
+    }
+}
+
+/// Each call of each kind in turn meets this.
+fn sweep(
+    rt: &impl Abort,
+    alloc: Global,
+    case: (&str, &str, &str),
+    trouble: Trouble,
+    timing: Timing,
+) -> Result<(), Fail> {
+    let mut site = fresh(alloc, case, timing)?;
+    let report = build_all(alloc, &mut site)?;
+    let expected = given(alloc, &report, &site, case.2)?;
+    for call in CALLS {
+        let calls = count(rt, alloc, case, call, trouble, timing, &expected)?;
+        assert!(rt; calls > 0 && calls < MANY, "{call:?}");
+    }
+    for call in OTHER_CALLS {
+        let calls = count(rt, alloc, case, call, trouble, timing, &expected)?;
+        assert_eq!(rt; calls, 0, "{call:?}");
+    }
+    Ok(())
+}
+
+/// Each call of this kind in turn meets this. Answers how many there are.
+fn count(
+    rt: &impl Abort,
+    alloc: Global,
+    case: (&str, &str, &str),
+    call: Call,
+    trouble: Trouble,
+    timing: Timing,
+    expected: &[u8],
+) -> Result<u64, Fail> {
+    for number in 1..=MANY {
+        let place = Place {
+            call,
+            number,
+            trouble,
+            timing,
+        };
+        if !meets(rt, alloc, case, place, expected)? {
+            return Ok(number - 1);
+        }
+    }
+    Ok(MANY)
 }
 
 #[test]
 fn each_call_is_refused_in_turn(rt: HostRuntime) -> Result<(), Fail> {
-    let alloc = rt.alloc();
-    for call in CALLS {
-        for timing in [Timing::Early, Timing::Late] {
-            assert!(rt; refuse(&rt, alloc, call, 1, timing)?, "{call:?}");
-            for number in 2..MANY {
-                if !refuse(&rt, alloc, call, number, timing)? {
-                    break;
-                }
-            }
-        }
+    for case in CASES {
+        sweep(&rt, rt.alloc(), case, Trouble::Refused, Timing::Early)?;
+        sweep(&rt, rt.alloc(), case, Trouble::Refused, Timing::Late)?;
     }
     Ok(())
 }
 
 #[test]
 fn the_site_stops_in_each_call_in_turn(rt: HostRuntime) -> Result<(), Fail> {
-    let alloc = rt.alloc();
-    for call in CALLS {
-        for timing in [Timing::Early, Timing::Late] {
-            assert!(rt; stop(&rt, alloc, call, 1, timing)?, "{call:?}");
-            for number in 2..MANY {
-                if !stop(&rt, alloc, call, number, timing)? {
-                    break;
-                }
-            }
-        }
+    for case in CASES {
+        let stop = Trouble::Stop { bytes: 0 };
+        sweep(&rt, rt.alloc(), case, stop, Timing::Early)?;
+        sweep(&rt, rt.alloc(), case, stop, Timing::Late)?;
     }
     Ok(())
 }
