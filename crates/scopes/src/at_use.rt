@@ -144,12 +144,7 @@ impl<'a> Known<'a> {
     }
 
     /// The text of the rule that this name stands for, expanded.
-    fn expand(
-        &self,
-        alloc: Global,
-        name: &str,
-        room: &mut String,
-    ) -> Result<Text, ExpandFault>
+    fn expand(&self, alloc: Global, name: &str, room: &mut String) -> Result<Text, ExpandFault>
         requires { self.now.at.now.scope < vec_len self.now.scopes.now.scopes }
         ensures value { IfOk result (λ text. (template : Template) → opened self.now.at.now name.now ≡ Some template → (past : List Move) → IsScopesOf self.now.scopes.now past → text ≡ text_of self.now past template) }
         ensures size { IfOk result (λ text. length text ≤ largest_value) }
