@@ -7,3 +7,4 @@ pub mod Valuing
 mod Knowing
 mod Alone
 mod Special
+mod Few

@@ -1,5 +1,5 @@
 -- Names that stand for paths of the edge, by their first byte.
-use Rattle.std.proofs.Common.{◌≡◌, ◌==◌, ◌||◌, ◌&&◌, ◌<◌, ◌++◌, true, false, Bool, cond, ℕ, List, [], ◌∷◌, codes, map, Option, None, Some, unwrap_or, length, refl, sym, ap, subst, ◌∙◌}
+use Rattle.std.proofs.Common.{◌≡◌, ◌==◌, ◌||◌, ◌&&◌, true, false, Bool, cond, ℕ, List, [], ◌∷◌, codes, map, Option, None, Some, unwrap_or, refl, sym, ap, ◌∙◌}
 use Rattle.std.specs.Str.{bytes_eq}
 use Rattle.std.specs.Map.Iter.{deref}
 use Rattle.std.proofs.lemmas.Bool.{false≢true}

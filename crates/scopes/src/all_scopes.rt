@@ -3,6 +3,7 @@
 ghost use Rattle.std.specs.Prelude.{ℕ, ◌<◌, vec_len, slice_index};
 
 use crate::fault::DeclareFault;
+use crate::names::value_of;
 use crate::scope::Scope;
 use crate::template::Rule;
 use std::alloc::{AllocError, Global};
@@ -159,7 +160,7 @@ impl Scopes {
     {
         let mut scopes = &self.scopes[..scope + 1];
         while let Some((inner, before)) = scopes.split_last() {
-            if let Some(value) = inner.variables.get(name) {
+            if let Some(value) = value_of(&inner.variables, name) {
                 return Some(value.as_str());
             }
             scopes = &before[..inner.around.min(before.len())];

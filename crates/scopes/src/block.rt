@@ -5,6 +5,7 @@ ghost use Rattle.std.specs.Option.{option_copied};
 ghost use Rattle.std.specs.Str.{bytes_eq};
 ghost use Rattle.scopes.specs.Block.{block_value};
 
+use crate::names::value_of;
 use indexmap::IndexMap;
 use std::alloc::{AllocError, Global};
 use text::Text;
@@ -29,10 +30,7 @@ impl Block {
     pub fn get(&self, name: &str) -> Option<&Text>
         ensures { option_copied result ≡ block_value self.now name.now }
     {
-        if self.values.is_empty() {
-            return None;
-        }
-        self.values.get(name)
+        value_of(&self.values, name)
     }
 
     /// Binds a name. Of two bindings of one name the last stands. Where memory is refused, the block stays as it was.

@@ -7,6 +7,7 @@ mod block;
 mod buffer;
 mod fault;
 mod laws;
+mod names;
 mod order;
 mod place;
 mod scope;

@@ -7,6 +7,7 @@ ghost use Rattle.std.specs.Str.{bytes_eq};
 ghost use Rattle.scopes.specs.Texts.{IsPartOf};
 ghost use Rattle.scopes.specs.Rule.{template_of};
 
+use crate::names::value_of;
 use indexmap::IndexMap;
 use lexer::{Piece, Value};
 use std::alloc::{AllocError, Global};
@@ -71,7 +72,7 @@ impl Rule {
     pub fn get(&self, name: &str) -> Option<&Template>
         ensures { option_copied result ≡ template_of self.now name.now }
     {
-        self.variables.get(name)
+        value_of(&self.variables, name)
     }
 
     /// Binds a variable. Of two bindings of one name the last stands. Where memory is refused, the rule stays as it was.

@@ -6,8 +6,8 @@ use Rattle.scopes.specs.Moves.{variable}
 use Rattle.scopes.proofs.Keeping.{found_here, goes_on, front_taken}
 use Rattle.scopes.proofs.all_scopes.Scopes.lookup_in.Goals as goal
 
-pub returns-in-Some-get : goal.returns-in-Some-get
-returns-in-Some-get c = λ past at.
+pub returns-in-Some-value_of : goal.returns-in-Some-value_of
+returns-in-Some-value_of c = λ past at.
     let parts : c.loop-inner.scopes.now ≡ c.in-Some.before.now ++ c.in-Some.inner.now ∷ [] = search rules in
     let value : variable_of c.in-Some.inner.now c.args.name.now ≡ Some c.as_str.result.now = search rules in
     let found = found_here c.args.self.now.scopes.items c.args.self.now.present c.args.self.now.outer.items past at (λ (x : Scope). variable_of x c.args.name.now) (variable c.args.name.now)
