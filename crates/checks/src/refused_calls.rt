@@ -257,6 +257,13 @@ fn fault_of(trouble: Trouble) -> SiteFault {
     }
 }
 
+/// What a build gives where nothing goes wrong.
+fn expected(alloc: Global, case: (&str, &str, &str), timing: Timing) -> io::Result<Vec<u8>> {
+    let mut site = fresh(alloc, case, timing)?;
+    let report = build_all(alloc, &mut site)?;
+    given(alloc, &report, &site, case.2)
+}
+
 /// Each call of each kind in turn meets this.
 fn sweep(
     rt: &impl Abort,
@@ -265,15 +272,38 @@ fn sweep(
     trouble: Trouble,
     timing: Timing,
 ) -> Result<(), Fail> {
-    let mut site = fresh(alloc, case, timing)?;
-    let report = build_all(alloc, &mut site)?;
-    let expected = given(alloc, &report, &site, case.2)?;
+    let expected = expected(alloc, case, timing)?;
+    sweep_calls(rt, alloc, case, trouble, timing, &expected)?;
+    sweep_others(rt, alloc, case, trouble, timing, &expected)
+}
+
+/// Each call of the kinds that a build makes.
+fn sweep_calls(
+    rt: &impl Abort,
+    alloc: Global,
+    case: (&str, &str, &str),
+    trouble: Trouble,
+    timing: Timing,
+    expected: &[u8],
+) -> Result<(), Fail> {
     for call in CALLS {
-        let calls = count(rt, alloc, case, call, trouble, timing, &expected)?;
+        let calls = count(rt, alloc, case, call, trouble, timing, expected)?;
         assert!(rt; calls > 0 && calls < MANY, "{call:?}");
     }
+    Ok(())
+}
+
+/// No build makes a call of the other kinds.
+fn sweep_others(
+    rt: &impl Abort,
+    alloc: Global,
+    case: (&str, &str, &str),
+    trouble: Trouble,
+    timing: Timing,
+    expected: &[u8],
+) -> Result<(), Fail> {
     for call in OTHER_CALLS {
-        let calls = count(rt, alloc, case, call, trouble, timing, &expected)?;
+        let calls = count(rt, alloc, case, call, trouble, timing, expected)?;
         assert_eq!(rt; calls, 0, "{call:?}");
     }
     Ok(())
