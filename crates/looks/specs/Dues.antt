@@ -6,11 +6,11 @@ use Rattle.model.specs.declared.event.Moment.{Moment}
 use Rattle.model.specs.declared.graph.Edge.{Edge}
 use Rattle.model.specs.World.{file_at}
 use Rattle.model.specs.Graph.{has_number, edge_at, inputs}
-use Rattle.model.specs.OutOfDate.{IsDue, NoneIsMissing, IsFirstMissing}
+use Rattle.model.specs.OutOfDate.{IsDue, IsMissing, NoneIsMissing, IsFirstMissing}
 use Rattle.build_theory.specs.Order.{no_records}
 use Rattle.paths.specs.Told.{text_at, texts_at}
 use Rattle.links.specs.declared.graph.Graph.{Graph}
-use Rattle.links.specs.Links.{Links}
+use Rattle.links.specs.Links.{Links, links_of}
 use Rattle.links.specs.Told.{declared_by}
 use Rattle.looks.specs.declared.lack.Lack.{Lack}
 
@@ -38,6 +38,26 @@ is_due_edge paths links files due e =
     if not (links.phony e) then true
     else if (length (links.inputs e) == 0) then list_any (is_absent paths files) (links.outputs e)
     else list_any (is_due_path paths links files due) (links.regular e)
+
+-- ---- what calls answer, where the files are these
+
+abbrev pub IsAbsentAt : Graph → ℕ → Bool → List Moment → Type 0
+IsAbsentAt graph p is files = is ≡ is_absent graph.manifest.paths files p
+
+abbrev pub IsAnyAbsent : Graph → List ℕ → Bool → List Moment → Type 0
+IsAnyAbsent graph ps is files = is ≡ list_any (is_absent graph.manifest.paths files) ps
+
+abbrev pub IsDuePath : Graph → List Bool → ℕ → Bool → List Moment → Type 0
+IsDuePath graph due p is files = is ≡ is_due_path graph.manifest.paths (links_of graph) files due p
+
+abbrev pub IsAnyDuePath : Graph → List Bool → List ℕ → Bool → List Moment → Type 0
+IsAnyDuePath graph due ps is files = is ≡ list_any (is_due_path graph.manifest.paths (links_of graph) files due) ps
+
+abbrev pub IsDueEdge : Graph → List Bool → ℕ → Bool → List Moment → Type 0
+IsDueEdge graph due e is files = is ≡ is_due_edge graph.manifest.paths (links_of graph) files due e
+
+abbrev pub IsMissingAt : Graph → ℕ → Bool → List Moment → Type 0
+IsMissingAt graph p is files = (is ≡ true) ↔ IsMissing (declared_by graph).edges files (text_at graph.manifest.paths p)
 
 -- ---- in the words of the model
 

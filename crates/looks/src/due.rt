@@ -1,14 +1,11 @@
 //! Which edges are due before anything runs.
 
-ghost use Rattle.std.specs.Prelude.{◌≡◌, ◌<◌, ℕ, List, All, IfOk, length, vec_len, false};
-ghost use Rattle.std.specs.List.{list_any};
+ghost use Rattle.std.specs.Prelude.{◌≡◌, ◌<◌, ℕ, List, All, IfOk, length, false};
 ghost use Rattle.model.specs.Calls.{HasCause};
-ghost use Rattle.paths.specs.Told.{text_at};
-ghost use Rattle.links.specs.Links.{links_of};
 ghost use Rattle.links.specs.Told.{declared_by};
 ghost use Rattle.looks.specs.Looking.{HasLooked, IfSeen};
 ghost use Rattle.looks.specs.Lacks.{HaveOutputs, IsConeUnrecorded};
-ghost use Rattle.looks.specs.Dues.{AreDue, is_absent, is_due_path, is_due_edge};
+ghost use Rattle.looks.specs.Dues.{AreDue, IsAbsentAt, IsAnyAbsent, IsDuePath, IsAnyDuePath, IsDueEdge};
 
 use crate::table::Looks;
 use links::{Cone, Graph};
@@ -57,7 +54,7 @@ fn is_due<S: Site>(
     requires due { length due.now ≡ length graph.now.manifest.lines }
     ensures looked { HasLooked S.tells graph.now (S.world site.old) (S.world site.new) looks.old looks.new }
     ensures cause { HasCause (S.world site.old) (S.world site.new) result }
-    ensures due { IfOk result (λ is. IfSeen S.tells graph.now (S.world site.old) (S.world site.new) looks.old (λ files. is ≡ is_due_edge graph.now.manifest.paths (links_of graph.now) files due.now edge)) }
+    ensures due { IfOk result (λ is. IfSeen S.tells graph.now (S.world site.old) (S.world site.new) looks.old (IsDueEdge graph.now due.now edge is)) }
 {
     if !graph.is_phony(edge) {
         Ok(true)
@@ -80,7 +77,7 @@ fn has_absent<S: Site>(
     requires within { All (λ p. p < length graph.now.manifest.paths) paths.now }
     ensures looked { HasLooked S.tells graph.now (S.world site.old) (S.world site.new) looks.old looks.new }
     ensures cause { HasCause (S.world site.old) (S.world site.new) result }
-    ensures has { IfOk result (λ is. IfSeen S.tells graph.now (S.world site.old) (S.world site.new) looks.old (λ files. is ≡ list_any (is_absent graph.now.manifest.paths files) paths.now)) }
+    ensures has { IfOk result (λ is. IfSeen S.tells graph.now (S.world site.old) (S.world site.new) looks.old (IsAnyAbsent graph.now paths.now is)) }
 {
     for path in paths {
         if is_absent(site, graph, looks, *path)? {
@@ -102,7 +99,7 @@ pub fn is_absent<S: Site>(
     requires within { path < length graph.now.manifest.paths }
     ensures looked { HasLooked S.tells graph.now (S.world site.old) (S.world site.new) looks.old looks.new }
     ensures cause { HasCause (S.world site.old) (S.world site.new) result }
-    ensures absent { IfOk result (λ is. IfSeen S.tells graph.now (S.world site.old) (S.world site.new) looks.old (λ files. is ≡ is_absent graph.now.manifest.paths files path)) }
+    ensures absent { IfOk result (λ is. IfSeen S.tells graph.now (S.world site.old) (S.world site.new) looks.old (IsAbsentAt graph.now path is)) }
 {
     Ok(looks.stamp(site, graph, path)?.is_none())
 }
@@ -121,7 +118,7 @@ fn has_due_path<S: Site>(
     requires due { length due.now ≡ length graph.now.manifest.lines }
     ensures looked { HasLooked S.tells graph.now (S.world site.old) (S.world site.new) looks.old looks.new }
     ensures cause { HasCause (S.world site.old) (S.world site.new) result }
-    ensures has { IfOk result (λ is. IfSeen S.tells graph.now (S.world site.old) (S.world site.new) looks.old (λ files. is ≡ list_any (is_due_path graph.now.manifest.paths (links_of graph.now) files due.now) paths.now)) }
+    ensures has { IfOk result (λ is. IfSeen S.tells graph.now (S.world site.old) (S.world site.new) looks.old (IsAnyDuePath graph.now due.now paths.now is)) }
 {
     for path in paths {
         if is_due_path(site, graph, looks, due, *path)? {
@@ -145,7 +142,7 @@ fn is_due_path<S: Site>(
     requires due { length due.now ≡ length graph.now.manifest.lines }
     ensures looked { HasLooked S.tells graph.now (S.world site.old) (S.world site.new) looks.old looks.new }
     ensures cause { HasCause (S.world site.old) (S.world site.new) result }
-    ensures due { IfOk result (λ is. IfSeen S.tells graph.now (S.world site.old) (S.world site.new) looks.old (λ files. is ≡ is_due_path graph.now.manifest.paths (links_of graph.now) files due.now path)) }
+    ensures due { IfOk result (λ is. IfSeen S.tells graph.now (S.world site.old) (S.world site.new) looks.old (IsDuePath graph.now due.now path is)) }
 {
     match graph.maker(path) {
         Some(edge) => Ok(due[edge.index()]),

@@ -1,15 +1,13 @@
 //! Which source is missing before the first judgement.
 
-ghost use Rattle.std.specs.Prelude.{◌≡◌, ◌<◌, ◌↔◌, true, false, length, All, IfOk, IfSome, List, ℕ};
+ghost use Rattle.std.specs.Prelude.{◌≡◌, ◌<◌, false, length, All, IfOk, IfSome, List, ℕ};
 ghost use Rattle.model.specs.Calls.{OnlyLooks, HasCause};
 ghost use Rattle.model.specs.Graph.{targets_of};
-ghost use Rattle.model.specs.OutOfDate.{IsMissing};
-ghost use Rattle.paths.specs.Told.{text_at};
 ghost use Rattle.links.specs.Told.{declared_by};
-ghost use Rattle.looks.specs.Seen.{IfStays, AreSeen};
+ghost use Rattle.looks.specs.Seen.{AreSeen};
 ghost use Rattle.looks.specs.Lacks.{HaveOutputs, IsConeUnrecorded, IsFound, IsLackOf};
 ghost use Rattle.looks.specs.Looking.{HasLooked, IfSeen};
-ghost use Rattle.looks.specs.Dues.{IsFirstIn, IsFirstFor, IsFoundOfDue};
+ghost use Rattle.looks.specs.Dues.{IsMissingAt, IsFirstIn, IsFirstFor, IsFoundOfDue};
 
 use crate::due::{due_edges, is_absent};
 use crate::table::Looks;
@@ -43,7 +41,7 @@ pub fn first_lack<S: Site>(
     ensures looks { OnlyLooks S.tells (S.world site.old) (S.world site.new) }
     ensures cause { HasCause (S.world site.old) (S.world site.new) result }
     ensures fits { length looks.new.seen.items ≡ length graph.now.manifest.paths }
-    ensures seen { IfStays S.tells (S.world site.old) (S.world site.new) (λ files. AreSeen graph.now.manifest.paths files looks.old.seen.items → AreSeen graph.now.manifest.paths files looks.new.seen.items) }
+    ensures seen { IfSeen S.tells graph.now (S.world site.old) (S.world site.new) looks.old (λ files. AreSeen graph.now.manifest.paths files looks.new.seen.items) }
     ensures found { IfOk result (λ found. (targets : List (List ℕ)) → IsConeUnrecorded graph.now targets cone.now → IfSeen S.tells graph.now (S.world site.old) (S.world site.new) looks.old (λ files. IsFound graph.now (targets_of (declared_by graph.now) targets) files found)) }
     ensures within { IfOk result (λ found. IfSome found (IsLackOf graph.now)) }
 {
@@ -146,7 +144,7 @@ fn is_missing<S: Site>(
     requires within { path < length graph.now.manifest.paths }
     ensures looked { HasLooked S.tells graph.now (S.world site.old) (S.world site.new) looks.old looks.new }
     ensures cause { HasCause (S.world site.old) (S.world site.new) result }
-    ensures missing { IfOk result (λ is. IfSeen S.tells graph.now (S.world site.old) (S.world site.new) looks.old (λ files. (is ≡ true) ↔ IsMissing (declared_by graph.now).edges files (text_at graph.now.manifest.paths path))) }
+    ensures missing { IfOk result (λ is. IfSeen S.tells graph.now (S.world site.old) (S.world site.new) looks.old (IsMissingAt graph.now path is)) }
 {
     match graph.maker(path) {
         Some(_) => Ok(false),

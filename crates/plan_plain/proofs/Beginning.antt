@@ -1,19 +1,19 @@
 -- How a plan begins.
-use Rattle.std.proofs.Common.{◌≡◌, ◌⊎◌, inl, inr, ℕ, suc, ◌+◌, ◌<◌, ◌≤◌, ◌==◌, ◌||◌, Bool, true, false, List, [], ◌∷◌, ◌++◌, map, length, get_or, refl, sym, ◌∙◌, ap, subst, arith}
+use Rattle.std.proofs.Common.{◌≡◌, inl, inr, ℕ, suc, ◌+◌, ◌<◌, ◌≤◌, ◌==◌, ◌||◌, Bool, true, false, List, [], ◌∷◌, ◌++◌, map, length, refl, sym, ◌∙◌, ap, arith}
 use Rattle.std.proofs.Math.ListN.{get_or-eq_default, get_or-append}
 use Rattle.std.proofs.Math.Seq.{get_or-append_seam}
 use Rattle.std.proofs.lemmas.Bool.{false≢true, true≢false, eq-eqb, eqb-true, cases_eq, false_from_ne_true}
-use Rattle.model.specs.Graph.{has_number, edge_at, IsCommand}
+use Rattle.model.specs.Graph.{has_number}
 use Rattle.model.specs.Reading.{IsInCone}
-use Rattle.model.specs.Schedule.{Task, IsSettled}
+use Rattle.model.specs.Schedule.{Task}
 use Rattle.links.specs.declared.graph.Graph.{Graph}
 use Rattle.links.specs.declared.cone.Mark.{Mark}
 use Rattle.links.specs.declared.cone.Mark.TheVariants.{Unseen}
-use Rattle.links.specs.Links.{Links, links_of}
+use Rattle.links.specs.Links.{links_of}
 use Rattle.links.specs.Cone.{is_listed, mark_at}
 use Rattle.links.specs.Linked.{IsConeOf}
 use Rattle.plan.specs.declared.step.Standing.{Standing}
-use Rattle.plan.specs.declared.step.Standing.TheVariants.{Outside, Unjudged, Alias}
+use Rattle.plan.specs.declared.step.Standing.TheVariants.{Outside, Unjudged}
 use Rattle.plan.specs.Standing.{standing_at, is_outside, is_phony, is_settled}
 use Rattle.plan.specs.Planned.{IsTaskOf}
 use Rattle.plan_plain.specs.Planned.{first_standing, AreFirst, AreStood}

@@ -1,10 +1,10 @@
 -- The edges that may be judged and started are those that a scan finds.
-use Rattle.std.proofs.Common.{◌≡◌, ◌⊎◌, inl, inr, ℕ, zero, suc, ◌+◌, ◌<◌, ◌==◌, ◌&&◌, ◌||◌, nat_lt, not, cond, filter, Bool, true, false, List, [], ◌∷◌, ◌++◌, Option, Some, None, length, get_or, count_by, refl, sym, ◌∙◌, ap, subst, arith}
+use Rattle.std.proofs.Common.{◌≡◌, ◌⊎◌, inl, inr, ℕ, zero, suc, ◌<◌, ◌==◌, ◌&&◌, ◌||◌, nat_lt, filter, Bool, true, false, List, [], ◌∷◌, Option, Some, None, length, count_by, refl, sym, ◌∙◌, ap, subst, arith}
 use Rattle.std.proofs.lemmas.Bool.{false≢true, true≢false, or_cases, or_left, or_right, and_parts, and_from, eq-eqb, eqb-true, lt-ltb, ltb-true, cases_Bool, false_from_ne_true}
 use Rattle.model.specs.Graph.{has, has_number, edge_at, inputs, maker, depth_of, IsCommand}
 use Rattle.model.specs.Reading.{IsInCone, Needed}
 use Rattle.model.specs.Schedule.{Task, Step, Judged, Started, running_in, failed_in, well_in, clean_in, started_in, out_of_date_in, done_in, IsSettled, Done, Alias as ByAlias, IsBelow, is_in_pool, MayBeJudged, NoneMayBeJudged, MayStart, NoneMayStart, IsLawfulStep, IsLawful}
-use Rattle.build_theory.proofs.Lists.{has-left, has-cases, has_number-append, has_number-filter}
+use Rattle.build_theory.proofs.Lists.{has-cases, has_number-append, has_number-filter}
 use Rattle.build_theory.proofs.Steps.{kept_lawful}
 use Rattle.links.specs.declared.graph.Graph.{Graph}
 use Rattle.links.specs.Links.{links_of, needs_at}
@@ -16,9 +16,9 @@ use Rattle.plan.specs.Standing.{standing_at, is_unjudged, is_out_of_date, is_run
 use Rattle.plan.specs.Plan.{has_limits}
 use Rattle.plan.specs.Planned.{standing_in}
 use Rattle.plan.proofs.PlannedSteps as stands
-use Rattle.plan.proofs.PlannedCounts.{IsOnce, stands_within, count_listed, running_once, failed_once}
+use Rattle.plan.proofs.PlannedCounts.{stands_within, count_listed, running_once, failed_once}
 use Rattle.plan_plain.specs.declared.plain.Plan.{Plan}
-use Rattle.plan_plain.specs.Scan.{waits_for_nothing, may_judge, may_start, pool_at, runs_in, counted, has_room_in, has_pool_room, IsFirst, NonePasses}
+use Rattle.plan_plain.specs.Scan.{waits_for_nothing, may_judge, may_start, pool_at, runs_in, counted, has_pool_room, IsFirst, NonePasses}
 use Rattle.plan_plain.specs.Planned.{IsPlanned}
 use Rattle.plan_plain.proofs.Waiting.{nothing_left, need_settled}
 use Rattle.plan_plain.proofs.Counted.{once_filter, counted_listed}

@@ -1,4 +1,4 @@
-use Rattle.std.proofs.Common.{◌≡◌, ◌⊎◌, inl, inr, ◌∙◌, ◌∷◌, ℕ, Bool, List, sym, ap, subst, arith}
+use Rattle.std.proofs.Common.{inl, inr, ◌∙◌, ◌∷◌, ℕ, Bool, List, sym, ap, arith}
 use Rattle.std.proofs.Math.ListN.{set}
 use Rattle.plan.proofs.Noting.{noted, noted_flagged, not_noted, all_noted}
 use Rattle.plan_plain.proofs.plain.note_changes.Goals as goal

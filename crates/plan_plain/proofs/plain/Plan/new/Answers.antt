@@ -1,4 +1,4 @@
-use Rattle.std.proofs.Common.{rules, ◌≡◌, ◌∙◌, [], List, Bool, false, length, refl, sym, ap}
+use Rattle.std.proofs.Common.{rules, ◌≡◌, ◌∙◌, [], length, sym}
 use Rattle.model.specs.Schedule.{done_in}
 use Rattle.plan_plain.proofs.Beginning.{stood_first}
 use Rattle.plan_plain.proofs.Telling.{planned_now}

@@ -1,4 +1,4 @@
-use Rattle.std.proofs.Common.{◌≡◌, ◌∙◌, ℕ, suc, sym, arith}
+use Rattle.std.proofs.Common.{◌∙◌, sym, arith}
 use Rattle.std.proofs.lemmas.Bool.{false≢true}
 use Rattle.plan_plain.proofs.Deciding.{judge_lawful, none_judged, start_lawful, none_started, some_run, none_run, some_failed, none_failed}
 use Rattle.plan_plain.proofs.plain.Plan.next.Goals as goal

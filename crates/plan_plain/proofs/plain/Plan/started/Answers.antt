@@ -1,8 +1,8 @@
-use Rattle.std.proofs.Common.{◌≡◌, ◌∙◌, ℕ, length, refl, sym, ap}
+use Rattle.std.proofs.Common.{◌∙◌, sym, ap}
 use Rattle.std.proofs.lemmas.List.{length-set}
 use Rattle.links.specs.Links.{links_of}
 use Rattle.plan.specs.declared.step.Standing.TheVariants.{OutOfDate, Running}
-use Rattle.plan.specs.Standing.{standing_at, is_alias, is_settled}
+use Rattle.plan.specs.Standing.{is_alias, is_settled}
 use Rattle.plan_plain.proofs.Stood.{none_same}
 use Rattle.plan_plain.proofs.Telling.{at_same, out_of_date_within, stood_started}
 use Rattle.plan_plain.proofs.plain.Plan.started.Goals as goal
