@@ -168,7 +168,7 @@ pub const FAULTS: [(&str, &str); 40] = [
 ];
 
 /// What a graph may not have, and what is not taken yet, behind `rows::RULES`.
-pub const GRAPHS: [(&str, &str); 14] = [
+pub const GRAPHS: [(&str, &str); 13] = [
     // The first output that repeats one, of the lowest edge that has such an output.
     (
         "|build b c: cat a
@@ -236,21 +236,11 @@ build
     (
         "|build b: cat a
 |build | i: cat a
-|  pool = p
-|pool p
-|  depth = 0
+|  restat = 1
 write a x
 build b
 ",
         "refused N70: 'i' is not taken yet\n",
-    ),
-    (
-        "|build o: cat a
-|  pool = console
-write a x
-build
-",
-        "refused N70: 'o' is not taken yet\n",
     ),
     // Also where the dyndep file is none of the inputs.
     (

@@ -20,7 +20,7 @@ pub const RULES: &str = "file build.ninja
 ";
 
 /// Commands that are run.
-pub const COMMANDS: [(&str, &str); 7] = [
+pub const COMMANDS: [(&str, &str); 9] = [
     (
         "|build b: cat a
 |build c: cat b a
@@ -107,6 +107,49 @@ start cat d a
 end cat c a
 end cat d a
 success 3
+",
+    ),
+    // One of a pool runs at a time, and others run beside it.
+    (
+        "|build x1: cat a
+|  pool = p
+|build x2: cat a
+|  pool = p
+|build x3: cat a
+|  pool = p
+|build y: cat a
+|pool p
+|  depth = 1
+write a x
+-j 3
+finish last
+build
+",
+        "start cat x1 a
+start cat y a
+end cat y a
+end cat x1 a
+start cat x2 a
+end cat x2 a
+start cat x3 a
+end cat x3 a
+success 4
+",
+    ),
+    // One command has the terminal at a time.
+    (
+        "|build o: cat a
+|  pool = console
+|build q: cat a
+|  pool = console
+write a x
+build
+",
+        "start cat o a
+end cat o a
+start cat q a
+end cat q a
+success 2
 ",
     ),
     // Nothing starts after two failures.

@@ -2,8 +2,11 @@ use Rattle.std.proofs.Common.{sym, ap, subst}
 use Rattle.model.specs.World.{World}
 use Rattle.site.specs.declared.sim.Sim.{Sim}
 use Rattle.site.specs.declared.toy.Toy.{Toy}
+use Rattle.site.specs.Toy.{toy_outcome}
 use Rattle.site.specs.World.{world_of}
 use Rattle.nj_sim.specs.Script.{GoesOn}
+use Rattle.builder.specs.Build.{limits_of}
+use Rattle.nj_sim.proofs.Idles.{goes_idle}
 use Rattle.nj_sim.proofs.idle.build_alone.Goals as goal
 
 pub returns-clause-build : goal.returns-clause-build
@@ -12,8 +15,15 @@ returns-clause-build c =
     let forgets = c.forget_faults.ensures in
     record {
       exit = exit;
-      build = c.build-report.ensures.build;
+      build = c.build-report.ensures;
       goes_on = subst (λ (world : World). GoesOn c.build-report.result exit world) (sym {A = World} (ap (λ (site : Sim Toy). world_of site) forgets)) c.go_on.ensures;
       no_faults = ap (λ (site : Sim Toy). site.faults) forgets;
       no_gate = ap (λ (site : Sim Toy). site.gate) forgets;
     }
+
+pub returns-clause-idle : goal.returns-clause-idle
+returns-clause-idle c =
+    let exit = world_of c.build-report.new.site in
+    let forgets = c.forget_faults.ensures in
+    goes_idle toy_outcome c.args.options.now.file (limits_of c.args.options.now) c.args.targets.now (world_of c.args.site.now) exit c.requires c.build-report.result (world_of c.forget_faults.new.self) c.build-report.ensures
+    (subst (λ (world : World). GoesOn c.build-report.result exit world) (sym {A = World} (ap (λ (site : Sim Toy). world_of site) forgets)) c.go_on.ensures)
