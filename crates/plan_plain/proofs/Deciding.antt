@@ -25,28 +25,6 @@ use Rattle.plan_plain.proofs.Counted.{once_filter, counted_listed}
 
 -- ---- standings
 
-pub unjudged_is : (s : Standing) → is_unjudged s ≡ true → s ≡ Unjudged
-unjudged_is Outside h = absurd (false≢true h)
-unjudged_is Unjudged h = refl
-unjudged_is Clean h = absurd (false≢true h)
-unjudged_is OutOfDate h = absurd (false≢true h)
-unjudged_is Running h = absurd (false≢true h)
-unjudged_is Well h = absurd (false≢true h)
-unjudged_is Failed h = absurd (false≢true h)
-unjudged_is Alias h = absurd (false≢true h)
-unjudged_is Known h = absurd (false≢true h)
-
-pub out_of_date_is : (s : Standing) → is_out_of_date s ≡ true → s ≡ OutOfDate
-out_of_date_is Outside h = absurd (false≢true h)
-out_of_date_is Unjudged h = absurd (false≢true h)
-out_of_date_is Clean h = absurd (false≢true h)
-out_of_date_is OutOfDate h = refl
-out_of_date_is Running h = absurd (false≢true h)
-out_of_date_is Well h = absurd (false≢true h)
-out_of_date_is Failed h = absurd (false≢true h)
-out_of_date_is Alias h = absurd (false≢true h)
-out_of_date_is Known h = absurd (false≢true h)
-
 pub alias_is : (s : Standing) → is_alias s ≡ true → s ≡ Alias
 alias_is Outside h = absurd (false≢true h)
 alias_is Unjudged h = absurd (false≢true h)

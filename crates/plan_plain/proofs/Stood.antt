@@ -1,5 +1,5 @@
 -- How edges stand after one more step, and when aliases are settled.
-use Rattle.std.proofs.Common.{◌≡◌, ◌⊎◌, inl, inr, ℕ, suc, ◌<◌, ◌&&◌, Bool, true, List, [], ◌∷◌, ◌++◌, length, refl, sym, ◌∙◌, ap, subst, arith}
+use Rattle.std.proofs.Common.{◌≡◌, inl, inr, ℕ, suc, ◌<◌, ◌&&◌, Bool, true, List, [], ◌∷◌, ◌++◌, length, refl, sym, ◌∙◌, ap, subst, arith}
 use Rattle.std.proofs.Math.ListN.{set}
 use Rattle.std.proofs.lemmas.List.{get_or-set_other}
 use Rattle.std.proofs.lemmas.Bool.{true≢false, cases_eq}
@@ -14,13 +14,10 @@ use Rattle.plan.specs.Standing.{standing_at, is_alias, is_outside, is_phony, is_
 use Rattle.plan.specs.Planned.{standing_in}
 use Rattle.plan.proofs.PlannedSteps.{edge_of, stands_other, done_more}
 use Rattle.plan.proofs.Stepping.{here, test_same}
+use Rattle.plan.proofs.Passing.{AliasesOnly}
 use Rattle.plan_plain.specs.Scan.{waits_for_nothing, may_settle, NonePasses}
 use Rattle.plan_plain.specs.Planned.{AreStood, IsSound, AreAliases}
 use Rattle.plan_plain.proofs.Waiting.{waits_same}
-
--- an alias may only be settled
-abbrev pub AliasesOnly : List Standing → List Standing → Type 0
-AliasesOnly old new = (k : ℕ) → (standing_at new k ≡ standing_at old k) ⊎ ((standing_at old k ≡ Alias) × (standing_at new k ≡ Known))
 
 module _ (task : Task) (standings : List Standing) (steps : List Step) (stood : AreStood task standings steps) where
   -- one edge stands otherwise, and no other does

@@ -14,10 +14,10 @@ use Rattle.plan.specs.Plan.{standing_by, standing_after, IsSettling}
 use Rattle.plan.specs.Planned.{IsTaskOf, is_stale}
 use Rattle.plan.proofs.PlannedSteps.{stands_stale, stands_clean, stands_started, stands_well, stands_failed, done_new, running_command}
 use Rattle.plan.proofs.PlannedCounts.{stands_within}
-use Rattle.plan.proofs.Passing.{settling}
+use Rattle.plan.proofs.Passing.{AliasesOnly, settling}
 use Rattle.plan_plain.specs.declared.plain.Plan.{Plan}
 use Rattle.plan_plain.specs.Planned.{IsPlanOver, IsPlanned, AreStood, IsSound, AreAliases}
-use Rattle.plan_plain.proofs.Stood.{AliasesOnly, stood_next, stood_aliases, stood_after}
+use Rattle.plan_plain.proofs.Stood.{stood_next, stood_aliases, stood_after}
 
 abbrev pub at_same : (standings : List Standing) (e edge : ℕ) → e ≡ edge → (s : Standing) → standing_at standings edge ≡ s → standing_at standings e ≡ s
 at_same standings e edge same s is = ap (standing_at standings) same ∙ is
