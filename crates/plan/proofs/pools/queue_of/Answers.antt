@@ -1,4 +1,4 @@
-use Rattle.std.proofs.Common.{◌≡◌, ◌∙◌, List, ap}
+use Rattle.std.proofs.Common.{◌∙◌, List, ap}
 use Rattle.model.specs.declared.graph.Pool.{Pool}
 use Rattle.plan.specs.Pools.{depths_of}
 use Rattle.plan.proofs.Beginning.{idle_queue}
