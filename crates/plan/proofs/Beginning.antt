@@ -1,17 +1,19 @@
 -- What a plan is made of, edge by edge.
-use Rattle.std.proofs.Common.{◌≡◌, ◌≢◌, inl, inr, ℕ, zero, suc, ◌+◌, ◌<◌, ◌==◌, ◌&&◌, cond, Bool, true, false, List, [], ◌∷◌, ◌++◌, Option, None, Some, take, length, get_or, refl, sym, ◌∙◌, ap, subst, arith}
+use Rattle.std.proofs.Common.{◌≡◌, ◌≢◌, inl, inr, ℕ, zero, suc, ◌+◌, ◌<◌, ◌==◌, ◌&&◌, cond, Bool, true, false, List, [], ◌∷◌, ◌++◌, Option, None, Some, replicate, take, length, get_or, refl, sym, ◌∙◌, ap, subst, arith}
 use Rattle.std.proofs.Math.ListN.{set}
 use Rattle.std.proofs.Math.Seq.{get_or-append_seam}
-use Rattle.std.proofs.lemmas.List.{get_or_append_left, get_or-set_same, get_or-set_other, length-set, length-append}
+use Rattle.std.proofs.lemmas.List.{get_or_append_left, get_or-set_same, get_or-set_other, length-set, length-append, length-replicate}
 use Rattle.std.proofs.lemmas.Bool.{cases_eq, eqb-true, false_from_ne_true}
 use Rattle.model.specs.declared.graph.Pool.{Pool}
 use Rattle.lowest.specs.Flags.{has}
-use Rattle.queue.specs.Turns.{AreWithin}
+use Rattle.queue.specs.Turns.{Turns, AreWithin}
+use Rattle.links.specs.declared.graph.Graph.{Graph}
 use Rattle.plan.specs.declared.step.Standing.{Standing}
 use Rattle.plan.specs.declared.step.Standing.TheVariants.{Outside}
 use Rattle.plan.specs.Standing.{standing_at, is_unjudged, is_alias}
 use Rattle.plan.specs.Plan.{IsReady}
 use Rattle.plan.specs.Pools.{place_in, depths_of}
+use Rattle.plan.specs.First.{AreGroups, IsIdle}
 use Rattle.plan.proofs.Places.{place_depth}
 use Rattle.plan.proofs.Runs.{at_least}
 
@@ -123,3 +125,28 @@ module _ (standings : List Standing) (left : List ℕ) (n : ℕ) where
 pub length-put : (n : ℕ) (b : Bool) (flags new : List Bool) → new ≡ cond b (set flags n true) flags → length new ≡ length flags
 length-put n true flags new is = ap (λ (l : List Bool). length l) is ∙ length-set flags n true
 length-put n false flags new is = ap (λ (l : List Bool). length l) is
+
+-- ---- no edge waits
+
+zeros : (count g : ℕ) → get_or (replicate {A = ℕ} count 0) g 0 ≡ 0
+zeros zero g = refl
+zeros (suc count) zero = refl
+zeros (suc count) (suc g) = zeros count g
+
+nothing_waits : (count e : ℕ) → has (replicate count false) e ≡ false
+nothing_waits zero e = refl
+nothing_waits (suc count) zero = refl
+nothing_waits (suc count) (suc e) = nothing_waits count e
+
+pub idle_queue : (graph : Graph) (standings : List Standing) (groups : List (Option ℕ)) (depths : List ℕ) (turns : Turns) → AreGroups graph standings groups → depths ≡ depths_of graph.manifest.pools
+    → turns ≡ record { groups = groups; depths = depths; running = replicate (length depths) 0; waiting = replicate (length groups) false } → IsIdle graph standings turns
+idle_queue graph standings groups depths turns each deep is = record {
+  pooled = record {
+    depths = ap (λ (t : Turns). t.depths) is ∙ deep;
+    fits = ap (λ (t : Turns). length t.running) is ∙ (length-replicate {A = ℕ} (length depths) 0 ∙ sym (ap (λ (t : Turns). length t.depths) is));
+    groups = λ e inside. ap (λ (t : Turns). get_or t.groups e None) is ∙ each.each e inside;
+  };
+  fits = ap (λ (t : Turns). length t.waiting) is ∙ (length-replicate (length groups) false ∙ each.fits);
+  none = λ e. ap (λ (t : Turns). has t.waiting e) is ∙ nothing_waits (length groups) e;
+  idle = λ g. ap (λ (t : Turns). get_or t.running g 0) is ∙ zeros (length depths) g;
+}

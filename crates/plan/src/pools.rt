@@ -24,7 +24,8 @@ pub fn queue_of(alloc: Global, graph: &Graph, standings: &[Standing]) -> Result<
 {
     let groups = groups_of(alloc, graph, standings)?;
     let depths = depths_of(alloc, graph.manifest.pools.as_slice())?;
-    Queue::new(alloc, groups, &depths)
+    let queue = Queue::new(alloc, groups, &depths)?;
+    Ok(queue)
 }
 
 /// The pool of each edge of the cone, where it has one with a limit.
