@@ -107,7 +107,7 @@ module _ (tells : Bool) (own : OwnFiles) (task : Task) (graph : Graph) (failed :
       → known ≡ now.earlier ++ now.events → seen ≡ new.earlier ++ new.events → new.earlier ≡ now.earlier
       → OnOk r (Starts tells job act now new) → OnErr r (StartsOrNot tells job act now new)
       → (ltb (length known) (length seen) ≡ false → after ≡ plan)
-      → (ltb (length known) (length seen) ≡ true → (task : Task) (graph : Graph) (steps : List Done) → IsPlanned task graph plan steps → IsLawful task steps → IsLawfulStep task steps (Started (suc e)) → IsPlanned task graph after (steps ++ Started (suc e) ∷ []))
+      → (ltb (length known) (length seen) ≡ true → (graph : Graph) (task : Task) (steps : List Done) → IsPlanned task graph plan steps → IsLawful task steps → IsLawfulStep task steps (Started (suc e)) → IsPlanned task graph after (steps ++ Started (suc e) ∷ []))
       → (on : IsOn tells own task graph plan failed entry now) → IsLawfulStep task on.steps (Started (suc e)) → act ≡ (edge_at task.graph.edges (suc e)).act → IsOn tells own task graph after failed entry new
   on_start r plan after now new e job act known seen job_is known_is seen_is same ok err still planned on next is = by_start (start_shown r tells job act now new ok err)
     where
@@ -117,7 +117,7 @@ module _ (tells : Bool) (own : OwnFiles) (task : Task) (graph : Graph) (failed :
           (on_looks plan now new on looks)
       by_start (inr starts) =
           on_started plan after now new e act on next is (subst (λ (n : ℕ). Starts tells n act now new) job_is starts)
-          (planned (shown known seen (Start job act now.ticked) (one_more_event now new known seen known_is seen_is same (Start job act now.ticked) starts.events)) task graph)
+          (planned (shown known seen (Start job act now.ticked) (one_more_event now new known seen known_is seen_is same (Start job act now.ticked) starts.events)) graph task)
 
   noted_after : (steps : List Done) (e : ℕ) (ok : Bool) → map suc failed ≡ failed_in steps → map suc (failed_after failed e ok) ≡ failed_in (steps ++ Ended (suc e) ok ∷ [])
   noted_after steps e true noted = noted_more steps (Ended (suc e) true) refl noted

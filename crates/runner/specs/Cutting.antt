@@ -1,6 +1,7 @@
 -- What a fault tells of the site, and what runs then.
 use Rattle.std.specs.Prelude.{◌≡◌, ℕ, ◌≤◌, true, List, length, Result, Ok, Err, IfErr}
 use Rattle.model.specs.declared.fault.SiteFault.{SiteFault}
+use Rattle.model.specs.declared.fault.SiteFault.TheVariants.{Device, Stopped, Memory}
 use Rattle.model.specs.declared.event.Event.{Event}
 use Rattle.model.specs.World.{World, runs}
 use Rattle.model.specs.Calls.{HasCause, is_stop}
@@ -25,6 +26,13 @@ pub record SoManyRun (count : ℕ) (events : List Event) : Type 0 where
 abbrev pub IfWaiting : Cut → Type 0 → Type 0
 IfWaiting (Waiting fault) So = So
 IfWaiting (Other fault) So = Unit {0}
+
+-- the fault of a wait, or want of memory beside it
+abbrev pub IsOfWait : Cut → Type 0
+IsOfWait (Waiting fault) = Unit {0}
+IsOfWait (Other Device) = ⊥
+IsOfWait (Other Stopped) = ⊥
+IsOfWait (Other Memory) = Unit {0}
 
 -- the answer that the site gave
 abbrev pub site_answer : {T : Type 0} → Result T Cut → Result T SiteFault

@@ -10,7 +10,7 @@ ghost use Rattle.build_theory.specs.Seen.{StartsUnrefused};
 ghost use Rattle.links.specs.Told.{declared_by};
 ghost use Rattle.plan.specs.declared.step.Standing.{Standing};
 ghost use Rattle.plan.specs.declared.step.Step.TheVariants as step;
-ghost use Rattle.plan.specs.Planned.{IsPlanned, IsOffered};
+ghost use Rattle.plan.specs.Planned.{TakesStep, IsPlanned, IsOffered};
 ghost use Rattle.runner.specs.Ran.{Suits};
 ghost use Rattle.runner.specs.Going.{IsOn, IsGoing};
 
@@ -80,7 +80,7 @@ fn note_start(plan: &mut Plan, edge: EdgeId, is_started: bool)
     requires { IsOffered plan.old (step.Start edge) }
     ensures stands { is_started ≡ true → plan.new.standings.items ≡ slice_set plan.old.standings.items edge Standing.Running }
     ensures still { is_started ≡ false → plan.new ≡ plan.old }
-    ensures planned { is_started ≡ true → (task : Task) (graph : Graph) (steps : List Done) → IsPlanned task graph plan.old steps → IsLawful task steps → IsLawfulStep task steps (Started (suc edge)) → IsPlanned task graph plan.new (steps ++ Started (suc edge) ∷ []) }
+    ensures planned { is_started ≡ true → (graph : Graph) → TakesStep graph plan.old plan.new (Started (suc edge)) }
 {
     if is_started {
         plan.started(edge);

@@ -1,6 +1,6 @@
 //! One turn of a run.
 
-ghost use Rattle.std.specs.Prelude.{◌≡◌, ◌<◌, ◌++◌, ◌∷◌, ℕ, suc, List, [], false, length, IfOk, OnOk, OnErr, MatchOption};
+ghost use Rattle.std.specs.Prelude.{◌≡◌, ◌<◌, ◌++◌, ◌∷◌, ℕ, suc, List, [], false, length, IfOk, IfErr, OnOk, OnErr, MatchOption};
 ghost use Rattle.model.specs.World.{World, IsIdle};
 ghost use Rattle.model.specs.Records.{OwnFiles};
 ghost use Rattle.model.specs.Schedule.{Task, Step as Done, Ended as Finished, IsLawful, IsLawfulStep};
@@ -11,7 +11,7 @@ ghost use Rattle.plan.specs.Standing.{standing_at};
 ghost use Rattle.plan.specs.Planned.{IsPlanOver, IsPlanned, IsNextOf};
 ghost use Rattle.runner.specs.Ran.{Suits};
 ghost use Rattle.runner.specs.Going.{IsOn, IsGoing, IsOver, IsCut, AreEnough, failed_after, work_left};
-ghost use Rattle.runner.specs.Cutting.{Cuts};
+ghost use Rattle.runner.specs.Cutting.{Cuts, IsOfWait};
 
 use crate::cut::Cut;
 use crate::start::start_edge;
@@ -67,6 +67,7 @@ fn take_in<S: Site>(
     requires waits { (tick : List ℕ) × (going : IsGoing S.tells tick graph.now plan.old failed.old.items (S.world site.old)) × IsNextOf going.task going.on.steps step.Wait }
     requires enough { AreEnough graph.now (length flags.now) }
     ensures cuts { Cuts (S.world site.old) (S.world site.new) result }
+    ensures of_wait { IfErr result IsOfWait }
     ensures nearer { OnOk result (work_left plan.new.standings.items < work_left plan.old.standings.items) }
     ensures on { OnOk result ((own : OwnFiles) (task : Task) (entry : World) → IsIdle entry.events → (on : IsOn S.tells own task graph.now plan.old failed.old.items entry (S.world site.old)) → IsNextOf task on.steps step.Wait → IsOn S.tells own task graph.now plan.new failed.new.items entry (S.world site.new)) }
     ensures cut { OnErr result ((own : OwnFiles) (task : Task) (entry : World) → IsIdle entry.events → (on : IsOn S.tells own task graph.now plan.old failed.old.items entry (S.world site.old)) → IsNextOf task on.steps step.Wait → IsCut S.tells own task graph.now plan.new entry (S.world site.new)) }
