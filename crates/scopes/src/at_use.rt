@@ -28,6 +28,7 @@ use text::Text;
 /// all files are read.
 ///
 /// Each text of the rule is expanded once, however often it is named, and no text on the way is kept that is too large.
+/// Texts are put together in `room`, which is only lent: what stood there is lost.
 ///
 /// # Errors
 /// `Circle` where texts of the rule name each other in a circle on the way, else `TooLarge` where the value has more than
