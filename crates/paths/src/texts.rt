@@ -16,7 +16,7 @@ use std::alloc::{AllocError, Global};
 use text::{Items, Path, Text};
 
 impl Manifest {
-    /// The same build graph as texts, a copy for those who do not read numbers yet: it goes when `builder` does.
+    /// The same build graph as texts, a copy for those who compare what was declared.
     pub fn texts(&self, alloc: Global) -> Result<BuildGraph, AllocError>
         ensures { IfOk result (λ graph. graph ≡ graph_of self.now) }
     {
