@@ -6,7 +6,7 @@ ghost use Rattle.site.specs.World.{world_of};
 
 use builder::{Options, Report, build};
 use model::{Event, SiteFault};
-use site::{Call, Sim, Site, Timing, Toy, Trouble};
+use site::{Call, Order, Sim, Site, Timing, Toy, Trouble};
 use std::alloc::{AllocError, Global};
 use std::io::{self, Write};
 use std::process::Abort;
@@ -16,7 +16,7 @@ use text::Text;
 const RULES: &str = "rule cat\n  command = cat $out $in\nrule fail\n  command = fail $out $in\n";
 
 /// Build files behind the rules, each with a file `more` and the outputs that are looked at.
-const CASES: [(&str, &str, &str); 3] = [
+const CASES: [(&str, &str, &str); 4] = [
     // Two commands, of which one makes an output in a folder.
     (
         "build folder/b: cat a\nbuild c: cat folder/b a\n",
@@ -34,6 +34,12 @@ const CASES: [(&str, &str, &str); 3] = [
         "build folder/b: cat a\nbuild c: fail folder/b\nbuild d: cat c\n",
         "",
         "folder/b c d",
+    ),
+    // More commands than may run at once, and one that waits for all of them.
+    (
+        "build folder/p: cat a\nbuild q: cat i\nbuild r: cat a i\nbuild s: cat i a\nbuild t: cat folder/p q r s\n",
+        "",
+        "folder/p q r s t",
     ),
 ];
 
@@ -59,17 +65,43 @@ const OTHER_CALLS: [Call; 5] = [
 /// More calls of a kind than these builds make.
 const MANY: u64 = 100;
 
+/// When commands write, and which of those that run ends next.
+#[derive(Clone, Copy, Debug)]
+struct Manner {
+    timing: Timing,
+    order: Order,
+}
+
+const MANNERS: [Manner; 4] = [
+    Manner {
+        timing: Timing::Early,
+        order: Order::First,
+    },
+    Manner {
+        timing: Timing::Early,
+        order: Order::Last,
+    },
+    Manner {
+        timing: Timing::Late,
+        order: Order::First,
+    },
+    Manner {
+        timing: Timing::Late,
+        order: Order::Last,
+    },
+];
+
 /// What goes wrong in a build, and where.
 #[derive(Clone, Copy, Debug)]
 struct Place {
     call: Call,
     number: u64,
     trouble: Trouble,
-    timing: Timing,
+    manner: Manner,
 }
 
 /// A fresh site with the files of a case and two sources.
-fn fresh(alloc: Global, case: (&str, &str, &str), timing: Timing) -> Result<Sim<Toy>, AllocError>
+fn fresh(alloc: Global, case: (&str, &str, &str), manner: Manner) -> Result<Sim<Toy>, AllocError>
     ensures { IfOk result (λ site. IsIdle (world_of site).events) }
 {
     let (edges, more, _) = case;
@@ -79,7 +111,8 @@ fn fresh(alloc: Global, case: (&str, &str, &str), timing: Timing) -> Result<Sim<
     site.put("more", more.as_bytes())?;
     site.put("a", b"x")?;
     site.put("i", b"y")?;
-    site.timing(timing);
+    site.timing(manner.timing);
+    site.order(manner.order);
     start_again(&mut site);
     Ok(site)
 }
@@ -108,7 +141,7 @@ fn build_all(alloc: Global, site: &mut Sim<Toy>) -> Result<Report, AllocError>
 {
     let options = Options {
         file: Text::from_str(alloc, "build.ninja")?,
-        jobs: 4,
+        jobs: 3,
         keep: 1,
     };
     Ok(build(alloc, site, &options, &[]))
@@ -140,7 +173,7 @@ fn build_troubled(
     case: (&str, &str, &str),
     place: Place,
 ) -> Result<(Report, Sim<Toy>), AllocError> {
-    let mut site = fresh(alloc, case, place.timing)?;
+    let mut site = fresh(alloc, case, place.manner)?;
     name(&mut site, place)?;
     let report = build_all(alloc, &mut site)?;
     Ok((report, site))
@@ -258,8 +291,8 @@ fn fault_of(trouble: Trouble) -> SiteFault {
 }
 
 /// What a build gives where nothing goes wrong.
-fn expected(alloc: Global, case: (&str, &str, &str), timing: Timing) -> io::Result<Vec<u8>> {
-    let mut site = fresh(alloc, case, timing)?;
+fn expected(alloc: Global, case: (&str, &str, &str), manner: Manner) -> io::Result<Vec<u8>> {
+    let mut site = fresh(alloc, case, manner)?;
     let report = build_all(alloc, &mut site)?;
     given(alloc, &report, &site, case.2)
 }
@@ -270,11 +303,11 @@ fn sweep(
     alloc: Global,
     case: (&str, &str, &str),
     trouble: Trouble,
-    timing: Timing,
+    manner: Manner,
 ) -> Result<(), Fail> {
-    let expected = expected(alloc, case, timing)?;
-    sweep_calls(rt, alloc, case, trouble, timing, &expected)?;
-    sweep_others(rt, alloc, case, trouble, timing, &expected)
+    let expected = expected(alloc, case, manner)?;
+    sweep_calls(rt, alloc, case, trouble, manner, &expected)?;
+    sweep_others(rt, alloc, case, trouble, manner, &expected)
 }
 
 /// Each call of the kinds that a build makes.
@@ -283,11 +316,11 @@ fn sweep_calls(
     alloc: Global,
     case: (&str, &str, &str),
     trouble: Trouble,
-    timing: Timing,
+    manner: Manner,
     expected: &[u8],
 ) -> Result<(), Fail> {
     for call in CALLS {
-        let calls = count(rt, alloc, case, call, trouble, timing, expected)?;
+        let calls = count(rt, alloc, case, call, trouble, manner, expected)?;
         assert!(rt; calls > 0 && calls < MANY, "{call:?}");
     }
     Ok(())
@@ -299,11 +332,11 @@ fn sweep_others(
     alloc: Global,
     case: (&str, &str, &str),
     trouble: Trouble,
-    timing: Timing,
+    manner: Manner,
     expected: &[u8],
 ) -> Result<(), Fail> {
     for call in OTHER_CALLS {
-        let calls = count(rt, alloc, case, call, trouble, timing, expected)?;
+        let calls = count(rt, alloc, case, call, trouble, manner, expected)?;
         assert_eq!(rt; calls, 0, "{call:?}");
     }
     Ok(())
@@ -316,7 +349,7 @@ fn count(
     case: (&str, &str, &str),
     call: Call,
     trouble: Trouble,
-    timing: Timing,
+    manner: Manner,
     expected: &[u8],
 ) -> Result<u64, Fail> {
     for number in 1..=MANY {
@@ -324,7 +357,7 @@ fn count(
             call,
             number,
             trouble,
-            timing,
+            manner,
         };
         if !meets(rt, alloc, case, place, expected)? {
             return Ok(number - 1);
@@ -333,11 +366,23 @@ fn count(
     Ok(MANY)
 }
 
+/// In each manner, each call of each kind in turn meets this.
+fn sweep_manners(
+    rt: &impl Abort,
+    alloc: Global,
+    case: (&str, &str, &str),
+    trouble: Trouble,
+) -> Result<(), Fail> {
+    for manner in MANNERS {
+        sweep(rt, alloc, case, trouble, manner)?;
+    }
+    Ok(())
+}
+
 #[test]
 fn each_call_is_refused_in_turn(rt: HostRuntime) -> Result<(), Fail> {
     for case in CASES {
-        sweep(&rt, rt.alloc(), case, Trouble::Refused, Timing::Early)?;
-        sweep(&rt, rt.alloc(), case, Trouble::Refused, Timing::Late)?;
+        sweep_manners(&rt, rt.alloc(), case, Trouble::Refused)?;
     }
     Ok(())
 }
@@ -345,9 +390,7 @@ fn each_call_is_refused_in_turn(rt: HostRuntime) -> Result<(), Fail> {
 #[test]
 fn the_site_stops_in_each_call_in_turn(rt: HostRuntime) -> Result<(), Fail> {
     for case in CASES {
-        let stop = Trouble::Stop { bytes: 0 };
-        sweep(&rt, rt.alloc(), case, stop, Timing::Early)?;
-        sweep(&rt, rt.alloc(), case, stop, Timing::Late)?;
+        sweep_manners(&rt, rt.alloc(), case, Trouble::Stop { bytes: 0 })?;
     }
     Ok(())
 }
