@@ -1,7 +1,7 @@
 //! Builds on a site in memory.
 
 use builder::{Options, Refusal, Report, build};
-use site::{Sim, Toy};
+use sim::{Sim, Toy};
 use std::alloc::{AllocError, Global};
 use std::test::Fail;
 use text::Text;

@@ -1,7 +1,7 @@
 //! Builds of very many commands.
 
 use builder::{Options, Report, build};
-use site::{Sim, Toy};
+use sim::{Sim, Toy};
 use std::alloc::{AllocError, Global};
 use std::test::Fail;
 use text::Text;

@@ -2,11 +2,12 @@
 
 ghost use Rattle.std.specs.Prelude.{◌≡◌, IfOk, OnOk};
 ghost use Rattle.model.specs.World.{IsIdle};
-ghost use Rattle.site.specs.World.{world_of};
+ghost use Rattle.sim.specs.World.{world_of};
 
 use builder::{Options, Report, build};
 use model::{Event, SiteFault};
-use site::{Call, Order, Sim, Site, Timing, Toy, Trouble};
+use sim::{Call, Order, Sim, Timing, Toy, Trouble};
+use site::Site;
 use std::alloc::{AllocError, Global};
 use std::io::{self, Write};
 use std::process::Abort;

@@ -1,6 +1,6 @@
 //! The lines of a script.
 
-use site::{Call, Order, Timing};
+use sim::{Call, Order, Timing};
 use std::str::FromStr;
 
 /// A line of a script, without its newline.

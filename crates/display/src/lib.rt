@@ -1,0 +1,6 @@
+//! What a build shows while it runs: which text, and when.
+#![tactic(auto)]
+
+mod display;
+
+pub use display::{Display, Progress};
