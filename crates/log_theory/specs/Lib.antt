@@ -4,3 +4,4 @@ pub mod Laws
 pub mod Histories
 pub mod Builds
 pub mod Driving
+pub mod Writes
