@@ -7,8 +7,6 @@ mod history;
 mod jobs;
 mod moments;
 mod sim;
-#[cfg(test)]
-mod tests;
 mod toy;
 
 pub use commands::Commands;

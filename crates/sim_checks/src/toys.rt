@@ -4,8 +4,8 @@ ghost use Rattle.std.specs.Prelude.{IfOk};
 ghost use Rattle.model.specs.World.{IsIdle};
 ghost use Rattle.sim.specs.World.{world_of};
 
-use crate::{Sim, Toy};
 use model::Act;
+use sim::{Sim, Toy};
 use site::{Event, Site, SiteFault, Texts};
 use std::alloc::Global;
 use std::test::Fail;
