@@ -1,12 +1,12 @@
 -- What is shown of a command when it starts and when it ends, and what is held back meanwhile (manual, "The `console` pool" and
 -- "Environment variables": NINJA_STATUS; the rest is this project's own).
-use Rattle.std.specs.Prelude.{◌≡◌, ◌⊎◌, ℕ, suc, ◌+◌, ◌-◌, ◌^◌, ◌==◌, ◌&&◌, min, max, Bool, true, false, if◌then◌else◌, List, [], ◌++◌, length, Option, Some, None, bytes_eq, is_some}
+use Rattle.std.specs.Prelude.{◌≡◌, ℕ, suc, ◌+◌, ◌-◌, ◌^◌, ◌==◌, ◌&&◌, min, max, Bool, true, false, if◌then◌else◌, List, [], ◌++◌, length, Option, Some, None, bytes_eq, is_some}
 use Rattle.model.specs.declared.graph.Edge.{Edge}
 use Rattle.model.specs.Graph.{console, outputs}
 use Rattle.status.specs.declared.counts.Counts.{Counts}
 use Rattle.status.specs.declared.part.Part.{Part}
 use Rattle.status.specs.Line.{line_text, said_of}
-use Rattle.status.specs.Ending.{Failure, Ending, ending_text}
+use Rattle.status.specs.Ending.{Failure, ending_text}
 use Rattle.status.specs.Screen.{held}
 use Rattle.display.specs.declared.display.Progress.{Progress}
 
@@ -72,6 +72,11 @@ with_unstarted old unstarted = record { pattern = old.pattern; verbose = old.ver
 abbrev pub with_held : Showing → Option (List ℕ) → Showing
 with_held old texts = record { pattern = old.pattern; verbose = old.verbose; held = texts; unstarted = old.unstarted }
 
+-- what is shown now of a text that is handed in
+abbrev pub shown_now : Option (List ℕ) → List ℕ → List ℕ
+shown_now None text = text
+shown_now (Some texts) text = []
+
 -- what is held back where a text was handed in: it stands behind the others, or was shown
 abbrev pub behind : Option (List ℕ) → List ℕ → Option (List ℕ)
 behind None text = None
@@ -91,15 +96,20 @@ pub record TakesTerminal (progress : Progress) (edge : Edge) (old new : Showing)
 abbrev pub released : Showing → Showing
 released old = with_held old None
 
--- what is so when the text of a command that has ended was handed in: behind one with the terminal, nothing is held back
-abbrev pub after_end : Edge → Showing → List ℕ → Showing
-after_end edge old text = if is_console edge then released old else with_held old (behind old.held text)
+-- what is shown when a command ends that has this text: of one with the terminal, behind all that was held back
+abbrev pub shown_at_end : Edge → Option (List ℕ) → List ℕ → List ℕ
+shown_at_end edge texts text = if is_console edge then held texts ++ text else shown_now texts text
+
+-- what is held back then: behind one with the terminal, nothing
+abbrev pub held_at_end : Edge → Option (List ℕ) → List ℕ → Option (List ℕ)
+held_at_end edge texts text = if is_console edge then None else behind texts text
 
 -- a command that printed this has ended
-pub record Ends (progress : Progress) (edge : Edge) (ok : Bool) (printed : List ℕ) (old new : Showing) : Type 0 where
+pub record Ends (progress : Progress) (edge : Edge) (ok : Bool) (printed : List ℕ) (old new : Showing) (shown : List ℕ) : Type 0 where
   pub counts : Counts
   pub are : AreCounts progress old.unstarted counts
-  pub after : new ≡ after_end edge old (end_text old.pattern old.verbose counts edge ok printed)
+  pub now : shown ≡ shown_at_end edge old.held (end_text old.pattern old.verbose counts edge ok printed)
+  pub after : new ≡ with_held old (held_at_end edge old.held (end_text old.pattern old.verbose counts edge ok printed))
 
 -- Nothing is shown when a command ends: it is held back; of one with the terminal, that it ended well and nothing was held back.
 abbrev pub ends_silently : Edge → Bool → Option (List ℕ) → Bool

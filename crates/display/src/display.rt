@@ -1,11 +1,11 @@
 //! What is shown at the start and at the end of commands.
 
-ghost use Rattle.std.specs.Prelude.{◌≡◌, ◌⊎◌, ◌<◌, ◌++◌, suc, true, false, [], length, None, IfOk, OnOk, OnErr, IsOk, IsSome};
+ghost use Rattle.std.specs.Prelude.{◌≡◌, ◌⊎◌, ◌<◌, ◌++◌, suc, true, false, [], length, List, ℕ, None, IfOk, OnOk, OnErr, IsOk};
 ghost use Rattle.model.specs.Calls.{OnlyLooks, HasCause};
 ghost use Rattle.model.specs.Graph.{edge_at};
 ghost use Rattle.links.specs.Told.{declared_by};
 ghost use Rattle.status.specs.Screen.{held};
-ghost use Rattle.display.specs.Shown.{is_console, unstarted_after, with_one_more, AreCounts, command_line, end_text, with_unstarted, with_held, behind, counted_off, TakesTerminal, released, Ends, ends_silently};
+ghost use Rattle.display.specs.Shown.{is_console, unstarted_after, with_one_more, AreCounts, command_line, end_text, with_unstarted, with_held, shown_now, behind, counted_off, TakesTerminal, released, Ends, ends_silently};
 
 use crate::endings::{push_end, said};
 use crate::terminal::has_terminal;
@@ -80,12 +80,7 @@ impl<'a> Model for Display<'a> {
 
 impl<'a> Display<'a> {
     /// A display on which nothing was shown. `unstarted` commands are due before anything runs.
-    pub fn new(
-        alloc: Global,
-        pattern: &'a Pattern,
-        verbose: bool,
-        unstarted: usize,
-    ) -> Display<'a>
+    pub fn new(alloc: Global, pattern: &'a Pattern, verbose: bool, unstarted: usize) -> Display<'a>
         ensures { result ≡ record { pattern = pattern.now; verbose = verbose; held = None; unstarted = unstarted } }
     {
         Display {
@@ -134,7 +129,8 @@ impl<'a> Display<'a> {
         }
         let counts = progress.with_one_more().counts(self.unstarted);
         let line = self.line(graph, edge, &counts)?;
-        self.show(site, line.as_slice())?;
+        let shown = self.hand_in(line)?;
+        show_all(site, shown.as_slice())?;
         self.screen.hold(self.alloc);
         Ok(())
     }
@@ -156,17 +152,32 @@ impl<'a> Display<'a> {
         requires within { edge < length graph.now.manifest.lines }
         ensures looks { OnlyLooks S.tells (S.world site.old) (S.world site.new) }
         ensures cause { HasCause (S.world site.old) (S.world site.new) result }
-        ensures ok { OnOk result (Ends progress (edge_at (declared_by graph.now).edges (suc edge)) finished.now.ok finished.now.output self.old self.new) }
+        ensures ok { OnOk result ((shown : List ℕ) × Ends progress (edge_at (declared_by graph.now).edges (suc edge)) finished.now.ok finished.now.output self.old self.new shown) }
         ensures silent { ends_silently (edge_at (declared_by graph.now).edges (suc edge)) finished.now.ok self.old.held ≡ true → (S.world site.new ≡ S.world site.old) }
+        ensures err { OnErr result ((self.new ≡ self.old) ⊎ (self.new ≡ released self.old)) }
+    {
+        let shown = self.ended(graph, edge, finished, progress)?;
+        show_all(site, shown.as_slice())
+    }
+
+    /// Takes in a command that has ended, and gives what to show now.
+    fn ended(
+        &mut self,
+        graph: &Graph,
+        edge: EdgeId,
+        finished: &Finished,
+        progress: Progress,
+    ) -> Result<Vec<u8>, AllocError>
+        requires { edge < length graph.now.manifest.lines }
+        ensures ok { IfOk result (λ shown. Ends progress (edge_at (declared_by graph.now).edges (suc edge)) finished.now.ok finished.now.output self.old self.new shown.items) }
         ensures err { OnErr result ((self.new ≡ self.old) ⊎ (self.new ≡ released self.old)) }
     {
         let counts = progress.counts(self.unstarted);
         let text = self.end_text(graph, edge, finished, &counts)?;
         if has_terminal(graph, edge) {
-            let shown = self.release(text.as_slice())?;
-            show_all(site, shown.as_slice())
+            self.release(text.as_slice())
         } else {
-            self.show(site, text.as_slice())
+            self.hand_in(text)
         }
     }
 
@@ -211,18 +222,17 @@ impl<'a> Display<'a> {
         Ok(text)
     }
 
-    /// Shows the text at once, or holds it back behind what is held back already.
-    fn show<S: Site>(&mut self, site: &mut S, text: &[u8]) -> Result<(), SiteFault>
-        requires running { (S.world site.old).stopped ≡ false }
-        ensures looks { OnlyLooks S.tells (S.world site.old) (S.world site.new) }
-        ensures cause { HasCause (S.world site.old) (S.world site.new) result }
-        ensures ok { OnOk result (self.new ≡ with_held self.old (behind self.old.held text.now)) }
-        ensures silent { IsSome self.old.held → (S.world site.new ≡ S.world site.old) }
+    /// Hands a text in, and gives what to show of it now: all, or nothing where it is held back.
+    fn hand_in(&mut self, text: Vec<u8>) -> Result<Vec<u8>, AllocError>
+        ensures shown { IfOk result (λ shown. shown.items ≡ shown_now self.old.held text.items) }
+        ensures after { OnOk result (self.new ≡ with_held self.old (behind self.old.held text.items)) }
         ensures err { OnErr result (self.new ≡ self.old) }
     {
-        match self.screen.show(text)? {
-            Some(now) => site.show(now),
-            None => Ok(()),
+        let is_shown = self.screen.show(text.as_slice())?.is_some();
+        if is_shown {
+            Ok(text)
+        } else {
+            Ok(Vec::new(self.alloc))
         }
     }
 
@@ -245,7 +255,7 @@ fn show_all<S: Site>(site: &mut S, text: &[u8]) -> Result<(), SiteFault>
     requires running { (S.world site.old).stopped ≡ false }
     ensures looks { OnlyLooks S.tells (S.world site.old) (S.world site.new) }
     ensures cause { HasCause (S.world site.old) (S.world site.new) result }
-    ensures silent { text.now ≡ [] → (S.world site.new ≡ S.world site.old) }
+    ensures silent { text.now ≡ [] → IsOk result × (S.world site.new ≡ S.world site.old) }
 {
     if text.is_empty() {
         return Ok(());

@@ -1,4 +1,4 @@
-use Rattle.std.proofs.Common.{◌≡◌, sym, ap, ◌∙◌}
+use Rattle.std.proofs.Common.{sym, ap, ◌∙◌}
 use Rattle.model.specs.declared.graph.Edge.{Edge}
 use Rattle.paths.specs.declared.manifest.Action.TheVariants.{Alias, Command}
 use Rattle.display.proofs.Edges.{edge_does}

@@ -1,4 +1,4 @@
-use Rattle.std.proofs.Common.{◌≡◌, List, ℕ, Bor, [], ◌∷◌, ◌++◌, map, take, sym, ap, ◌∙◌}
+use Rattle.std.proofs.Common.{List, ℕ, Bor, map, ap, ◌∙◌}
 use Rattle.paths.specs.Told.{texts_at}
 use Rattle.display.proofs.Edges.{output_within, outputs_are, one_more, all_told}
 use Rattle.display.proofs.endings.outputs.Goals as goal

@@ -1,4 +1,4 @@
-use Rattle.std.proofs.Common.{◌≡◌, List, ℕ, bytes_eq, sym, ap, ◌∙◌}
+use Rattle.std.proofs.Common.{List, ℕ, bytes_eq, sym, ap, ◌∙◌}
 use Rattle.model.specs.Graph.{console}
 use Rattle.paths.specs.declared.manifest.Action.TheVariants.{Alias, Command}
 use Rattle.display.specs.Shown.{is_console}

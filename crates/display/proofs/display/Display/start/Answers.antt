@@ -1,4 +1,4 @@
-use Rattle.std.proofs.Common.{◌≡◌, List, Bool, ◌∙◌, suc}
+use Rattle.std.proofs.Common.{List, Bool, suc}
 use Rattle.status.specs.declared.part.Part.{Part}
 use Rattle.model.specs.Graph.{edge_at}
 use Rattle.links.specs.Told.{declared_by}
@@ -14,5 +14,5 @@ returns-clause-console g c = λ console.
       after =
           held_behind c.args.self.now _ c.self.view_is c.saturating_sub-self-inside.result c.saturating_sub-self-inside.ensures
           (λ (pattern : List Part) (verbose : Bool). command_line pattern verbose c.counts-counts.result (edge_at (declared_by c.args.graph.now).edges (suc c.args.edge)))
-          c.as_slice.result.now _ c.show.new.self c.hold.new.self (c.as_slice.ensures.value ∙ c.in_ok-line.ensures) c.self-2.view_is c.in_ok-show.ensures.ok c.hold.ensures;
+          c.in_ok-line.line.items _ c.hand_in.new.self c.hold.new.self c.in_ok-line.ensures c.self-2.view_is c.in_ok-shown.ensures.after c.hold.ensures;
     }
