@@ -2,5 +2,8 @@
 #![tactic(auto)]
 
 mod display;
+mod endings;
+mod terminal;
 
 pub use display::{Display, Progress};
+pub use terminal::has_terminal;
