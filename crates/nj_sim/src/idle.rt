@@ -71,6 +71,13 @@ impl IdleSite {
         self.site.events()
     }
 
+    /// What was shown so far.
+    pub fn shown(&self) -> &[u8]
+        ensures { result.now ≡ self.now.shown.items }
+    {
+        self.site.shown()
+    }
+
     /// From now on this running command ends next.
     pub fn order(&mut self, order: Order) {
         self.site.order(order);
