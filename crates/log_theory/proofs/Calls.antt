@@ -61,14 +61,14 @@ entry_logged B format own edges old = record { readable = λ was_so. was_so; log
 
 module _ (B : Behaviour) (format : LogFormat) (own : OwnFiles) (edges : List Edge) (entry : Store) (old now new : World) (so_far : List Moment) (was : now.history ≡ old.history ++ so_far)
     (kept : FilesAreKept own edges old.history new.history) (commands : (job : ℕ) → runs job now.events ≡ true → IsCommand edges job) where
-  within : (ms : List Moment) → new.history ≡ now.history ++ ms → AllByRecursion (IsWithinEdge edges) ms
+  pub within : (ms : List Moment) → new.history ≡ now.history ++ ms → AllByRecursion (IsWithinEdge edges) ms
   within ms grows = since (IsWithinEdge edges) old.history so_far now.history ms new.history was grows kept.commands
 
-  edits : (ms : List Moment) → new.history ≡ now.history ++ ms → AllByRecursion IsNoEdit ms
+  pub edits : (ms : List Moment) → new.history ≡ now.history ++ ms → AllByRecursion IsNoEdit ms
   edits ms grows = since IsNoEdit old.history so_far now.history ms new.history was grows kept.edits
 
   -- where both logs are as they were, they tell the same
-  same_logs : (steps : List Step) (hand : Option ℕ) → view_of new.history own.build_log ≡ view_of now.history own.build_log → view_of new.history own.deps_log ≡ view_of now.history own.deps_log
+  pub same_logs : (steps : List Step) (hand : Option ℕ) → view_of new.history own.build_log ≡ view_of now.history own.build_log → view_of new.history own.deps_log ≡ view_of now.history own.deps_log
       → (AreReadable format own old.history → AreReadable format own now.history) → IsLogged B edges steps hand entry (store_in format own (view_of now.history)) old new → IsLoggedAt B format own edges steps hand entry old new
   same_logs steps hand a b readable logged = record {
     readable = λ was_so. readable_same format own now.history new.history a b (readable was_so);

@@ -10,6 +10,7 @@ pub mod Edits
 pub mod Growing
 pub mod Grown
 pub mod Calls
+pub mod Writing
 pub mod Ticking
 pub mod Recorded
 pub mod Carried
