@@ -125,25 +125,7 @@ module _ (B : Behaviour) (format : LogFormat) (own : OwnFiles) (edges : List Edg
       (growing.logged_starts B edges entry old steps (store_in format own (view_of now.history)) now new i act now.ticked starts.events
       (adds.earlier ++ Happened (Start i act now.ticked) ∷ adds.later) adds.grows begun fresh logged.logged)
 
-  -- a command was taken in and ended well; it is in hand now
-  pub well_logged : (steps : List Step) (tells : Bool) → IsTrue tells → (i : ℕ) (ok : Bool) → Finishes tells i ok now new → ((job : ℕ) → runs job new.events ≡ true → IsCommand edges job)
-      → IsLoggedAt B format own edges steps None entry old now → IsLoggedAt B format own edges (steps ++ Ended i true ∷ []) (Some i) entry old new
-  well_logged steps tells tell i ok finish after logged =
-      let adds = finish.history tell in
-      same_logs (steps ++ Ended i true ∷ []) (Some i) (build_log_stays (Happened (Finish i ok)) adds after tt tt) (deps_log_stays (Happened (Finish i ok)) adds after tt tt) logged.readable
-      (growing.logged_well B edges entry old steps (store_in format own (view_of now.history)) now new i ok finish.events
-      (adds.earlier ++ Happened (Finish i ok) ∷ adds.later) adds.grows logged.logged)
-
-  -- a command was taken in and failed
-  pub failed_logged : (steps : List Step) (tells : Bool) → IsTrue tells → (i : ℕ) (ok : Bool) → Finishes tells i ok now new → ((job : ℕ) → runs job new.events ≡ true → IsCommand edges job)
-      → IsLoggedAt B format own edges steps None entry old now → IsLoggedAt B format own edges (steps ++ Ended i false ∷ []) None entry old new
-  failed_logged steps tells tell i ok finish after logged =
-      let adds = finish.history tell in
-      same_logs (steps ++ Ended i false ∷ []) None (build_log_stays (Happened (Finish i ok)) adds after tt tt) (deps_log_stays (Happened (Finish i ok)) adds after tt tt) logged.readable
-      (growing.logged_failed B edges entry old steps (store_in format own (view_of now.history)) now new i ok finish.events
-      (adds.earlier ++ Happened (Finish i ok) ∷ adds.later) adds.grows logged.logged)
-
-  -- after a fault a command was taken in
+  -- a command was taken in, as no step yet
   pub rest_logged : (steps : List Step) (hand : Option ℕ) (tells : Bool) → IsTrue tells → (i : ℕ) (ok : Bool) → Finishes tells i ok now new → ((job : ℕ) → runs job new.events ≡ true → IsCommand edges job)
       → IsLoggedAt B format own edges steps hand entry old now → IsLoggedAt B format own edges steps hand entry old new
   rest_logged steps hand tells tell i ok finish after logged =

@@ -152,31 +152,29 @@ module _ (B : Behaviour) (edges : List Edge) (entry : Store) (old : World) where
       (λ k h. in_left well_in well-append steps (Judged i b ∷ []) k h) (λ k h. inl (well_same steps (Judged i b) refl k h)) (λ k h. h)
       (goes_nowhere now) logged
 
-  -- A command was taken in and has failed: no edge is in hand. Or it ended well: it is in hand until it is recorded.
-  pub logged_failed : (steps : List Step) (store : Store) (now new : World) (i : ℕ) (ok : Bool) → new.events ≡ now.events ++ Finish i ok ∷ []
-      → (moments : List Moment) → new.history ≡ now.history ++ moments → IsLogged B edges steps None entry store old now → IsLogged B edges (steps ++ Ended i false ∷ []) None entry store old new
-  logged_failed steps store now new i ok events moments history logged =
-      logged_on steps (steps ++ Ended i false ∷ []) None None store now new
-      (λ k h. in_left started_in started-append steps (Ended i false ∷ []) k h) (λ k h. started_same steps (Ended i false) refl k h)
-      (λ k h. in_left well_in well-append steps (Ended i false ∷ []) k h) (λ k h. inl (well_same steps (Ended i false) refl k h)) (λ k h. h)
-      (record { moments = moments; history = history; more = Finish i ok ∷ []; events = events }) logged
-
-  pub logged_well : (steps : List Step) (store : Store) (now new : World) (i : ℕ) (ok : Bool) → new.events ≡ now.events ++ Finish i ok ∷ []
-      → (moments : List Moment) → new.history ≡ now.history ++ moments → IsLogged B edges steps None entry store old now → IsLogged B edges (steps ++ Ended i true ∷ []) (Some i) entry store old new
-  logged_well steps store now new i ok events moments history logged =
-      logged_on steps (steps ++ Ended i true ∷ []) None (Some i) store now new
-      (λ k h. in_left started_in started-append steps (Ended i true ∷ []) k h) (λ k h. started_same steps (Ended i true) refl k h)
-      (λ k h. in_left well_in well-append steps (Ended i true ∷ []) k h)
-      (λ k h. elim (in_either well_in well-append steps (Ended i true ∷ []) k h) [ inl before ↦ inl before | inr last ↦ inr (ap (λ (n : ℕ). Some n) (has_number-is i k last)) ])
-      (λ k h. absurd (some_none k (sym h)))
-      (record { moments = moments; history = history; more = Finish i ok ∷ []; events = events }) logged
-
   -- after a fault a command ends, and no step is taken
   pub logged_rest : (steps : List Step) (hand : Option ℕ) (store : Store) (now new : World) (i : ℕ) (ok : Bool) → new.events ≡ now.events ++ Finish i ok ∷ []
       → (moments : List Moment) → new.history ≡ now.history ++ moments → IsLogged B edges steps hand entry store old now → IsLogged B edges steps hand entry store old new
   logged_rest steps hand store now new i ok events moments history logged =
       logged_on steps steps hand hand store now new (λ k h. h) (λ k h. h) (λ k h. h) (λ k h. inl h) (λ k h. h)
       (record { moments = moments; history = history; more = Finish i ok ∷ []; events = events }) logged
+
+  -- A command that was taken in has failed: no edge is in hand. Or it ended well: it is in hand until it is recorded.
+  pub logged_as_failed : (steps : List Step) (store : Store) (now : World) (i : ℕ) → IsLogged B edges steps None entry store old now → IsLogged B edges (steps ++ Ended i false ∷ []) None entry store old now
+  logged_as_failed steps store now i logged =
+      logged_on steps (steps ++ Ended i false ∷ []) None None store now now
+      (λ k h. in_left started_in started-append steps (Ended i false ∷ []) k h) (λ k h. started_same steps (Ended i false) refl k h)
+      (λ k h. in_left well_in well-append steps (Ended i false ∷ []) k h) (λ k h. inl (well_same steps (Ended i false) refl k h)) (λ k h. h)
+      (goes_nowhere now) logged
+
+  pub logged_as_well : (steps : List Step) (store : Store) (now : World) (i : ℕ) → IsLogged B edges steps None entry store old now → IsLogged B edges (steps ++ Ended i true ∷ []) (Some i) entry store old now
+  logged_as_well steps store now i logged =
+      logged_on steps (steps ++ Ended i true ∷ []) None (Some i) store now now
+      (λ k h. in_left started_in started-append steps (Ended i true ∷ []) k h) (λ k h. started_same steps (Ended i true) refl k h)
+      (λ k h. in_left well_in well-append steps (Ended i true ∷ []) k h)
+      (λ k h. elim (in_either well_in well-append steps (Ended i true ∷ []) k h) [ inl before ↦ inl before | inr last ↦ inr (ap (λ (n : ℕ). Some n) (has_number-is i k last)) ])
+      (λ k h. absurd (some_none k (sym h)))
+      (goes_nowhere now) logged
 
   -- The command in hand is started; none of its outputs has a record in force.
   pub logged_starts : (steps : List Step) (store : Store) (now new : World) (i : ℕ) (act : Act) (stamp : ℕ) → new.events ≡ now.events ++ Start i act stamp ∷ []

@@ -23,4 +23,5 @@ pub mod NothingLeft
 pub mod Over
 pub mod Stated
 pub mod Builds
+pub mod Ledger
 pub mod Driving

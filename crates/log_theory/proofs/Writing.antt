@@ -2,7 +2,7 @@
 use Rattle.std.proofs.Common.{◌≡◌, ◌≢◌, ◌⊎◌, inl, inr, ℕ, Bool, true, false, IsTrue, List, [], ◌∷◌, ◌++◌, length, Option, Some, None, bytes_eq, refl, sym, ◌∙◌, ap, subst, append_assoc}
 use Rattle.std.specs.List.{AllByRecursion}
 use Rattle.std.proofs.lemmas.List.{append-nil}
-use Rattle.std.proofs.lemmas.Bool.{false_from_ne_true}
+use Rattle.std.proofs.lemmas.Bool.{false≢true, false_from_ne_true}
 use Rattle.model.specs.declared.event.Event.{Event}
 use Rattle.model.specs.declared.event.Moment.{Moment}
 use Rattle.model.specs.declared.event.Moment.TheVariants.{Wrote, Happened}
@@ -20,6 +20,7 @@ use Rattle.build_theory.specs.Run.{events_in, steps_until, AreOfRun, IsToldBy, I
 use Rattle.build_theory.proofs.Lists.{same_bytes, all_append, all_weaker}
 use Rattle.build_theory.proofs.Files.{IsElsewhere, file_stays}
 use Rattle.build_theory.proofs.Moments.{until_all, told_on}
+use Rattle.build_theory.proofs.Runs.{run_writes}
 use Rattle.log_theory.specs.Logged.{IsLoggedAt}
 use Rattle.log_theory.specs.Writes.{IsAtOrByOthers, GrewAt, WritesAt}
 use Rattle.log_theory.proofs.Calls.{log_elsewhere, within, edits, same_logs}
@@ -119,6 +120,14 @@ no_events_at path running (Happened event ∷ ms) all = absurd all.0
 
 -- ---- the run goes on
 
+abbrev stamp_of_call : (tells : Bool) (X : ℕ → Type 0) → (IsTrue tells → (stamp : ℕ) × X stamp) → ℕ
+stamp_of_call true X call = (call refl).0
+stamp_of_call false X call = 0
+
+of_stamp : (tells : Bool) (X : ℕ → Type 0) (call : IsTrue tells → (stamp : ℕ) × X stamp) → IsTrue tells → X (stamp_of_call tells X call)
+of_stamp true X call tell = (call refl).1
+of_stamp false X call tell = absurd (false≢true tell)
+
 module _ (tells : Bool) (own : OwnFiles) (task : Task) (path : List ℕ) where
   of_run_at : (steps : List Step) (before events : List Event) → ((content : Option (List ℕ)) → IsOwnWrite own task.graph.edges (steps_until steps (length events)) path content)
       → (ms : List Moment) → AllByRecursion (IsAtOrByOthers path (IsRunning (before ++ events))) ms → AreOfRun own task.graph.edges steps before events ms
@@ -150,6 +159,14 @@ module _ (tells : Bool) (own : OwnFiles) (task : Task) (path : List ℕ) where
 
       may_now : (content : Option (List ℕ)) → IsOwnWrite own task.graph.edges (steps_until steps (length run.events)) path content
       may_now content = subst (λ (l : List Step). IsOwnWrite own task.graph.edges l path content) (sym so_far) (may content)
+
+  -- the program wrote this content, or removed the file, where it may
+  pub run_wrote : (steps : List Step) (old now new : World) (content : Option (List ℕ)) → IsOwnWrite own task.graph.edges steps path content → Writes tells path content now new → IsRun tells own task steps old now → IsRun tells own task steps old new
+  run_wrote steps old now new content may writes run =
+      run_writes tells own task old steps now new path content (stamp_of_call tells X writes.history) run may writes.events (of_stamp tells X writes.history)
+    where
+      X : ℕ → Type 0
+      X stamp = Adds (IsRunning now.events) (IsRunning now.events) (Wrote Program path content stamp) now.history new.history
 
 -- ---- another file stays
 
