@@ -35,7 +35,7 @@ pub record GoesOn (now new : World) : Type 0 where
 pub goes_nowhere : (now : World) → GoesOn now now
 goes_nowhere now = record { moments = []; history = sym (append-nil now.history); more = []; events = sym (append-nil now.events) }
 
-longer : {X : Type 0} (old before : List X) (x : X) (after more now new : List X) → new ≡ now ++ more → now ≡ old ++ (before ++ x ∷ after) → new ≡ old ++ (before ++ x ∷ (after ++ more))
+pub longer : {X : Type 0} (old before : List X) (x : X) (after more now new : List X) → new ≡ now ++ more → now ≡ old ++ (before ++ x ∷ after) → new ≡ old ++ (before ++ x ∷ (after ++ more))
 longer old before x after more now new grows splits =
     grows ∙ (ap (λ l. l ++ more) splits ∙ (append_assoc old (before ++ x ∷ after) more ∙ ap (λ l. old ++ l) (append_assoc before (x ∷ after) more)))
 

@@ -24,4 +24,5 @@ pub mod Over
 pub mod Stated
 pub mod Builds
 pub mod Ledger
+pub mod TakenIn
 pub mod Driving

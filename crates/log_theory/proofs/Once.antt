@@ -109,7 +109,7 @@ module _ (tells : Bool) (own : OwnFiles) (task : Task) (steps : List Step) (old 
       ∙ has_number-left (starts_in xs) place.before i was)
 
   -- no command ends twice
-  not_ended_again : (xs ys zs : List Event) (i : ℕ) (a b : Bool) → rest.first ++ rest.later ≡ xs ++ Finish i a ∷ (ys ++ Finish i b ∷ zs) → ⊥
+  pub not_ended_again : (xs ys zs : List Event) (i : ℕ) (a b : Bool) → rest.first ++ rest.later ≡ xs ++ Finish i a ∷ (ys ++ Finish i b ∷ zs) → ⊥
   not_ended_again xs ys zs i a b splits = false≢true (sym still ∙ second.0)
     where
       first : (runs i (old.events ++ xs) ≡ true) × AllRan ((old.events ++ xs) ++ Finish i a ∷ []) (ys ++ Finish i b ∷ zs)
