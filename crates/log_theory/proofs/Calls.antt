@@ -76,16 +76,19 @@ module _ (B : Behaviour) (format : LogFormat) (own : OwnFiles) (edges : List Edg
   }
 
   -- a call that only looks
-  pub looks_logged : (steps : List Step) (hand : Option ℕ) (tells : Bool) → IsTrue tells → OnlyLooks tells now new → IsLoggedAt B format own edges steps hand entry old now → IsLoggedAt B format own edges steps hand entry old new
-  looks_logged steps hand tells tell looks logged = same_logs steps hand (stays own.build_log kept.own_files.build_log) (stays own.deps_log kept.own_files.deps_log) logged.readable
-      (growing.logged_quiet B edges entry old steps hand (store_in format own (view_of now.history)) now new looks.events call.more call.grows logged.logged)
-    where
-      call : OthersWrote (IsRunning now.events) now.history new.history
-      call = looks.history tell
+  module _ (tells : Bool) (tell : IsTrue tells) (looks : OnlyLooks tells now new) where
+    call : OthersWrote (IsRunning now.events) now.history new.history
+    call = looks.history tell
 
-      stays : (log : List ℕ) → own.files log ≡ true → view_of new.history log ≡ view_of now.history log
-      stays log mine = ap content_of (ap (λ (h : List Moment). file_at h log) call.grows
-          ∙ file_stays log now.history call.more (log_elsewhere own edges kept.own_files log mine (IsRunning now.events) commands call.more call.all (within call.more call.grows) (edits call.more call.grows)))
+    pub looks_stays : (log : List ℕ) → own.files log ≡ true → view_of new.history log ≡ view_of now.history log
+    looks_stays log mine = ap content_of (ap (λ (h : List Moment). file_at h log) call.grows
+        ∙ file_stays log now.history call.more (log_elsewhere own edges kept.own_files log mine (IsRunning now.events) commands call.more call.all (within call.more call.grows) (edits call.more call.grows)))
+
+  pub looks_logged : (steps : List Step) (hand : Option ℕ) (tells : Bool) → IsTrue tells → OnlyLooks tells now new → IsLoggedAt B format own edges steps hand entry old now → IsLoggedAt B format own edges steps hand entry old new
+  looks_logged steps hand tells tell looks logged =
+      let call = looks.history tell in
+      same_logs steps hand (looks_stays tells tell looks own.build_log kept.own_files.build_log) (looks_stays tells tell looks own.deps_log kept.own_files.deps_log) logged.readable
+      (growing.logged_quiet B edges entry old steps hand (store_in format own (view_of now.history)) now new looks.events call.more call.grows logged.logged)
 
   -- a call of one own moment that is no write of a log: a write of another file, a start or an end
   module _ (m : Moment) (adds : Adds (IsRunning now.events) (IsRunning new.events) m now.history new.history) (after : (job : ℕ) → runs job new.events ≡ true → IsCommand edges job)

@@ -25,4 +25,5 @@ pub mod Stated
 pub mod Builds
 pub mod Ledger
 pub mod TakenIn
+pub mod Readying
 pub mod Driving
