@@ -1,5 +1,5 @@
 -- Calls of the site keep what the logs tell, or put a record behind the others.
-use Rattle.std.proofs.Common.{◌≡◌, ◌≢◌, ℕ, Bool, true, false, IsTrue, List, [], ◌∷◌, ◌++◌, Option, Some, None, bytes_eq, refl, sym, ◌∙◌, ap, subst}
+use Rattle.std.proofs.Common.{◌≡◌, ◌≢◌, ℕ, Bool, true, IsTrue, List, [], ◌∷◌, ◌++◌, Option, Some, None, bytes_eq, refl, sym, ◌∙◌, ap, subst}
 use Rattle.std.specs.List.{AllByRecursion}
 use Rattle.std.proofs.lemmas.Bool.{false_from_ne_true}
 use Rattle.model.specs.declared.act.Act.{Act}
@@ -16,7 +16,7 @@ use Rattle.model.specs.Calls.{AllByOthers, OthersWrote, Adds, OnlyLooks, content
 use Rattle.model.specs.Graph.{has, has_number, edge_at, outputs, IsCommand}
 use Rattle.model.specs.Outcome.{Behaviour}
 use Rattle.model.specs.Records.{OwnFiles, LogFormat, Store, read_log, store_in, in_force}
-use Rattle.model.specs.Schedule.{Step, Started, Ended, well_in}
+use Rattle.model.specs.Schedule.{Step, Started, well_in}
 use Rattle.model.specs.Premises.{OwnFilesApart, FilesAreKept, IsWithinEdge, IsNoEdit}
 use Rattle.model.specs.Faithful.{IsReadable}
 use Rattle.build_theory.proofs.Lists.{all_append, all_parts, same_bytes}

@@ -39,12 +39,12 @@ pub longer : {X : Type 0} (old before : List X) (x : X) (after more now new : Li
 longer old before x after more now new grows splits =
     grows ∙ (ap (λ l. l ++ more) splits ∙ (append_assoc old (before ++ x ∷ after) more ∙ ap (λ l. old ++ l) (append_assoc before (x ∷ after) more)))
 
-started_on : (i stamp : ℕ) (old now new : World) → GoesOn now new → StartedUnder i stamp old now → StartedUnder i stamp old new
-started_on i stamp old now new on started = record {
+pub started_on : (i stamp : ℕ) (old now new : World) (more : List Event) → new.events ≡ now.events ++ more → StartedUnder i stamp old now → StartedUnder i stamp old new
+started_on i stamp old now new more grows started = record {
   act = started.act;
   before = started.before;
-  after = started.after ++ on.more;
-  splits = longer old.events started.before (Start i started.act stamp) started.after on.more now.events new.events on.events started.splits;
+  after = started.after ++ more;
+  splits = longer old.events started.before (Start i started.act stamp) started.after more now.events new.events grows started.splits;
 }
 
 ended_on : (i : ℕ) (at : List Moment) (old now new : World) → GoesOn now new → EndedAt i old.history now.history at → EndedAt i old.history new.history at
@@ -66,7 +66,7 @@ module _ (B : Behaviour) (edges : List Edge) (entry : Store) (old : World) where
     at = has_new.at;
     makes = has_new.makes;
     well = more has_new.edge has_new.well;
-    started = started_on has_new.edge has_new.stamp old now new on has_new.started;
+    started = started_on has_new.edge has_new.stamp old now new on.more on.events has_new.started;
     ended = ended_on has_new.edge has_new.at old now new on has_new.ended;
     recorded = has_new.recorded;
   }
@@ -77,7 +77,7 @@ module _ (B : Behaviour) (edges : List Edge) (entry : Store) (old : World) where
     deps = has_new.deps;
     makes = has_new.makes;
     depfile = has_new.depfile;
-    started = started_on has_new.edge has_new.deps.start old now new on has_new.started;
+    started = started_on has_new.edge has_new.deps.start old now new on.more on.events has_new.started;
     is = has_new.is;
   }
 

@@ -1,27 +1,24 @@
 -- What a run carries goes on through each thing that it does: one lemma for each.
 use Rattle.std.proofs.Common.{◌≡◌, ◌≢◌, ◌⊎◌, inl, inr, ℕ, Bool, true, false, IsTrue, List, [], ◌∷◌, ◌++◌, Option, Some, None, refl, sym, ◌∙◌, ap, subst, append_assoc}
-use Rattle.std.proofs.lemmas.List.{append-nil}
 use Rattle.std.proofs.lemmas.Bool.{false≢true, false_from_ne_true}
 use Rattle.model.specs.declared.act.Act.{Act}
 use Rattle.model.specs.declared.event.Event.{Event}
 use Rattle.model.specs.declared.event.Event.TheVariants.{Start, Finish}
 use Rattle.model.specs.declared.event.Moment.{Moment}
-use Rattle.model.specs.declared.event.Moment.TheVariants.{Wrote, Happened}
-use Rattle.model.specs.declared.event.Writer.TheVariants.{Program}
+use Rattle.model.specs.declared.event.Moment.TheVariants.{Happened}
 use Rattle.model.specs.declared.graph.Edge.{Edge}
 use Rattle.model.specs.World.{World, view_of, runs_from, runs, IsRunning, IsIdle}
-use Rattle.model.specs.Calls.{OthersWrote, Adds, OnlyLooks, Ticks, TicksOrNot, Writes, WritesOrNot, Starts, StartsOrNot, Finishes}
+use Rattle.model.specs.Calls.{OthersWrote, Adds, OnlyLooks, Ticks, TicksOrNot, WritesOrNot, Starts, StartsOrNot, Finishes}
 use Rattle.model.specs.Graph.{has_number, edge_at, IsCommand, IsMadeOnce}
 use Rattle.model.specs.Outcome.{Behaviour, depfile_in, is_accepted}
 use Rattle.model.specs.Records.{Store, LogFormat, OwnFiles, store_in, recorded_inputs}
 use Rattle.model.specs.OutOfDate.{IsVerdict}
-use Rattle.model.specs.Schedule.{Step, Judged, Started, Ended, IsLawfulStep, IsEndOf, NoneMayBeJudged, NoneMayStart, AreEventsOf, started_in, out_of_date_in, ended_in, well_in, running_in}
+use Rattle.model.specs.Schedule.{Step, Judged, Started, Ended, IsLawfulStep, IsEndOf, NoneMayBeJudged, NoneMayStart, started_in, out_of_date_in, ended_in, well_in, running_in}
 use Rattle.model.specs.Premises.{FilesAreKept, RecordedApart, EndedAt, LiesIn}
-use Rattle.model.specs.SingleBuild.{Asked, task_of, IsOwnWrite, IsJudged, IsFrame}
-use Rattle.model.specs.Kept.{KeepsRecords, store_at}
-use Rattle.build_theory.specs.Run.{events_in, starts_in, IsRun, IsRunOrRest, IsToldBy}
-use Rattle.build_theory.proofs.Lists.{same_rest, place_in, has_number-one, has_number-left, has_number-right}
-use Rattle.build_theory.proofs.Steps.{running_parts, lawful_push, in_left}
+use Rattle.model.specs.SingleBuild.{Asked, task_of, IsJudged, IsFrame}
+use Rattle.model.specs.Kept.{StartedUnder, KeepsRecords, store_at}
+use Rattle.build_theory.specs.Run.{events_in, starts_in, IsRun, IsRunOrRest}
+use Rattle.build_theory.proofs.Steps.{running_parts}
 use Rattle.build_theory.proofs.Orderly.{IsKept, kept_orderly}
 use Rattle.build_theory.proofs.Events.{runs_from-append, runs_started, runs_now, no_starts}
 use Rattle.build_theory.proofs.Moments.{events_in-append, no_events}
@@ -30,7 +27,7 @@ use Rattle.build_theory.proofs.Starting.{OthersRun, ready_nothing, ready_quiet, 
 use Rattle.build_theory.proofs.Runs.{run_begins, run_judged, run_looks, run_starts, run_takes_in, rest_begins, rest_looks, rest_finishes}
 use Rattle.build_theory.proofs.Exit.{frame}
 use Rattle.log_theory.specs.Logged.{IsLoggedAt}
-use Rattle.log_theory.specs.Judged.{AreJudgedThen, AreTakenIn}
+use Rattle.log_theory.specs.Judged.{AreTakenIn}
 use Rattle.log_theory.specs.Builds.{IsRunOf}
 use Rattle.log_theory.specs.Writes.{GrewAt, WritesAt}
 use Rattle.log_theory.specs.Ledger.{IsBeside, IsCarried, IsCutOff, IsReadyToStart}
@@ -330,8 +327,8 @@ module _ (tells : Bool) (B : Behaviour) (format : LogFormat) (own : OwnFiles) (a
   carried_response steps hand now new i stale writes carried =
       at_path steps hand hand now new path (run_at tells own (task_of asked store) path steps old now new (λ content. inr (inr (i, stale, refl))) writes.events writes.history carried.run) writes.events writes.history
       (apart_logged steps hand now new path writes.events writes.history (λ tell files.
-        let lies = files.own_files.responses i (stale_command steps now carried.beside.idle (rest_of steps hand now carried) i stale) in
-        (no_log path own.build_log lies files.own_files.build_log, no_log path own.deps_log lies files.own_files.deps_log)) carried)
+      let lies = files.own_files.responses i (stale_command steps now carried.beside.idle (rest_of steps hand now carried) i stale) in
+      (no_log path own.build_log lies files.own_files.build_log, no_log path own.deps_log lies files.own_files.deps_log)) carried)
       carried
     where
       path : List ℕ
@@ -344,8 +341,8 @@ module _ (tells : Bool) (B : Behaviour) (format : LogFormat) (own : OwnFiles) (a
   carried_depfile steps hand now new i stale (inr writes) carried =
       at_path steps hand hand now new path run call.events call.history
       (apart_logged steps hand now new path call.events call.history (λ tell files.
-        let lies = files.own_files.depfiles i (stale_command steps now carried.beside.idle (rest_of steps hand now carried) i stale) in
-        (no_log path own.build_log lies files.own_files.build_log, no_log path own.deps_log lies files.own_files.deps_log)) carried)
+      let lies = files.own_files.depfiles i (stale_command steps now carried.beside.idle (rest_of steps hand now carried) i stale) in
+      (no_log path own.build_log lies files.own_files.build_log, no_log path own.deps_log lies files.own_files.deps_log)) carried)
       carried
     where
       path : List ℕ
@@ -401,6 +398,15 @@ module _ (tells : Bool) (B : Behaviour) (format : LogFormat) (own : OwnFiles) (a
       not_well_yet well =
           let all = kept_orderly asked.graph.edges steps rest.orderly in
           false≢true (sym next.1.once ∙ all.ended i (all.well i well))
+
+  -- its stamp is that of the last tick
+  pub started_under : (steps : List Step) (hand : Option ℕ) (now new : World) (i : ℕ) (act : Act) → Starts tells i act now new → Carried steps hand now → StartedUnder i now.ticked old new
+  started_under steps hand now new i act starts carried = record {
+    act = act;
+    before = carried.run.events;
+    after = [];
+    splits = starts.events ∙ (ap (λ (l : List Event). l ++ Start i act now.ticked ∷ []) carried.run.grows ∙ append_assoc old.events carried.run.events (Start i act now.ticked ∷ []));
+  }
 
   -- a start that failed has started its command, which is in hand no more, or has not
   pub carried_starts_or_not : (steps : List Step) (now new : World) (i : ℕ) (act : Act) → IsLawfulStep (task_of asked store) steps (Started i) → act ≡ (edge_at asked.graph.edges i).act → IsReadyToStart tells format own asked.graph.edges i old now

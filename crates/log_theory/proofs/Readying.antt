@@ -2,16 +2,13 @@
 use Rattle.std.proofs.Common.{◌≡◌, ◌≢◌, ◌⊎◌, inl, inr, ℕ, Bool, true, false, IsTrue, List, [], ◌++◌, Option, Some, None, refl, sym, ◌∙◌, ap, subst, append_assoc}
 use Rattle.std.proofs.lemmas.Bool.{false≢true}
 use Rattle.model.specs.declared.event.Moment.{Moment}
-use Rattle.model.specs.declared.graph.Edge.{Edge}
-use Rattle.model.specs.declared.event.Moment.TheVariants.{Wrote}
-use Rattle.model.specs.declared.event.Writer.TheVariants.{Program}
 use Rattle.model.specs.World.{World, file_at, content_of, view_of, IsRunning}
 use Rattle.model.specs.Calls.{OnlyLooks, Ticks, Writes}
-use Rattle.model.specs.Graph.{has, has_number, edge_at, outputs, IsCommand}
+use Rattle.model.specs.Graph.{has_number, edge_at, IsCommand}
 use Rattle.model.specs.Outcome.{Behaviour}
 use Rattle.model.specs.Records.{Store, LogFormat, OwnFiles, in_force}
 use Rattle.model.specs.Schedule.{Step, started_in, out_of_date_in}
-use Rattle.model.specs.Premises.{FilesAreKept, OwnFilesApart, LiesIn}
+use Rattle.model.specs.Premises.{FilesAreKept, LiesIn}
 use Rattle.model.specs.SingleBuild.{Asked, task_of}
 use Rattle.build_theory.specs.Run.{IsRunOrRest}
 use Rattle.build_theory.proofs.Files.{file_stays}
@@ -19,7 +16,7 @@ use Rattle.build_theory.proofs.Looks.{kept_before}
 use Rattle.build_theory.proofs.Runs.{rest_begins}
 use Rattle.build_theory.proofs.Starting.{IsPrivate, OthersRun, private_elsewhere, private_looks, private_written}
 use Rattle.log_theory.specs.Logged.{IsTickedAt}
-use Rattle.log_theory.specs.Writes.{GrewAt, WritesAt}
+use Rattle.log_theory.specs.Writes.{WritesAt}
 use Rattle.log_theory.specs.Ledger.{IsCarried, IsTickedNow, HoldsStill, HasNoRecord, IsReadyToStart}
 use Rattle.log_theory.proofs.Calls.{within, edits, looks_stays}
 use Rattle.log_theory.proofs.Ledger.{command_of, stale_command, others_run}

@@ -1,14 +1,14 @@
 -- What the depfile of a command said that was just taken in: it is read as it was when the command ended.
-use Rattle.std.proofs.Common.{◌≡◌, ◌≢◌, inl, inr, ℕ, ◌==◌, cond, Bool, true, false, IsTrue, List, [], ◌∷◌, ◌++◌, Option, Some, None, refl, sym, ◌∙◌, ap, subst, append_assoc}
+use Rattle.std.proofs.Common.{◌≡◌, ◌≢◌, inl, inr, ℕ, ◌==◌, Bool, true, false, IsTrue, List, [], ◌∷◌, ◌++◌, Option, Some, None, refl, sym, ◌∙◌, ap, subst, append_assoc}
 use Rattle.std.specs.List.{AllByRecursion}
 use Rattle.std.proofs.lemmas.Bool.{false≢true, cond-true, eq-eqb}
 use Rattle.model.specs.declared.event.Event.{Event}
 use Rattle.model.specs.declared.event.Event.TheVariants.{Finish}
 use Rattle.model.specs.declared.event.Moment.{Moment}
 use Rattle.model.specs.declared.event.Moment.TheVariants.{Happened}
-use Rattle.model.specs.World.{World, View, file_at, content_of, view_of, runs, IsRunning, IsIdle}
+use Rattle.model.specs.World.{World, file_at, content_of, view_of, runs, IsRunning, IsIdle}
 use Rattle.model.specs.Calls.{IsByOthers, OthersWrote, Adds, OnlyLooks, Sees, Finishes}
-use Rattle.model.specs.Graph.{has_number, edge_at, IsCommand}
+use Rattle.model.specs.Graph.{edge_at}
 use Rattle.model.specs.Outcome.{Behaviour, read_depfile, depfile_in, is_accepted}
 use Rattle.model.specs.Records.{Store, LogFormat, OwnFiles}
 use Rattle.model.specs.Schedule.{Step}
@@ -20,7 +20,7 @@ use Rattle.build_theory.proofs.Events.{runs_push}
 use Rattle.build_theory.proofs.Files.{IsElsewhere, file_stays}
 use Rattle.build_theory.proofs.Moments.{events_in-append}
 use Rattle.build_theory.proofs.Runs.{rest_begins, rest_looks, rest_finishes}
-use Rattle.build_theory.proofs.Starting.{IsPrivate, OthersRun, private_elsewhere}
+use Rattle.build_theory.proofs.Starting.{OthersRun, private_elsewhere}
 use Rattle.log_theory.specs.Ledger.{IsCarried}
 use Rattle.log_theory.proofs.Growing.{longer}
 use Rattle.log_theory.proofs.Ledger.{SaysAtEnd, command_of}
@@ -76,18 +76,20 @@ module _ (tells : Bool) (B : Behaviour) (format : LogFormat) (own : OwnFiles) (a
   says_nothing none tell files at ended =
       sym (ap (λ (d : List ℕ). is_accepted (elim d [ [] ↦ Some [] | q ∷ qs ↦ read_depfile B.depfile (view_of at (edge_at asked.graph.edges i).act.depfile) ])) none)
 
-  module _ (went : ok ≡ true) (named : (edge_at asked.graph.edges i).act.depfile ≢ []) (tell : IsTrue tells) (files : FilesAreKept own asked.graph.edges old.history new.history) where
-    abbrev depfile : List ℕ
-    depfile = (edge_at asked.graph.edges i).act.depfile
+  -- ---- the moment of its end
 
-    adds : Adds (IsRunning now.events) (IsRunning mid.events) (Happened (Finish i ok)) now.history mid.history
+  module _ (tell : IsTrue tells) where
+    abbrev adds : Adds (IsRunning now.events) (IsRunning mid.events) (Happened (Finish i ok)) now.history mid.history
     adds = finish.history tell
 
-    wrote : OthersWrote (IsRunning mid.events) mid.history new.history
+    abbrev wrote : OthersWrote (IsRunning mid.events) mid.history new.history
     wrote = looks.history tell
 
     abbrev so_far : List Moment
     so_far = (rest.history tell).more
+
+    abbrev at_end : List Moment
+    at_end = old.history ++ (so_far ++ adds.earlier)
 
     mid_splits : mid.history ≡ old.history ++ ((so_far ++ adds.earlier) ++ Happened (Finish i ok) ∷ adds.later)
     mid_splits =
@@ -98,13 +100,17 @@ module _ (tells : Bool) (B : Behaviour) (format : LogFormat) (own : OwnFiles) (a
     new_splits : new.history ≡ old.history ++ ((so_far ++ adds.earlier) ++ Happened (Finish i ok) ∷ (adds.later ++ wrote.more))
     new_splits = longer old.history (so_far ++ adds.earlier) (Happened (Finish i ok)) adds.later wrote.more mid.history new.history wrote.grows mid_splits
 
-    ended_here : EndedAt i old.history new.history (old.history ++ (so_far ++ adds.earlier))
-    ended_here = record {
+    pub ended_here : ok ≡ true → EndedAt i old.history new.history at_end
+    ended_here went = record {
       before = so_far ++ adds.earlier;
       after = adds.later ++ wrote.more;
       is = refl;
       splits = new_splits ∙ ap (λ (b : Bool). old.history ++ ((so_far ++ adds.earlier) ++ Happened (Finish i b) ∷ (adds.later ++ wrote.more))) went;
     }
+
+  module _ (went : ok ≡ true) (named : (edge_at asked.graph.edges i).act.depfile ≢ []) (tell : IsTrue tells) (files : FilesAreKept own asked.graph.edges old.history new.history) where
+    abbrev depfile : List ℕ
+    depfile = (edge_at asked.graph.edges i).act.depfile
 
     others : OthersRun asked.graph.edges i (IsRunning mid.events)
     others job is = (
@@ -115,37 +121,38 @@ module _ (tells : Bool) (B : Behaviour) (format : LogFormat) (own : OwnFiles) (a
         stopped : runs i mid.events ≡ false
         stopped = ap (λ (l : List Event). runs i l) finish.events ∙ (runs_push i now.events (Finish i ok) ∙ cond-true (i == i) false (runs i now.events) (eq-eqb i i refl))
 
-    part : (kind : Moment → Type 0) → AllSince kind old.history new.history → AllByRecursion kind (adds.later ++ wrote.more)
-    part kind all = (all_parts kind (so_far ++ adds.earlier) (Happened (Finish i ok) ∷ (adds.later ++ wrote.more)) (all ((so_far ++ adds.earlier) ++ Happened (Finish i ok) ∷ (adds.later ++ wrote.more)) new_splits)).1.1
+    part : (kind : Moment → Type 0) → AllSince kind old.history new.history → AllByRecursion kind ((adds tell).later ++ (wrote tell).more)
+    part kind all = (all_parts kind (so_far tell ++ (adds tell).earlier) (Happened (Finish i ok) ∷ ((adds tell).later ++ (wrote tell).more)) (all ((so_far tell ++ (adds tell).earlier) ++ Happened (Finish i ok) ∷ ((adds tell).later ++ (wrote tell).more)) (new_splits tell))).1.1
 
-    elsewhere : AllByRecursion (IsElsewhere depfile) (adds.later ++ wrote.more)
+    elsewhere : AllByRecursion (IsElsewhere depfile) ((adds tell).later ++ (wrote tell).more)
     elsewhere = private_elsewhere own asked.graph.edges files.own_files i (command_of tells B format own asked store old steps now idle rest i finish.ran) depfile (record { named = named; is = inl refl })
-        (IsRunning mid.events) others (adds.later ++ wrote.more) (all_append (IsByOthers (IsRunning mid.events)) adds.later wrote.more adds.all_later wrote.all)
+        (IsRunning mid.events) others ((adds tell).later ++ (wrote tell).more) (all_append (IsByOthers (IsRunning mid.events)) (adds tell).later (wrote tell).more (adds tell).all_later (wrote tell).all)
         (part (IsWithinEdge asked.graph.edges) files.commands) (part IsNoEdit files.edits)
 
     -- since the end it holds what it held then
     pub depfile_since : (before after at : List Moment) → new.history ≡ mid.history ++ (before ++ after) → EndedAt i old.history new.history at → view_of (mid.history ++ before) (edge_at asked.graph.edges i).act.depfile ≡ view_of at (edge_at asked.graph.edges i).act.depfile
     depfile_since before after at grows ended =
-        ap content_of (ap (λ (h : List Moment). file_at h depfile) here ∙ file_stays depfile (old.history ++ (so_far ++ adds.earlier)) (Happened (Finish i ok) ∷ (adds.later ++ before)) (tt, first))
-        ∙ ap (λ (h : List Moment). view_of h depfile) (one_end tells own (task_of asked store) steps old new idle rest_new tell i (old.history ++ (so_far ++ adds.earlier)) at ended_here ended)
+        ap content_of (ap (λ (h : List Moment). file_at h depfile) here ∙ file_stays depfile (old.history ++ (so_far tell ++ (adds tell).earlier)) (Happened (Finish i ok) ∷ ((adds tell).later ++ before)) (tt, first))
+        ∙ ap (λ (h : List Moment). view_of h depfile) (one_end tells own (task_of asked store) steps old new idle rest_new tell i (old.history ++ (so_far tell ++ (adds tell).earlier)) at (ended_here tell went) ended)
       where
-        here : mid.history ++ before ≡ (old.history ++ (so_far ++ adds.earlier)) ++ Happened (Finish i ok) ∷ (adds.later ++ before)
-        here = longer old.history (so_far ++ adds.earlier) (Happened (Finish i ok)) adds.later before mid.history (mid.history ++ before) refl mid_splits
-            ∙ sym (append_assoc old.history (so_far ++ adds.earlier) (Happened (Finish i ok) ∷ (adds.later ++ before)))
+        here : mid.history ++ before ≡ (old.history ++ (so_far tell ++ (adds tell).earlier)) ++ Happened (Finish i ok) ∷ ((adds tell).later ++ before)
+        here = longer old.history (so_far tell ++ (adds tell).earlier) (Happened (Finish i ok)) (adds tell).later before mid.history (mid.history ++ before) refl (mid_splits tell)
+            ∙ sym (append_assoc old.history (so_far tell ++ (adds tell).earlier) (Happened (Finish i ok) ∷ ((adds tell).later ++ before)))
 
-        more : wrote.more ≡ before ++ after
-        more = same_rest mid.history wrote.more (before ++ after) (sym wrote.grows ∙ grows)
+        more : (wrote tell).more ≡ before ++ after
+        more = same_rest mid.history (wrote tell).more (before ++ after) (sym (wrote tell).grows ∙ grows)
 
-        first : AllByRecursion (IsElsewhere depfile) (adds.later ++ before)
-        first = (all_parts (IsElsewhere depfile) (adds.later ++ before) after
-            (subst (λ (l : List Moment). AllByRecursion (IsElsewhere depfile) l) (ap (λ (l : List Moment). adds.later ++ l) more ∙ sym (append_assoc adds.later before after)) elsewhere)).0
+        first : AllByRecursion (IsElsewhere depfile) ((adds tell).later ++ before)
+        first = (all_parts (IsElsewhere depfile) ((adds tell).later ++ before) after
+            (subst (λ (l : List Moment). AllByRecursion (IsElsewhere depfile) l) (ap (λ (l : List Moment). (adds tell).later ++ l) more ∙ sym (append_assoc (adds tell).later before after)) elsewhere)).0
 
-  -- What a read of the depfile saw since then is what it said at the end.
-  pub says_seen : ok ≡ true → (edge_at asked.graph.edges i).act.depfile ≢ [] → (content : Option (List ℕ)) (first last : World) → OnlyLooks tells mid first
+  -- A read of the depfile since then saw what it held at the end.
+  pub depfile_seen : ok ≡ true → (edge_at asked.graph.edges i).act.depfile ≢ [] → (content : Option (List ℕ)) (first last : World) → OnlyLooks tells mid first
       → (IsTrue tells → Sees (λ history. content_of (file_at history (edge_at asked.graph.edges i).act.depfile)) content first.history last.history) → OnlyLooks tells last new
-      → (w : Bool) → w ≡ is_accepted (depfile_in B (edge_at asked.graph.edges i).act (λ p. content)) → SaysAtEnd tells B format own asked store old i w new
-  says_seen went named content first last before sees after w says tell files at ended =
-      says ∙ ap (λ (held : Option (List ℕ)). is_accepted (elim (edge_at asked.graph.edges i).act.depfile [ [] ↦ Some [] | q ∷ qs ↦ read_depfile B.depfile held ]))
+      → IsTrue tells → FilesAreKept own asked.graph.edges old.history new.history → (at : List Moment) → EndedAt i old.history new.history at
+      → depfile_in B (edge_at asked.graph.edges i).act (λ p. content) ≡ depfile_in B (edge_at asked.graph.edges i).act (view_of at)
+  depfile_seen went named content first last before sees after tell files at ended =
+      ap (λ (held : Option (List ℕ)). elim (edge_at asked.graph.edges i).act.depfile [ [] ↦ Some [] | q ∷ qs ↦ read_depfile B.depfile held ])
       (seen.is ∙ (ap (λ (h : List Moment). view_of h (edge_at asked.graph.edges i).act.depfile) here
       ∙ depfile_since went named tell files (early.more ++ seen.earlier) (seen.later ++ late.more) at grows ended))
     where
@@ -164,3 +171,9 @@ module _ (tells : Bool) (B : Behaviour) (format : LogFormat) (own : OwnFiles) (a
       grows : new.history ≡ mid.history ++ ((early.more ++ seen.earlier) ++ (seen.later ++ late.more))
       grows = late.grows ∙ (ap (λ (l : List Moment). l ++ late.more) (seen.grows ∙ (sym (append_assoc first.history seen.earlier seen.later) ∙ (ap (λ (l : List Moment). l ++ seen.later) here ∙ append_assoc mid.history (early.more ++ seen.earlier) seen.later)))
           ∙ (append_assoc mid.history ((early.more ++ seen.earlier) ++ seen.later) late.more ∙ ap (λ (l : List Moment). mid.history ++ l) (append_assoc (early.more ++ seen.earlier) seen.later late.more)))
+
+  pub says_seen : ok ≡ true → (edge_at asked.graph.edges i).act.depfile ≢ [] → (content : Option (List ℕ)) (first last : World) → OnlyLooks tells mid first
+      → (IsTrue tells → Sees (λ history. content_of (file_at history (edge_at asked.graph.edges i).act.depfile)) content first.history last.history) → OnlyLooks tells last new
+      → (w : Bool) → w ≡ is_accepted (depfile_in B (edge_at asked.graph.edges i).act (λ p. content)) → SaysAtEnd tells B format own asked store old i w new
+  says_seen went named content first last before sees after w says tell files at ended =
+      says ∙ ap is_accepted (depfile_seen went named content first last before sees after tell files at ended)

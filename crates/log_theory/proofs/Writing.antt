@@ -1,5 +1,5 @@
 -- Calls in which the program writes at one path alone: which calls are such, and what goes on through them.
-use Rattle.std.proofs.Common.{◌≡◌, ◌≢◌, ◌⊎◌, inl, inr, ℕ, Bool, true, false, IsTrue, List, [], ◌∷◌, ◌++◌, length, Option, Some, None, bytes_eq, refl, sym, ◌∙◌, ap, subst, append_assoc}
+use Rattle.std.proofs.Common.{◌≡◌, ◌≢◌, inl, inr, ℕ, Bool, true, false, IsTrue, List, [], ◌∷◌, ◌++◌, length, Option, Some, bytes_eq, refl, sym, ◌∙◌, ap, subst, append_assoc}
 use Rattle.std.specs.List.{AllByRecursion}
 use Rattle.std.proofs.lemmas.List.{append-nil}
 use Rattle.std.proofs.lemmas.Bool.{false≢true, false_from_ne_true}
@@ -9,11 +9,11 @@ use Rattle.model.specs.declared.event.Moment.TheVariants.{Wrote, Happened}
 use Rattle.model.specs.declared.event.Writer.TheVariants.{Program, Command, Someone}
 use Rattle.model.specs.declared.graph.Edge.{Edge}
 use Rattle.model.specs.World.{World, file_at, content_of, view_of, runs, IsRunning}
-use Rattle.model.specs.Calls.{IsByOthers, AllByOthers, Adds, OnlyLooks, content_or_empty, Ticks, TicksOrNot, Writes, WritesOrNot, SpoilsOrNot, Appends, AppendsOrNot}
+use Rattle.model.specs.Calls.{IsByOthers, AllByOthers, Adds, OnlyLooks, content_or_empty, Ticks, Writes, WritesOrNot, SpoilsOrNot, Appends, AppendsOrNot}
 use Rattle.model.specs.Graph.{IsCommand}
 use Rattle.model.specs.Outcome.{Behaviour}
 use Rattle.model.specs.Records.{OwnFiles, LogFormat, Store, store_in}
-use Rattle.model.specs.Schedule.{Task, Step, AreEventsOf}
+use Rattle.model.specs.Schedule.{Task, Step}
 use Rattle.model.specs.Premises.{FilesAreKept, IsWithinEdge, IsNoEdit}
 use Rattle.model.specs.SingleBuild.{IsOwnWrite}
 use Rattle.build_theory.specs.Run.{events_in, steps_until, AreOfRun, IsToldBy, IsRun}
