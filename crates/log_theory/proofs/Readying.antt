@@ -16,7 +16,7 @@ use Rattle.build_theory.proofs.Looks.{kept_before}
 use Rattle.build_theory.proofs.Runs.{rest_begins}
 use Rattle.build_theory.proofs.Starting.{IsPrivate, OthersRun, private_elsewhere, private_looks, private_written}
 use Rattle.log_theory.specs.Logged.{IsTickedAt}
-use Rattle.log_theory.specs.Writes.{WritesAt}
+use Rattle.log_theory.specs.Writes.{GrewAt, WritesAt}
 use Rattle.log_theory.specs.Ledger.{IsCarried, IsTickedNow, HoldsStill, HasNoRecord, IsReadyToStart}
 use Rattle.log_theory.proofs.Calls.{within, edits, looks_stays}
 use Rattle.log_theory.proofs.Ledger.{command_of, stale_command, others_run}
@@ -31,6 +31,10 @@ module _ (tells : Bool) (B : Behaviour) (format : LogFormat) (own : OwnFiles) (a
 
   abbrev Kept : World → Type 0
   Kept world = FilesAreKept own asked.graph.edges old.history world.history
+
+  -- the program wrote at this path alone: a tick (`ticks_grew`), or a call of `WritesAt`
+  abbrev GrewWriting : List ℕ → Type 0
+  GrewWriting path = IsTrue tells → GrewAt path (IsRunning now.events) now.history new.history
 
   commands : (job : ℕ) → IsRunning now.events job → IsCommand asked.graph.edges job
   commands = command_of tells B format own asked store old steps now carried.beside.idle rest
@@ -67,6 +71,13 @@ module _ (tells : Bool) (B : Behaviour) (format : LogFormat) (own : OwnFiles) (a
     others : OthersRun asked.graph.edges i (IsRunning now.events)
     others = others_run tells B format own asked store old steps now carried.beside.idle rest i unstarted
 
+    not_own : (q : List ℕ) → IsPrivate asked.graph.edges i q → Kept new → (path : List ℕ) → own.files path ≡ true → q ≢ path
+    not_own q private files path mine same = false≢true (sym (lies private.is).1 ∙ (ap own.files same ∙ mine))
+      where
+        lies : (q ≡ (edge_at asked.graph.edges i).act.depfile) ⊎ (q ≡ (edge_at asked.graph.edges i).act.response_path) → LiesIn own q
+        lies (inl is) = subst (λ (p : List ℕ). LiesIn own p) (sym is) (files.own_files.depfiles i command)
+        lies (inr is) = subst (λ (p : List ℕ). LiesIn own p) (sym is) (files.own_files.responses i command)
+
     module _ (q : List ℕ) (private : IsPrivate asked.graph.edges i q) (held : Option (List ℕ)) where
       -- it was written, or removed
       pub holds_written : Writes tells q held now new → HoldsStill tells own asked.graph.edges q held old new
@@ -81,11 +92,11 @@ module _ (tells : Bool) (B : Behaviour) (format : LogFormat) (own : OwnFiles) (a
           let told = carried.run.history tell in
           private_looks own asked.graph.edges old.history told.more now.history new.history told.grows i command q private (IsRunning now.events) others held (looks.history tell) (holds tell)
 
-      -- so do writes at another path
-      pub holds_apart : (path : List ℕ) → (Kept new → path ≢ q) → WritesAt tells path now new → HoldsStill tells own asked.graph.edges q held old now → HoldsStill tells own asked.graph.edges q held old new
-      holds_apart path apart writes holds tell files =
+      -- so do ticks and writes at another path
+      pub holds_apart : (path : List ℕ) → (Kept new → path ≢ q) → GrewWriting path → HoldsStill tells own asked.graph.edges q held old now → HoldsStill tells own asked.graph.edges q held old new
+      holds_apart path apart grew holds tell files =
           let told = carried.run.history tell in
-          let call = writes.history tell in
+          let call = grew tell in
           ap content_of (ap (λ (h : List Moment). file_at h q) call.grows
           ∙ file_stays q now.history call.more (at_elsewhere asked.graph.edges (IsRunning now.events) path q (apart files)
           (λ ms all w e. private_elsewhere own asked.graph.edges files.own_files i command q private (IsRunning now.events) others ms all w e) call.more call.all
@@ -93,25 +104,21 @@ module _ (tells : Bool) (B : Behaviour) (format : LogFormat) (own : OwnFiles) (a
           ∙ holds tell (kept_before own asked.graph.edges old.history now.history new.history call.more call.grows files)
 
       -- of the program's own files, a log or the one that a tick touches
-      pub holds_over_own : (path : List ℕ) → own.files path ≡ true → WritesAt tells path now new → HoldsStill tells own asked.graph.edges q held old now → HoldsStill tells own asked.graph.edges q held old new
-      holds_over_own path mine writes holds = holds_apart path (λ files same. false≢true (sym (lies files private.is).1 ∙ (ap own.files (sym same) ∙ mine))) writes holds
-        where
-          lies : Kept new → (q ≡ (edge_at asked.graph.edges i).act.depfile) ⊎ (q ≡ (edge_at asked.graph.edges i).act.response_path) → LiesIn own q
-          lies files (inl is) = subst (λ (p : List ℕ). LiesIn own p) (sym is) (files.own_files.depfiles i command)
-          lies files (inr is) = subst (λ (p : List ℕ). LiesIn own p) (sym is) (files.own_files.responses i command)
+      pub holds_over_own : (path : List ℕ) → own.files path ≡ true → GrewWriting path → HoldsStill tells own asked.graph.edges q held old now → HoldsStill tells own asked.graph.edges q held old new
+      holds_over_own path mine grew holds = holds_apart path (λ files same. not_own q private files path mine (sym same)) grew holds
 
     -- one of the two is written while the other holds
     pub depfile_over_response : (edge_at asked.graph.edges i).act.depfile ≢ [] → (held : Option (List ℕ)) → WritesAt tells (edge_at asked.graph.edges i).act.response_path now new
         → HoldsStill tells own asked.graph.edges (edge_at asked.graph.edges i).act.depfile held old now → HoldsStill tells own asked.graph.edges (edge_at asked.graph.edges i).act.depfile held old new
     depfile_over_response named held writes holds =
         holds_apart (edge_at asked.graph.edges i).act.depfile (record { named = named; is = inl refl }) held (edge_at asked.graph.edges i).act.response_path
-        (λ files same. files.own_files.both i command named (sym same)) writes holds
+        (λ files same. files.own_files.both i command named (sym same)) writes.history holds
 
     pub response_over_depfile : (edge_at asked.graph.edges i).act.response_path ≢ [] → (held : Option (List ℕ)) → WritesAt tells (edge_at asked.graph.edges i).act.depfile now new
         → HoldsStill tells own asked.graph.edges (edge_at asked.graph.edges i).act.response_path held old now → HoldsStill tells own asked.graph.edges (edge_at asked.graph.edges i).act.response_path held old new
     response_over_depfile named held writes holds =
         holds_apart (edge_at asked.graph.edges i).act.response_path (record { named = named; is = inr refl }) held (edge_at asked.graph.edges i).act.depfile
-        (λ files same. files.own_files.both i command (λ none. named (sym same ∙ none)) same) writes holds
+        (λ files same. files.own_files.both i command (λ none. named (sym same ∙ none)) same) writes.history holds
 
     -- ---- the record of its outputs
 
@@ -131,15 +138,20 @@ module _ (tells : Bool) (B : Behaviour) (format : LogFormat) (own : OwnFiles) (a
           looks_stays B format own asked.graph.edges store old now new told.more told.grows files commands tells tell looks own.deps_log files.own_files.deps_log,
         )) none
 
-    pub no_record_apart : (path : List ℕ) → (Kept new → (path ≢ own.build_log) × (path ≢ own.deps_log)) → WritesAt tells path now new
+    -- so is a tick or a write at a path that is no log
+    pub no_record_apart : (path : List ℕ) → (Kept new → (path ≢ own.build_log) × (path ≢ own.deps_log)) → GrewWriting path
         → HasNoRecord tells format own asked.graph.edges i old now → HasNoRecord tells format own asked.graph.edges i old new
-    no_record_apart path apart writes none = none_kept (λ tell files.
+    no_record_apart path apart grew none = none_kept (λ tell files.
         let told = carried.run.history tell in
-        let call = writes.history tell in (
+        let call = grew tell in (
           kept_before own asked.graph.edges old.history now.history new.history call.more call.grows files,
           build_log_stays B format own asked.graph.edges store old now new told.more told.grows files commands path (apart files).0 (apart files).1 call,
           deps_log_stays B format own asked.graph.edges store old now new told.more told.grows files commands path (apart files).0 (apart files).1 call,
         )) none
+
+    pub no_record_over_private : (q : List ℕ) → IsPrivate asked.graph.edges i q → GrewWriting q → HasNoRecord tells format own asked.graph.edges i old now → HasNoRecord tells format own asked.graph.edges i old new
+    no_record_over_private q private grew none =
+        no_record_apart q (λ files. (not_own q private files own.build_log files.own_files.build_log, not_own q private files own.deps_log files.own_files.deps_log)) grew none
 
     -- ---- together
 
