@@ -15,7 +15,7 @@ use Rattle.model.specs.Records.{Store, LogFormat, OwnFiles, store_in, recorded_i
 use Rattle.model.specs.OutOfDate.{IsVerdict}
 use Rattle.model.specs.Schedule.{Step, Judged, Started, Ended, IsLawfulStep, IsEndOf, NoneMayBeJudged, NoneMayStart, started_in, out_of_date_in, ended_in, well_in, running_in}
 use Rattle.model.specs.Premises.{FilesAreKept, RecordedApart, EndedAt, LiesIn}
-use Rattle.model.specs.SingleBuild.{Asked, task_of, IsJudged, IsFrame}
+use Rattle.model.specs.SingleBuild.{WasTakenIn, Asked, task_of, IsJudged, IsFrame}
 use Rattle.model.specs.Kept.{StartedUnder, KeepsRecords, store_at}
 use Rattle.build_theory.specs.Run.{events_in, starts_in, IsRun, IsRunOrRest}
 use Rattle.build_theory.proofs.Steps.{running_parts}
@@ -34,6 +34,7 @@ use Rattle.log_theory.specs.Ledger.{IsBeside, IsCarried, IsCutOff, IsReadyToStar
 use Rattle.log_theory.proofs.Calls.{entry_logged, looks_logged, start_logged, rest_logged}
 use Rattle.log_theory.proofs.Growing.{logged_hand, logged_judged, logged_as_failed, logged_as_well}
 use Rattle.log_theory.proofs.Judged.{judged_nothing, judged_on, judged_other, judged_now, taken_nothing, taken_on, taken_other, taken_ended, verdicts_at_exit}
+use Rattle.log_theory.proofs.Once.{taken_in_started}
 use Rattle.log_theory.proofs.Recorded.{records_are_kept}
 use Rattle.log_theory.proofs.Ticking.{ticked_nothing, ticked_quiet, ticked_starts}
 use Rattle.log_theory.proofs.Writing.{no_events_at, run_at, run_wrote, logged_at, writes_at, ticks_grew}
@@ -515,3 +516,8 @@ module _ (tells : Bool) (B : Behaviour) (format : LogFormat) (own : OwnFiles) (a
 
     pub records_of : IsMadeOnce asked.graph.edges → IsTrue tells → Kept now → KeepsRecords B asked store (store_at format own now) steps met old now
     records_of once tell files = records_are_kept tells B format own asked store steps met old now tell cut.beside.idle cut.run once (cut.beside.logged tell files).logged
+
+    -- the edge whose start or taking in met the fault was taken in by a step, if at all
+    pub met_by_step : (i : ℕ) → (has_number (started_in steps) i ≡ false) ⊎ (has_number (ended_in steps) i ≡ true) → WasTakenIn i old now → has_number (ended_in steps) i ≡ true
+    met_by_step i (inl unstarted) taken = absurd (false≢true (sym unstarted ∙ taken_in_started tells own (task_of asked store) steps old now cut.beside.idle cut.run i taken))
+    met_by_step i (inr ended) taken = ended

@@ -1,12 +1,14 @@
 -- An edge in hand is made ready to start, call by call: what one call brings about, the calls after it keep.
-use Rattle.std.proofs.Common.{◌≡◌, ◌≢◌, ◌⊎◌, inl, inr, ℕ, Bool, true, false, IsTrue, List, [], ◌++◌, Option, Some, None, refl, sym, ◌∙◌, ap, subst, append_assoc}
+use Rattle.std.proofs.Common.{◌≡◌, ◌≢◌, ◌⊎◌, inl, inr, ℕ, Bool, true, false, IsTrue, List, [], ◌∷◌, ◌++◌, Option, Some, None, refl, sym, ◌∙◌, ap, subst, append_assoc}
 use Rattle.std.proofs.lemmas.Bool.{false≢true}
 use Rattle.model.specs.declared.event.Moment.{Moment}
+use Rattle.model.specs.declared.record.Record.{Record}
+use Rattle.model.specs.declared.record.Record.TheVariants.{Begun}
 use Rattle.model.specs.World.{World, file_at, content_of, view_of, IsRunning}
 use Rattle.model.specs.Calls.{OnlyLooks, Ticks, Writes}
-use Rattle.model.specs.Graph.{has_number, edge_at, IsCommand}
+use Rattle.model.specs.Graph.{has_number, outputs, edge_at, IsCommand}
 use Rattle.model.specs.Outcome.{Behaviour}
-use Rattle.model.specs.Records.{Store, LogFormat, OwnFiles, in_force}
+use Rattle.model.specs.Records.{Store, LogFormat, OwnFiles, store_in, in_force}
 use Rattle.model.specs.Schedule.{Step, started_in, out_of_date_in}
 use Rattle.model.specs.Premises.{FilesAreKept, LiesIn}
 use Rattle.model.specs.SingleBuild.{Asked, task_of}
@@ -19,6 +21,7 @@ use Rattle.log_theory.specs.Logged.{IsTickedAt}
 use Rattle.log_theory.specs.Writes.{GrewAt, WritesAt}
 use Rattle.log_theory.specs.Ledger.{IsCarried, IsTickedNow, HoldsStill, HasNoRecord, IsReadyToStart}
 use Rattle.log_theory.proofs.Calls.{within, edits, looks_stays}
+use Rattle.log_theory.proofs.Growing.{begun_none}
 use Rattle.log_theory.proofs.Ledger.{command_of, stale_command, others_run}
 use Rattle.log_theory.proofs.Less.{store_same}
 use Rattle.log_theory.proofs.Ticking.{tick_now, tick_on}
@@ -122,6 +125,13 @@ module _ (tells : Bool) (B : Behaviour) (format : LogFormat) (own : OwnFiles) (a
 
     -- ---- the record of its outputs
 
+    -- its begun record was put behind the others
+    pub no_record_begun : (IsTrue tells → Kept new → (records : List Record) × ((store_in format own (view_of new.history)).records ≡ records ++ Begun (outputs (edge_at asked.graph.edges i)) ∷ []))
+        → HasNoRecord tells format own asked.graph.edges i old new
+    no_record_begun begun tell files o makes =
+        let put = begun tell files in
+        ap (λ (rs : List Record). in_force rs o) put.1 ∙ begun_none B asked.graph.edges store old put.0 (outputs (edge_at asked.graph.edges i)) o makes
+
     -- where both logs are as they were
     none_kept : (IsTrue tells → Kept new → (Kept now) × (view_of new.history own.build_log ≡ view_of now.history own.build_log) × (view_of new.history own.deps_log ≡ view_of now.history own.deps_log))
         → HasNoRecord tells format own asked.graph.edges i old now → HasNoRecord tells format own asked.graph.edges i old new
@@ -129,6 +139,7 @@ module _ (tells : Bool) (B : Behaviour) (format : LogFormat) (own : OwnFiles) (a
         let was = same tell files in
         ap (λ (s : Store). in_force s.records o) (store_same format own now.history new.history was.1 was.2) ∙ none tell was.0 o makes
 
+    -- calls that only look keep it so
     pub no_record_looking : OnlyLooks tells now new → HasNoRecord tells format own asked.graph.edges i old now → HasNoRecord tells format own asked.graph.edges i old new
     no_record_looking looks none = none_kept (λ tell files.
         let told = carried.run.history tell in
@@ -138,7 +149,7 @@ module _ (tells : Bool) (B : Behaviour) (format : LogFormat) (own : OwnFiles) (a
           looks_stays B format own asked.graph.edges store old now new told.more told.grows files commands tells tell looks own.deps_log files.own_files.deps_log,
         )) none
 
-    -- so is a tick or a write at a path that is no log
+    -- so do ticks and writes at a path that is no log
     pub no_record_apart : (path : List ℕ) → (Kept new → (path ≢ own.build_log) × (path ≢ own.deps_log)) → GrewWriting path
         → HasNoRecord tells format own asked.graph.edges i old now → HasNoRecord tells format own asked.graph.edges i old new
     no_record_apart path apart grew none = none_kept (λ tell files.
