@@ -5,3 +5,4 @@ pub mod Histories
 pub mod Builds
 pub mod Driving
 pub mod Writes
+pub mod Ledger
