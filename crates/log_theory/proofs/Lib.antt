@@ -27,3 +27,4 @@ pub mod Ledger
 pub mod TakenIn
 pub mod Readying
 pub mod Driving
+mod OneCommand
