@@ -3,4 +3,4 @@
 
 mod display;
 
-pub use display::{Display, Progress};
+pub use display::{Display, Progress, has_terminal};
