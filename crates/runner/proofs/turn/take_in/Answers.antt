@@ -1,4 +1,4 @@
-use Rattle.std.proofs.Common.{◌≡◌, ℕ, suc, ◌-◌, ◌∙◌, List, inl, ap, sym, subst, arith}
+use Rattle.std.proofs.Common.{◌≡◌, ℕ, suc, ◌∙◌, List, inl, ap, sym, subst, arith}
 use Rattle.plan.specs.Standing.{standing_at}
 use Rattle.runner.specs.Going.{IsOn, failed_after}
 use Rattle.runner.proofs.Cutting.{some_still, cause_err}
