@@ -1,8 +1,7 @@
--- How many commands a cone has.
-use Rattle.std.specs.Prelude.{ℕ, suc, List, filter, length, not}
-use Rattle.model.specs.declared.graph.Edge.{Edge}
-use Rattle.model.specs.Graph.{edge_at}
+-- How many commands there are.
+use Rattle.std.specs.Prelude.{ℕ, List, filter, length, not}
+use Rattle.links.specs.Links.{Links}
 
--- how many of these edges, which count from 0, have a command
-abbrev pub count_commands : List Edge → List ℕ → ℕ
-count_commands edges order = length (filter (λ e. not (edge_at edges (suc e)).phony) order)
+-- how many of these edges have a command
+abbrev pub count_commands : Links → List ℕ → ℕ
+count_commands links edges = length (filter (λ e. not (links.phony e)) edges)

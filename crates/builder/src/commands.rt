@@ -1,18 +1,19 @@
 //! How many commands a build has.
 
 ghost use Rattle.std.specs.Prelude.{◌≡◌, ◌<◌, All, length};
+ghost use Rattle.links.specs.Links.{links_of};
 ghost use Rattle.builder.specs.Commands.{count_commands};
-ghost use Rattle.links.specs.Told.{declared_by};
 
-use links::{Cone, Graph};
+use links::Graph;
+use paths::EdgeId;
 
-/// How many of the edges of a cone have a command.
-pub fn commands_in(graph: &Graph, cone: &Cone) -> usize
-    requires { All (λ e. e < length graph.now.manifest.lines) cone.now.order.items }
-    ensures { result ≡ count_commands (declared_by graph.now).edges cone.now.order.items }
+/// How many of these edges have a command.
+pub fn commands_among(graph: &Graph, edges: &[EdgeId]) -> usize
+    requires { All (λ e. e < length graph.now.manifest.lines) edges.now }
+    ensures { result ≡ count_commands (links_of graph.now) edges.now }
 {
     let mut count = 0;
-    for edge in &cone.order {
+    for edge in edges {
         if !graph.is_phony(*edge) {
             count += 1;
         }

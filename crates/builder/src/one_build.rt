@@ -14,7 +14,7 @@ ghost use Rattle.builder.specs.Reports.{report_in, IsUnrecorded, SaysNoCone, Sho
 ghost use Rattle.builder.specs.Taken.{IsTaken};
 
 use crate::asked::{Asked, Limits};
-use crate::commands::commands_in;
+use crate::commands::commands_among;
 use crate::names::{first_outputs, path_texts};
 use crate::report::{Options, Refusal, Report};
 use crate::sources::check_sources;
@@ -146,7 +146,7 @@ fn run_cone<S: Site>(
 {
     let tick = tick_path(alloc, asked.folder.as_str())?;
     let mut plan = plan_of(alloc, graph, cone, asked.limits)?;
-    let unstarted = commands_in(graph, cone);
+    let unstarted = commands_among(graph, &cone.order);
     let mut display = Display::new(alloc, &options.pattern, options.verbose, unstarted);
     let summary = run_plan(alloc, site, graph, tick.as_str(), &mut plan, &mut display)?;
     Ok(report(alloc, graph, summary)?)
