@@ -8,6 +8,7 @@ use builder::{Options, Report, build};
 use model::{Event, SiteFault};
 use sim::{Call, Order, Sim, Timing, Toy, Trouble};
 use site::Site;
+use status::Pattern;
 use std::alloc::{AllocError, Global};
 use std::io::{self, Write};
 use std::process::Abort;
@@ -144,6 +145,8 @@ fn build_all(alloc: Global, site: &mut Sim<Toy>) -> Result<Report, AllocError>
         file: Text::from_str(alloc, "build.ninja")?,
         jobs: 3,
         keep: 1,
+        verbose: false,
+        pattern: Pattern::parse(alloc, Pattern::DEFAULT)?,
     };
     Ok(build(alloc, site, &options, &[]))
 }
