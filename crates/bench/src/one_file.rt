@@ -1,6 +1,6 @@
 //! The build file that is read.
 
-use manifest::{SiteFault, Texts};
+use site::{SiteFault, Texts};
 use text::Bytes;
 
 /// A site with one file, `build.ninja`, which gives its bytes once.

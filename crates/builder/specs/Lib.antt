@@ -1,4 +1,5 @@
 pub mod Asked
 pub mod Build
+pub mod Commands
 pub mod Reports
 pub mod Taken

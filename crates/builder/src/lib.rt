@@ -2,6 +2,7 @@
 #![tactic(auto)]
 
 mod asked;
+mod commands;
 mod names;
 mod one_build;
 mod report;

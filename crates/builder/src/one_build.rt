@@ -1,6 +1,6 @@
 //! One build.
 
-ghost use Rattle.std.specs.Prelude.{◌≡◌, IfOk, IfErr, false, vec_len, length};
+ghost use Rattle.std.specs.Prelude.{◌≡◌, ◌<◌, All, IfOk, IfErr, false, vec_len, length};
 ghost use Rattle.model.specs.World.{IsIdle};
 ghost use Rattle.model.specs.Graph.{IsMadeOnce};
 ghost use Rattle.model.specs.SingleBuild.{PassesNoFault};
@@ -14,11 +14,13 @@ ghost use Rattle.builder.specs.Reports.{report_in, IsUnrecorded, SaysNoCone, Sho
 ghost use Rattle.builder.specs.Taken.{IsTaken};
 
 use crate::asked::{Asked, Limits};
+use crate::commands::commands_among;
 use crate::names::{first_outputs, path_texts};
 use crate::report::{Options, Refusal, Report};
 use crate::sources::check_sources;
 use crate::taken::check_taken;
 use crate::tick::tick_path;
+use display::Display;
 use links::{Cone, ConeFault, Graph};
 use manifest::reads_longer;
 use plan::{Plan, task_of};
@@ -57,7 +59,7 @@ fn try_build<S: Site>(
     check_taken(alloc, &manifest)?;
     let graph = Graph::build(alloc, manifest)?;
     reads_longer();
-    build_graph(alloc, site, &graph, &asked)
+    build_graph(alloc, site, &graph, &asked, options)
 }
 
 /// Builds what was asked for of a graph.
@@ -66,6 +68,7 @@ fn build_graph<S: Site>(
     site: &mut S,
     graph: &Graph,
     asked: &Asked<'_>,
+    options: &Options,
 ) -> Result<Report, Report>
     requires idle { IsIdle (S.world site.old).events }
     requires running { (S.world site.old).stopped ≡ false }
@@ -77,13 +80,14 @@ fn build_graph<S: Site>(
 {
     let cone = cone_of(alloc, graph, asked)?;
     check_sources(alloc, site, graph, &cone)?;
-    run_cone(alloc, site, graph, &cone, asked)
+    run_cone(alloc, site, graph, &cone, asked, options)
 }
 
 /// The cone of what was asked for.
 fn cone_of(alloc: Global, graph: &Graph, asked: &Asked<'_>) -> Result<Cone, Report>
     requires { IsUnrecorded graph.now }
     ensures marks { IfOk result (λ cone. vec_len cone.marks ≡ length graph.now.manifest.lines) }
+    ensures within { IfOk result (λ cone. All (λ e. e < length graph.now.manifest.lines) cone.order.items) }
     ensures cone { IfOk result (IsConeUnrecorded graph.now asked.now.targets) }
     ensures refused { IfErr result (SaysNoCone graph.now asked.now.given.now asked.now.targets) }
 {
@@ -122,25 +126,29 @@ fn target_at(alloc: Global, given: &[Text], place: usize) -> Result<Text, AllocE
     }
 }
 
-/// Runs the commands of a cone, and reports how that ended.
+/// Runs the commands of a cone, shows them as the options say, and reports how that ended.
 fn run_cone<S: Site>(
     alloc: Global,
     site: &mut S,
     graph: &Graph,
     cone: &Cone,
     asked: &Asked<'_>,
+    options: &Options,
 ) -> Result<Report, Report>
     requires idle { IsIdle (S.world site.old).events }
     requires running { (S.world site.old).stopped ≡ false }
     requires unrecorded { IsUnrecorded graph.now }
     requires marks { vec_len cone.now.marks ≡ length graph.now.manifest.lines }
+    requires within { All (λ e. e < length graph.now.manifest.lines) cone.now.order.items }
     requires cone { IsConeUnrecorded graph.now asked.now.targets cone.now }
     ensures ran { RunsFor S.tells graph.now asked.now (S.world site.old) (S.world site.new) (report_in result) }
     ensures faults { PassesNoFault (S.world site.old) (S.world site.new) (run_answer (report_in result)) }
 {
     let tick = tick_path(alloc, asked.folder.as_str())?;
     let mut plan = plan_of(alloc, graph, cone, asked.limits)?;
-    let summary = run_plan(alloc, site, graph, tick.as_str(), &mut plan)?;
+    let unstarted = commands_among(graph, &cone.order);
+    let mut display = Display::new(alloc, &options.pattern, options.verbose, unstarted);
+    let summary = run_plan(alloc, site, graph, tick.as_str(), &mut plan, &mut display)?;
     Ok(report(alloc, graph, summary)?)
 }
 

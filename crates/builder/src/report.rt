@@ -4,6 +4,7 @@ use links::GraphFault;
 use manifest::{FileFault, ReadError};
 use model::SiteFault;
 use runner::Cut;
+use status::Pattern;
 use std::alloc::AllocError;
 use std::error::Error;
 use std::fmt;
@@ -18,6 +19,10 @@ pub struct Options {
     pub jobs: u32,
     /// After how many failed commands nothing more is started; 0 is no limit.
     pub keep: u32,
+    /// Whether what is shown of a command is the command in place of its description.
+    pub verbose: bool,
+    /// What stands in front of each line that is shown.
+    pub pattern: Pattern,
 }
 
 /// Why a build was refused. It prints as its number and its text, as `N17: 'b' is made twice`.

@@ -1,7 +1,8 @@
 //! Builds on a site in memory.
 
 use builder::{Options, Refusal, Report, build};
-use site::{Sim, Toy};
+use sim::{Sim, Toy};
+use status::Pattern;
 use std::alloc::{AllocError, Global};
 use std::test::Fail;
 use text::Text;
@@ -34,6 +35,8 @@ fn build_targets(
         file: Text::from_str(alloc, "build.ninja")?,
         jobs: 4,
         keep: 1,
+        verbose: false,
+        pattern: Pattern::parse(alloc, Pattern::DEFAULT)?,
     };
     let mut given = Vec::new(alloc);
     for target in targets {

@@ -2,7 +2,7 @@
 
 use clean::{NoDepfiles, clean_build};
 use model::{Act, BuildGraph, Deps, Edge, Writer};
-use site::{History, Toy};
+use sim::{History, Toy};
 use std::alloc::Global;
 use std::test::Fail;
 use text::{Bytes, Items, Path, Text};

@@ -1,7 +1,8 @@
 //! Builds of very many commands.
 
 use builder::{Options, Report, build};
-use site::{Sim, Toy};
+use sim::{Sim, Toy};
+use status::Pattern;
 use std::alloc::{AllocError, Global};
 use std::test::Fail;
 use text::Text;
@@ -46,6 +47,8 @@ fn content_built(
         file: Text::from_str(alloc, "build.ninja")?,
         jobs,
         keep: 1,
+        verbose: false,
+        pattern: Pattern::parse(alloc, Pattern::DEFAULT)?,
     };
     let report = build(alloc, &mut site, &options, &[]);
     let content = match site.content("o0") {

@@ -2,11 +2,13 @@
 
 ghost use Rattle.std.specs.Prelude.{◌≡◌, IfOk, OnOk};
 ghost use Rattle.model.specs.World.{IsIdle};
-ghost use Rattle.site.specs.World.{world_of};
+ghost use Rattle.sim.specs.World.{world_of};
 
 use builder::{Options, Report, build};
 use model::{Event, SiteFault};
-use site::{Call, Order, Sim, Site, Timing, Toy, Trouble};
+use sim::{Call, Order, Sim, Timing, Toy, Trouble};
+use site::Site;
+use status::Pattern;
 use std::alloc::{AllocError, Global};
 use std::io::{self, Write};
 use std::process::Abort;
@@ -143,6 +145,8 @@ fn build_all(alloc: Global, site: &mut Sim<Toy>) -> Result<Report, AllocError>
         file: Text::from_str(alloc, "build.ninja")?,
         jobs: 3,
         keep: 1,
+        verbose: false,
+        pattern: Pattern::parse(alloc, Pattern::DEFAULT)?,
     };
     Ok(build(alloc, site, &options, &[]))
 }

@@ -14,8 +14,8 @@ use Rattle.model.specs.Outcome.{Behaviour, GivesTheSame, ends_well, given, repor
 use Rattle.model.specs.declared.outcome.Outcome.{Outcome}
 use Rattle.model.specs.Reading.{IsRead, Itself, IsAlias}
 use Rattle.model.specs.Premises.{HasOneOutcome, OneOutcome, LeftOutcome, EndedAt, StampsGrow, Increases, IsWithinEdge, OwnFilesApart, LiesIn, SharesNone, IsNoEdit, IsFromAbove, DyndepOutputsAreReadBelow, FilesAreKept}
-use Rattle.site.specs.Toy.{toy_outcome}
-use Rattle.site.specs.Alone.{toy_reads_alone}
+use Rattle.sim.specs.Toy.{toy_outcome}
+use Rattle.sim.specs.Alone.{toy_reads_alone}
 use Rattle.clean.specs.Beyond.{none_recorded}
 use Rattle.clean.specs.Example.{two_edges, toys, own, one_by_one, before, during, after}
 use Rattle.clean.specs.PremisesMet.{PremisesAreMet}

@@ -11,7 +11,7 @@ use Rattle.model.specs.Graph.{has}
 use Rattle.model.specs.Outcome.{Behaviour}
 use Rattle.model.specs.Records.{OwnFiles}
 use Rattle.model.specs.Schedule.{Step, Judged, Started, Ended}
-use Rattle.site.specs.Toy.{toy_outcome}
+use Rattle.sim.specs.Toy.{toy_outcome}
 
 -- an act with a command and, where it is not empty, a depfile
 abbrev pub act_with : List ℕ → List ℕ → Act

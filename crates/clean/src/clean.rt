@@ -8,7 +8,7 @@ ghost use Rattle.clean.specs.Made.{behaviour, command_of, given_by, overwritten}
 use crate::depfiles::Depfiles;
 use crate::made::{give_at, made_paths};
 use model::{BuildGraph, Edge, Writer};
-use site::{Commands, History};
+use sim::{Commands, History};
 use std::alloc::{AllocError, Global};
 use text::{Bytes, Path};
 

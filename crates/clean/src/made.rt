@@ -10,7 +10,7 @@ ghost use Rattle.clean.specs.Made.{behaviour, if_command, command_of, made_paths
 
 use crate::depfiles::Depfiles;
 use model::{Act, Edge, Outcome, Write};
-use site::{Commands, History};
+use sim::{Commands, History};
 use std::alloc::{AllocError, Global};
 use text::{Bytes, Path};
 

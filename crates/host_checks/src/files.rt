@@ -2,8 +2,7 @@
 
 use crate::place::{go_to, leave};
 use host::Host;
-use manifest::Texts;
-use site::Site;
+use site::{Site, Texts};
 use std::fs;
 use std::test::Fail;
 

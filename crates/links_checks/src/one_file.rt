@@ -1,7 +1,8 @@
 //! One build file.
 
 use links::Graph;
-use manifest::{SiteFault, Texts, read};
+use manifest::read;
+use site::{SiteFault, Texts};
 use std::alloc::Global;
 use std::test::Fail;
 use text::Bytes;

@@ -1,5 +1,5 @@
 -- Calls of the site keep what the logs tell, or put a record behind the others.
-use Rattle.std.proofs.Common.{◌≡◌, ◌≢◌, ℕ, Bool, true, false, IsTrue, List, [], ◌∷◌, ◌++◌, Option, Some, None, bytes_eq, refl, sym, ◌∙◌, ap, subst}
+use Rattle.std.proofs.Common.{◌≡◌, ◌≢◌, ℕ, Bool, true, IsTrue, List, [], ◌∷◌, ◌++◌, Option, Some, None, bytes_eq, refl, sym, ◌∙◌, ap, subst}
 use Rattle.std.specs.List.{AllByRecursion}
 use Rattle.std.proofs.lemmas.Bool.{false_from_ne_true}
 use Rattle.model.specs.declared.act.Act.{Act}
@@ -16,7 +16,7 @@ use Rattle.model.specs.Calls.{AllByOthers, OthersWrote, Adds, OnlyLooks, content
 use Rattle.model.specs.Graph.{has, has_number, edge_at, outputs, IsCommand}
 use Rattle.model.specs.Outcome.{Behaviour}
 use Rattle.model.specs.Records.{OwnFiles, LogFormat, Store, read_log, store_in, in_force}
-use Rattle.model.specs.Schedule.{Step, Started, Ended, well_in}
+use Rattle.model.specs.Schedule.{Step, Started, well_in}
 use Rattle.model.specs.Premises.{OwnFilesApart, FilesAreKept, IsWithinEdge, IsNoEdit}
 use Rattle.model.specs.Faithful.{IsReadable}
 use Rattle.build_theory.proofs.Lists.{all_append, all_parts, same_bytes}
@@ -61,14 +61,14 @@ entry_logged B format own edges old = record { readable = λ was_so. was_so; log
 
 module _ (B : Behaviour) (format : LogFormat) (own : OwnFiles) (edges : List Edge) (entry : Store) (old now new : World) (so_far : List Moment) (was : now.history ≡ old.history ++ so_far)
     (kept : FilesAreKept own edges old.history new.history) (commands : (job : ℕ) → runs job now.events ≡ true → IsCommand edges job) where
-  within : (ms : List Moment) → new.history ≡ now.history ++ ms → AllByRecursion (IsWithinEdge edges) ms
+  pub within : (ms : List Moment) → new.history ≡ now.history ++ ms → AllByRecursion (IsWithinEdge edges) ms
   within ms grows = since (IsWithinEdge edges) old.history so_far now.history ms new.history was grows kept.commands
 
-  edits : (ms : List Moment) → new.history ≡ now.history ++ ms → AllByRecursion IsNoEdit ms
+  pub edits : (ms : List Moment) → new.history ≡ now.history ++ ms → AllByRecursion IsNoEdit ms
   edits ms grows = since IsNoEdit old.history so_far now.history ms new.history was grows kept.edits
 
   -- where both logs are as they were, they tell the same
-  same_logs : (steps : List Step) (hand : Option ℕ) → view_of new.history own.build_log ≡ view_of now.history own.build_log → view_of new.history own.deps_log ≡ view_of now.history own.deps_log
+  pub same_logs : (steps : List Step) (hand : Option ℕ) → view_of new.history own.build_log ≡ view_of now.history own.build_log → view_of new.history own.deps_log ≡ view_of now.history own.deps_log
       → (AreReadable format own old.history → AreReadable format own now.history) → IsLogged B edges steps hand entry (store_in format own (view_of now.history)) old new → IsLoggedAt B format own edges steps hand entry old new
   same_logs steps hand a b readable logged = record {
     readable = λ was_so. readable_same format own now.history new.history a b (readable was_so);
@@ -76,16 +76,19 @@ module _ (B : Behaviour) (format : LogFormat) (own : OwnFiles) (edges : List Edg
   }
 
   -- a call that only looks
-  pub looks_logged : (steps : List Step) (hand : Option ℕ) (tells : Bool) → IsTrue tells → OnlyLooks tells now new → IsLoggedAt B format own edges steps hand entry old now → IsLoggedAt B format own edges steps hand entry old new
-  looks_logged steps hand tells tell looks logged = same_logs steps hand (stays own.build_log kept.own_files.build_log) (stays own.deps_log kept.own_files.deps_log) logged.readable
-      (growing.logged_quiet B edges entry old steps hand (store_in format own (view_of now.history)) now new looks.events call.more call.grows logged.logged)
-    where
-      call : OthersWrote (IsRunning now.events) now.history new.history
-      call = looks.history tell
+  module _ (tells : Bool) (tell : IsTrue tells) (looks : OnlyLooks tells now new) where
+    call : OthersWrote (IsRunning now.events) now.history new.history
+    call = looks.history tell
 
-      stays : (log : List ℕ) → own.files log ≡ true → view_of new.history log ≡ view_of now.history log
-      stays log mine = ap content_of (ap (λ (h : List Moment). file_at h log) call.grows
-          ∙ file_stays log now.history call.more (log_elsewhere own edges kept.own_files log mine (IsRunning now.events) commands call.more call.all (within call.more call.grows) (edits call.more call.grows)))
+    pub looks_stays : (log : List ℕ) → own.files log ≡ true → view_of new.history log ≡ view_of now.history log
+    looks_stays log mine = ap content_of (ap (λ (h : List Moment). file_at h log) call.grows
+        ∙ file_stays log now.history call.more (log_elsewhere own edges kept.own_files log mine (IsRunning now.events) commands call.more call.all (within call.more call.grows) (edits call.more call.grows)))
+
+  pub looks_logged : (steps : List Step) (hand : Option ℕ) (tells : Bool) → IsTrue tells → OnlyLooks tells now new → IsLoggedAt B format own edges steps hand entry old now → IsLoggedAt B format own edges steps hand entry old new
+  looks_logged steps hand tells tell looks logged =
+      let call = looks.history tell in
+      same_logs steps hand (looks_stays tells tell looks own.build_log kept.own_files.build_log) (looks_stays tells tell looks own.deps_log kept.own_files.deps_log) logged.readable
+      (growing.logged_quiet B edges entry old steps hand (store_in format own (view_of now.history)) now new looks.events call.more call.grows logged.logged)
 
   -- a call of one own moment that is no write of a log: a write of another file, a start or an end
   module _ (m : Moment) (adds : Adds (IsRunning now.events) (IsRunning new.events) m now.history new.history) (after : (job : ℕ) → runs job new.events ≡ true → IsCommand edges job)
@@ -125,25 +128,7 @@ module _ (B : Behaviour) (format : LogFormat) (own : OwnFiles) (edges : List Edg
       (growing.logged_starts B edges entry old steps (store_in format own (view_of now.history)) now new i act now.ticked starts.events
       (adds.earlier ++ Happened (Start i act now.ticked) ∷ adds.later) adds.grows begun fresh logged.logged)
 
-  -- a command was taken in and ended well; it is in hand now
-  pub well_logged : (steps : List Step) (tells : Bool) → IsTrue tells → (i : ℕ) (ok : Bool) → Finishes tells i ok now new → ((job : ℕ) → runs job new.events ≡ true → IsCommand edges job)
-      → IsLoggedAt B format own edges steps None entry old now → IsLoggedAt B format own edges (steps ++ Ended i true ∷ []) (Some i) entry old new
-  well_logged steps tells tell i ok finish after logged =
-      let adds = finish.history tell in
-      same_logs (steps ++ Ended i true ∷ []) (Some i) (build_log_stays (Happened (Finish i ok)) adds after tt tt) (deps_log_stays (Happened (Finish i ok)) adds after tt tt) logged.readable
-      (growing.logged_well B edges entry old steps (store_in format own (view_of now.history)) now new i ok finish.events
-      (adds.earlier ++ Happened (Finish i ok) ∷ adds.later) adds.grows logged.logged)
-
-  -- a command was taken in and failed
-  pub failed_logged : (steps : List Step) (tells : Bool) → IsTrue tells → (i : ℕ) (ok : Bool) → Finishes tells i ok now new → ((job : ℕ) → runs job new.events ≡ true → IsCommand edges job)
-      → IsLoggedAt B format own edges steps None entry old now → IsLoggedAt B format own edges (steps ++ Ended i false ∷ []) None entry old new
-  failed_logged steps tells tell i ok finish after logged =
-      let adds = finish.history tell in
-      same_logs (steps ++ Ended i false ∷ []) None (build_log_stays (Happened (Finish i ok)) adds after tt tt) (deps_log_stays (Happened (Finish i ok)) adds after tt tt) logged.readable
-      (growing.logged_failed B edges entry old steps (store_in format own (view_of now.history)) now new i ok finish.events
-      (adds.earlier ++ Happened (Finish i ok) ∷ adds.later) adds.grows logged.logged)
-
-  -- after a fault a command was taken in
+  -- a command was taken in, as no step yet
   pub rest_logged : (steps : List Step) (hand : Option ℕ) (tells : Bool) → IsTrue tells → (i : ℕ) (ok : Bool) → Finishes tells i ok now new → ((job : ℕ) → runs job new.events ≡ true → IsCommand edges job)
       → IsLoggedAt B format own edges steps hand entry old now → IsLoggedAt B format own edges steps hand entry old new
   rest_logged steps hand tells tell i ok finish after logged =

@@ -35,16 +35,16 @@ pub record GoesOn (now new : World) : Type 0 where
 pub goes_nowhere : (now : World) → GoesOn now now
 goes_nowhere now = record { moments = []; history = sym (append-nil now.history); more = []; events = sym (append-nil now.events) }
 
-longer : {X : Type 0} (old before : List X) (x : X) (after more now new : List X) → new ≡ now ++ more → now ≡ old ++ (before ++ x ∷ after) → new ≡ old ++ (before ++ x ∷ (after ++ more))
+pub longer : {X : Type 0} (old before : List X) (x : X) (after more now new : List X) → new ≡ now ++ more → now ≡ old ++ (before ++ x ∷ after) → new ≡ old ++ (before ++ x ∷ (after ++ more))
 longer old before x after more now new grows splits =
     grows ∙ (ap (λ l. l ++ more) splits ∙ (append_assoc old (before ++ x ∷ after) more ∙ ap (λ l. old ++ l) (append_assoc before (x ∷ after) more)))
 
-started_on : (i stamp : ℕ) (old now new : World) → GoesOn now new → StartedUnder i stamp old now → StartedUnder i stamp old new
-started_on i stamp old now new on started = record {
+pub started_on : (i stamp : ℕ) (old now new : World) (more : List Event) → new.events ≡ now.events ++ more → StartedUnder i stamp old now → StartedUnder i stamp old new
+started_on i stamp old now new more grows started = record {
   act = started.act;
   before = started.before;
-  after = started.after ++ on.more;
-  splits = longer old.events started.before (Start i started.act stamp) started.after on.more now.events new.events on.events started.splits;
+  after = started.after ++ more;
+  splits = longer old.events started.before (Start i started.act stamp) started.after more now.events new.events grows started.splits;
 }
 
 ended_on : (i : ℕ) (at : List Moment) (old now new : World) → GoesOn now new → EndedAt i old.history now.history at → EndedAt i old.history new.history at
@@ -66,7 +66,7 @@ module _ (B : Behaviour) (edges : List Edge) (entry : Store) (old : World) where
     at = has_new.at;
     makes = has_new.makes;
     well = more has_new.edge has_new.well;
-    started = started_on has_new.edge has_new.stamp old now new on has_new.started;
+    started = started_on has_new.edge has_new.stamp old now new on.more on.events has_new.started;
     ended = ended_on has_new.edge has_new.at old now new on has_new.ended;
     recorded = has_new.recorded;
   }
@@ -77,7 +77,7 @@ module _ (B : Behaviour) (edges : List Edge) (entry : Store) (old : World) where
     deps = has_new.deps;
     makes = has_new.makes;
     depfile = has_new.depfile;
-    started = started_on has_new.edge has_new.deps.start old now new on has_new.started;
+    started = started_on has_new.edge has_new.deps.start old now new on.more on.events has_new.started;
     is = has_new.is;
   }
 
@@ -152,31 +152,29 @@ module _ (B : Behaviour) (edges : List Edge) (entry : Store) (old : World) where
       (λ k h. in_left well_in well-append steps (Judged i b ∷ []) k h) (λ k h. inl (well_same steps (Judged i b) refl k h)) (λ k h. h)
       (goes_nowhere now) logged
 
-  -- A command was taken in and has failed: no edge is in hand. Or it ended well: it is in hand until it is recorded.
-  pub logged_failed : (steps : List Step) (store : Store) (now new : World) (i : ℕ) (ok : Bool) → new.events ≡ now.events ++ Finish i ok ∷ []
-      → (moments : List Moment) → new.history ≡ now.history ++ moments → IsLogged B edges steps None entry store old now → IsLogged B edges (steps ++ Ended i false ∷ []) None entry store old new
-  logged_failed steps store now new i ok events moments history logged =
-      logged_on steps (steps ++ Ended i false ∷ []) None None store now new
-      (λ k h. in_left started_in started-append steps (Ended i false ∷ []) k h) (λ k h. started_same steps (Ended i false) refl k h)
-      (λ k h. in_left well_in well-append steps (Ended i false ∷ []) k h) (λ k h. inl (well_same steps (Ended i false) refl k h)) (λ k h. h)
-      (record { moments = moments; history = history; more = Finish i ok ∷ []; events = events }) logged
-
-  pub logged_well : (steps : List Step) (store : Store) (now new : World) (i : ℕ) (ok : Bool) → new.events ≡ now.events ++ Finish i ok ∷ []
-      → (moments : List Moment) → new.history ≡ now.history ++ moments → IsLogged B edges steps None entry store old now → IsLogged B edges (steps ++ Ended i true ∷ []) (Some i) entry store old new
-  logged_well steps store now new i ok events moments history logged =
-      logged_on steps (steps ++ Ended i true ∷ []) None (Some i) store now new
-      (λ k h. in_left started_in started-append steps (Ended i true ∷ []) k h) (λ k h. started_same steps (Ended i true) refl k h)
-      (λ k h. in_left well_in well-append steps (Ended i true ∷ []) k h)
-      (λ k h. elim (in_either well_in well-append steps (Ended i true ∷ []) k h) [ inl before ↦ inl before | inr last ↦ inr (ap (λ (n : ℕ). Some n) (has_number-is i k last)) ])
-      (λ k h. absurd (some_none k (sym h)))
-      (record { moments = moments; history = history; more = Finish i ok ∷ []; events = events }) logged
-
   -- after a fault a command ends, and no step is taken
   pub logged_rest : (steps : List Step) (hand : Option ℕ) (store : Store) (now new : World) (i : ℕ) (ok : Bool) → new.events ≡ now.events ++ Finish i ok ∷ []
       → (moments : List Moment) → new.history ≡ now.history ++ moments → IsLogged B edges steps hand entry store old now → IsLogged B edges steps hand entry store old new
   logged_rest steps hand store now new i ok events moments history logged =
       logged_on steps steps hand hand store now new (λ k h. h) (λ k h. h) (λ k h. h) (λ k h. inl h) (λ k h. h)
       (record { moments = moments; history = history; more = Finish i ok ∷ []; events = events }) logged
+
+  -- A command that was taken in has failed: no edge is in hand. Or it ended well: it is in hand until it is recorded.
+  pub logged_as_failed : (steps : List Step) (store : Store) (now : World) (i : ℕ) → IsLogged B edges steps None entry store old now → IsLogged B edges (steps ++ Ended i false ∷ []) None entry store old now
+  logged_as_failed steps store now i logged =
+      logged_on steps (steps ++ Ended i false ∷ []) None None store now now
+      (λ k h. in_left started_in started-append steps (Ended i false ∷ []) k h) (λ k h. started_same steps (Ended i false) refl k h)
+      (λ k h. in_left well_in well-append steps (Ended i false ∷ []) k h) (λ k h. inl (well_same steps (Ended i false) refl k h)) (λ k h. h)
+      (goes_nowhere now) logged
+
+  pub logged_as_well : (steps : List Step) (store : Store) (now : World) (i : ℕ) → IsLogged B edges steps None entry store old now → IsLogged B edges (steps ++ Ended i true ∷ []) (Some i) entry store old now
+  logged_as_well steps store now i logged =
+      logged_on steps (steps ++ Ended i true ∷ []) None (Some i) store now now
+      (λ k h. in_left started_in started-append steps (Ended i true ∷ []) k h) (λ k h. started_same steps (Ended i true) refl k h)
+      (λ k h. in_left well_in well-append steps (Ended i true ∷ []) k h)
+      (λ k h. elim (in_either well_in well-append steps (Ended i true ∷ []) k h) [ inl before ↦ inl before | inr last ↦ inr (ap (λ (n : ℕ). Some n) (has_number-is i k last)) ])
+      (λ k h. absurd (some_none k (sym h)))
+      (goes_nowhere now) logged
 
   -- The command in hand is started; none of its outputs has a record in force.
   pub logged_starts : (steps : List Step) (store : Store) (now new : World) (i : ℕ) (act : Act) (stamp : ℕ) → new.events ≡ now.events ++ Start i act stamp ∷ []

@@ -10,6 +10,7 @@ pub mod Edits
 pub mod Growing
 pub mod Grown
 pub mod Calls
+pub mod Writing
 pub mod Ticking
 pub mod Recorded
 pub mod Carried
@@ -22,4 +23,8 @@ pub mod NothingLeft
 pub mod Over
 pub mod Stated
 pub mod Builds
+pub mod Ledger
+pub mod TakenIn
+pub mod Readying
 pub mod Driving
+mod OneCommand

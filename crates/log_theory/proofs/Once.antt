@@ -13,6 +13,7 @@ use Rattle.model.specs.Records.{OwnFiles}
 use Rattle.model.specs.Schedule.{Task, Step, Judged, Started, Ended, started_in, running_in, AreEventsOf, AreFinishes}
 use Rattle.model.specs.Premises.{EndedAt}
 use Rattle.model.specs.Kept.{StartedUnder}
+use Rattle.model.specs.SingleBuild.{WasTakenIn}
 use Rattle.build_theory.specs.Run.{events_in, starts_in, IsToldBy, IsRunOrRest}
 use Rattle.build_theory.proofs.Lists.{same_rest, place_of, has_number-left, has_number-right, has_number-one}
 use Rattle.build_theory.specs.Order.{IsOrderlyFrom, IsOrderly}
@@ -108,8 +109,18 @@ module _ (tells : Bool) (own : OwnFiles) (task : Task) (steps : List Step) (old 
       (sym starts_are ∙ (ap starts_in splits ∙ (starts-append xs ys ∙ (ap (λ (l : List ℕ). starts_in xs ++ l) place.splits ∙ sym (append_assoc (starts_in xs) place.before (i ∷ place.after)))))))
       ∙ has_number-left (starts_in xs) place.before i was)
 
+  -- what was taken in was started
+  pub taken_in_started : (i : ℕ) → WasTakenIn i old now → has_number (started_in steps) i ≡ true
+  taken_in_started i taken =
+      ap (λ (l : List ℕ). has_number l i) (sym starts_are ∙ (ap starts_in splits ∙ starts-append taken.before (Finish i taken.ok ∷ taken.after)))
+      ∙ has_number-left (starts_in taken.before) (starts_in taken.after) i
+      (runs_since i old.events taken.before idle (ran_rest old.events taken.before (Finish i taken.ok ∷ taken.after) (subst (λ (l : List Event). AllRan old.events l) splits ran)).0)
+    where
+      splits : rest.first ++ rest.later ≡ taken.before ++ Finish i taken.ok ∷ taken.after
+      splits = same_rest old.events (rest.first ++ rest.later) (taken.before ++ Finish i taken.ok ∷ taken.after) (sym rest.grows ∙ taken.splits)
+
   -- no command ends twice
-  not_ended_again : (xs ys zs : List Event) (i : ℕ) (a b : Bool) → rest.first ++ rest.later ≡ xs ++ Finish i a ∷ (ys ++ Finish i b ∷ zs) → ⊥
+  pub not_ended_again : (xs ys zs : List Event) (i : ℕ) (a b : Bool) → rest.first ++ rest.later ≡ xs ++ Finish i a ∷ (ys ++ Finish i b ∷ zs) → ⊥
   not_ended_again xs ys zs i a b splits = false≢true (sym still ∙ second.0)
     where
       first : (runs i (old.events ++ xs) ≡ true) × AllRan ((old.events ++ xs) ++ Finish i a ∷ []) (ys ++ Finish i b ∷ zs)

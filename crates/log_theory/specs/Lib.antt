@@ -4,3 +4,5 @@ pub mod Laws
 pub mod Histories
 pub mod Builds
 pub mod Driving
+pub mod Writes
+pub mod Ledger

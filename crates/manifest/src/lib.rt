@@ -18,7 +18,6 @@ mod place;
 mod pools;
 mod reader;
 mod rules;
-mod texts;
 mod values;
 
 pub use fault::{FaultKind, FileFault, ReadError};
@@ -26,4 +25,3 @@ pub use laws::{one_outcome, reads_longer};
 pub use model::SiteFault;
 pub use paths::Manifest;
 pub use reader::read;
-pub use texts::Texts;

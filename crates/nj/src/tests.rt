@@ -3,3 +3,5 @@
 mod builds;
 mod folder;
 mod refusals;
+mod shown;
+mod waiting;

@@ -2,10 +2,10 @@
 use Rattle.std.specs.Prelude.{◌≡◌, ℕ, true, List, []}
 use Rattle.model.specs.World.{World}
 use Rattle.model.specs.Calls.{IsRestart}
-use Rattle.site.specs.declared.sim.Sim.{Sim}
-use Rattle.site.specs.declared.toy.Toy.{Toy}
-use Rattle.site.specs.Toy.{toy_outcome}
-use Rattle.site.specs.World.{world_of}
+use Rattle.sim.specs.declared.sim.Sim.{Sim}
+use Rattle.sim.specs.declared.toy.Toy.{Toy}
+use Rattle.sim.specs.Toy.{toy_outcome}
+use Rattle.sim.specs.World.{world_of}
 use Rattle.builder.specs.declared.report.Options.{Options}
 use Rattle.builder.specs.declared.report.Report.{Report}
 use Rattle.builder.specs.declared.report.Report.TheVariants.{Success, Failed, Refused, Fault}

@@ -1,6 +1,6 @@
 //! The lines of a script.
 
-use site::{Call, Order, Timing};
+use sim::{Call, Order, Timing};
 use std::str::FromStr;
 
 /// A line of a script, without its newline.
@@ -32,6 +32,8 @@ pub enum Command<'a> {
     Build {
         targets: Option<&'a str>,
     },
+    /// `lines`: from now on builds print what they show, in place of their events.
+    Lines,
     /// `-j N`: from now on so many commands may run at once; 0 is no limit.
     Jobs(u32),
     /// `-k N`: from now on nothing is started after so many failed commands; 0 is no limit.
@@ -78,6 +80,7 @@ impl<'a> Command<'a> {
             ("build", Some(rest)) => Some(Command::Build {
                 targets: Some(words(rest)?),
             }),
+            ("lines", None) => Some(Command::Lines),
             ("-j", Some(rest)) => Some(Command::Jobs(number(rest)?)),
             ("-k", Some(rest)) => Some(Command::Keep(number(rest)?)),
             ("file", Some(rest)) => Some(Command::File {

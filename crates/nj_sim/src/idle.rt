@@ -2,11 +2,12 @@
 
 ghost use Rattle.std.specs.Prelude.{◌≡◌};
 ghost use Rattle.model.specs.World.{IsIdle};
-ghost use Rattle.site.specs.World.{world_of, fresh};
+ghost use Rattle.sim.specs.World.{world_of, fresh};
 ghost use Rattle.nj_sim.specs.Script.{GoesOn, BuildsAlone};
 
 use builder::{Options, Report, build};
-use site::{Call, Event, Order, Sim, Site, Timing, Toy};
+use sim::{Call, Order, Sim, Timing, Toy};
+use site::{Event, Site};
 use std::alloc::{AllocError, Global};
 use std::marker::Model;
 use text::{Bytes, Text};
@@ -20,9 +21,9 @@ pub struct IdleSite {
 
 impl Model for IdleSite {
     ghost use Rattle.model.specs.World.{IsIdle};
-    ghost use Rattle.site.specs.World.{world_of};
-    ghost use Rattle.site.specs.declared.sim.Sim.{Sim};
-    ghost use Rattle.site.specs.declared.toy.Toy.{Toy};
+    ghost use Rattle.sim.specs.World.{world_of};
+    ghost use Rattle.sim.specs.declared.sim.Sim.{Sim};
+    ghost use Rattle.sim.specs.declared.toy.Toy.{Toy};
 
     ghost Value = { Sim Toy };
 
@@ -68,6 +69,13 @@ impl IdleSite {
     /// All starts and finishes so far, oldest first.
     pub fn events(&self) -> &[Event] {
         self.site.events()
+    }
+
+    /// What was shown so far.
+    pub fn shown(&self) -> &[u8]
+        ensures { result.now ≡ self.now.shown.items }
+    {
+        self.site.shown()
     }
 
     /// From now on this running command ends next.

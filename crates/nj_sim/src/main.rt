@@ -6,6 +6,8 @@ mod fault;
 mod idle;
 #[cfg(test)]
 mod language;
+#[cfg(test)]
+mod lines;
 mod print;
 #[cfg(test)]
 mod refusals;

@@ -7,6 +7,7 @@ use crate::fault::ScriptFault;
 use crate::idle::IdleSite;
 use crate::print::{print_events, print_file, print_report};
 use builder::Options;
+use status::Pattern;
 use std::alloc::{AllocError, Global};
 use std::io::{BufRead, BufReader, BufWriter, Read, Write};
 use text::Text;
@@ -57,6 +58,8 @@ struct Run {
     alloc: Global,
     site: IdleSite,
     options: Options,
+    /// Whether builds print what they show, in place of their events.
+    lines: bool,
     /// The file whose content lines are being read.
     begun: Option<BegunFile>,
 }
@@ -77,7 +80,10 @@ impl Run {
                 file: Text::from_str(alloc, "build.ninja")?,
                 jobs: 4,
                 keep: 1,
+                verbose: false,
+                pattern: Pattern::parse(alloc, Pattern::DEFAULT)?,
             },
+            lines: false,
             begun: None,
         })
     }
@@ -104,6 +110,7 @@ impl Run {
             Command::Write { path, text } => self.write(path, text)?,
             Command::Delete { path } => self.site.erase(path)?,
             Command::Build { targets } => self.build(writer, targets)?,
+            Command::Lines => self.lines = true,
             Command::Jobs(jobs) => self.options.jobs = jobs,
             Command::Keep(keep) => self.options.keep = keep,
             Command::Finish(order) => self.site.order(order),
@@ -160,17 +167,23 @@ impl Run {
         self.site.put(path, content.as_slice())
     }
 
-    /// Builds, and prints what happened in this build and how it ended.
+    /// Builds, and prints what happened in this build, or what it showed, and how it ended.
     fn build<W: Write>(
         &mut self,
         writer: &mut W,
         targets: Option<&str>,
     ) -> Result<(), ScriptFault> {
         let targets = words(self.alloc, targets)?;
-        let before = self.site.events().len();
+        let events = self.site.events().len();
+        let shown = self.site.shown().len();
         let report = self.site.build(&self.options, &targets);
-        let events = self.site.events().get(before..).unwrap_or_default();
-        print_events(self.alloc, writer, events).map_err(ScriptFault::of_writer)?;
+        if self.lines {
+            let shown = self.site.shown().get(shown..).unwrap_or_default();
+            writer.write_all(shown).map_err(ScriptFault::of_writer)?;
+        } else {
+            let events = self.site.events().get(events..).unwrap_or_default();
+            print_events(self.alloc, writer, events).map_err(ScriptFault::of_writer)?;
+        }
         print_report(writer, &report).map_err(ScriptFault::of_writer)
     }
 }

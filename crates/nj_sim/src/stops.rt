@@ -207,13 +207,11 @@ fault append 1
 fault replace 1
 fault write 1
 fault remove 1
-fault show 1
 stop append 1 7
 stop append 002
 stop replace 1
 stop write 1
 stop remove 1
-stop show 1
 fault start 0
 stop start 18446744073709551615
 stop start 0 18446744073709551615

@@ -1,5 +1,6 @@
 use crate::fault::ScriptFault;
 use crate::language::{BUILD_FILE, SCOPES};
+use crate::lines::LINES;
 use crate::refusals::{FAULTS, GRAPHS};
 use crate::rows::{COMMANDS, PHONY, RULES, TARGETS, VALIDATIONS};
 use crate::run::script;
@@ -59,7 +60,7 @@ const BAD_LINES: [&[u8]; 46] = [
     b"write ",
     b"delete \xff",
     b"file a\r\n|x\nbuild\r",
-    b"lines",
+    b"lines 1",
     b"finish",
     b"finish ",
     b"finish middle",
@@ -129,6 +130,11 @@ fn graphs_are_built(rt: HostRuntime) -> Result<(), Fail> {
 #[test]
 fn builds_meet_faults_and_stops(rt: HostRuntime) -> Result<(), Fail> {
     check(&rt, rt.alloc(), RULES, &STOPS)
+}
+
+#[test]
+fn builds_show_lines(rt: HostRuntime) -> Result<(), Fail> {
+    check(&rt, rt.alloc(), RULES, &LINES)
 }
 
 #[test]

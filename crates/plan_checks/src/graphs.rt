@@ -1,7 +1,8 @@
 //! The graph that a build file declares.
 
 use links::{Cone, ConeFault, Graph, GraphFault};
-use manifest::{SiteFault, Texts, read};
+use manifest::read;
+use site::{SiteFault, Texts};
 use std::alloc::Global;
 use std::test::Fail;
 use text::{Bytes, Path};

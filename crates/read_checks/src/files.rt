@@ -2,7 +2,8 @@
 
 use crate::told::told_by;
 use indexmap::IndexMap;
-use manifest::{ReadError, SiteFault, Texts, read};
+use manifest::{ReadError, read};
+use site::{SiteFault, Texts};
 use std::alloc::{AllocError, Global};
 use std::process::Abort;
 use text::Bytes;

@@ -11,7 +11,7 @@ use Rattle.model.specs.Graph.{edge_at}
 use Rattle.model.specs.Records.{OwnFiles}
 use Rattle.model.specs.Schedule.{Task, Step as Done, Judged, Started, Ended, IsLawful, IsLawfulStep, clean_in, failed_in}
 use Rattle.build_theory.proofs.Steps.{clean-append, failed-append}
-use Rattle.build_theory.proofs.Calls.{start_shown}
+use Rattle.build_theory.proofs.Calls.{looks_then, start_shown}
 use Rattle.build_theory.proofs.Runs.{run_judged, run_looks, run_ticks_or_not, run_starts, run_takes_in, running_now}
 use Rattle.links.specs.declared.graph.Graph.{Graph}
 use Rattle.plan.specs.declared.plan.Plan.{Plan}
@@ -24,6 +24,10 @@ pub ok_then : {T E : Type 0} {P Q : Type 0} (r : Result T E) → OnOk r P → (P
 ok_then (Ok x) p f = f p
 ok_then (Err e) p f = tt
 
+pub on_ok : {T E : Type 0} {P : Type 0} (r : Result T E) → P → OnOk r P
+on_ok (Ok x) p = p
+on_ok (Err e) p = tt
+
 pub on_err : {T E : Type 0} {P : Type 0} (r : Result T E) → P → OnErr r P
 on_err (Ok x) p = tt
 on_err (Err e) p = p
@@ -31,6 +35,10 @@ on_err (Err e) p = p
 pub some_of : {T : Type 0} (o : Option T) (x : T) (P : Type 0) (Q : T → Type 0) → o ≡ Some x → MatchOption o P Q → Q x
 some_of {T} (Some y) x P Q is h = let same : y ≡ x = cc in subst Q same h
 some_of {T} None x P Q is h = cc
+
+-- three calls that only look
+pub looks_thrice : (tells : Bool) (a b c d : World) → OnlyLooks tells a b → OnlyLooks tells b c → OnlyLooks tells c d → OnlyLooks tells a d
+looks_thrice tells a b c d first second third = looks_then tells a b d first (looks_then tells b c d second third)
 
 -- ---- what the site shows of a start
 

@@ -1,7 +1,6 @@
 -- What a fault tells of the site, and what runs then.
-use Rattle.std.specs.Prelude.{◌≡◌, ℕ, ◌≤◌, true, List, length, Result, Ok, Err, IfErr}
+use Rattle.std.specs.Prelude.{◌≡◌, ℕ, ◌<◌, ◌≤◌, true, List, length, Result, Ok, Err, IfErr}
 use Rattle.model.specs.declared.fault.SiteFault.{SiteFault}
-use Rattle.model.specs.declared.fault.SiteFault.TheVariants.{Device, Stopped, Memory}
 use Rattle.model.specs.declared.event.Event.{Event}
 use Rattle.model.specs.World.{World, runs}
 use Rattle.model.specs.Calls.{HasCause, is_stop}
@@ -27,12 +26,10 @@ abbrev pub IfWaiting : Cut → Type 0 → Type 0
 IfWaiting (Waiting fault) So = So
 IfWaiting (Other fault) So = Unit {0}
 
--- the fault of a wait, or want of memory beside it
-abbrev pub IsOfWait : Cut → Type 0
-IsOfWait (Waiting fault) = Unit {0}
-IsOfWait (Other Device) = ⊥
-IsOfWait (Other Stopped) = ⊥
-IsOfWait (Other Memory) = Unit {0}
+-- the fault of a wait, which took nothing in, or of what follows where a command was taken in
+abbrev pub IsOfWait : World → World → Cut → Type 0
+IsOfWait old new (Waiting fault) = new.events ≡ old.events
+IsOfWait old new (Other fault) = length old.events < length new.events
 
 -- the answer that the site gave
 abbrev pub site_answer : {T : Type 0} → Result T Cut → Result T SiteFault

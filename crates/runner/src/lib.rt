@@ -1,6 +1,7 @@
 //! Runs the commands of a plan on a site.
 #![tactic(auto)]
 
+mod counts;
 mod cut;
 mod rest;
 mod run;

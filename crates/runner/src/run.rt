@@ -16,6 +16,7 @@ use crate::cut::Cut;
 use crate::rest::take_in_rest;
 use crate::summary::Summary;
 use crate::turn::go_on;
+use display::Display;
 use links::Graph;
 use paths::EdgeId;
 use plan::{End, Plan};
@@ -24,7 +25,8 @@ use std::alloc::Global;
 
 /// Runs the commands of a plan in which nothing is judged yet: judges, starts and takes in what the plan says until it has
 /// ended. Every command of the cone is out of date, as no output has a record. `tick` is the path of the file that gets a new
-/// stamp before each start.
+/// stamp before each start. What the display shows of starts and ends is shown when they happen; what is taken in after a
+/// fault is not shown.
 ///
 /// Where a call is refused nothing is started after it, and what runs is taken in until a wait is refused; where the site
 /// has stopped, that is the fault.
@@ -34,6 +36,7 @@ pub fn run_plan<S: Site>(
     graph: &Graph,
     tick: &str,
     plan: &mut Plan,
+    display: &mut Display<'_>,
 ) -> Result<Summary, Cut>
     requires idle { IsIdle (S.world site.old).events }
     requires running { (S.world site.old).stopped ≡ false }
@@ -43,7 +46,7 @@ pub fn run_plan<S: Site>(
     ensures left { IfErr result (IsLeft (S.world site.new)) }
     ensures edges { IfOk result (AreEdgesOf graph.now) }
 {
-    match try_run(alloc, site, graph, tick, plan) {
+    match try_run(alloc, site, graph, tick, plan, display) {
         Ok(summary) => Ok(summary),
         Err(cut) => Err(take_in_rest(site, plan.running(), cut)),
     }
@@ -56,6 +59,7 @@ fn try_run<S: Site>(
     graph: &Graph,
     tick: &str,
     plan: &mut Plan,
+    display: &mut Display<'_>,
 ) -> Result<Summary, Cut>
     requires running { (S.world site.old).stopped ≡ false }
     requires going { IsGoing S.tells tick.now graph.now plan.old [] (S.world site.old) }
@@ -67,7 +71,7 @@ fn try_run<S: Site>(
     // All outputs of a command count as changed.
     let flags = vec![in alloc; true; most_outputs(graph)]?;
     let mut failed = Vec::new(alloc);
-    let end = run(site, graph, tick, plan, &mut failed, &flags)?;
+    let end = run(site, graph, tick, plan, &mut failed, &flags, display)?;
     Ok(summary(plan, failed, end))
 }
 
@@ -91,6 +95,7 @@ fn run<S: Site>(
     plan: &mut Plan,
     failed: &mut Vec<EdgeId>,
     flags: &[bool],
+    display: &mut Display<'_>,
 ) -> Result<End, Cut>
     requires running { (S.world site.old).stopped ≡ false }
     requires going { IsGoing S.tells tick.now graph.now plan.old failed.old.items (S.world site.old) }
@@ -100,7 +105,7 @@ fn run<S: Site>(
     ensures cut { OnErr result ((own : OwnFiles) (task : Task) (entry : World) → Suits own task tick.now graph.now → IsIdle entry.events → IsOn S.tells own task graph.now plan.old failed.old.items entry (S.world site.old) → IsCut S.tells own task graph.now plan.new entry (S.world site.new)) }
 {
     'run: loop {
-        if let Some(end) = go_on(site, graph, tick, plan, failed, flags)? {
+        if let Some(end) = go_on(site, graph, tick, plan, failed, flags, display)? {
             return Ok(end);
         }
     }

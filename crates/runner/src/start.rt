@@ -14,20 +14,23 @@ ghost use Rattle.plan.specs.Planned.{TakesStep, IsPlanned, IsOffered};
 ghost use Rattle.runner.specs.Ran.{Suits};
 ghost use Rattle.runner.specs.Going.{IsOn, IsGoing};
 
+use crate::counts::progress;
+use display::{Display, has_terminal};
 use links::Graph;
 use model::{Act, SiteFault};
 use paths::{Action, EdgeId};
 use plan::Plan;
 use site::Site;
 
-/// Makes the folders that the edge writes into, takes a stamp and starts the command. Where that fails, the plan has
-/// the edge as running if its command was started all the same.
+/// Makes the folders that the edge writes into, shows what is shown at a start, takes a stamp and starts the command. Where
+/// that fails, the plan has the edge as running if its command was started all the same.
 pub fn start_edge<S: Site>(
     site: &mut S,
     graph: &Graph,
     tick: &str,
     plan: &mut Plan,
     edge: EdgeId,
+    display: &mut Display<'_>,
 ) -> Result<(), SiteFault>
     requires running { (S.world site.old).stopped ≡ false }
     requires going { (failed : List ℕ) × (going : IsGoing S.tells tick.now graph.now plan.old failed (S.world site.old)) × IsLawfulStep going.task going.on.steps (Started (suc edge)) }
@@ -39,6 +42,7 @@ pub fn start_edge<S: Site>(
 {
     make_folder(site, tick)?;
     make_output_folders(site, graph, edge)?;
+    display.start(site, graph, edge, progress(plan))?;
     site.tick(tick)?;
     start_command(site, graph, plan, edge)
 }
@@ -58,7 +62,7 @@ fn start_command<S: Site>(
     ensures on { (own : OwnFiles) (task : Task) (failed : List ℕ) (entry : World) → task.graph ≡ declared_by graph.now → (on : IsOn S.tells own task graph.now plan.old failed entry (S.world site.old)) → IsLawfulStep task on.steps (Started (suc edge)) → IsOn S.tells own task graph.now plan.new failed entry (S.world site.new) }
 {
     let known = site.events().len();
-    let result = site.start(edge.job(), act(graph, edge), false);
+    let result = site.start(edge.job(), act(graph, edge), has_terminal(graph, edge));
     let is_started = site.events().len() > known;
     note_start(plan, edge, is_started);
     result

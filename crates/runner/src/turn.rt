@@ -13,8 +13,10 @@ ghost use Rattle.runner.specs.Ran.{Suits};
 ghost use Rattle.runner.specs.Going.{IsOn, IsGoing, IsOver, IsCut, AreEnough, failed_after, work_left};
 ghost use Rattle.runner.specs.Cutting.{Cuts, IsOfWait};
 
+use crate::counts::progress;
 use crate::cut::Cut;
 use crate::start::start_edge;
+use display::Display;
 use links::Graph;
 use paths::EdgeId;
 use plan::{End, Plan, Step, Verdict};
@@ -29,6 +31,7 @@ pub fn go_on<S: Site>(
     plan: &mut Plan,
     failed: &mut Vec<EdgeId>,
     flags: &[bool],
+    display: &mut Display<'_>,
 ) -> Result<Option<End>, Cut>
     requires running { (S.world site.old).stopped ≡ false }
     requires going { IsGoing S.tells tick.now graph.now plan.old failed.old.items (S.world site.old) }
@@ -42,32 +45,34 @@ pub fn go_on<S: Site>(
         // No output has a record, so every edge is out of date.
         Step::Judge(edge) => {
             plan.judged(graph, edge, Verdict::OutOfDate);
+            display.judged(true, true);
             Ok(None)
         }
-        Step::Start(edge) => match start_edge(site, graph, tick, plan, edge) {
+        Step::Start(edge) => match start_edge(site, graph, tick, plan, edge, display) {
             Ok(()) => Ok(None),
             Err(fault) => Err(Cut::Other(fault)),
         },
         Step::Wait => {
-            take_in(site, graph, plan, failed, flags)?;
+            take_in(site, graph, plan, failed, flags, display)?;
             Ok(None)
         }
         Step::Ended(end) => Ok(Some(end)),
     }
 }
 
-/// Takes in a command that has ended.
+/// Takes in a command that has ended, and shows it.
 fn take_in<S: Site>(
     site: &mut S,
     graph: &Graph,
     plan: &mut Plan,
     failed: &mut Vec<EdgeId>,
     flags: &[bool],
+    display: &mut Display<'_>,
 ) -> Result<(), Cut>
     requires waits { (tick : List ℕ) × (going : IsGoing S.tells tick graph.now plan.old failed.old.items (S.world site.old)) × IsNextOf going.task going.on.steps step.Wait }
     requires enough { AreEnough graph.now (length flags.now) }
     ensures cuts { Cuts (S.world site.old) (S.world site.new) result }
-    ensures of_wait { IfErr result IsOfWait }
+    ensures of_wait { IfErr result (IsOfWait (S.world site.old) (S.world site.new)) }
     ensures nearer { OnOk result (work_left plan.new.standings.items < work_left plan.old.standings.items) }
     ensures on { OnOk result ((own : OwnFiles) (task : Task) (entry : World) → IsIdle entry.events → (on : IsOn S.tells own task graph.now plan.old failed.old.items entry (S.world site.old)) → IsNextOf task on.steps step.Wait → IsOn S.tells own task graph.now plan.new failed.new.items entry (S.world site.new)) }
     ensures cut { OnErr result ((own : OwnFiles) (task : Task) (entry : World) → IsIdle entry.events → (on : IsOn S.tells own task graph.now plan.old failed.old.items entry (S.world site.old)) → IsNextOf task on.steps step.Wait → IsCut S.tells own task graph.now plan.new entry (S.world site.new)) }
@@ -75,7 +80,10 @@ fn take_in<S: Site>(
     match site.wait_any() {
         Ok(finished) => {
             let edge = graph.manifest.edge(finished.job - 1);
-            Ok(note_end(graph, plan, failed, flags, edge, finished.ok)?)
+            note_end(graph, plan, failed, flags, edge, finished.ok)?;
+            display
+                .end(site, graph, edge, &finished, progress(plan))
+                .map_err(Cut::Other)
         }
         Err(fault) => Err(Cut::Waiting(fault)),
     }

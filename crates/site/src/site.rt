@@ -4,7 +4,7 @@ ghost use Rattle.std.specs.Prelude.{◌≡◌, ◌++◌, ℕ, true, false, Some,
 ghost use Rattle.model.specs.World.{View, file_at, stamp_of, runs};
 ghost use Rattle.model.specs.Calls.{OnlyLooks, HasCause, Sees, Ticks, TicksOrNot, Writes, WritesOrNot, SpoilsOrNot, Appends, AppendsOrNot, Starts, StartsOrNot, Finishes, IsRestart};
 
-use manifest::Texts;
+use crate::texts::Texts;
 use model::{Act, Event, Finished, SiteFault};
 
 /// The files, the clock and the commands that a build works on.

@@ -59,10 +59,15 @@ impl<'a> Folder<'a> {
 
     /// Runs the program there, with these words behind `-C` and the folder.
     pub fn run<'b>(&'b self, words: &[&'b str]) -> io::Result<Ran> {
+        self.run_under(None, words)
+    }
+
+    /// Does the same where `NINJA_STATUS` is this pattern, or is not set.
+    pub fn run_under<'b>(&'b self, pattern: Option<&str>, words: &[&'b str]) -> io::Result<Ran> {
         let alloc = self.rt.alloc();
         let mut all = vec![in alloc; "-C", self.path.as_str()]?;
         all.extend_from_slice(words)?;
-        run_words(self.rt, all.as_slice())
+        run_words(self.rt, pattern, all.as_slice())
     }
 
     /// Removes the folder and what it holds.
@@ -71,12 +76,12 @@ impl<'a> Folder<'a> {
     }
 }
 
-/// Runs the program.
-pub fn run_words(rt: &HostRuntime, words: &[&str]) -> io::Result<Ran> {
+/// Runs the program where `NINJA_STATUS` is this pattern, or is not set.
+pub fn run_words(rt: &HostRuntime, pattern: Option<&str>, words: &[&str]) -> io::Result<Ran> {
     let alloc = rt.alloc();
     let mut out = Vec::new(alloc);
     let mut err = Vec::new(alloc);
-    let status = run(rt, words, None, &mut out, &mut err);
+    let status = run(rt, words, pattern, &mut out, &mut err);
     Ok(Ran {
         status,
         out: String::from_utf8_lossy(alloc, out.as_slice())?,

@@ -88,10 +88,40 @@ fn tells_where_the_site_failed(rt: HostRuntime) -> Result<(), Fail> {
     Ok(())
 }
 
+const CLOSING: &str = "rule r
+  command = mkdir shut && chmod 500 shut && : > closed && chmod 0 closed && id -u > $out
+build user: r
+";
+
+/// A folder that nobody may write into and a file that nobody may read. To root they are open.
+#[test]
+fn tells_what_is_closed(rt: HostRuntime) -> Result<(), Fail> {
+    let folder = Folder::new(&rt, "closed", CLOSING)?;
+    assert_eq!(rt; folder.run(&[])?.status, 0);
+    if folder.read("user")?.as_str() != "0\n" {
+        folder.write(
+            "build.ninja",
+            "builddir = shut\nrule r\n  command = :\nbuild b: r\n",
+        )?;
+        let ran = folder.run(&[])?;
+        assert_eq!(rt; ran.status, 1);
+        let want = format!(in rt.alloc();
+            "{SITE}nj: shut/.nj_tick: Permission denied (os error 13)\n"
+        )?;
+        assert_eq!(rt; ran.err.as_str(), want.as_str());
+        let ran = folder.run(&["-f", "closed"])?;
+        assert_eq!(rt; ran.status, 1);
+        let want = format!(in rt.alloc(); "{SITE}nj: closed: Permission denied (os error 13)\n")?;
+        assert_eq!(rt; ran.err.as_str(), want.as_str());
+    }
+    folder.close()?;
+    Ok(())
+}
+
 /// A folder that is absent.
 #[test]
 fn goes_to_no_absent_folder(rt: HostRuntime) -> Result<(), Fail> {
-    let ran = run_words(&rt, &["-C", "/no such folder"])?;
+    let ran = run_words(&rt, None, &["-C", "/no such folder"])?;
     assert_eq!(rt; ran.status, 1);
     assert_eq!(rt; ran.out.as_str(), "");
     let want = format!(in rt.alloc();
@@ -105,12 +135,12 @@ fn goes_to_no_absent_folder(rt: HostRuntime) -> Result<(), Fail> {
 #[test]
 fn explains_words(rt: HostRuntime) -> Result<(), Fail> {
     for words in [["-j", "x"], ["-q", "a"], ["-k", "4294967296"]] {
-        let ran = run_words(&rt, &words)?;
+        let ran = run_words(&rt, None, &words)?;
         assert_eq!(rt; ran.status, 2);
         assert_eq!(rt; ran.out.as_str(), "");
         assert!(rt; ran.err.as_str().starts_with("error: "));
     }
-    let ran = run_words(&rt, &["--help"])?;
+    let ran = run_words(&rt, None, &["--help"])?;
     assert_eq!(rt; ran.status, 0);
     assert_eq!(rt; ran.err.as_str(), "");
     for part in [

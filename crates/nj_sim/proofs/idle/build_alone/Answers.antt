@@ -1,9 +1,9 @@
 use Rattle.std.proofs.Common.{sym, ap, subst}
 use Rattle.model.specs.World.{World}
-use Rattle.site.specs.declared.sim.Sim.{Sim}
-use Rattle.site.specs.declared.toy.Toy.{Toy}
-use Rattle.site.specs.Toy.{toy_outcome}
-use Rattle.site.specs.World.{world_of}
+use Rattle.sim.specs.declared.sim.Sim.{Sim}
+use Rattle.sim.specs.declared.toy.Toy.{Toy}
+use Rattle.sim.specs.Toy.{toy_outcome}
+use Rattle.sim.specs.World.{world_of}
 use Rattle.nj_sim.specs.Script.{GoesOn}
 use Rattle.builder.specs.Build.{limits_of}
 use Rattle.nj_sim.proofs.Idles.{goes_idle}

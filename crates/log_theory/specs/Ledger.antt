@@ -1,0 +1,64 @@
+-- What a run carries from call to call, in one record: its schedule and history, that its starts are ready and ticked, what each
+-- judgement and each depfile said, and what the logs tell. For a build without dyndep files.
+use Rattle.std.specs.Prelude.{◌≡◌, ◌≢◌, ℕ, Bool, true, IsTrue, List, [], ◌++◌, Option, Some, None}
+use Rattle.model.specs.declared.event.Moment.{Moment}
+use Rattle.model.specs.declared.graph.Edge.{Edge}
+use Rattle.model.specs.World.{World, view_of, IsIdle}
+use Rattle.model.specs.Graph.{has, edge_at, outputs}
+use Rattle.model.specs.Outcome.{Behaviour}
+use Rattle.model.specs.Records.{Store, LogFormat, OwnFiles, store_in, in_force}
+use Rattle.model.specs.Schedule.{Step, IsLawful}
+use Rattle.model.specs.Premises.{FilesAreKept}
+use Rattle.model.specs.SingleBuild.{Asked, task_of}
+use Rattle.build_theory.specs.Run.{IsRun, IsRunOrRest, AreStartsReady}
+use Rattle.log_theory.specs.Logged.{IsLoggedAt, IsTickedAt, StartsAreTicked}
+use Rattle.log_theory.specs.Judged.{AreJudgedThen, AreTakenIn}
+
+-- What is carried beside the run. `met` is the edge whose taking in met a fault, `hand` the one whose start or taking in is under
+-- way.
+pub record IsBeside (tells : Bool) (B : Behaviour) (format : LogFormat) (own : OwnFiles) (asked : Asked) (store : Store) (steps : List Step) (met hand : Option ℕ) (old now : World) : Type 0 where
+  pub idle : IsIdle old.events
+  pub ready : IsTrue tells → AreStartsReady own asked.graph.edges old.history now.history
+  pub ticked : IsTrue tells → StartsAreTicked old.history now.history
+  pub judged : IsTrue tells → AreJudgedThen tells own asked store steps old now
+  pub taken_in : IsTrue tells → FilesAreKept own asked.graph.edges old.history now.history → AreTakenIn B asked.graph.edges steps met old.history now.history
+  pub logged : IsTrue tells → FilesAreKept own asked.graph.edges old.history now.history → IsLoggedAt B format own asked.graph.edges steps hand store old now
+
+-- A run that goes on. The depfile of each command that it took in was read; `hand` is the edge whose start or recording is under
+-- way.
+pub record IsCarried (tells : Bool) (B : Behaviour) (format : LogFormat) (own : OwnFiles) (asked : Asked) (store : Store) (steps : List Step) (hand : Option ℕ) (old now : World) : Type 0 where
+  pub run : IsRun tells own (task_of asked store) steps old now
+  pub beside : IsBeside tells B format own asked store steps None hand old now
+
+-- A run that has ended, or that a fault has cut off, in the start or the taking in of the edge `met`: since then commands were
+-- taken in, and nothing else was done.
+pub record IsCutOff (tells : Bool) (B : Behaviour) (format : LogFormat) (own : OwnFiles) (asked : Asked) (store : Store) (steps : List Step) (met : Option ℕ) (old now : World) : Type 0 where
+  pub lawful : IsLawful (task_of asked store) steps
+  pub run : IsRunOrRest tells own (task_of asked store) steps old now
+  pub beside : IsBeside tells B format own asked store steps met met old now
+
+-- ---- an edge that is to be started
+
+-- the last tick was given in this build, and nothing was started or ended since then
+pub record IsTickedNow (old now : World) : Type 0 where
+  pub so_far : List Moment
+  pub was : now.history ≡ old.history ++ so_far
+  pub tick : IsTickedAt now.ticked so_far
+
+-- the file holds this, or is absent, where files are kept
+abbrev pub HoldsStill : Bool → OwnFiles → List Edge → List ℕ → Option (List ℕ) → World → World → Type 0
+HoldsStill tells own edges path held old now = IsTrue tells → FilesAreKept own edges old.history now.history → view_of now.history path ≡ held
+
+-- no output of edge i has a record in force
+abbrev pub HasNoRecord : Bool → LogFormat → OwnFiles → List Edge → ℕ → World → World → Type 0
+HasNoRecord tells format own edges i old now =
+    IsTrue tells → FilesAreKept own edges old.history now.history
+    → (o : List ℕ) → has (outputs (edge_at edges i)) o ≡ true → in_force (store_in format own (view_of now.history)).records o ≡ None
+
+-- All is ready for the command of edge i to be started: the stamp of its start is given, its old depfile is gone, its response
+-- file is written, and its outputs have no record in force.
+pub record IsReadyToStart (tells : Bool) (format : LogFormat) (own : OwnFiles) (edges : List Edge) (i : ℕ) (old now : World) : Type 0 where
+  pub ticked : IsTrue tells → IsTickedNow old now
+  pub depfile : (edge_at edges i).act.depfile ≢ [] → HoldsStill tells own edges (edge_at edges i).act.depfile None old now
+  pub response : (edge_at edges i).act.response_path ≢ [] → HoldsStill tells own edges (edge_at edges i).act.response_path (Some (edge_at edges i).act.response_content) old now
+  pub begun : HasNoRecord tells format own edges i old now

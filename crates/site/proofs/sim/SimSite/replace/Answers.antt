@@ -1,9 +1,0 @@
-use Rattle.std.proofs.Common.{rules}
-use Rattle.site.proofs.Steps.{writes_now}
-use Rattle.site.proofs.sim.SimSite.replace.Goals as goal
-
-pub returns-clause-adds : goal.returns-clause-adds
-returns-clause-adds g c = search rules
-
-pub returns-clause-writes : goal.returns-clause-writes
-returns-clause-writes g c = writes_now _ _ _ _ (returns-clause-adds g c)
