@@ -40,3 +40,9 @@ returns-in_ok-due-in-None-clause-found g c =
     found_of graph c.lists_stand.ensures (targets_of (declared_by graph) targets) c.args.cone.now.order.items c.args.cone.now.marks.items files cone.listed of_targets c.in_ok-due-in-None.due.items
     (c.in_ok-due-in-None.ensures.due told files both.1 both.2) found
     (subst (λ (l : List Bool). IsFoundOfDue graph l files found) c.deref.ensures.value (told_of told files last.1 last.2)))
+
+pub returns-in_err-path-clause-seen : goal.returns-in_err-path-clause-seen
+returns-in_err-path-clause-seen g c = seen_where_all_stay c.first_missing.ensures.looked
+
+pub returns-in-Some-clause-seen : goal.returns-in-Some-clause-seen
+returns-in-Some-clause-seen g c = seen_where_all_stay c.first_missing.ensures.looked
