@@ -1,9 +1,12 @@
 //! The judgement: whether the command of an edge has to run, and why.
 #![tactic(auto)]
 
-mod facts;
+mod inputs;
+mod outputs;
+mod stamps;
 mod table;
 
-pub use facts::{Facts, InputFacts, OutputFacts};
+pub use inputs::Inputs;
 pub use model::Reason;
-pub use table::judge;
+pub use outputs::{OutputFacts, Outputs};
+pub use table::{Facts, judge};

@@ -1,11 +1,29 @@
 //! The table of the reasons.
 
-ghost use Rattle.std.specs.Prelude.{◌≡◌, ◌||◌, not, ℕ, Option, is_none};
-ghost use Rattle.std.specs.List.{list_any};
-ghost use Rattle.model.specs.Judgement.{holds, has_other_act, is_later, is_same_number, reason_of, start_of};
+ghost use Rattle.std.specs.Prelude.{◌≡◌, find};
+ghost use Rattle.model.specs.Judgement.{all_reasons, is_later};
+ghost use Rattle.dirty.specs.Reasons.{IsReasonOf, holds_by};
 
-use crate::facts::{Facts, InputFacts, OutputFacts};
+use crate::inputs::Inputs;
+use crate::outputs::Outputs;
+use crate::stamps::is_later;
 use model::{Act, Deps, Reason};
+
+/// What the judgement of an edge reads.
+#[derive(Drop)]
+pub struct Facts<'a> {
+    /// What the edge does now.
+    pub act: &'a Act,
+    /// Whether outputs that the command left alone count as unchanged.
+    pub restat: bool,
+    pub deps: Deps,
+    /// Whether the depfile that the act names is there.
+    pub depfile: bool,
+    /// Of all outputs.
+    pub outputs: Outputs,
+    /// Of all paths of the reading set and all recorded inputs in use.
+    pub inputs: Inputs,
+}
 
 /// The reasons in the order in which they are tried.
 const REASONS: [Reason; 8] = [
@@ -20,128 +38,53 @@ const REASONS: [Reason; 8] = [
 ];
 
 /// Why the command of an edge has to run: the first reason that holds, or `None` where none does and the edge is clean.
-/// It takes no memory, and its time is linear in the outputs and inputs.
+/// It takes no memory.
 pub fn judge(facts: &Facts<'_>) -> Option<Reason>
-    ensures { result ≡ reason_of facts.now }
+    ensures { IsReasonOf facts.now result }
 {
-    REASONS
-        .iter()
-        .copied()
-        .find(|reason| facts.has_reason(*reason))
+    facts.first_reason()
 }
 
 impl<'a> Facts<'a> {
+    fn first_reason(&self) -> Option<Reason>
+        ensures { result ≡ find (λ reason. holds_by self.now reason) all_reasons }
+    {
+        REASONS
+            .iter()
+            .copied()
+            .find(|reason| self.has_reason(*reason))
+    }
+
     /// Whether a reason holds.
     fn has_reason(&self, reason: Reason) -> bool
-        ensures { result ≡ holds self.now reason }
+        ensures { result ≡ holds_by self.now reason }
     {
         match reason {
-            Reason::OutputAbsent => has_absent_output(self.outputs),
-            Reason::NoRecord => has_unknown_output(self.outputs),
-            Reason::OtherAct => has_other_act(self.act, self.outputs),
-            Reason::InputAbsent => has_absent_input(self.inputs),
-            Reason::InputChanged => has_changed_input(self.inputs),
-            Reason::InputLater => has_later_input(self.outputs, self.inputs),
-            Reason::OutputOlder => !self.restat && has_older_output(self.outputs, self.inputs),
-            Reason::DepsUnknown => has_unknown_deps(self),
+            Reason::OutputAbsent => self.outputs.has_absent,
+            Reason::NoRecord => self.outputs.has_unknown,
+            Reason::OtherAct => self.outputs.has_other_act,
+            Reason::InputAbsent => self.inputs.has_absent,
+            Reason::InputChanged => self.inputs.has_changed,
+            Reason::InputLater => self.has_later_input(self.outputs.earliest_start),
+            Reason::OutputOlder => {
+                !self.restat && self.has_later_input(self.outputs.earliest_stamp)
+            }
+            Reason::DepsUnknown => self.has_unknown_deps(),
         }
     }
-}
 
-fn has_absent_output(outputs: &[OutputFacts<'_>]) -> bool
-    ensures { result ≡ list_any (λ o. is_none o.stamp) outputs.now }
-{
-    outputs.iter().any(|output| output.stamp().is_none())
-}
-
-/// Whether it is not known which command made one of the outputs.
-fn has_unknown_output(outputs: &[OutputFacts<'_>]) -> bool
-    ensures { result ≡ list_any (λ o. is_none o.made) outputs.now }
-{
-    outputs.iter().any(|output| output.has_no_record())
-}
-
-/// Whether a command of another act made one of the outputs.
-fn has_other_act(act: &Act, outputs: &[OutputFacts<'_>]) -> bool
-    ensures { result ≡ list_any (λ o. has_other_act act.now o.made) outputs.now }
-{
-    outputs.iter().any(|output| output.has_other_act(act))
-}
-
-fn has_absent_input(inputs: &[InputFacts]) -> bool
-    ensures { result ≡ list_any (λ p. is_none p.stamp) inputs.now }
-{
-    inputs.iter().any(|input| input.stamp().is_none())
-}
-
-fn has_changed_input(inputs: &[InputFacts]) -> bool
-    ensures { result ≡ list_any (λ p. p.changed) inputs.now }
-{
-    inputs.iter().any(|input| input.is_changed())
-}
-
-/// Whether an input is later than the start of the command that made an output.
-fn has_later_input(outputs: &[OutputFacts<'_>], inputs: &[InputFacts]) -> bool
-    ensures { result ≡ list_any (λ o. list_any (λ p. is_later p.stamp (start_of o.made)) inputs.now) outputs.now }
-{
-    let latest = latest_stamp(inputs);
-    outputs
-        .iter()
-        .any(|output| is_later(latest, output.start()))
-}
-
-/// Whether an output is earlier than an input.
-fn has_older_output(outputs: &[OutputFacts<'_>], inputs: &[InputFacts]) -> bool
-    ensures { result ≡ list_any (λ o. list_any (λ p. is_later p.stamp o.stamp) inputs.now) outputs.now }
-{
-    let latest = latest_stamp(inputs);
-    outputs
-        .iter()
-        .any(|output| is_later(latest, output.stamp()))
-}
-
-/// Whether the command leaves a depfile, and not all is known of what it told.
-fn has_unknown_deps(facts: &Facts<'_>) -> bool
-    ensures { result ≡ holds facts.now Reason.DepsUnknown }
-{
-    let is_gone = facts.deps == Deps::Unset && !facts.depfile;
-    !facts.act.depfile.as_str().is_empty() && (is_gone || has_other_deps(facts.outputs))
-}
-
-/// Whether the deps record of an output, if there is one, is not of the command that made it.
-fn has_other_deps(outputs: &[OutputFacts<'_>]) -> bool
-    ensures { result ≡ list_any (λ o. not (is_same_number (start_of o.made) o.deps_start)) outputs.now }
-{
-    outputs.iter().any(|output| output.has_other_deps())
-}
-
-/// The latest stamp of the inputs that have one: one of them is later than a stamp exactly where it is.
-fn latest_stamp(inputs: &[InputFacts]) -> Option<u64>
-    ensures { (than : Option ℕ) → is_later result than ≡ list_any (λ p. is_later p.stamp than) inputs.now }
-{
-    let mut latest = None;
-    for input in inputs {
-        latest = later_of(latest, input.stamp());
+    /// Whether an input is later than this.
+    fn has_later_input(&self, than: Option<u64>) -> bool
+        ensures { result ≡ is_later self.now.inputs.latest_stamp than }
+    {
+        is_later(self.inputs.latest_stamp, than)
     }
-    latest
-}
 
-/// The later one of two stamps.
-fn later_of(a: Option<u64>, b: Option<u64>) -> Option<u64>
-    ensures { (than : Option ℕ) → is_later result than ≡ (is_later a than || is_later b than) }
-{
-    match (a, b) {
-        (Some(a), Some(b)) => Some(a.max(b)),
-        (stamp, None) | (None, stamp) => stamp,
-    }
-}
-
-/// Whether the stamp is later than another one; no stamp is neither.
-fn is_later(stamp: Option<u64>, than: Option<u64>) -> bool
-    ensures { result ≡ is_later stamp than }
-{
-    match (stamp, than) {
-        (Some(stamp), Some(than)) => stamp > than,
-        _ => false,
+    /// Whether the command leaves a depfile, and not all is known of what it told.
+    fn has_unknown_deps(&self) -> bool
+        ensures { result ≡ holds_by self.now Reason.DepsUnknown }
+    {
+        let is_gone = self.deps == Deps::Unset && !self.depfile;
+        !self.act.depfile.as_str().is_empty() && (is_gone || self.outputs.has_other_deps)
     }
 }

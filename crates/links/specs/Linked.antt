@@ -2,7 +2,7 @@
 use Rattle.std.specs.Prelude.{◌≡◌, ℕ, suc, ◌<◌, true, false, List, [], ◌∷◌, ◌++◌, map, length, slice_index, Some}
 use Rattle.std.specs.List.{AllByRecursion}
 use Rattle.model.specs.declared.graph.Edge.{Edge}
-use Rattle.model.specs.Graph.{has, has_number, edge_at, maker, later_number, outputs, inputs, roots, all_outputs, or_else, StandsTwice, IsMadeTwice}
+use Rattle.model.specs.Graph.{has, has_number, edge_at, maker, later_number, outputs, inputs, regular_inputs, roots, all_outputs, or_else, StandsTwice, IsMadeTwice}
 use Rattle.model.specs.Reading.{needs, IsInCone}
 use Rattle.model.specs.SingleBuild.{NamesOther}
 use Rattle.build_theory.specs.Order.{AreMakersFirst}
@@ -25,6 +25,19 @@ pub record IsGraphOf (edges : List Edge) (recorded : ℕ → List (List ℕ)) (p
   pub makers : (p : ℕ) → p < length paths → maker edges (text_at paths p) ≡ later_number (links.maker p)
   pub validated : (e k : ℕ) → k < length (links.validations e) → slice_index (links.validations e) k < length paths
   pub validations : (e : ℕ) → map (text_at paths) (links.validations e) ≡ (edge_at edges (suc e)).validations
+
+-- the numbers of each list of an edge stand for that list of these edges, and are numbers of paths
+pub record StandFor (edges : List Edge) (paths : List (List ℕ)) (links : Links) : Type 0 where
+  pub fits : length edges ≡ links.count
+  pub outputs_are : (e : ℕ) → map (text_at paths) (links.outputs e) ≡ outputs (edge_at edges (suc e))
+  pub inputs_are : (e : ℕ) → map (text_at paths) (links.inputs e) ≡ inputs (edge_at edges (suc e))
+  pub regular_are : (e : ℕ) → map (text_at paths) (links.regular e) ≡ regular_inputs (edge_at edges (suc e))
+  pub phony_is : (e : ℕ) → links.phony e ≡ (edge_at edges (suc e)).phony
+  pub makers : (p : ℕ) → p < length paths → maker edges (text_at paths p) ≡ later_number (links.maker p)
+  pub outputs_within : (e p : ℕ) → has_number (links.outputs e) p ≡ true → p < length paths
+  pub inputs_within : (e p : ℕ) → has_number (links.inputs e) p ≡ true → p < length paths
+  pub regular_within : (e p : ℕ) → has_number (links.regular e) p ≡ true → p < length paths
+  pub recorded_within : (e p : ℕ) → has_number (links.recorded e) p ≡ true → p < length paths
 
 -- the first path of the list that stands before already
 pub record IsFirstRepeated (paths : List (List ℕ)) (p : List ℕ) : Type 0 where

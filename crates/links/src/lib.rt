@@ -19,5 +19,5 @@ mod walk;
 pub use cone::{Cone, ConeFault, Mark};
 pub use fault::GraphFault;
 pub use graph::Graph;
-pub use laws::numbers_stand;
+pub use laws::{lists_stand, numbers_stand};
 pub use reading::Reading;

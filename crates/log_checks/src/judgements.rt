@@ -6,7 +6,7 @@
 //! With `scan` the act has a depfile, which is there with `depfile`, and is removed once it is read with `gcc`.
 
 use build_log::{Done, number_of};
-use dirty::{Facts, InputFacts, OutputFacts, judge};
+use dirty::{Facts, Inputs, OutputFacts, Outputs, judge};
 use model::{Act, Deps, Reason};
 use std::alloc::Global;
 use std::test::Fail;
@@ -116,37 +116,32 @@ fn records(alloc: Global, outputs: &[&str], made: &Act) -> Result<Vec<Done>, Fai
     Ok(records)
 }
 
-fn output_facts<'a>(
-    alloc: Global,
-    outputs: &[&str],
-    records: &'a [Done],
-) -> Result<Vec<OutputFacts<'a>>, Fail> {
-    let mut facts = Vec::new(alloc);
+/// All outputs of an edge that does this now.
+fn all_outputs(now: &Act, outputs: &[&str], records: &[Done]) -> Outputs {
+    let mut all = Outputs::new();
     for (output, record) in outputs.iter().zip(records) {
-        facts.push(OutputFacts {
+        let facts = OutputFacts {
             stamp: part(output, 0),
             made: part(output, 1).is_some().then_some(record),
             deps_start: part(output, 2),
-        })?;
+        };
+        all.add(now, &facts);
     }
-    Ok(facts)
+    all
 }
 
-fn push_inputs(facts: &mut Vec<InputFacts>, stamps: &[&str], changed: bool) -> Result<(), Fail> {
-    for stamp in stamps {
-        let stamp = number_of(stamp);
-        facts.push(InputFacts { stamp, changed })?;
+/// All inputs of a row.
+fn all_inputs(row: &str) -> Inputs {
+    let mut all = Inputs::new();
+    for word in row.split(' ') {
+        if let Some(stamp) = value_of(word, "in") {
+            all.add(number_of(stamp), false);
+        }
+        if let Some(stamp) = value_of(word, "new") {
+            all.add(number_of(stamp), true);
+        }
     }
-    Ok(())
-}
-
-fn input_facts(alloc: Global, row: &str) -> Result<Vec<InputFacts>, Fail> {
-    let stayed = values(alloc, row, "in")?;
-    let anew = values(alloc, row, "new")?;
-    let mut facts = Vec::new(alloc);
-    push_inputs(&mut facts, stayed.as_slice(), false)?;
-    push_inputs(&mut facts, anew.as_slice(), true)?;
-    Ok(facts)
+    all
 }
 
 /// One of two texts, by whether the row has a word.
@@ -171,15 +166,13 @@ fn judged(alloc: Global, row: &str) -> Result<Option<Reason>, Fail> {
     let made = act(alloc, "cat", depfile_of(row), "x")?;
     let outputs = values(alloc, row, "out")?;
     let records = records(alloc, outputs.as_slice(), &made)?;
-    let output_facts = output_facts(alloc, outputs.as_slice(), records.as_slice())?;
-    let input_facts = input_facts(alloc, row)?;
     Ok(judge(&Facts {
         act: &now,
         restat: has(row, "restat"),
         deps: if gcc { Deps::Gcc } else { Deps::Unset },
         depfile: has(row, "depfile"),
-        outputs: output_facts.as_slice(),
-        inputs: input_facts.as_slice(),
+        outputs: all_outputs(&now, outputs.as_slice(), records.as_slice()),
+        inputs: all_inputs(row),
     }))
 }
 

@@ -17,12 +17,10 @@ use Rattle.build_theory.proofs.Builds.{due_of_nothing}
 use Rattle.build_theory.proofs.Lists.{has-left, has_number-push, has_number-push_other}
 use Rattle.paths.specs.Told.{text_at, texts_at}
 use Rattle.links.specs.Links.{Links}
-use Rattle.links.proofs.ConesOf.{suc_has}
-use Rattle.links.proofs.Texts.{has_text, number_of}
+use Rattle.links.specs.Linked.{StandFor}
 use Rattle.looks.specs.Lacks.{HaveOutputs}
 use Rattle.looks.specs.Dues.{AreDue, due_at, due_by, is_absent, is_due_path, is_due_edge}
-use Rattle.looks.proofs.Numbers.{StandFor}
-use Rattle.looks.proofs.Slices.{any_number, number_any, at_has, has_suc, same_or_other}
+use Rattle.looks.proofs.Slices.{any_number, number_any, at_has, has_suc, suc_has, has_text, number_of, same_or_other}
 
 -- ---- lists
 

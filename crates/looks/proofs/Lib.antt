@@ -1,5 +1,5 @@
 pub mod Stays
 pub mod Slices
-pub mod Numbers
+pub mod Kept
 pub mod DueEdges
 pub mod Sources

@@ -17,16 +17,14 @@ use Rattle.links.specs.declared.cone.Cone.{Cone}
 use Rattle.links.specs.declared.cone.Mark.{Mark}
 use Rattle.links.specs.declared.cone.Mark.TheVariants.{Unseen}
 use Rattle.links.specs.Cone.{mark_at, is_listed}
-use Rattle.links.specs.Linked.{IsConeOf}
+use Rattle.links.specs.Linked.{IsConeOf, StandFor}
 use Rattle.links.specs.Links.{links_of}
 use Rattle.links.specs.Told.{declared_by}
-use Rattle.links.proofs.ConesOf.{suc_has}
 use Rattle.looks.specs.declared.lack.Lack.{Lack}
 use Rattle.looks.specs.Lacks.{IsConeUnrecorded, IsFound, IsLackedBy}
 use Rattle.looks.specs.Dues.{AreDue, NoneBelow, IsFirstIn, IsFirstFor, IsFirstOfDue, IsFoundOfDue, due_at, is_absent}
 use Rattle.looks.proofs.DueEdges.{none_there, there_none}
-use Rattle.looks.proofs.Numbers.{stand_for}
-use Rattle.looks.proofs.Slices.{at_has}
+use Rattle.looks.proofs.Slices.{at_has, suc_has}
 
 -- ---- one path
 
@@ -63,9 +61,9 @@ module _ (edges : List Edge) (paths : List (List ℕ)) (files : List Moment) (xs
 
 module _ (graph : Graph) (due : List Bool) (files : List Moment) where
   -- what was found of an edge's inputs
-  pub first_for : (e : ℕ) → due_at due e ≡ true → (found : Option ℕ) → IsFirstIn graph ((links_of graph).inputs e) files found → IsFirstFor graph due e files found
-  first_for e is_due None none = λ so. subst (NoneIsMissing (declared_by graph).edges files) ((stand_for graph).inputs_are e) none
-  first_for e is_due (Some p) first = (is_due, subst (λ (l : List (List ℕ)). IsFirstMissing (declared_by graph).edges files l (text_at graph.manifest.paths p)) ((stand_for graph).inputs_are e) first)
+  pub first_for : StandFor (declared_by graph).edges graph.manifest.paths (links_of graph) → (e : ℕ) → due_at due e ≡ true → (found : Option ℕ) → IsFirstIn graph ((links_of graph).inputs e) files found → IsFirstFor graph due e files found
+  first_for stands e is_due None none = λ so. subst (NoneIsMissing (declared_by graph).edges files) (stands.inputs_are e) none
+  first_for stands e is_due (Some p) first = (is_due, subst (λ (l : List (List ℕ)). IsFirstMissing (declared_by graph).edges files l (text_at graph.manifest.paths p)) (stands.inputs_are e) first)
 
   pub none_for : (e : ℕ) → due_at due e ≡ false → IsFirstFor graph due e files None
   none_for e not_due so = absurd (false≢true (sym not_due ∙ so))
@@ -96,27 +94,27 @@ in_graph : (edges : List Edge) (recorded : ℕ → List (List ℕ)) (targets : L
     → (e : ℕ) → has_number order e ≡ true → e < length edges
 in_graph edges recorded targets order marks cone e h = omega (arith, listed_within marks e (cone.marked e ∙ h), cone.fits)
 
-pub listed_edge : (graph : Graph) (targets : List (List ℕ)) (cone : Cone) → IsConeUnrecorded graph targets cone → (order : List ℕ) → order ≡ cone.order.items → (k d : ℕ) → k < length order
+pub listed_edge : (graph : Graph) → StandFor (declared_by graph).edges graph.manifest.paths (links_of graph) → (targets : List (List ℕ)) (cone : Cone) → IsConeUnrecorded graph targets cone → (order : List ℕ) → order ≡ cone.order.items → (k d : ℕ) → k < length order
     → get_or order k d < length graph.manifest.lines
-listed_edge graph targets cone is order same k d lt =
+listed_edge graph stands targets cone is order same k d lt =
     let edges = (declared_by graph).edges in
     let low = in_graph edges (recorded_inputs no_records edges) (targets_of (declared_by graph) targets) cone.order.items cone.marks.items is.listed (get_or order k d)
     (subst (λ (l : List ℕ). has_number l (get_or order k d) ≡ true) same (at_has order k d lt)) in
-    omega (arith, low, (stand_for graph).fits)
+    omega (arith, low, stands.fits)
 
 -- what is found of the due edges of the cone is what is told before anything runs
-pub found_of : (graph : Graph) (targets : List (List ℕ)) (order : List ℕ) (marks : List Mark) (files : List Moment) → IsConeOf (declared_by graph).edges (recorded_inputs no_records (declared_by graph).edges) targets order marks
+pub found_of : (graph : Graph) → StandFor (declared_by graph).edges graph.manifest.paths (links_of graph) → (targets : List (List ℕ)) (order : List ℕ) (marks : List Mark) (files : List Moment) → IsConeOf (declared_by graph).edges (recorded_inputs no_records (declared_by graph).edges) targets order marks
     → NoneIsMissing (declared_by graph).edges files targets → (due : List Bool) → AreDue (declared_by graph).edges files order due → (found : Option Lack) → IsFoundOfDue graph due files found → IsFound graph targets files found
-found_of graph targets order marks files cone of_targets due are None none = record {
+found_of graph stands targets order marks files cone of_targets due are None none = record {
   of_targets = of_targets;
   of_edges = λ i asked.
       let edges = (declared_by graph).edges in
       let place = suc_has order i (cone.all i asked.within) in
-      let low : place.0 < length graph.manifest.lines = omega (arith, in_graph edges (recorded_inputs no_records edges) targets order marks cone place.0 place.2, (stand_for graph).fits) in
+      let low : place.0 < length graph.manifest.lines = omega (arith, in_graph edges (recorded_inputs no_records edges) targets order marks cone place.0 place.2, stands.fits) in
       subst (λ (n : ℕ). NoneIsMissing edges files (inputs (edge_at edges n))) place.1
       (none place.0 low ((are place.0).1 (place.2, subst (λ (n : ℕ). IsDue edges no_records [] files n) (sym place.1) asked.due)));
 }
-found_of graph targets order marks files cone of_targets due are (Some lack) first =
+found_of graph stands targets order marks files cone of_targets due are (Some lack) first =
     subst (IsLackedBy (declared_by graph).edges targets files (text_at graph.manifest.paths lack.path)) (sym {A = Option ℕ} first.needed_by) (
     record {
       asked = record { within = cone.within first.edge listed.0; due = listed.1 };

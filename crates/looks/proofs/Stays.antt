@@ -6,14 +6,14 @@ use Rattle.std.proofs.lemmas.List.{append-nil}
 use Rattle.std.proofs.lemmas.List.Folds.{list_any_at, list_any_more}
 use Rattle.model.specs.declared.event.Moment.{Moment}
 use Rattle.model.specs.World.{World, File, file_at, stamp_of}
-use Rattle.model.specs.Calls.{OnlyLooks, Sees}
+use Rattle.model.specs.Calls.{OnlyLooks}
 use Rattle.build_theory.proofs.Calls.{looks_none, looks_then}
 use Rattle.build_theory.proofs.Lists.{same_rest}
-use Rattle.build_theory.proofs.Looks.{sees_so}
 use Rattle.links.specs.declared.graph.Graph.{Graph}
 use Rattle.looks.specs.declared.table.Looks.{Looks}
-use Rattle.looks.specs.Seen.{StaysAt, AreSeen}
+use Rattle.looks.specs.Seen.{StaysAt, AreSeen, IfKept, IsStampIn}
 use Rattle.looks.specs.Looking.{HasLooked, IfSeen}
+use Rattle.looks.proofs.Kept.{kept_before, kept_after, all_kept, seen_of_all, all_seen}
 
 nothing_left : (xs ys : List Moment) → xs ++ ys ≡ [] → xs ≡ []
 nothing_left [] ys is = refl
@@ -38,21 +38,28 @@ stays_parts tells files a b c first second told stays = (record { before = stays
     middle : b.history ≡ files
     middle = (first.history told).grows ∙ (ap (λ (l : List Moment). a.history ++ l) none ∙ (append-nil a.history ∙ stays.before))
 
--- ---- one path
-
-pub seen_stamp : (path : List ℕ) (files : List Moment) (old new : World) (stamp : Option ℕ) → StaysAt files old new → Sees (λ history. stamp_of (file_at history path)) stamp old.history new.history → stamp ≡ stamp_of (file_at files path)
-seen_stamp path files old new stamp stays sees =
-    sees_so (λ history. stamp_of (file_at history path)) stamp old.history new.history (stays.after ∙ sym stays.before) sees
-    ∙ ap (λ (history : List Moment). stamp_of (file_at history path)) stays.before
-
 pub no_stamp : (file : Option File) → is_none (stamp_of file) ≡ is_none file
 no_stamp None = refl
 no_stamp (Some file) = refl
 
+-- where all files stayed, a stamp is absent where its file is
+pub absent_where_all_stay : (tells : Bool) (graph : Graph) (a b : World) (looks : Looks) (path : List ℕ) (stamp : Option ℕ) → IfKept tells graph.manifest.paths a b looks.seen.items (IsStampIn path stamp)
+    → IfSeen tells graph a b looks (λ files. is_none stamp ≡ is_none (file_at files path))
+absent_where_all_stay tells graph a b looks path stamp so told files stays seen =
+    ap is_none (so told (λ p. true) (all_kept files a b stays) (seen_of_all graph.manifest.paths files a.history looks.seen.items stays.before seen) refl)
+    ∙ (no_stamp (file_at b.history path) ∙ ap (λ (h : List Moment). is_none (file_at h path)) stays.after)
+
 -- ---- several calls
 
 pub looked_none : (tells : Bool) (graph : Graph) (w : World) (looks : Looks) → HasLooked tells graph w w looks looks
-looked_none tells graph w looks = record { looks = looks_none tells w; fits = refl; seen = λ told files stays seen. seen }
+looked_none tells graph w looks = record { looks = looks_none tells w; fits = refl; seen = λ told set kept seen. seen }
+
+-- where all files stayed, all that was seen is so
+pub seen_where_all_stay : {tells : Bool} {graph : Graph} {a b : World} {first_looks second_looks : Looks} → HasLooked tells graph a b first_looks second_looks
+    → IfSeen tells graph a b first_looks (λ files. AreSeen graph.manifest.paths files second_looks.seen.items)
+seen_where_all_stay {tells} {graph} {a} {b} {first_looks} {second_looks} first told files stays seen =
+    all_seen graph.manifest.paths files b.history second_looks.seen.items stays.after
+    (first.seen told (λ p. true) (all_kept files a b stays) (seen_of_all graph.manifest.paths files a.history first_looks.seen.items stays.before seen))
 
 module _ (tells : Bool) (graph : Graph) (a b c : World) (first_looks second_looks third_looks : Looks) (first : HasLooked tells graph a b first_looks second_looks) where
   -- what was seen in the first of two calls is so in the second
@@ -60,15 +67,17 @@ module _ (tells : Bool) (graph : Graph) (a b c : World) (first_looks second_look
       → StaysAt files a b × StaysAt files b c × AreSeen graph.manifest.paths files second_looks.seen.items
   parts second told files stays seen =
       let both = stays_parts tells files a b c first.looks second told stays in
-      (both.0, both.1, first.seen told files both.0 seen)
+      (both.0, both.1, seen_where_all_stay first told files both.0 seen)
 
   pub looked_then : HasLooked tells graph b c second_looks third_looks → HasLooked tells graph a c first_looks third_looks
   looked_then second = record {
     looks = looks_then tells a b c first.looks second.looks;
     fits = second.fits ∙ first.fits;
-    seen = λ told files stays seen.
-        let between = parts second.looks told files stays seen in
-        second.seen told files between.1 between.2;
+    seen = λ told set kept seen.
+        let one = first.looks.history told in
+        let two = second.looks.history told in
+        second.seen told set (kept_after set a.history b.history c.history one.more two.more one.grows two.grows kept)
+        (first.seen told set (kept_before set a.history b.history c.history one.more two.more one.grows two.grows kept) seen);
   }
 
   -- ---- a test of each element, by a call

@@ -8,7 +8,7 @@ ghost use Rattle.looks.specs.Lacks.{HaveOutputs, IsConeUnrecorded};
 ghost use Rattle.looks.specs.Dues.{AreDue, IsAbsentAt, IsAnyAbsent, IsDuePath, IsAnyDuePath, IsDueEdge};
 
 use crate::table::Looks;
-use links::{Cone, Graph};
+use links::{Cone, Graph, lists_stand};
 use model::SiteFault;
 use paths::{EdgeId, PathId};
 use site::Site;
@@ -32,6 +32,7 @@ pub fn due_edges<S: Site>(
     ensures fits { IfOk result (λ due. length due.items ≡ length graph.now.manifest.lines) }
     ensures due { IfOk result (λ due. IfSeen S.tells graph.now (S.world site.old) (S.world site.new) looks.old (λ files. AreDue (declared_by graph.now).edges files cone.now.order.items due.items)) }
 {
+    lists_stand(graph);
     let mut due = vec![in alloc; false; graph.edges()]?;
     let order = cone.order.as_slice();
     for edge in order {
@@ -56,6 +57,7 @@ fn is_due<S: Site>(
     ensures cause { HasCause (S.world site.old) (S.world site.new) result }
     ensures due { IfOk result (λ is. IfSeen S.tells graph.now (S.world site.old) (S.world site.new) looks.old (IsDueEdge graph.now due.now edge is)) }
 {
+    lists_stand(graph);
     if !graph.is_phony(edge) {
         Ok(true)
     } else if graph.inputs(edge).is_empty() {

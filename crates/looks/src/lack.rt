@@ -11,7 +11,7 @@ ghost use Rattle.looks.specs.Dues.{IsMissingAt, IsFirstIn, IsFirstFor, IsFoundOf
 
 use crate::due::{due_edges, is_absent};
 use crate::table::Looks;
-use links::{Cone, Graph};
+use links::{Cone, Graph, lists_stand};
 use model::SiteFault;
 use paths::{EdgeId, PathId};
 use site::Site;
@@ -45,6 +45,7 @@ pub fn first_lack<S: Site>(
     ensures found { IfOk result (λ found. (targets : List (List ℕ)) → IsConeUnrecorded graph.now targets cone.now → IfSeen S.tells graph.now (S.world site.old) (S.world site.new) looks.old (λ files. IsFound graph.now (targets_of (declared_by graph.now) targets) files found)) }
     ensures within { IfOk result (λ found. IfSome found (IsLackOf graph.now)) }
 {
+    lists_stand(graph);
     let targets = cone.targets.as_slice();
     match first_missing(site, graph, looks, targets)? {
         Some(path) => Ok(Some(Lack {
@@ -102,6 +103,7 @@ fn missing_of_edge<S: Site>(
     ensures first { IfOk result (λ found. IfSeen S.tells graph.now (S.world site.old) (S.world site.new) looks.old (λ files. IsFirstFor graph.now due.now edge files found)) }
     ensures within { IfOk result (λ found. IfSome found (λ p. p < length graph.now.manifest.paths)) }
 {
+    lists_stand(graph);
     if due[edge.index()] {
         first_missing(site, graph, looks, graph.inputs(edge))
     } else {

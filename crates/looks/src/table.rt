@@ -2,12 +2,11 @@
 
 ghost use Rattle.std.specs.Prelude.{◌≡◌, ◌<◌, ℕ, IfOk, OnErr, true, false, length, slice_set};
 ghost use Rattle.std.proofs.Math.ListN.{replicate};
-ghost use Rattle.model.specs.World.{file_at, stamp_of};
 ghost use Rattle.model.specs.Calls.{OnlyLooks, HasCause};
 ghost use Rattle.model.specs.Graph.{has_number};
 ghost use Rattle.paths.specs.Told.{text_at};
 ghost use Rattle.looks.specs.declared.table.Look.TheVariants.{Unasked};
-ghost use Rattle.looks.specs.Seen.{look_at, look_of, is_asked, IfStays, AreSeen};
+ghost use Rattle.looks.specs.Seen.{look_at, look_of, is_asked, IfKept, AreSeenOf, IsStampIn};
 
 use links::Graph;
 use model::SiteFault;
@@ -59,7 +58,8 @@ impl Looks {
         ensures seen { IfOk result (λ stamp. self.new.seen.items ≡ slice_set self.old.seen.items path (look_of stamp)) }
         ensures once { is_asked (look_at self.old.seen.items path) ≡ true → (S.world site.new ≡ S.world site.old) }
         ensures asked { is_asked (look_at self.old.seen.items path) ≡ true → IfOk result (λ stamp. look_at self.old.seen.items path ≡ look_of stamp) }
-        ensures stamp { is_asked (look_at self.old.seen.items path) ≡ false → IfOk result (λ stamp. IfStays S.tells (S.world site.old) (S.world site.new) (λ files. stamp ≡ stamp_of (file_at files (text_at graph.now.manifest.paths path)))) }
+        ensures kept { IfKept S.tells graph.now.manifest.paths (S.world site.old) (S.world site.new) self.old.seen.items (λ set files. AreSeenOf set graph.now.manifest.paths files self.new.seen.items) }
+        ensures stamp { IfOk result (λ stamp. IfKept S.tells graph.now.manifest.paths (S.world site.old) (S.world site.new) self.old.seen.items (IsStampIn (text_at graph.now.manifest.paths path) stamp)) }
         ensures err { OnErr result (self.new ≡ self.old) }
     {
         let place = path.index();

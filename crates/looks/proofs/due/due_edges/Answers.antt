@@ -8,7 +8,6 @@ use Rattle.links.specs.Links.{links_of}
 use Rattle.links.specs.Told.{declared_by}
 use Rattle.looks.specs.Dues.{AreDue, is_due_edge}
 use Rattle.looks.proofs.DueEdges.{due_one_more}
-use Rattle.looks.proofs.Numbers.{stand_for}
 use Rattle.looks.proofs.Sources.{listed_edge}
 use Rattle.looks.proofs.Stays.{looked_then, parts}
 use Rattle.looks.proofs.due.due_edges.Goals as goal
@@ -16,7 +15,7 @@ use Rattle.looks.proofs.due.due_edges.Goals as goal
 pub is_due-requires-clause-within : goal.is_due-requires-clause-within
 is_due-requires-clause-within g c =
     subst (λ (e : ℕ). e < length c.args.graph.now.manifest.lines) (sym {A = ℕ} c.edge-item.is)
-    (listed_edge c.args.graph.now c.requires.cone.0 c.args.cone.now c.requires.cone.1 c.as_slice-order.result.now c.as_slice-order.ensures.value c.loop-edge.edge-index c.edge-item.result c.loop-edge-test.true)
+    (listed_edge c.args.graph.now c.lists_stand.ensures c.requires.cone.0 c.args.cone.now c.requires.cone.1 c.as_slice-order.result.now c.as_slice-order.ensures.value c.loop-edge.edge-index c.edge-item.result c.loop-edge-test.true)
 
 pub returns-in_err-due-2-clause-looked : goal.returns-in_err-due-2-clause-looked
 returns-in_err-due-2-clause-looked g c =
@@ -24,7 +23,7 @@ returns-in_err-due-2-clause-looked g c =
 
 pub index_mut-requires : goal.index_mut-requires
 index_mut-requires g c =
-    let low = listed_edge c.args.graph.now c.requires.cone.0 c.args.cone.now c.requires.cone.1 c.as_slice-order.result.now c.as_slice-order.ensures.value c.loop-edge.edge-index c.edge-item.result c.loop-edge-test.true in
+    let low = listed_edge c.args.graph.now c.lists_stand.ensures c.requires.cone.0 c.args.cone.now c.requires.cone.1 c.as_slice-order.result.now c.as_slice-order.ensures.value c.loop-edge.edge-index c.edge-item.result c.loop-edge-test.true in
     omega (arith, low, c.edge-item.is, c.index.ensures.place, c.loop-edge.due.ok.0, c.loop-edge.invariant.fits)
 
 pub loop-edge-preserved : goal.loop-edge-preserved
@@ -35,7 +34,7 @@ loop-edge-preserved g c =
     let order = c.as_slice-order.result.now in
     let place = c.loop-edge.edge-index in
     let due = c.loop-edge.due.items in
-    let low = listed_edge graph c.requires.cone.0 c.args.cone.now c.requires.cone.1 order c.as_slice-order.ensures.value place 0 c.loop-edge-test.true in
+    let low = listed_edge graph c.lists_stand.ensures c.requires.cone.0 c.args.cone.now c.requires.cone.1 order c.as_slice-order.ensures.value place 0 c.loop-edge-test.true in
     let at : c.edge-item.result ≡ get_or order place 0 = c.edge-item.is ∙ get_or_default order place c.edge-item.result 0 c.loop-edge-test.true in
     record {
       looked = looked_then g.S.Texts.tells c.args.graph.now (g.S.Texts.world c.args.site.now) (g.S.Texts.world c.loop-edge.site) (g.S.Texts.world c.is_due.new.site) c.args.looks.now c.loop-edge.looks c.is_due.new.looks c.loop-edge.invariant.looked c.is_due.ensures.looked;
@@ -45,7 +44,7 @@ loop-edge-preserved g c =
           let between = parts g.S.Texts.tells c.args.graph.now (g.S.Texts.world c.args.site.now) (g.S.Texts.world c.loop-edge.site) (g.S.Texts.world c.is_due.new.site) c.args.looks.now c.loop-edge.looks c.is_due.new.looks c.loop-edge.invariant.looked
           c.is_due.ensures.looked.looks told files stays seen in
           subst (λ (e : ℕ). AreDue edges files (take (place + 1) order) (set due e c.in_ok-due-2.field-0)) (sym {A = ℕ} (c.index.ensures.place ∙ at))
-          (due_one_more edges paths (links_of graph) files (stand_for graph) c.requires.outputs order
+          (due_one_more edges paths (links_of graph) files c.lists_stand.ensures c.requires.outputs order
           (subst (λ (l : List ℕ). AreMakersFirst edges (recorded_inputs no_records edges) [] (map suc l)) (sym {A = List ℕ} c.as_slice-order.ensures.value) c.requires.cone.1.listed.ordered)
           place c.loop-edge-test.true due (omega (arith, low, c.loop-edge.invariant.fits)) (c.loop-edge.invariant.due told files between.0 seen) c.in_ok-due-2.field-0
           (c.in_ok-due-2.ensures.due told files between.1 between.2

@@ -6,14 +6,14 @@ use Rattle.links.specs.Told.{declared_by}
 use Rattle.looks.specs.Dues.{IsFirstIn, IsFoundOfDue}
 use Rattle.looks.proofs.Slices.{if_ok_then}
 use Rattle.looks.proofs.Sources.{found_of}
-use Rattle.looks.proofs.Stays.{looked_then, parts}
+use Rattle.looks.proofs.Stays.{looked_then, parts, seen_where_all_stay}
 use Rattle.looks.proofs.lack.first_lack.Goals as goal
 
 pub returns-in_err-due-in-None-clause-looks : goal.returns-in_err-due-in-None-clause-looks
 returns-in_err-due-in-None-clause-looks g c = (looked_then g.S.Texts.tells c.args.graph.now (g.S.Texts.world c.args.site.now) (g.S.Texts.world c.first_missing.new.site) (g.S.Texts.world c.due_edges.new.site) c.args.looks.now c.first_missing.new.looks c.due_edges.new.looks c.first_missing.ensures.looked c.due_edges.ensures.looked).looks
 
 pub returns-in_err-due-in-None-clause-seen : goal.returns-in_err-due-in-None-clause-seen
-returns-in_err-due-in-None-clause-seen g c = (looked_then g.S.Texts.tells c.args.graph.now (g.S.Texts.world c.args.site.now) (g.S.Texts.world c.first_missing.new.site) (g.S.Texts.world c.due_edges.new.site) c.args.looks.now c.first_missing.new.looks c.due_edges.new.looks c.first_missing.ensures.looked c.due_edges.ensures.looked).seen
+returns-in_err-due-in-None-clause-seen g c = seen_where_all_stay (looked_then g.S.Texts.tells c.args.graph.now (g.S.Texts.world c.args.site.now) (g.S.Texts.world c.first_missing.new.site) (g.S.Texts.world c.due_edges.new.site) c.args.looks.now c.first_missing.new.looks c.due_edges.new.looks c.first_missing.ensures.looked c.due_edges.ensures.looked)
 
 pub returns-in_ok-due-in-None-clause-looks : goal.returns-in_ok-due-in-None-clause-looks
 returns-in_ok-due-in-None-clause-looks g c =
@@ -22,8 +22,8 @@ returns-in_ok-due-in-None-clause-looks g c =
 
 pub returns-in_ok-due-in-None-clause-seen : goal.returns-in_ok-due-in-None-clause-seen
 returns-in_ok-due-in-None-clause-seen g c =
-    (looked_then g.S.Texts.tells c.args.graph.now (g.S.Texts.world c.args.site.now) (g.S.Texts.world c.due_edges.new.site) (g.S.Texts.world c.lack_of_due.new.site) c.args.looks.now c.due_edges.new.looks c.lack_of_due.new.looks
-    (looked_then g.S.Texts.tells c.args.graph.now (g.S.Texts.world c.args.site.now) (g.S.Texts.world c.first_missing.new.site) (g.S.Texts.world c.due_edges.new.site) c.args.looks.now c.first_missing.new.looks c.due_edges.new.looks c.first_missing.ensures.looked c.due_edges.ensures.looked) c.lack_of_due.ensures.looked).seen
+    seen_where_all_stay (looked_then g.S.Texts.tells c.args.graph.now (g.S.Texts.world c.args.site.now) (g.S.Texts.world c.due_edges.new.site) (g.S.Texts.world c.lack_of_due.new.site) c.args.looks.now c.due_edges.new.looks c.lack_of_due.new.looks
+    (looked_then g.S.Texts.tells c.args.graph.now (g.S.Texts.world c.args.site.now) (g.S.Texts.world c.first_missing.new.site) (g.S.Texts.world c.due_edges.new.site) c.args.looks.now c.first_missing.new.looks c.due_edges.new.looks c.first_missing.ensures.looked c.due_edges.ensures.looked) c.lack_of_due.ensures.looked)
 
 pub returns-in_ok-due-in-None-clause-found : goal.returns-in_ok-due-in-None-clause-found
 returns-in_ok-due-in-None-clause-found g c =
@@ -37,6 +37,12 @@ returns-in_ok-due-in-None-clause-found g c =
     let first = subst (IsFirstIn graph c.as_slice-targets.result.now files) c.in-None.is (c.in_ok-path.ensures.first told files both.0 seen) in
     let of_targets : NoneIsMissing (declared_by graph).edges files (targets_of (declared_by graph) targets) =
     subst (NoneIsMissing (declared_by graph).edges files) cone.numbers (subst (λ (l : List ℕ). NoneIsMissing (declared_by graph).edges files (texts_at graph.manifest.paths l)) c.as_slice-targets.ensures.value first) in
-    found_of graph (targets_of (declared_by graph) targets) c.args.cone.now.order.items c.args.cone.now.marks.items files cone.listed of_targets c.in_ok-due-in-None.due.items
+    found_of graph c.lists_stand.ensures (targets_of (declared_by graph) targets) c.args.cone.now.order.items c.args.cone.now.marks.items files cone.listed of_targets c.in_ok-due-in-None.due.items
     (c.in_ok-due-in-None.ensures.due told files both.1 both.2) found
     (subst (λ (l : List Bool). IsFoundOfDue graph l files found) c.deref.ensures.value (told_of told files last.1 last.2)))
+
+pub returns-in_err-path-clause-seen : goal.returns-in_err-path-clause-seen
+returns-in_err-path-clause-seen g c = seen_where_all_stay c.first_missing.ensures.looked
+
+pub returns-in-Some-clause-seen : goal.returns-in-Some-clause-seen
+returns-in-Some-clause-seen g c = seen_where_all_stay c.first_missing.ensures.looked

@@ -1,9 +1,30 @@
-use Rattle.std.proofs.Common.{List, ℕ, ◌∙◌, ap}
-use Rattle.model.specs.World.{file_at, stamp_of}
-use Rattle.looks.proofs.Stays.{seen_stamp}
+use Rattle.std.proofs.Common.{ℕ, List, Bool, Option, ◌≡◌, ◌<◌, length, sym, ◌∙◌, ap, subst, arith}
+use Rattle.paths.specs.Told.{text_at}
+use Rattle.looks.specs.declared.table.Look.{Look}
+use Rattle.looks.specs.Seen.{AreSeenOf, IsStampIn, look_of}
+use Rattle.std.specs.Prelude.{slice_set}
+use Rattle.looks.proofs.Kept.{seen_kept, seen_more, stamp_kept}
 use Rattle.looks.proofs.table.Looks.stamp.Goals as goal
 
+pub returns-in_err-stamp-in-Unasked-clause-kept : goal.returns-in_err-stamp-in-Unasked-clause-kept
+returns-in_err-stamp-in-Unasked-clause-kept g c told set kept are =
+    let call = c.stat.ensures.looks.history told in
+    seen_kept set (g.S.Texts.world c.args.site.now).history (g.S.Texts.world c.stat.new.self).history call.more call.grows kept c.args.graph.now.manifest.paths c.args.self.now.seen.items are
+
 pub returns-in_ok-stamp-in-Unasked-clause-stamp : goal.returns-in_ok-stamp-in-Unasked-clause-stamp
-returns-in_ok-stamp-in-Unasked-clause-stamp g c fresh told files stays =
-    seen_stamp c.text.result.now files (g.S.Texts.world c.args.site.now) (g.S.Texts.world c.stat.new.self) c.in_ok-stamp-in-Unasked.stamp stays (c.in_ok-stamp-in-Unasked.ensures.stamp told)
-    ∙ ap (λ (path : List ℕ). stamp_of (file_at files path)) c.text.ensures
+returns-in_ok-stamp-in-Unasked-clause-stamp g c told set kept are =
+    subst (λ (path : List ℕ). IsStampIn path c.in_ok-stamp-in-Unasked.stamp set (g.S.Texts.world c.stat.new.self).history) c.text.ensures
+    (stamp_kept set c.text.result.now c.in_ok-stamp-in-Unasked.stamp (g.S.Texts.world c.args.site.now).history (g.S.Texts.world c.stat.new.self).history (c.in_ok-stamp-in-Unasked.ensures.stamp told) kept)
+
+pub returns-in_ok-stamp-in-Unasked-clause-kept : goal.returns-in_ok-stamp-in-Unasked-clause-kept
+returns-in_ok-stamp-in-Unasked-clause-kept g c told set kept are =
+    let call = c.stat.ensures.looks.history told in
+    let paths = c.args.graph.now.manifest.paths in
+    let seen = c.args.self.now.seen.items in
+    let files = (g.S.Texts.world c.stat.new.self).history in
+    subst (λ (p : ℕ). AreSeenOf set paths files (slice_set seen p c.look_of.result)) (sym {A = ℕ} c.index-place.ensures.place)
+    (subst (λ (look : Look). AreSeenOf set paths files (slice_set seen c.args.path look)) (sym {A = Look} c.look_of.ensures)
+    (seen_more set paths files seen c.args.path c.in_ok-stamp-in-Unasked.stamp (omega (arith, c.requires.within, c.requires.fits))
+    (seen_kept set (g.S.Texts.world c.args.site.now).history files call.more call.grows kept paths seen are)
+    (subst (λ (path : List ℕ). IsStampIn path c.in_ok-stamp-in-Unasked.stamp set files) c.text.ensures
+    (stamp_kept set c.text.result.now c.in_ok-stamp-in-Unasked.stamp (g.S.Texts.world c.args.site.now).history files (c.in_ok-stamp-in-Unasked.ensures.stamp told) kept))))

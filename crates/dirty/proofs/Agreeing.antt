@@ -1,0 +1,33 @@
+-- What the summaries tell is what the facts tell that they are of.
+use Rattle.std.proofs.Common.{◌≡◌, ◌&&◌, ◌||◌, not, Bool, cond, List, [], ◌∷◌, Option, Some, refl, ◌∙◌, ap}
+use Rattle.std.specs.Prelude.{find}
+use Rattle.std.specs.List.{list_any}
+use Rattle.model.specs.declared.reason.Reason.{Reason}
+use Rattle.model.specs.declared.reason.Reason.TheVariants.{OutputAbsent, NoRecord, OtherAct, InputAbsent, InputChanged, InputLater, OutputOlder, DepsUnknown}
+use Rattle.model.specs.Judgement.{OutputFacts, InputFacts, holds, is_empty_text, is_unset, start_of, all_reasons}
+use Rattle.dirty.specs.declared.table.Facts.{Facts}
+use Rattle.dirty.specs.Summaries.{AreOutputs, AreInputs}
+use Rattle.dirty.specs.Reasons.{facts_with, holds_by, IsReasonOf}
+
+any_same : {X : Type 0} (f g : X → Bool) (xs : List X) → ((x : X) → f x ≡ g x) → list_any f xs ≡ list_any g xs
+any_same f g [] same = refl
+any_same f g (x ∷ xs) same = ap (λ (b : Bool). b || list_any f xs) (same x) ∙ ap (λ (b : Bool). g x || b) (any_same f g xs same)
+
+find_same : (f g : Reason → Bool) (reasons : List Reason) → ((r : Reason) → f r ≡ g r) → find f reasons ≡ find g reasons
+find_same f g [] same = refl
+find_same f g (r ∷ rs) same = ap (λ (b : Bool). cond b (Some r) (find f rs)) (same r) ∙ ap (λ (o : Option Reason). cond (g r) (Some r) o) (find_same f g rs same)
+
+module _ (facts : Facts) (outputs : List OutputFacts) (inputs : List InputFacts) (of_outputs : AreOutputs facts.act.now outputs facts.outputs) (of_inputs : AreInputs inputs facts.inputs) where
+  agree : (r : Reason) → holds_by facts r ≡ holds (facts_with facts outputs inputs) r
+  agree OutputAbsent = of_outputs.absent
+  agree NoRecord = of_outputs.unknown
+  agree OtherAct = of_outputs.other_act
+  agree InputAbsent = of_inputs.absent
+  agree InputChanged = of_inputs.anew
+  agree InputLater = of_outputs.started facts.inputs.latest_stamp ∙ any_same _ _ outputs (λ o. of_inputs.stamped (start_of o.made))
+  agree OutputOlder = ap (λ (b : Bool). not facts.restat && b) (of_outputs.stamped facts.inputs.latest_stamp ∙ any_same _ _ outputs (λ o. of_inputs.stamped o.stamp))
+  agree DepsUnknown = ap (λ (b : Bool). not (is_empty_text facts.act.now.depfile) && (b || (is_unset facts.deps && not facts.depfile))) of_outputs.other_deps
+
+pub reason_is : (facts : Facts) (reason : Option Reason) → reason ≡ find (λ r. holds_by facts r) all_reasons → IsReasonOf facts reason
+reason_is facts reason is outputs inputs of_outputs of_inputs =
+    is ∙ find_same (λ r. holds_by facts r) (λ r. holds (facts_with facts outputs inputs) r) all_reasons (agree facts outputs inputs of_outputs of_inputs)
