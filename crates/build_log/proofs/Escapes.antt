@@ -13,12 +13,12 @@ use Rattle.build_log.proofs.Bytes.{Lacks-front, Lacks-back}
 abbrev pub AnyByte : ℕ → Type 0
 AnyByte byte = Unit {0}
 
-all_fit : (text : List ℕ) → AllByRecursion AnyByte text
+pub all_fit : (text : List ℕ) → AllByRecursion AnyByte text
 all_fit [] = tt
 all_fit (b ∷ text) = (tt, all_fit text)
 
 -- the escape of a byte is not the beginning of another's
-one_escape : (a b : ℕ) (x y : List ℕ) → escaped a ++ x ≡ escaped b ++ y → (a ≡ b) × (x ≡ y)
+pub one_escape : (a b : ℕ) (x y : List ℕ) → escaped a ++ x ≡ escaped b ++ y → (a ≡ b) × (x ≡ y)
 one_escape a b x y e = (grind (arith, nat_tests), grind (arith, nat_tests))
 
 some_escape : (b : ℕ) (x : List ℕ) → escaped b ++ x ≢ []

@@ -12,3 +12,6 @@ pub mod Lookups
 pub mod Parts
 pub mod InForce
 pub mod Compacting
+pub mod Decided
+pub mod EachRead
+pub mod RecordOf

@@ -5,7 +5,7 @@ use Rattle.std.proofs.lemmas.List.{take_all, length-map}
 use Rattle.std.specs.List.{flat_map}
 use Rattle.std.specs.Str.{IsUtf8}
 use Rattle.text.specs.Marks.{Lacks}
-use Rattle.text.specs.Fronts.{IsFront}
+use Rattle.text.specs.Fronts.{IsFront, IsNext}
 use Rattle.text.proofs.Fronts.{front_none, front_more, front_stops, front_all}
 use Rattle.build_log.specs.Line.{field_text, field_and_tab, escaped, line_text, AreTexts, SpellsNothing, counted}
 use Rattle.build_log.proofs.Bytes.{Lacks-append, has_mark, one_cut}
@@ -45,22 +45,25 @@ some_cut rest [] after e none = let clash : 9 ∷ after ≡ [] = sym e ∙ none 
 some_cut rest (b ∷ field) after e none = let clash : b ∷ (field ++ 9 ∷ after) ≡ [] = sym e ∙ none in cc
 
 -- the field in front of a tab is a text's only where it is the text's field
-front_field : (rest field after text others : List ℕ) → rest ≡ field ++ 9 ∷ after → Lacks 9 field → rest ≡ field_and_tab text ++ others → (field ≡ field_text text) × (after ≡ others)
+pub front_field : (rest field after text others : List ℕ) → rest ≡ field ++ 9 ∷ after → Lacks 9 field → rest ≡ field_and_tab text ++ others → (field ≡ field_text text) × (after ≡ others)
 front_field rest field after text others e lacks f =
     one_cut 9 field (field_text text) after others lacks (Lacks-field_text 9 text (inl refl)) (sym e ∙ (f ∙ append_assoc (field_text text) (9 ∷ []) others))
 
+-- a field that spells a text, with a tab behind it
+pub next_field : (rest field after text : List ℕ) → rest ≡ field ++ 9 ∷ after → Lacks 9 field → field ≡ field_text text → IsUtf8 text → IsNext field_and_tab IsUtf8 rest text after
+next_field rest field after text e lacks is utf8 = record {
+  spelled = e ∙ (ap (λ (xs : List ℕ). xs ++ 9 ∷ after) is ∙ sym (append_assoc (field_text text) (9 ∷ []) after));
+  fits = utf8;
+  only = λ other others fits f.
+      let same = front_field rest field after other others e lacks f in
+      (one_text text other (sym is ∙ same.0), same.1);
+}
+
 pub one_more : (front : List ℕ) (fields : List (List ℕ)) (rest field after text : List ℕ) → IsParted front fields rest → rest ≡ field ++ 9 ∷ after → Lacks 9 field → field ≡ field_text text → IsUtf8 text → IsParted front (fields ++ text ∷ []) after
 one_more front fields rest field after text parted e lacks is utf8 =
-    front_more field_and_tab IsUtf8 front fields rest text after parted (some_cut rest field after e)
-    (record {
-      spelled = e ∙ (ap (λ (xs : List ℕ). xs ++ 9 ∷ after) is ∙ sym (append_assoc (field_text text) (9 ∷ []) after));
-      fits = utf8;
-      only = λ other others fits f.
-          let same = front_field rest field after other others e lacks f in
-          (one_text text other (sym is ∙ same.0), same.1);
-    })
+    front_more field_and_tab IsUtf8 front fields rest text after parted (some_cut rest field after e) (next_field rest field after text e lacks is utf8)
 
-dot_ends : (a b : List ℕ) → a ++ 46 ∷ [] ≡ b ++ 46 ∷ [] → a ≡ b
+pub dot_ends : (a b : List ℕ) → a ++ 46 ∷ [] ≡ b ++ 46 ∷ [] → a ≡ b
 dot_ends [] [] e = refl
 dot_ends [] (y ∷ b) e = absurd (let rest : [] ≡ b ++ 46 ∷ [] = cc in some b rest)
   where

@@ -33,7 +33,7 @@ module _ {R : Type 0} (form : Form R) where
   starts lines = front_none (record_line form) (HasLine form) lines
 
   -- the line in front is a record's only where it is its line
-  front_line : (rest line after : List ℕ) (r : R) (others : List ℕ) → rest ≡ line ++ 10 ∷ after → Lacks 10 line → rest ≡ record_line form r ++ others → (line ≡ line_text (form.fields r)) × (after ≡ others)
+  pub front_line : (rest line after : List ℕ) (r : R) (others : List ℕ) → rest ≡ line ++ 10 ∷ after → Lacks 10 line → rest ≡ record_line form r ++ others → (line ≡ line_text (form.fields r)) × (after ≡ others)
   front_line rest line after r others e lacks f = one_cut 10 line (line_text (form.fields r)) after others lacks (Lacks-line_text (form.fields r)) (sym e ∙ (f ∙ append_assoc (line_text (form.fields r)) (10 ∷ []) others))
 
   -- a line in front of others
@@ -46,10 +46,15 @@ module _ {R : Type 0} (form : Form R) where
         (apart r other has.fits fits.fits (one_line (form.fields r) (form.fields other) parts.0), parts.1);
   }
 
+  -- a line that spells the fields of a record, with a line feed behind it
+  pub next_record : AreApart form → (rest line after : List ℕ) (r : R) → rest ≡ line ++ 10 ∷ after → line ≡ line_text (form.fields r) → HasLine form r → IsNext (record_line form) (HasLine form) rest r after
+  next_record apart rest line after r e is has =
+      let front : rest ≡ record_line form r ++ after = e ∙ (ap (λ (xs : List ℕ). xs ++ 10 ∷ after) is ∙ sym (append_assoc (line_text (form.fields r)) (10 ∷ []) after)) in
+      subst (λ (xs : List ℕ). IsNext (record_line form) (HasLine form) xs r after) (sym front) (next_line apart r after has)
+
   pub one_more : AreApart form → (lines : List ℕ) (rs : List R) (rest line after : List ℕ) (r : R) → AreRead form lines rs rest → rest ≡ line ++ 10 ∷ after → line ≡ line_text (form.fields r) → HasLine form r → AreRead form lines (rs ++ r ∷ []) after
   one_more apart lines rs rest line after r read e is has =
-      let front : rest ≡ record_line form r ++ after = e ∙ (ap (λ (xs : List ℕ). xs ++ 10 ∷ after) is ∙ sym (append_assoc (line_text (form.fields r)) (10 ∷ []) after)) in
-      front_more (record_line form) (HasLine form) lines rs rest r after read (some_line rest line after e) (subst (λ (xs : List ℕ). IsNext (record_line form) (HasLine form) xs r after) (sym front) (next_line apart r after has))
+      front_more (record_line form) (HasLine form) lines rs rest r after read (some_line rest line after e) (next_record apart rest line after r e is has)
 
   pub stops_at_line : (lines : List ℕ) (rs : List R) (rest line after : List ℕ) → AreRead form lines rs rest → rest ≡ line ++ 10 ∷ after → Lacks 10 line → IsNoLine form line → AreNoLines form lines
   stops_at_line lines rs rest line after read e lacks none =

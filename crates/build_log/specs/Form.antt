@@ -1,5 +1,5 @@
 -- How the text of a log is put together of lines, whatever its records are.
-use Rattle.std.specs.Prelude.{◌≡◌, ℕ, List, [], ◌∷◌, ◌++◌}
+use Rattle.std.specs.Prelude.{◌≡◌, ℕ, List, [], ◌∷◌, ◌++◌, ◌⊎◌}
 use Rattle.std.specs.List.{flat_map, AllByRecursion}
 use Rattle.text.specs.Marks.{Lacks}
 use Rattle.build_log.specs.declared.form.Version.{Version}
@@ -37,8 +37,14 @@ pub record IsAppended {R : Type 0} (form : Form R) (r : R) (old new : List ℕ) 
   pub text : new ≡ old ++ record_line form r
   pub has : HasLine form r
 
--- what makes texts of both versions readable in one way: a line is of one record, and the first line tells the version
+-- the fields are those of a record that has a line, or of none
+abbrev pub IsRecordOrNone : {R : Type 0} → Form R → List (List ℕ) → Type 0
+IsRecordOrNone {R} form fields = ((r : R) × (fields ≡ form.fields r) × form.Fits r) ⊎ ((r : R) → form.Fits r → fields ≡ form.fields r → ⊥)
+
+-- what makes texts of both versions readable in one way: a line is of one record, the first line tells the version, and of any
+-- fields it can be told whether they are a record's
 pub record IsReadable {R : Type 0} (forms : Version → Form R) : Type 0 where
   pub one_record : (version : Version) (r s : R) → (forms version).Fits r → (forms version).Fits s → (forms version).fields r ≡ (forms version).fields s → r ≡ s
   pub one_line : (version : Version) → Lacks 10 (forms version).first
   pub differ : (forms One).first ≡ (forms Two).first → ⊥
+  pub decided : (version : Version) (fields : List (List ℕ)) → IsRecordOrNone (forms version) fields

@@ -1,14 +1,61 @@
 -- What holds of the text of each log.
-use Rattle.std.specs.Prelude.{◌≡◌, ℕ, List, ◌∷◌, [], ◌++◌, ◌⊎◌}
+use Rattle.std.specs.Prelude.{◌≡◌, ◌<◌, ◌^◌, ℕ, List, ◌∷◌, [], ◌++◌, ◌⊎◌, Option, Some, None, length, decimal}
 use Rattle.build_log.specs.declared.form.Version.{Version}
 use Rattle.build_log.specs.declared.tail.Tail.{Tail}
-use Rattle.build_log.specs.Line.{field_text, line_text}
+use Rattle.build_log.specs.declared.tail.Tail.TheVariants.{Whole, Old, Torn, Damaged}
+use Rattle.build_log.specs.Line.{field_text, line_text, counted}
 use Rattle.build_log.specs.Form.{Form, lines_text, HaveLines, IsLineOf}
 use Rattle.build_log.specs.Text.{IsLogOf, IsEnded, IsTornOf, IsRead, EndsLine}
+use Rattle.build_log.specs.Kept.{AreDistinct}
+use Rattle.build_log.specs.Record.{output_fields, HasRoomFor}
 
 -- bytes are read in one way
 abbrev pub OneReading : {R : Type 0} → (Version → Form R) → Type 0
 OneReading {R} forms = (bytes : List ℕ) (a b : List R) (s t : Tail) → IsRead forms bytes a s → IsRead forms bytes b t → (a ≡ b) × (s ≡ t)
+
+-- all bytes can be read
+abbrev pub EachIsRead : {R : Type 0} → (Version → Form R) → Type 0
+EachIsRead {R} forms = (bytes : List ℕ) → (records : List R) × (tail : Tail) × IsRead forms bytes records tail
+
+-- what is told of bytes that end so; nothing of damaged ones
+abbrev pub told_at : {R : Type 0} → Tail → List R → Option (List R)
+told_at Whole records = Some records
+told_at Old records = Some records
+told_at Torn records = Some records
+told_at Damaged records = None
+
+-- the function tells of all bytes what their reading is
+abbrev pub Reads : {R : Type 0} → (Version → Form R) → (List ℕ → Option (List R)) → Type 0
+Reads {R} forms reader = (bytes : List ℕ) (records : List R) (tail : Tail) → IsRead forms bytes records tail → reader bytes ≡ told_at tail records
+
+-- there is a function that reads so
+abbrev pub HasReader : {R : Type 0} → (Version → Form R) → Type 0
+HasReader {R} forms = (reader : List ℕ → Option (List R)) × Reads forms reader
+
+-- ---- parts of records
+
+-- the number below 2 to the 64 that the text spells, or that it spells none
+abbrev pub IsNumberOrNone : List ℕ → Type 0
+IsNumberOrNone text = ((n : ℕ) × (n < 2 ^ 64) × (text ≡ decimal n)) ⊎ ((n : ℕ) → n < 2 ^ 64 → text ≡ decimal n → ⊥)
+
+-- the counted list that the fields begin with, or that they begin with none
+abbrev pub AreCountedOrNone : List (List ℕ) → Type 0
+AreCountedOrNone fields =
+    ((texts : List (List ℕ)) × (after : List (List ℕ)) × (fields ≡ counted texts ++ after) × (length texts < 2 ^ 64)) ⊎ ((texts after : List (List ℕ)) → length texts < 2 ^ 64 → fields ≡ counted texts ++ after → ⊥)
+
+-- the outputs that the fields begin with, or that they begin with none
+abbrev pub AreOutputsOrNone : Version → List (List ℕ) → Type 0
+AreOutputsOrNone version fields =
+    ((outputs : List (List ℕ)) × (after : List (List ℕ)) × (fields ≡ output_fields version outputs ++ after) × HasRoomFor version outputs) ⊎ ((outputs after : List (List ℕ)) → HasRoomFor version outputs → fields ≡ output_fields version outputs ++ after → ⊥)
+
+-- what parts of records stand in fields can be told
+pub record PartsAreDecided : Type 0 where
+  pub number : (text : List ℕ) → IsNumberOrNone text
+  pub list : (fields : List (List ℕ)) → AreCountedOrNone fields
+  pub outputs : (version : Version) (fields : List (List ℕ)) → AreOutputsOrNone version fields
+  pub distinct : (paths : List (List ℕ)) → AreDistinct paths ⊎ (AreDistinct paths → ⊥)
+
+-- ---- the text
 
 -- a field is of one text, and a line of one list of texts
 abbrev pub OneSpelling : Type 0

@@ -1,6 +1,6 @@
 //! What holds of the text of each log. These functions do nothing: their contracts are the laws.
 
-ghost use Rattle.build_log.specs.Laws.{OneReading, OneSpelling, LineGrowsLog, FrontOfLog, FrontOfLines};
+ghost use Rattle.build_log.specs.Laws.{OneReading, EachIsRead, HasReader, PartsAreDecided, OneSpelling, LineGrowsLog, FrontOfLog, FrontOfLines};
 ghost use Rattle.build_log.specs.Kept.{InForceKeeps};
 ghost use Rattle.build_log.specs.Log.{CompactionKeeps};
 
@@ -12,6 +12,27 @@ pub fn one_reading<L: Records>()
 {
     L::are_readable();
 }
+
+/// All bytes have a reading, if only as a damaged log.
+pub fn each_is_read<L: Records>()
+    ensures { EachIsRead L.forms }
+{
+    L::are_readable();
+}
+
+/// There is a function that tells of all bytes what their reading is: their records, and nothing of a damaged log.
+pub fn has_reader<L: Records>()
+    ensures { HasReader L.forms }
+{
+    one_reading::<L>();
+    each_is_read::<L>();
+}
+
+/// Of any fields it can be told which parts of a record they are: a number, a counted list, outputs, and whether one
+/// stands twice among those.
+pub fn parts_are_decided()
+    ensures { PartsAreDecided }
+{}
 
 /// A field spells one text, and a line one list of texts.
 pub fn one_spelling()

@@ -2,3 +2,4 @@ pub mod Fields
 pub mod Sayings
 pub mod Keeping
 pub mod Writing
+pub mod RecordOf

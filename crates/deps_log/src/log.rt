@@ -14,7 +14,7 @@ ghost use Rattle.deps_log.specs.Log.{Keeps, IsLog, compaction, told_in, record_i
 
 use crate::deps::Deps;
 use crate::record::{record_line, said_by};
-use build_log::{Field, InForce, Kept, Records, Tail, Version, plain_fields};
+use build_log::{Field, InForce, Kept, Records, Tail, Version, parts_are_decided, plain_fields};
 use model::DepsRecord;
 use std::alloc::{AllocError, Global};
 use std::marker::Model;
@@ -73,7 +73,9 @@ impl Records for Log {
         Ok(true)
     }
 
-    fn are_readable() {}
+    fn are_readable() {
+        parts_are_decided();
+    }
 }
 
 impl Log {

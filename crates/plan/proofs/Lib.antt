@@ -15,3 +15,4 @@ pub mod Arriving
 pub mod Settling
 pub mod Beginning
 pub mod Begun
+pub mod StepLaws

@@ -11,13 +11,10 @@ use Rattle.build_theory.proofs.Steps.{kept_lawful, lawful_push, running_parts, s
 use Rattle.plan.specs.declared.step.Standing.{Standing}
 use Rattle.plan.specs.declared.step.Standing.TheVariants.{Outside}
 use Rattle.plan.specs.Standing.{standing_at}
+use Rattle.plan.specs.Steps.{IsOnce}
 use Rattle.plan.proofs.CountBy.{count_loses}
 
 -- ---- lists with each number once
-
-abbrev pub IsOnce : List ℕ → Type 0
-IsOnce [] = Unit {0}
-IsOnce (x ∷ xs) = (has_number xs x ≡ false) × IsOnce xs
 
 once_push : (xs : List ℕ) (i : ℕ) → IsOnce xs → has_number xs i ≡ false → IsOnce (xs ++ i ∷ [])
 once_push [] i once none = (refl, tt)

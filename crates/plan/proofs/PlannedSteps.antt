@@ -11,6 +11,7 @@ use Rattle.plan.specs.declared.step.Standing.{Standing}
 use Rattle.plan.specs.declared.step.Standing.TheVariants.{Outside, Unjudged, Clean, OutOfDate, Running, Well, Failed}
 use Rattle.plan.specs.Standing.{is_unjudged, is_out_of_date, is_running, is_failed, is_well}
 use Rattle.plan.specs.Planned.{standing_in}
+use Rattle.plan.specs.Steps.{edge_of}
 
 -- ---- an edge that ended well, failed, was started, was judged out of date, was judged clean, or not
 
@@ -228,11 +229,6 @@ pub never_judged : (task : Task) (steps : List Step) → MayBeJudged task steps 
 never_judged task steps may = omega (arith, (command_within task.graph.edges 0 may.command).0)
 
 -- ---- one more step
-
-abbrev pub edge_of : Step → ℕ
-edge_of (Judged i b) = i
-edge_of (Started i) = i
-edge_of (Ended i w) = i
 
 other_one : (i j : ℕ) → (i ≡ j → ⊥) → has_number (i ∷ []) j ≡ false
 other_one i j other = ap (λ (b : Bool). b || false) (false_from_ne_true (i == j) (λ h. other (eqb-true i j h)))

@@ -10,7 +10,8 @@ use Rattle.build_theory.proofs.Lists.{has_number-append}
 use Rattle.build_theory.proofs.Steps.{started-append, ended-append, running_parts}
 use Rattle.queue.specs.Turns.{runs_in, set_runs}
 use Rattle.plan.specs.Planned.{is_place}
-use Rattle.plan.proofs.PlannedCounts.{IsOnce, started_once}
+use Rattle.plan.specs.Steps.{IsOnce}
+use Rattle.plan.proofs.PlannedCounts.{started_once}
 
 abbrev pub one_if : Bool → ℕ
 one_if b = cond b 1 0

@@ -16,7 +16,8 @@ use Rattle.plan.specs.Pools.{place_of, place_in}
 use Rattle.plan.specs.Plan.{has_limits}
 use Rattle.plan.specs.Planned.{standing_in, is_place, is_grouped, IsPlanned}
 use Rattle.plan.proofs.PlannedSteps as stands
-use Rattle.plan.proofs.PlannedCounts.{IsOnce, count_listed, running_once, failed_once, well_once}
+use Rattle.plan.specs.Steps.{IsOnce}
+use Rattle.plan.proofs.PlannedCounts.{count_listed, running_once, failed_once, well_once}
 use Rattle.plan.proofs.Places.{place_free, place_depth, place_name}
 use Rattle.plan.proofs.Judging.{known, none_judged}
 

@@ -19,7 +19,8 @@ use Rattle.plan.specs.Standing.{standing_at, is_unjudged, is_alias, is_out_of_da
 use Rattle.plan.specs.Plan.{IsReady, IsWaiting, IsTallied, IsOver, IsPooled}
 use Rattle.plan.specs.Settling.{IsCounted}
 use Rattle.plan.specs.Planned.{standing_in, is_place, is_grouped, IsPlanned}
-use Rattle.plan.proofs.PlannedSteps.{edge_of, stands_other, done_more}
+use Rattle.plan.specs.Steps.{edge_of}
+use Rattle.plan.proofs.PlannedSteps.{stands_other, done_more}
 use Rattle.plan.proofs.Runs.{one_if, same_filter}
 
 module _ (standings : List Standing) (e : ℕ) (s : Standing) (lt : e < length standings) where

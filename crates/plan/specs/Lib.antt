@@ -5,3 +5,4 @@ pub mod Plan
 pub mod First
 pub mod Planned
 pub mod Settling
+pub mod Steps

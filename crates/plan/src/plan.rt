@@ -140,7 +140,7 @@ impl Plan {
     /// Notes the verdict over an edge that may be judged, and what is settled by it.
     pub fn judged(&mut self, graph: &Graph, edge: EdgeId, verdict: Verdict)
         requires over { IsPlanOver graph.now self.old }
-        requires ready { has self.old.ready edge ≡ true }
+        requires ready { IsOffered self.old (Step.Judge edge) }
         ensures over { IsPlanOver graph.now self.new }
         ensures stands { IsSettling self.old.standings.items self.new.standings.items edge (standing_by verdict) }
         ensures flags { self.new.changed ≡ self.old.changed }
@@ -162,7 +162,7 @@ impl Plan {
 
     /// Notes that the command of an edge that may start was started.
     pub fn started(&mut self, edge: EdgeId)
-        requires { may self.old.queue edge ≡ true }
+        requires { IsOffered self.old (Step.Start edge) }
         ensures over { (graph : Graph) → IsPlanOver graph self.old → IsPlanOver graph self.new }
         ensures stands { self.new.standings.items ≡ slice_set self.old.standings.items edge Standing.Running }
         ensures flags { self.new.changed ≡ self.old.changed }
@@ -246,8 +246,8 @@ impl Plan {
     }
 }
 
-/// Notes for each of these paths whether it was changed.
-fn note_changes(flags: &mut [bool], paths: &[PathId], changed: &[bool])
+/// Notes for each of these paths whether it was changed: what is handed in for it. Flags of other paths stay.
+pub fn note_changes(flags: &mut [bool], paths: &[PathId], changed: &[bool])
     requires fits { length changed.now ≡ length paths.now }
     requires once { StandOnce paths.now }
     requires within { (p : ℕ) → has_number paths.now p ≡ true → p < length flags.old }

@@ -1,10 +1,11 @@
 -- The edges that may be judged and started are those that a scan finds.
 use Rattle.std.proofs.Common.{◌≡◌, ◌⊎◌, inl, inr, ℕ, zero, suc, ◌<◌, ◌==◌, ◌&&◌, ◌||◌, nat_lt, filter, Bool, true, false, List, [], ◌∷◌, Option, Some, None, length, count_by, refl, sym, ◌∙◌, ap, subst, arith}
-use Rattle.std.proofs.lemmas.Bool.{false≢true, true≢false, or_cases, or_left, or_right, and_parts, and_from, eq-eqb, eqb-true, lt-ltb, ltb-true, cases_Bool, false_from_ne_true}
+use Rattle.std.proofs.lemmas.Bool.{false≢true, or_cases, or_left, or_right, and_parts, and_from, eq-eqb, eqb-true, lt-ltb, ltb-true, cases_Bool, false_from_ne_true}
 use Rattle.model.specs.Graph.{has, has_number, edge_at, inputs, maker, depth_of, IsCommand}
 use Rattle.model.specs.Reading.{IsInCone, Needed}
-use Rattle.model.specs.Schedule.{Task, Step, Judged, Started, running_in, failed_in, well_in, clean_in, started_in, out_of_date_in, done_in, IsSettled, Done, Alias as ByAlias, IsBelow, is_in_pool, MayBeJudged, NoneMayBeJudged, MayStart, NoneMayStart, IsLawfulStep, IsLawful}
-use Rattle.build_theory.proofs.Lists.{has-cases, has_number-append, has_number-filter}
+use Rattle.model.specs.Schedule.{Task, Step, Judged, Started, running_in, failed_in, done_in, IsSettled, Done, Alias as ByAlias, IsBelow, is_in_pool, MayBeJudged, NoneMayBeJudged, MayStart, NoneMayStart, IsLawfulStep, IsLawful}
+use Rattle.build_theory.proofs.Lists.{has-cases, has_number-filter}
+use Rattle.build_theory.proofs.Makers.{command_within}
 use Rattle.build_theory.proofs.Steps.{kept_lawful}
 use Rattle.links.specs.declared.graph.Graph.{Graph}
 use Rattle.links.specs.Links.{links_of, needs_at}
@@ -15,11 +16,11 @@ use Rattle.plan.specs.declared.step.Standing.TheVariants.{Outside, Unjudged, Cle
 use Rattle.plan.specs.Standing.{standing_at, is_unjudged, is_out_of_date, is_running, is_failed, is_alias, is_outside, is_phony, is_settled}
 use Rattle.plan.specs.Plan.{has_limits}
 use Rattle.plan.specs.Planned.{standing_in}
-use Rattle.plan.proofs.PlannedSteps as stands
-use Rattle.plan.proofs.PlannedCounts.{stands_within, count_listed, running_once, failed_once}
+use Rattle.plan.specs.Steps.{AreCommands, StandingsTell, StepsName, ListsCount}
 use Rattle.plan_plain.specs.declared.plain.Plan.{Plan}
 use Rattle.plan_plain.specs.Scan.{waits_for_nothing, may_judge, may_start, pool_at, runs_in, counted, has_pool_room, IsFirst, NonePasses}
 use Rattle.plan_plain.specs.Planned.{IsPlanned}
+use Rattle.plan_plain.proofs.Changing.{stands_within}
 use Rattle.plan_plain.proofs.Waiting.{nothing_left, need_settled}
 use Rattle.plan_plain.proofs.Counted.{once_filter, counted_listed}
 
@@ -75,14 +76,31 @@ command_is test plain Failed h = refl
 command_is test plain Alias h = absurd (false≢true (sym plain.alias ∙ h))
 command_is test plain Known h = absurd (false≢true (sym plain.known ∙ h))
 
--- what was judged clean, or ended well, is settled
-settled_flags : (w f s o c : Bool) → (c ≡ true → (f ≡ false) × (s ≡ false) × (o ≡ false)) → (c || w) ≡ true → is_settled (stands.stands w f s o c) ≡ true
-settled_flags true f s o c cf h = refl
-settled_flags false f s o false cf h = absurd (false≢true h)
-settled_flags false true s o true cf h = absurd (true≢false (cf refl).0)
-settled_flags false false true o true cf h = absurd (true≢false (cf refl).1)
-settled_flags false false false true true cf h = absurd (true≢false (cf refl).2)
-settled_flags false false false false true cf h = refl
+unjudged_is : (s : Standing) → is_unjudged s ≡ true → s ≡ Unjudged
+unjudged_is Outside h = absurd (false≢true h)
+unjudged_is Unjudged h = refl
+unjudged_is Clean h = absurd (false≢true h)
+unjudged_is OutOfDate h = absurd (false≢true h)
+unjudged_is Running h = absurd (false≢true h)
+unjudged_is Well h = absurd (false≢true h)
+unjudged_is Failed h = absurd (false≢true h)
+unjudged_is Alias h = absurd (false≢true h)
+unjudged_is Known h = absurd (false≢true h)
+
+out_of_date_is : (s : Standing) → is_out_of_date s ≡ true → s ≡ OutOfDate
+out_of_date_is Outside h = absurd (false≢true h)
+out_of_date_is Unjudged h = absurd (false≢true h)
+out_of_date_is Clean h = absurd (false≢true h)
+out_of_date_is OutOfDate h = refl
+out_of_date_is Running h = absurd (false≢true h)
+out_of_date_is Well h = absurd (false≢true h)
+out_of_date_is Failed h = absurd (false≢true h)
+out_of_date_is Alias h = absurd (false≢true h)
+out_of_date_is Known h = absurd (false≢true h)
+
+-- no edge has the number 0
+never_judged : (task : Task) (steps : List Step) → MayBeJudged task steps 0 → ⊥
+never_judged task steps may = omega (arith, (command_within task.graph.edges 0 may.command).0)
 
 -- ---- limits
 
@@ -100,7 +118,7 @@ empty : (xs : List ℕ) → length xs ≡ 0 → xs ≡ []
 empty [] none = refl
 empty (x ∷ xs) none = absurd (omega (arith, none))
 
-module _ (task : Task) (graph : Graph) (plan : Plan) (steps : List Step) (at : IsPlanned task graph plan steps) (lawful : IsLawful task steps) where
+module _ (tell : StandingsTell) (named : StepsName) (counts : ListsCount) (task : Task) (graph : Graph) (plan : Plan) (steps : List Step) (at : IsPlanned task graph plan steps) (lawful : IsLawful task steps) where
   abbrev InCone : ℕ → Type 0
   InCone i = IsInCone task.graph.edges task.recorded task.targets i
 
@@ -117,16 +135,6 @@ module _ (task : Task) (graph : Graph) (plan : Plan) (steps : List Step) (at : I
 
   -- ---- judgements
 
-  done_stands : (i : ℕ) → has_number (done_in steps) i ≡ true → is_settled (standing_in steps i) ≡ true
-  done_stands i h =
-      let kept = kept_lawful task steps lawful in
-      settled_flags (has_number (well_in steps) i) (has_number (failed_in steps) i) (has_number (started_in steps) i) (has_number (out_of_date_in steps) i) (has_number (clean_in steps) i)
-      (λ c.
-      let out : has_number (out_of_date_in steps) i ≡ false = false_from_ne_true (has_number (out_of_date_in steps) i) (λ o. kept.apart i c o) in
-      let new : has_number (started_in steps) i ≡ false = false_from_ne_true (has_number (started_in steps) i) (λ s. false≢true (sym out ∙ kept.started i s)) in
-      (false_from_ne_true (has_number (failed_in steps) i) (λ f. false≢true (sym new ∙ kept.ended i (kept.failed i f))), new, out))
-      (sym (has_number-append (clean_in steps) (well_in steps) i) ∙ h)
-
   -- the makers of what an edge needs, by numbers
   maker_of : (e k n : ℕ) → k < length (needs_at (links_of graph) e) → maker_at (links_of graph) e k ≡ Some n → IsMakerFor task.graph.edges task.recorded (suc e) (suc n)
   maker_of e k n lt is = at.stated.linked.linked e (suc n) record { place = k; number = n; within = lt; is = is; same = refl }
@@ -135,7 +143,7 @@ module _ (task : Task) (graph : Graph) (plan : Plan) (steps : List Step) (at : I
   settled_stands : (i n : ℕ) → i ≡ suc n → IsSettled task.graph.edges (done_in steps) i → InCone (suc n) → is_settled (stand n) ≡ true
   settled_stands _ n same (Done i command done) within =
       let mine : IsCommand task.graph.edges (suc n) = subst (λ (j : ℕ). IsCommand task.graph.edges j) same command in
-      ap is_settled (at.stood.stands n within mine) ∙ done_stands (suc n) (subst (λ (j : ℕ). has_number (done_in steps) j ≡ true) same done)
+      ap is_settled (at.stood.stands n within mine) ∙ tell.done task steps (suc n) lawful (subst (λ (j : ℕ). has_number (done_in steps) j ≡ true) same done)
   settled_stands _ n same (ByAlias i phony below) within = elim (phony_cases (stand n) (at.stood.kinds n (at.stood.inside n within) ∙ subst (λ (j : ℕ). (edge_at task.graph.edges j).phony ≡ true) same phony)) [
     | inl waiting ↦ absurd (false≢true (sym (at.over.settled n) ∙ and_from (is_alias (stand n)) (waits_for_nothing (links_of graph) plan.standings.items n) (ap is_alias waiting)
         (nothing_left (links_of graph) n plan.standings.items (each (λ p m input made cone_too. settled_stands (suc m) m refl (below p (suc m) input made) cone_too)))))
@@ -160,14 +168,14 @@ module _ (task : Task) (graph : Graph) (plan : Plan) (steps : List Step) (at : I
       record {
         within = mine.0;
         command = mine.1;
-        once = stands.unjudged_fresh steps (suc e) mine.2;
+        once = (tell.unjudged task steps (suc e) lawful).0 (unjudged_is (standing_in steps (suc e)) mine.2);
         ready = λ p need j made. need_settled task graph at.stated (done_in steps) plan.standings.items at.stood.settled e both.1 p j need made;
       }
 
   judged_may : (e : ℕ) → MayBeJudged task steps (suc e) → may_judge (links_of graph) plan.standings.items e ≡ true
   judged_may e may =
       and_from (is_unjudged (stand e)) (waits_for_nothing (links_of graph) plan.standings.items e)
-      (ap is_unjudged (at.stood.stands e may.within may.command ∙ stands.fresh_unjudged task steps lawful (suc e) may.once))
+      (ap is_unjudged (at.stood.stands e may.within may.command ∙ (tell.unjudged task steps (suc e) lawful).1 may.once))
       (nothing_left (links_of graph) e plan.standings.items each)
     where
       each : (k n : ℕ) → k < length (needs_at (links_of graph) e) → maker_at (links_of graph) e k ≡ Some n → is_settled (stand n) ≡ true
@@ -176,41 +184,40 @@ module _ (task : Task) (graph : Graph) (plan : Plan) (steps : List Step) (at : I
           settled_stands (suc n) n refl (may.ready found.path found.needed (suc n) found.made) (Needed (suc n) (suc e) found.path may.within found.needed found.made)
 
   pub none_judged : NonePasses (may_judge (links_of graph) plan.standings.items) → NoneMayBeJudged task steps
-  none_judged none zero may = stands.never_judged task steps may
+  none_judged none zero may = never_judged task steps may
   none_judged none (suc e) may = false≢true (sym (none e) ∙ judged_may e may)
 
   pub judge_lawful : (e : ℕ) → IsFirst (may_judge (links_of graph) plan.standings.items) e → (stale : Bool) → IsLawfulStep task steps (Judged (suc e) stale)
   judge_lawful e first stale = (may_be_judged e first.is, lower)
     where
       lower : (k : ℕ) → k < suc e → MayBeJudged task steps k → ⊥
-      lower zero lt may = stands.never_judged task steps may
+      lower zero lt may = never_judged task steps may
       lower (suc k) lt may = false≢true (sym (first.lowest k (omega (arith, lt))) ∙ judged_may k may)
 
   -- ---- counts
 
-  listed_is : (test : Standing → Bool) (xs : List ℕ) → IsPlain test → ((i : ℕ) → has_number xs i ≡ true → InCone i) → ((i : ℕ) → has_number xs i ≡ true → IsCommand task.graph.edges i)
-      → ((i : ℕ) → test (standing_in steps i) ≡ has_number xs i) → (e : ℕ) → test (stand e) ≡ has_number xs (suc e)
-  listed_is test xs plain cone command is e = elim (cases_Bool (has_number xs (suc e))) [
-    | inl h ↦ ap test (at.stood.stands e (cone (suc e) h) (command (suc e) h)) ∙ is (suc e)
+  listed_is : (test : Standing → Bool) (xs : List ℕ) → IsPlain test → AreCommands task xs → ((i : ℕ) → test (standing_in steps i) ≡ has_number xs i) → (e : ℕ) → test (stand e) ≡ has_number xs (suc e)
+  listed_is test xs plain are is e = elim (cases_Bool (has_number xs (suc e))) [
+    | inl h ↦ ap test (at.stood.stands e (are.within (suc e) h) (are.commands (suc e) h)) ∙ is (suc e)
     | inr h ↦ false_from_ne_true (test (stand e)) (λ passes. false≢true (sym h ∙ (sym (is (suc e)) ∙ (commands test plain e passes).2))) ∙ sym h
   ]
 
   runs_is : (e : ℕ) → is_running (stand e) ≡ has_number (running_in steps) (suc e)
-  runs_is = listed_is is_running (running_in steps) record { outside = refl; alias = refl; known = refl }
-      (λ i h. stands.running_in_cone task steps lawful i h) (λ i h. stands.running_command task steps lawful i h) (λ i. stands.running_stands steps i)
+  runs_is = listed_is is_running (running_in steps) record { outside = refl; alias = refl; known = refl } (named.running task steps lawful) (λ i. tell.running task steps i lawful)
 
   running_count : count_by is_running plan.standings.items ≡ length (running_in steps)
-  running_count = count_listed is_running refl plan.standings.items (running_in steps) (running_once task steps lawful) (stands.never_running task steps lawful) runs_is
+  running_count = let are = named.running task steps lawful in counts is_running plan.standings.items (running_in steps) refl are.once are.positive runs_is
 
   failed_count : count_by is_failed plan.standings.items ≡ length (failed_in steps)
-  failed_count = count_listed is_failed refl plan.standings.items (failed_in steps) (failed_once task steps lawful) (stands.never_failed task steps lawful)
-      (listed_is is_failed (failed_in steps) record { outside = refl; alias = refl; known = refl }
-      (λ i h. stands.failed_in_cone task steps lawful i h) (λ i h. stands.failed_command task steps lawful i h) (λ i. stands.failed_stands task steps lawful i))
+  failed_count =
+      let are = named.failed task steps lawful in
+      counts is_failed plan.standings.items (failed_in steps) refl are.once are.positive
+      (listed_is is_failed (failed_in steps) record { outside = refl; alias = refl; known = refl } are (λ i. tell.failed task steps i lawful))
 
   in_pool_count : (name : List ℕ) → counted (runs_in graph plan.standings.items name) (length graph.manifest.lines) ≡ length (filter (λ j. is_in_pool name (edge_at task.graph.edges j).pool) (running_in steps))
   in_pool_count name =
-      counted_listed (runs_in graph plan.standings.items name) (length graph.manifest.lines) (filter in_pool (running_in steps)) (once_filter in_pool (running_in steps) (running_once task steps lawful))
-      (has_number-filter in_pool (running_in steps) 0 ∙ ap (λ (b : Bool). b && in_pool 0) (stands.never_running task steps lawful))
+      counted_listed (runs_in graph plan.standings.items name) (length graph.manifest.lines) (filter in_pool (running_in steps)) (once_filter in_pool (running_in steps) (named.running task steps lawful).once)
+      (has_number-filter in_pool (running_in steps) 0 ∙ ap (λ (b : Bool). b && in_pool 0) (named.running task steps lawful).positive)
       (λ e. ap (λ (b : Bool). b && is_in_pool name (pool_at graph e)) (runs_is e)
       ∙ (ap (λ (o : Option (List ℕ)). has_number (running_in steps) (suc e) && is_in_pool name o) (sym (at.stated.pool e))
       ∙ sym (has_number-filter in_pool (running_in steps) (suc e))))
@@ -220,6 +227,11 @@ module _ (task : Task) (graph : Graph) (plan : Plan) (steps : List Step) (at : I
       in_pool j = is_in_pool name (edge_at task.graph.edges j).pool
 
   -- ---- starts
+
+  never_may_start : MayStart task steps 0 → ⊥
+  never_may_start may =
+      let kept = kept_lawful task steps lawful in
+      omega (arith, (command_within task.graph.edges 0 (kept.judged 0 (kept.out_of_date 0 may.stale)).1).0)
 
   abbrev limits : Bool
   limits = has_limits plan.jobs plan.keep (count_by is_running plan.standings.items) (count_by is_failed plan.standings.items)
@@ -231,7 +243,7 @@ module _ (task : Task) (graph : Graph) (plan : Plan) (steps : List Step) (at : I
   may_be_started e room may =
       let rooms = and_parts ((plan.jobs == 0) || nat_lt (count_by is_running plan.standings.items) plan.jobs) ((plan.keep == 0) || nat_lt (count_by is_failed plan.standings.items) plan.keep) room in
       let both = and_parts (is_out_of_date (stand e)) (has_pool_room graph plan.standings.items (pool_at graph e)) may in
-      let new = stands.stale_and_new steps (suc e) (commands is_out_of_date record { outside = refl; alias = refl; known = refl } e both.0).2 in
+      let new = (tell.out_of_date task steps (suc e) lawful).0 (out_of_date_is (standing_in steps (suc e)) (commands is_out_of_date record { outside = refl; alias = refl; known = refl } e both.0).2) in
       record {
         stale = new.0;
         once = new.1;
@@ -244,13 +256,13 @@ module _ (task : Task) (graph : Graph) (plan : Plan) (steps : List Step) (at : I
 
   started_may : (e : ℕ) → MayStart task steps (suc e) → (limits ≡ true) × (may_start graph plan.standings.items e ≡ true)
   started_may e start =
-      let within = stands.stale_in_cone task steps lawful (suc e) start.stale in
-      let command = stands.stale_command task steps lawful (suc e) start.stale in (
+      let kept = kept_lawful task steps lawful in
+      let judged = kept.judged (suc e) (kept.out_of_date (suc e) start.stale) in (
         and_from ((plan.jobs == 0) || nat_lt (count_by is_running plan.standings.items) plan.jobs) ((plan.keep == 0) || nat_lt (count_by is_failed plan.standings.items) plan.keep)
             (limit_below plan.jobs task.jobs (count_by is_running plan.standings.items) (length (running_in steps)) at.limits.0 running_count start.job)
             (limit_below plan.keep task.keep (count_by is_failed plan.standings.items) (length (failed_in steps)) at.limits.1 failed_count start.keep),
         and_from (is_out_of_date (stand e)) (has_pool_room graph plan.standings.items (pool_at graph e))
-            (ap is_out_of_date (at.stood.stands e within command ∙ stands.new_out_of_date task steps lawful (suc e) start.stale start.once))
+            (ap is_out_of_date (at.stood.stands e judged.0 judged.1 ∙ (tell.out_of_date task steps (suc e) lawful).1 (start.stale, start.once)))
             (ap (has_pool_room graph plan.standings.items) (sym (at.stated.pool e)) ∙ by (edge_at task.graph.edges (suc e)).pool refl),
       )
     where
@@ -259,7 +271,7 @@ module _ (task : Task) (graph : Graph) (plan : Plan) (steps : List Step) (at : I
       by (Some name) is = limit_below (depth_of graph.manifest.pools name) (depth_of task.graph.pools name) (counted (runs_in graph plan.standings.items name) (length graph.manifest.lines)) _ (depth_is name) (in_pool_count name) (start.pool name is)
 
   pub none_started : (limits ≡ true → NonePasses (may_start graph plan.standings.items)) → NoneMayStart task steps
-  none_started none zero start = stands.never_may_start task steps lawful start
+  none_started none zero start = never_may_start start
   none_started none (suc e) start =
       let both = started_may e start in
       false≢true (sym (none both.0 e) ∙ both.1)
@@ -268,7 +280,7 @@ module _ (task : Task) (graph : Graph) (plan : Plan) (steps : List Step) (at : I
   start_lawful e none room first = (none_judged none, may_be_started e room first.is, lower)
     where
       lower : (k : ℕ) → k < suc e → MayStart task steps k → ⊥
-      lower zero lt start = stands.never_may_start task steps lawful start
+      lower zero lt start = never_may_start start
       lower (suc k) lt start = false≢true (sym (first.lowest k (omega (arith, lt))) ∙ (started_may k start).1)
 
   pub some_run : 0 < count_by is_running plan.standings.items → running_in steps ≡ [] → ⊥

@@ -4,3 +4,4 @@ pub mod Stood
 pub mod Deciding
 pub mod Telling
 pub mod Beginning
+pub mod Changing

@@ -2,8 +2,10 @@
 use Rattle.std.proofs.Common.{◌≡◌, ℕ, suc, ◌<◌, Bool, true, false, List, [], ◌∷◌, ◌++◌, length, refl, sym, ◌∙◌, ap, subst}
 use Rattle.std.proofs.Math.ListN.{set}
 use Rattle.std.proofs.lemmas.Bool.{false≢true}
-use Rattle.model.specs.Schedule.{Task, Step, Judged, Started, Ended, done_in, Done, IsLawfulStep, IsLawful}
+use Rattle.model.specs.Graph.{has_number, IsCommand}
+use Rattle.model.specs.Schedule.{Task, Step, Judged, Started, Ended, running_in, done_in, Done, IsLawfulStep, IsLawful}
 use Rattle.build_theory.proofs.Lists.{has_number-one}
+use Rattle.build_theory.proofs.Steps.{kept_lawful, running_parts}
 use Rattle.links.specs.declared.graph.Graph.{Graph}
 use Rattle.plan.specs.declared.step.Standing.{Standing}
 use Rattle.plan.specs.declared.step.Standing.TheVariants.{Unjudged, Clean, OutOfDate, Running, Well, Failed}
@@ -12,12 +14,11 @@ use Rattle.plan.specs.declared.step.Verdict.TheVariants as verdict
 use Rattle.plan.specs.Standing.{standing_at, is_unjudged, is_out_of_date, is_running, is_alias, is_outside, is_phony}
 use Rattle.plan.specs.Plan.{standing_by, standing_after, IsSettling}
 use Rattle.plan.specs.Planned.{IsTaskOf, is_stale}
-use Rattle.plan.proofs.PlannedSteps.{stands_stale, stands_clean, stands_started, stands_well, stands_failed, done_new, running_command}
-use Rattle.plan.proofs.PlannedCounts.{stands_within}
-use Rattle.plan.proofs.Passing.{AliasesOnly, settling}
+use Rattle.plan.specs.Steps.{StepsMove}
 use Rattle.plan_plain.specs.declared.plain.Plan.{Plan}
 use Rattle.plan_plain.specs.Planned.{IsPlanOver, IsPlanned, AreStood, IsSound, AreAliases}
-use Rattle.plan_plain.proofs.Stood.{stood_next, stood_aliases, stood_after}
+use Rattle.plan_plain.proofs.Changing.{AliasesOnly, stands_within, settling}
+use Rattle.plan_plain.proofs.Stood.{done_new, stood_next, stood_aliases, stood_after}
 
 abbrev pub at_same : (standings : List Standing) (e edge : ℕ) → e ≡ edge → (s : Standing) → standing_at standings edge ≡ s → standing_at standings e ≡ s
 at_same standings e edge same s is = ap (standing_at standings) same ∙ is
@@ -31,43 +32,48 @@ out_of_date_within standings e is = stands_within is_out_of_date standings e ref
 pub running_within : (standings : List Standing) (e : ℕ) → standing_at standings e ≡ Running → e < length standings
 running_within standings e is = stands_within is_running standings e refl (ap is_running is)
 
+running_command : (task : Task) (steps : List Step) → IsLawful task steps → (i : ℕ) → has_number (running_in steps) i ≡ true → IsCommand task.graph.edges i
+running_command task steps lawful i h =
+    let kept = kept_lawful task steps lawful in
+    (kept.judged i (kept.out_of_date i (kept.started i (running_parts steps i h).0))).1
+
 -- ---- one edge stands otherwise
 
-module _ (task : Task) (standings : List Standing) (steps : List Step) (lawful : IsLawful task steps) (stood : AreStood task standings steps) (e edge : ℕ) (same : e ≡ edge) where
+module _ (move : StepsMove) (task : Task) (standings : List Standing) (steps : List Step) (lawful : IsLawful task steps) (stood : AreStood task standings steps) (e edge : ℕ) (same : e ≡ edge) where
   pub stood_judged : (v : Verdict) → standing_at standings e ≡ Unjudged → IsLawfulStep task steps (Judged (suc edge) (is_stale v)) → AreStood task (set standings e (standing_by v)) (steps ++ Judged (suc edge) (is_stale v) ∷ [])
   stood_judged verdict.Clean is next =
       let mine : IsLawfulStep task steps (Judged (suc e) false) = subst (λ (n : ℕ). IsLawfulStep task steps (Judged (suc n) false)) (sym same) next in
       subst (λ (n : ℕ). AreStood task (set standings e Clean) (steps ++ Judged (suc n) false ∷ [])) same
-      (stood_next task standings steps stood e Clean (unjudged_within standings e is) (Judged (suc e) false) refl (sym (ap is_outside is)) (sym (ap is_phony is))
-      (sym (stands_clean task steps lawful (suc e) mine.0.once))
+      (stood_next task standings steps stood move e Clean (unjudged_within standings e is) (Judged (suc e) false) refl (sym (ap is_outside is)) (sym (ap is_phony is))
+      (sym (move.own task steps (Judged (suc e) false) lawful mine))
       (λ h. Done (suc e) mine.0.command (done_new steps (Judged (suc e) false) (suc e) (has_number-one (suc e)))))
   stood_judged verdict.OutOfDate is next =
       let mine : IsLawfulStep task steps (Judged (suc e) true) = subst (λ (n : ℕ). IsLawfulStep task steps (Judged (suc n) true)) (sym same) next in
       subst (λ (n : ℕ). AreStood task (set standings e OutOfDate) (steps ++ Judged (suc n) true ∷ [])) same
-      (stood_next task standings steps stood e OutOfDate (unjudged_within standings e is) (Judged (suc e) true) refl (sym (ap is_outside is)) (sym (ap is_phony is))
-      (sym (stands_stale task steps lawful (suc e) mine.0.once))
+      (stood_next task standings steps stood move e OutOfDate (unjudged_within standings e is) (Judged (suc e) true) refl (sym (ap is_outside is)) (sym (ap is_phony is))
+      (sym (move.own task steps (Judged (suc e) true) lawful mine))
       (λ h. absurd (false≢true h)))
 
   pub stood_started : standing_at standings e ≡ OutOfDate → IsLawfulStep task steps (Started (suc edge)) → AreStood task (set standings e Running) (steps ++ Started (suc edge) ∷ [])
   stood_started is next =
       let mine : IsLawfulStep task steps (Started (suc e)) = subst (λ (n : ℕ). IsLawfulStep task steps (Started (suc n))) (sym same) next in
       subst (λ (n : ℕ). AreStood task (set standings e Running) (steps ++ Started (suc n) ∷ [])) same
-      (stood_next task standings steps stood e Running (out_of_date_within standings e is) (Started (suc e)) refl (sym (ap is_outside is)) (sym (ap is_phony is))
-      (sym (stands_started task steps lawful (suc e) mine.1.once))
+      (stood_next task standings steps stood move e Running (out_of_date_within standings e is) (Started (suc e)) refl (sym (ap is_outside is)) (sym (ap is_phony is))
+      (sym (move.own task steps (Started (suc e)) lawful mine))
       (λ h. absurd (false≢true h)))
 
   pub stood_ended : (ok : Bool) → standing_at standings e ≡ Running → IsLawfulStep task steps (Ended (suc edge) ok) → AreStood task (set standings e (standing_after ok)) (steps ++ Ended (suc edge) ok ∷ [])
   stood_ended true is next =
       let mine : IsLawfulStep task steps (Ended (suc e) true) = subst (λ (n : ℕ). IsLawfulStep task steps (Ended (suc n) true)) (sym same) next in
       subst (λ (n : ℕ). AreStood task (set standings e Well) (steps ++ Ended (suc n) true ∷ [])) same
-      (stood_next task standings steps stood e Well (running_within standings e is) (Ended (suc e) true) refl (sym (ap is_outside is)) (sym (ap is_phony is))
-      (sym (stands_well task steps lawful (suc e)))
+      (stood_next task standings steps stood move e Well (running_within standings e is) (Ended (suc e) true) refl (sym (ap is_outside is)) (sym (ap is_phony is))
+      (sym (move.own task steps (Ended (suc e) true) lawful mine))
       (λ h. Done (suc e) (running_command task steps lawful (suc e) mine.0) (done_new steps (Ended (suc e) true) (suc e) (has_number-one (suc e)))))
   stood_ended false is next =
       let mine : IsLawfulStep task steps (Ended (suc e) false) = subst (λ (n : ℕ). IsLawfulStep task steps (Ended (suc n) false)) (sym same) next in
       subst (λ (n : ℕ). AreStood task (set standings e Failed) (steps ++ Ended (suc n) false ∷ [])) same
-      (stood_next task standings steps stood e Failed (running_within standings e is) (Ended (suc e) false) refl (sym (ap is_outside is)) (sym (ap is_phony is))
-      (sym (stands_failed task steps lawful (suc e) mine.0))
+      (stood_next task standings steps stood move e Failed (running_within standings e is) (Ended (suc e) false) refl (sym (ap is_outside is)) (sym (ap is_phony is))
+      (sym (move.own task steps (Ended (suc e) false) lawful mine))
       (λ h. absurd (false≢true h)))
 
 -- ---- and then aliases are settled
@@ -93,7 +99,7 @@ plain_after false = refl
 
 module _ (standings now : List Standing) (e edge : ℕ) (same : e ≡ edge) (lt : e < length standings) (s : Standing) (fits : length now ≡ length (set standings e s)) (each : AliasesOnly (set standings e s) now) where
   pub settling_judged : (v : Verdict) → s ≡ standing_by v → IsSettling standings now edge (standing_by v)
-  settling_judged v is = subst (λ (t : Standing). IsSettling standings now edge t) is (settling standings e edge same s lt now (ap is_alias is ∙ plain_by v) fits each)
+  settling_judged v is = subst (λ (t : Standing). IsSettling standings now edge t) is (settling standings e s lt edge same now (ap is_alias is ∙ plain_by v) fits each)
 
   pub settling_ended : (ok : Bool) → s ≡ standing_after ok → IsSettling standings now edge (standing_after ok)
-  settling_ended ok is = subst (λ (t : Standing). IsSettling standings now edge t) is (settling standings e edge same s lt now (ap is_alias is ∙ plain_after ok) fits each)
+  settling_ended ok is = subst (λ (t : Standing). IsSettling standings now edge t) is (settling standings e s lt edge same now (ap is_alias is ∙ plain_after ok) fits each)

@@ -1,14 +1,14 @@
 //! The plan, and what it is told.
 
-ghost use Rattle.std.specs.Prelude.{◌≡◌, ◌<◌, ℕ, true, length};
-ghost use Rattle.model.specs.Graph.{has_number};
-ghost use Rattle.links.specs.Held.{StandOnce};
-ghost use Rattle.plan.specs.Plan.{standing_by, standing_after, AreFlagged};
+ghost use Rattle.std.specs.Prelude.{◌≡◌};
+ghost use Rattle.plan.specs.Plan.{standing_by, standing_after};
 
 use crate::first::first_standings;
 use links::{Cone, Graph};
 use paths::{EdgeId, PathId};
-use plan::{End, Standing, Step, Verdict};
+use plan::{
+    End, Standing, Step, Verdict, lists_count, note_changes, standings_tell, steps_move, steps_name,
+};
 use std::alloc::{AllocError, Global};
 
 /// How far each edge of a cone has come. Each call looks at all edges, and one that settles something may do so once for
@@ -65,6 +65,9 @@ impl Plan {
         ensures offered { IsOffered self.now result }
         ensures lawful { (task : Task) (steps : List Done) → IsPlanned task graph.now self.now steps → IsLawful task steps → IsNextOf task steps result }
     {
+        standings_tell();
+        steps_name();
+        lists_count();
         if let Some(edge) = self.first_to_judge(graph) {
             return Step::Judge(edge);
         }
@@ -85,24 +88,26 @@ impl Plan {
     /// Notes the verdict over an edge that may be judged, and what is settled by it.
     pub fn judged(&mut self, graph: &Graph, edge: EdgeId, verdict: Verdict)
         requires over { IsPlanOver graph.now self.old }
-        requires ready { standing_at self.old.standings.items edge ≡ Standing.Unjudged }
+        requires ready { IsOffered self.old (Step.Judge edge) }
         ensures over { IsPlanOver graph.now self.new }
         ensures stands { IsSettling self.old.standings.items self.new.standings.items edge (standing_by verdict) }
         ensures flags { self.new.changed ≡ self.old.changed }
         ensures planned { (task : Task) (steps : List Done) → IsPlanned task graph.now self.old steps → IsLawful task steps → IsLawfulStep task steps (Judged (suc edge) (is_stale verdict)) → IsPlanned task graph.now self.new (steps ++ Judged (suc edge) (is_stale verdict) ∷ []) }
     {
+        steps_move();
         self.standings[edge.index()] = standing_by(verdict);
         self.settle_aliases(graph);
     }
 
     /// Notes that the command of an edge that may start was started.
     pub fn started(&mut self, edge: EdgeId)
-        requires { standing_at self.old.standings.items edge ≡ Standing.OutOfDate }
+        requires { IsOffered self.old (Step.Start edge) }
         ensures over { (graph : Graph) → IsPlanOver graph self.old → IsPlanOver graph self.new }
         ensures stands { self.new.standings.items ≡ slice_set self.old.standings.items edge Standing.Running }
         ensures flags { self.new.changed ≡ self.old.changed }
         ensures planned { (task : Task) (graph : Graph) (steps : List Done) → IsPlanned task graph self.old steps → IsLawful task steps → IsLawfulStep task steps (Started (suc edge)) → IsPlanned task graph self.new (steps ++ Started (suc edge) ∷ []) }
     {
+        steps_move();
         self.standings[edge.index()] = Standing::Running;
     }
 
@@ -117,6 +122,7 @@ impl Plan {
         ensures flags { AreFlagged self.old.changed.items self.new.changed.items ((links_of graph.now).outputs edge) changed.now }
         ensures planned { (task : Task) (steps : List Done) → IsPlanned task graph.now self.old steps → IsLawful task steps → IsLawfulStep task steps (Finished (suc edge) ok) → IsPlanned task graph.now self.new (steps ++ Finished (suc edge) ok ∷ []) }
     {
+        steps_move();
         note_changes(&mut self.changed, graph.outputs(edge), changed);
         self.standings[edge.index()] = standing_after(ok);
         self.settle_aliases(graph);
@@ -155,20 +161,4 @@ fn standing_after(ok: bool) -> Standing
     ensures { result ≡ standing_after ok }
 {
     if ok { Standing::Well } else { Standing::Failed }
-}
-
-/// Notes for each of these paths whether it was changed.
-fn note_changes(flags: &mut [bool], paths: &[PathId], changed: &[bool])
-    requires fits { length changed.now ≡ length paths.now }
-    requires once { StandOnce paths.now }
-    requires within { (p : ℕ) → has_number paths.now p ≡ true → p < length flags.old }
-    ensures length { length flags.new ≡ length flags.old }
-    ensures flags { AreFlagged flags.old flags.new paths.now changed.now }
-{
-    for (path, flag) in paths.iter().zip(changed) {
-        let place = path.index();
-        if place < flags.len() {
-            flags[place] = *flag;
-        }
-    }
 }

@@ -29,5 +29,5 @@ returns-clause-planned c = λ task steps at lawful next.
       settled = c.settle_aliases.ensures.none;
     }
     (subst (λ (s : Standing). AreStood task (set standings e s) more) (sym c.standing_after.ensures)
-    (stood_ended task standings steps lawful at.stood e c.args.edge c.index.ensures.place c.args.ok (at_same standings e c.args.edge c.index.ensures.place Running c.requires.running) next))
+    (stood_ended c.steps_move.ensures task standings steps lawful at.stood e c.args.edge c.index.ensures.place c.args.ok (at_same standings e c.args.edge c.index.ensures.place Running c.requires.running) next))
     rest.stands (λ aliases sound. c.settle_aliases.ensures.sound task (done_in more) at.stated aliases sound)

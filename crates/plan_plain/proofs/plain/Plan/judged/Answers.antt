@@ -38,5 +38,5 @@ returns-clause-planned c = λ task steps at lawful next.
       settled = c.settle_aliases.ensures.none;
     }
     (subst (λ (s : Standing). AreStood task (set standings e s) more) (sym c.standing_by.ensures)
-    (stood_judged task standings steps lawful at.stood e c.args.edge c.index.ensures.place c.args.verdict (at_same standings e c.args.edge c.index.ensures.place Unjudged c.requires.ready) next))
+    (stood_judged c.steps_move.ensures task standings steps lawful at.stood e c.args.edge c.index.ensures.place c.args.verdict (at_same standings e c.args.edge c.index.ensures.place Unjudged c.requires.ready) next))
     rest.stands (λ aliases sound. c.settle_aliases.ensures.sound task (done_in more) at.stated aliases sound)

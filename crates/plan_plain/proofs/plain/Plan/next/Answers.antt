@@ -5,40 +5,40 @@ use Rattle.plan_plain.proofs.plain.Plan.next.Goals as goal
 use Rattle.plan_plain.proofs.plain.Plan.next.Goals.{then-has_room+in_default-first_to_start, else-has_room}
 
 pub returns-in-Some-clause-lawful : goal.returns-in-Some-clause-lawful
-returns-in-Some-clause-lawful c = λ task steps at lawful stale. judge_lawful task c.args.graph.now c.args.self.now steps at lawful c.in-Some.edge c.in-Some.ensures stale
+returns-in-Some-clause-lawful c = λ task steps at lawful stale. judge_lawful c.standings_tell.ensures c.steps_name.ensures c.lists_count.ensures task c.args.graph.now c.args.self.now steps at lawful c.in-Some.edge c.in-Some.ensures stale
 
 pub returns-in-Some-first_to_start-clause-lawful : goal.returns-in-Some-first_to_start-clause-lawful
 returns-in-Some-first_to_start-clause-lawful c = λ task steps at lawful.
-    start_lawful task c.args.graph.now c.args.self.now steps at lawful c.in-Some-first_to_start.edge c.in_default.ensures (sym c.has_room.ensures ∙ c.if-has_room.true) c.in-Some-first_to_start.ensures
+    start_lawful c.standings_tell.ensures c.steps_name.ensures c.lists_count.ensures task c.args.graph.now c.args.self.now steps at lawful c.in-Some-first_to_start.edge c.in_default.ensures (sym c.has_room.ensures ∙ c.if-has_room.true) c.in-Some-first_to_start.ensures
 
 pub returns-then-running-gt0-clause-lawful : goal.returns-then-running-gt0-clause-lawful
 returns-then-running-gt0-clause-lawful c = λ task steps at lawful. (
-  none_judged task c.args.graph.now c.args.self.now steps at lawful c.in_default.ensures,
-  none_started task c.args.graph.now c.args.self.now steps at lawful (elim c.if-has_room.branch [
+  none_judged c.standings_tell.ensures c.steps_name.ensures c.lists_count.ensures task c.args.graph.now c.args.self.now steps at lawful c.in_default.ensures,
+  none_started c.standings_tell.ensures c.steps_name.ensures c.lists_count.ensures task c.args.graph.now c.args.self.now steps at lawful (elim c.if-has_room.branch [
     | then-has_room+in_default-first_to_start w ↦ λ limits. w.in_default-first_to_start.ensures
     | else-has_room w ↦ λ limits. absurd (false≢true (sym w.if-has_room.false ∙ (c.has_room.ensures ∙ limits)))
   ]),
-  some_run task c.args.graph.now c.args.self.now steps at lawful (omega (arith, c.running.ensures, c.if-running-gt0.true)),
+  some_run c.standings_tell.ensures c.steps_name.ensures c.lists_count.ensures task c.args.graph.now c.args.self.now steps at lawful (omega (arith, c.running.ensures, c.if-running-gt0.true)),
 )
 
 pub returns-then-failed-gt0-clause-lawful : goal.returns-then-failed-gt0-clause-lawful
 returns-then-failed-gt0-clause-lawful c = λ task steps at lawful. (
-  none_judged task c.args.graph.now c.args.self.now steps at lawful c.in_default.ensures,
-  none_started task c.args.graph.now c.args.self.now steps at lawful (elim c.if-has_room.branch [
+  none_judged c.standings_tell.ensures c.steps_name.ensures c.lists_count.ensures task c.args.graph.now c.args.self.now steps at lawful c.in_default.ensures,
+  none_started c.standings_tell.ensures c.steps_name.ensures c.lists_count.ensures task c.args.graph.now c.args.self.now steps at lawful (elim c.if-has_room.branch [
     | then-has_room+in_default-first_to_start w ↦ λ limits. w.in_default-first_to_start.ensures
     | else-has_room w ↦ λ limits. absurd (false≢true (sym w.if-has_room.false ∙ (c.has_room.ensures ∙ limits)))
   ]),
-  none_run task c.args.graph.now c.args.self.now steps at lawful (omega (arith, c.running.ensures, c.if-running-gt0.false)),
-  some_failed task c.args.graph.now c.args.self.now steps at lawful (omega (arith, c.failed.ensures, c.if-failed-gt0.true)),
+  none_run c.standings_tell.ensures c.steps_name.ensures c.lists_count.ensures task c.args.graph.now c.args.self.now steps at lawful (omega (arith, c.running.ensures, c.if-running-gt0.false)),
+  some_failed c.standings_tell.ensures c.steps_name.ensures c.lists_count.ensures task c.args.graph.now c.args.self.now steps at lawful (omega (arith, c.failed.ensures, c.if-failed-gt0.true)),
 )
 
 pub returns-clause-lawful : goal.returns-clause-lawful
 returns-clause-lawful c = λ task steps at lawful. (
-  none_judged task c.args.graph.now c.args.self.now steps at lawful c.in_default.ensures,
-  none_started task c.args.graph.now c.args.self.now steps at lawful (elim c.if-has_room.branch [
+  none_judged c.standings_tell.ensures c.steps_name.ensures c.lists_count.ensures task c.args.graph.now c.args.self.now steps at lawful c.in_default.ensures,
+  none_started c.standings_tell.ensures c.steps_name.ensures c.lists_count.ensures task c.args.graph.now c.args.self.now steps at lawful (elim c.if-has_room.branch [
     | then-has_room+in_default-first_to_start w ↦ λ limits. w.in_default-first_to_start.ensures
     | else-has_room w ↦ λ limits. absurd (false≢true (sym w.if-has_room.false ∙ (c.has_room.ensures ∙ limits)))
   ]),
-  none_run task c.args.graph.now c.args.self.now steps at lawful (omega (arith, c.running.ensures, c.if-running-gt0.false)),
-  none_failed task c.args.graph.now c.args.self.now steps at lawful (omega (arith, c.failed.ensures, c.if-failed-gt0.false)),
+  none_run c.standings_tell.ensures c.steps_name.ensures c.lists_count.ensures task c.args.graph.now c.args.self.now steps at lawful (omega (arith, c.running.ensures, c.if-running-gt0.false)),
+  none_failed c.standings_tell.ensures c.steps_name.ensures c.lists_count.ensures task c.args.graph.now c.args.self.now steps at lawful (omega (arith, c.failed.ensures, c.if-failed-gt0.false)),
 )

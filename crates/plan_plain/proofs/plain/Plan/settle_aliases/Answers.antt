@@ -4,7 +4,7 @@ use Rattle.std.proofs.lemmas.Bool.{and_parts}
 use Rattle.links.specs.Links.{links_of}
 use Rattle.plan.specs.declared.step.Standing.TheVariants.{Alias, Known}
 use Rattle.plan.specs.Standing.{standing_at, is_alias}
-use Rattle.plan.proofs.PlannedCounts.{stands_within}
+use Rattle.plan_plain.proofs.Changing.{stands_within}
 use Rattle.plan_plain.specs.Scan.{waits_for_nothing}
 use Rattle.plan_plain.proofs.Waiting.{alias_settled}
 use Rattle.plan_plain.proofs.Deciding.{alias_is}

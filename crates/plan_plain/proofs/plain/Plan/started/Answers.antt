@@ -31,5 +31,5 @@ returns-clause-planned c = λ task graph steps at lawful next.
         flags = at.over.flags;
         settled = none_same standings e Running (out_of_date_within standings e is) (sym (ap is_alias is)) (sym (ap is_settled is)) (links_of graph) at.over.settled;
       };
-      stood = stood_started task standings steps lawful at.stood e c.args.edge c.index.ensures.place is next;
+      stood = stood_started c.steps_move.ensures task standings steps lawful at.stood e c.args.edge c.index.ensures.place is next;
     }
