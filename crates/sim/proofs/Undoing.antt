@@ -93,11 +93,15 @@ whole_same p old new notes reserved same stays nothing = (λ i. all_undone (same
 
 -- ---- one note less
 
+take_all : (front : List Moment) (moment : Moment) → take (length front) (front ++ moment ∷ []) ≡ front
+take_all [] moment = refl
+take_all (m ∷ front) moment = ap (λ (h : List Moment). m ∷ h) (take_all front moment)
+
 take_front : (front : List Moment) (moment : Moment) → take (length (front ++ moment ∷ []) - 1) (front ++ moment ∷ []) ≡ front
-take_front [] moment = refl
-take_front (m ∷ front) moment =
-    let more : length (front ++ moment ∷ []) ≡ suc (length (front ++ moment ∷ []) - 1) = let long : length (front ++ moment ∷ []) ≡ length front + 1 = length-append front (moment ∷ []) in omega (arith, long) in
-    ap (λ (n : ℕ). take n (m ∷ (front ++ moment ∷ []))) more ∙ ap (λ (h : List Moment). m ∷ h) (take_front front moment)
+take_front front moment =
+    let one : length (front ++ moment ∷ []) ≡ length front + 1 = length-append front (moment ∷ []) in
+    let less : length (front ++ moment ∷ []) - 1 ≡ length front = omega (arith, one) in
+    ap (λ (n : ℕ). take n (front ++ moment ∷ [])) less ∙ take_all front moment
 
 pub told_less : (note : Note) (old new : Lasts) (notes front : List Note) → notes ≡ front ++ note ∷ [] → ((p : List ℕ) → new p ≡ undone note old p) → told front new ≡ take (length (told notes old) - 1) (told notes old)
 told_less note old new notes front last back =
@@ -107,3 +111,10 @@ told_less note old new notes front last back =
 pub whole_less : (p : List ℕ) (note : Note) (old new : Lasts) (notes front : List Note) → notes ≡ front ++ note ∷ [] → ((p : List ℕ) → new p ≡ undone note old p) → all_undone notes old p ≡ None → all_undone front new p ≡ None
 whole_less p note old new notes front last back nothing =
     ap (λ (l : Lasts). all_undone front l p) (λ i q. back q i) ∙ ap (λ (l : Lasts). l p) (sym (ap (λ (ns : List Note). all_undone ns old) last ∙ all_undone-push front note old)) ∙ nothing
+
+-- the note's path as it was handed over
+pub undone_at : (p : List ℕ) (note : Note) (by : Writer) (path given : List ℕ) (before : Before) (old new : Lasts) → note ≡ Change by path before → given ≡ path → new p ≡ cond (bytes_eq given p) (reverted before (old p)) (old p) → new p ≡ undone note old p
+undone_at p note by path given before old new is same back = back ∙ (λ i. cond (bytes_eq (same i) p) (reverted before (old p)) (old p)) ∙ sym (ap (λ (n : Note). undone n old p) is)
+
+pub untouched : (p : List ℕ) (note : Note) (event : Event) (lasts : Lasts) → note ≡ Came event → lasts p ≡ undone note lasts p
+untouched p note event lasts is = sym (ap (λ (n : Note). undone n lasts p) is)
