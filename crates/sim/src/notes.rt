@@ -40,11 +40,7 @@ pub enum Note {
 }
 
 /// A write leaves this at the path. Where memory is refused, nothing has changed.
-pub fn put(
-    lasts: &mut HashMap<String, Last>,
-    path: &Path,
-    last: Last,
-) -> Result<Before, AllocError>
+pub fn put(lasts: &mut HashMap<String, Last>, path: &Path, last: Last) -> Result<Before, AllocError>
     ensures ok { IfOk result (λ before. IsWritten before path.now last (get_by_text lasts.old) (get_by_text lasts.new)) }
     ensures err { OnErr result ((p : List ℕ) → get_by_text lasts.new p ≡ get_by_text lasts.old p) }
 {
