@@ -5,5 +5,6 @@ pub mod Work
 pub mod Calls
 pub mod Counts
 pub mod Listed
-pub mod Index
+pub mod Undoing
+pub mod Writing
 pub mod Naming

@@ -77,3 +77,6 @@ holds_some (Some file) content is = cc
 pub holds_none : (file : Option File) → None ≡ content_of file → [] ≡ content_or_empty file
 holds_none None is = refl
 holds_none (Some file) is = let never : ⊥ = cc in absurd never
+
+pub clocked_append : (clock stamp : ℕ) (h new : List Moment) (by : Writer) (path : List ℕ) (content : Option (List ℕ)) → clock ≡ latest h → stamp ≡ clock + 1 → new ≡ h ++ Wrote by path content stamp ∷ [] → stamp ≡ latest new
+clocked_append clock stamp h new by path content clocked next is = clocked_wrote clock stamp h new by path content clocked next (is ∙ ap (λ (n : ℕ). h ++ Wrote by path content n ∷ []) next)

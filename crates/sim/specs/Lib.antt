@@ -1,7 +1,7 @@
 pub mod Faults
 pub mod History
 pub mod HistoryInside
-pub mod Places
+pub mod Notes
 pub mod MomentsInside
 pub mod Jobs
 pub mod JobsInside

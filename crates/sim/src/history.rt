@@ -3,6 +3,7 @@
 ghost use Rattle.std.specs.Prelude.{◌≡◌, ◌+◌, ◌<◌, ◌++◌, ◌∷◌, ℕ, [], Some, option_copied, bytes_eq, IfOk, OnOk, OnErr};
 ghost use Rattle.std.specs.Option.{option_eq};
 ghost use Rattle.model.specs.World.{view_of, file_at, stamp_of, latest};
+ghost use Rattle.model.specs.Calls.{content_or_empty};
 ghost use Rattle.sim.specs.History.{with_event, with_write, with_writes, IsLonger};
 
 use crate::moments::Moments;
@@ -87,6 +88,19 @@ impl History {
         Ok(self.clock)
     }
 
+    /// The program puts bytes behind what a file holds, which may be absent. Only these bytes are copied. Where memory is
+    /// refused, or no stamp is left, nothing has happened.
+    pub fn append(&mut self, alloc: Global, path: Path, bytes: &[u8]) -> Result<(), AllocError>
+        ensures ok { OnOk result (self.new ≡ self.old ++ Moment.Wrote Writer.Program path (Some (content_or_empty (file_at self.old path) ++ bytes.now)) (latest self.old + 1) ∷ []) }
+        ensures err { OnErr result (self.new ≡ self.old) }
+    {
+        let stamp = self.clock.checked_add(1).ok_or(AllocError)?;
+        self.moments
+            .append(alloc, Writer::Program, path, bytes, stamp)?;
+        self.clock = stamp;
+        Ok(())
+    }
+
     /// What a command does: it is started, where there is a start, makes its writes, one after the other, and ends, where
     /// there is an end. Where memory is refused, nothing has happened.
     pub fn record(
@@ -126,12 +140,7 @@ fn append_write(
     ensures still { OnErr result (clock.new ≡ clock.old) }
 {
     let stamp = clock.checked_add(1).ok_or(AllocError)?;
-    moments.push(Moment::Wrote {
-        by,
-        path,
-        content,
-        stamp,
-    })?;
+    moments.write(by, path, content, stamp)?;
     *clock = stamp;
     Ok(())
 }
@@ -162,7 +171,7 @@ fn append_event(moments: &mut Moments, event: Option<Event>) -> Result<(), Alloc
     ensures longer { IsLonger moments.old moments.new }
 {
     if let Some(event) = event {
-        moments.push(Moment::Happened(event))?;
+        moments.happen(event)?;
     }
     Ok(())
 }

@@ -6,6 +6,7 @@ mod faults;
 mod history;
 mod jobs;
 mod moments;
+mod notes;
 mod sim;
 mod toy;
 

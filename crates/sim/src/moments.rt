@@ -1,23 +1,25 @@
-//! The moments of a history, and where each path was written last.
+//! The moments of a history, and what each path holds.
 
-ghost use Rattle.std.specs.Prelude.{◌≡◌, ◌-◌, ◌<◌, ◌++◌, ◌∷◌, ℕ, List, [], take, length, vec_capacity, if◌then◌else◌, option_map, bytes_eq, OnOk, OnErr, IsSome};
-ghost use Rattle.std.specs.HashMap.{get_by_text};
+ghost use Rattle.std.specs.Prelude.{◌≡◌, ◌-◌, ◌<◌, ◌++◌, ◌∷◌, ℕ, List, [], Some, take, length, vec_capacity, option_map, OnOk, OnErr};
 ghost use Rattle.model.specs.World.{file_at};
+ghost use Rattle.model.specs.Calls.{content_or_empty};
 ghost use Rattle.sim.specs.History.{file_seen};
-ghost use Rattle.sim.specs.Places.{place_of, place_after, left_at};
+ghost use Rattle.sim.specs.Notes.{file_in};
 
-use model::Moment;
+use crate::notes::{self, Last, Note};
+use model::{Event, Moment, Writer};
 use std::alloc::{AllocError, Global};
 use std::collections::HashMap;
 use std::marker::Model;
 use text::{Bytes, Path};
 
-/// All that happened, oldest first, as contracts see it, and an index of it: a file is found without going through it.
+/// All that happened, oldest first, as contracts see it. Kept is what each path holds, and for each write what its path
+/// held before: where bytes were put behind a file, no more than how long it was.
 #[derive(Debug, Drop)]
 pub struct Moments {
-    moments: Vec<Moment>,
-    /// The place of the last write at each path that was written.
-    places: HashMap<String, usize>,
+    notes: Vec<Note>,
+    /// What the last write left, at each path that was written.
+    lasts: HashMap<String, Last>,
 }
 
 impl Model for Moments {
@@ -26,11 +28,11 @@ impl Model for Moments {
 
     ghost Value = { List Moment };
 
-    ghost use Rattle.sim.specs.MomentsInside.{moments_in, IsIndexed};
+    ghost use Rattle.sim.specs.MomentsInside.{moments_in, IsWhole};
 
     ghost view = { moments_in };
 
-    ghost invariant = { IsIndexed };
+    ghost invariant = { IsWhole };
 }
 
 impl Moments {
@@ -39,8 +41,8 @@ impl Moments {
         ensures { result ≡ [] }
     {
         Moments {
-            moments: Vec::new(alloc),
-            places: HashMap::new(alloc),
+            notes: Vec::new(alloc),
+            lasts: HashMap::new(alloc),
         }
     }
 
@@ -48,27 +50,61 @@ impl Moments {
     pub fn len(&self) -> usize
         ensures { result ≡ length self.now }
     {
-        self.moments.len()
+        self.notes.len()
     }
 
     /// The content and the stamp of the file at the path: what the last write there left.
     pub fn file(&self, path: &str) -> Option<(&Bytes, u64)>
         ensures { option_map file_seen result ≡ file_at self.now path.now }
     {
-        match self.places.get(path) {
-            Some(place) => left_at(&self.moments, *place),
+        match self.lasts.get(path) {
+            Some(last) => file_in(last),
             None => None,
         }
     }
 
-    /// Adds a moment. Where memory is refused, nothing has changed.
-    pub fn push(&mut self, moment: Moment) -> Result<(), AllocError>
-        ensures ok { OnOk result (self.new ≡ self.old ++ moment ∷ []) }
+    /// A file is written, or with no content deleted. Where memory is refused, nothing has changed.
+    pub fn write(
+        &mut self,
+        by: Writer,
+        path: Path,
+        content: Option<Bytes>,
+        stamp: u64,
+    ) -> Result<(), AllocError>
+        ensures ok { OnOk result (self.new ≡ self.old ++ Moment.Wrote by path content stamp ∷ []) }
         ensures err { OnErr result (self.new ≡ self.old) }
     {
-        self.moments.reserve(1)?;
-        note(&mut self.places, self.moments.len(), &moment)?;
-        push_reserved(&mut self.moments, moment);
+        self.notes.reserve(1)?;
+        let before = notes::put(&mut self.lasts, &path, Last { content, stamp })?;
+        push_reserved(&mut self.notes, Note::Change { by, path, before });
+        Ok(())
+    }
+
+    /// Bytes are put behind what a file holds, which may be absent. Where memory is refused, nothing has changed.
+    pub fn append(
+        &mut self,
+        alloc: Global,
+        by: Writer,
+        path: Path,
+        bytes: &[u8],
+        stamp: u64,
+    ) -> Result<(), AllocError>
+        ensures ok { OnOk result (self.new ≡ self.old ++ Moment.Wrote by path (Some (content_or_empty (file_at self.old path) ++ bytes.now)) stamp ∷ []) }
+        ensures err { OnErr result (self.new ≡ self.old) }
+    {
+        self.notes.reserve(1)?;
+        let before = notes::append(alloc, &mut self.lasts, &path, bytes, stamp)?;
+        push_reserved(&mut self.notes, Note::Change { by, path, before });
+        Ok(())
+    }
+
+    /// A command is started or ends. Where memory is refused, nothing has changed.
+    pub fn happen(&mut self, event: Event) -> Result<(), AllocError>
+        ensures ok { OnOk result (self.new ≡ self.old ++ Moment.Happened event ∷ []) }
+        ensures err { OnErr result (self.new ≡ self.old) }
+    {
+        self.notes.reserve(1)?;
+        push_reserved(&mut self.notes, Note::Came(event));
         Ok(())
     }
 
@@ -81,95 +117,35 @@ impl Moments {
         }
     }
 
-    /// Takes the last one back. For a write, the place of the write before it is looked for through all of them.
+    /// Takes the last one back.
     fn take_back(&mut self)
         ensures { self.new ≡ take (length self.old - 1) self.old }
     {
-        let Some(moment) = self.moments.pop() else {
+        let Some(note) = self.notes.pop() else {
             return;
         };
-        if let Moment::Wrote { path, .. } = moment {
-            let place = place_of(&self.moments, path.as_str());
-            put_back(&mut self.places, path, place);
+        if let Note::Change { path, before, .. } = note {
+            notes::take_back(&mut self.lasts, path.as_str(), before);
         }
     }
 }
 
-/// What the moment at the place leaves at its path, where one stands there and is a write.
-fn left_at(moments: &[Moment], place: usize) -> Option<(&Bytes, u64)>
-    ensures { option_map file_seen result ≡ left_at place moments.now }
+/// The content and the stamp of the file that a write left, if it left one.
+fn file_in(last: &Last) -> Option<(&Bytes, u64)>
+    ensures { option_map file_seen result ≡ file_in (Some last.now) }
 {
-    match moments.get(place) {
-        Some(
-            Moment::Wrote {
-                content: Some(content),
-                stamp,
-                ..
-            },
-        ) => Some((content, *stamp)),
-        _ => None,
+    match &last.content {
+        Some(content) => Some((content, last.stamp)),
+        None => None,
     }
 }
 
-/// The place of the last write at the path.
-fn place_of(moments: &[Moment], path: &str) -> Option<usize>
-    ensures { result ≡ place_of path.now moments.now }
+/// Adds a note to a list that has room.
+fn push_reserved(notes: &mut Vec<Note>, note: Note)
+    requires { length notes.old.items < vec_capacity notes.old }
+    ensures { notes.new.items ≡ notes.old.items ++ note ∷ [] }
 {
-    let mut found = None;
-    for at in 0..moments.len() {
-        found = place_after(path, at, found, &moments[at]);
-    }
-    found
-}
-
-/// The place of the last write at the path, once this moment stands at the place behind.
-fn place_after(path: &str, place: usize, found: Option<usize>, moment: &Moment) -> Option<usize>
-    ensures { result ≡ place_after path.now place found moment.now }
-{
-    match moment {
-        Moment::Wrote { path: written, .. } if written.as_str() == path => Some(place),
-        _ => found,
-    }
-}
-
-/// The moment comes to stand at the place. Where memory is refused, nothing has changed.
-fn note(
-    places: &mut HashMap<String, usize>,
-    place: usize,
-    moment: &Moment,
-) -> Result<(), AllocError>
-    ensures ok { OnOk result ((path : List ℕ) → get_by_text places.new path ≡ place_after path place (get_by_text places.old path) moment.now) }
-    ensures err { OnErr result ((path : List ℕ) → get_by_text places.new path ≡ get_by_text places.old path) }
-{
-    if let Moment::Wrote { path, .. } = moment {
-        let path = path.clone()?.into_string();
-        places.insert(path, place)?;
-    }
-    Ok(())
-}
-
-/// The last write at a path that was written is this one again, or there is none.
-fn put_back(places: &mut HashMap<String, usize>, path: Path, place: Option<usize>)
-    requires { IsSome (get_by_text places.old path) }
-    ensures { (other : List ℕ) → get_by_text places.new other ≡ (if bytes_eq path other then place else get_by_text places.old other) }
-{
-    match place {
-        None => {
-            places.remove(path.as_str());
-        }
-        Some(place) => match places.insert(path.into_string(), place) {
-            Ok(_) => {}
-            Err(_) => unreachable!(),
-        },
-    }
-}
-
-/// Adds a moment to a list that has room.
-fn push_reserved(moments: &mut Vec<Moment>, moment: Moment)
-    requires { length moments.old.items < vec_capacity moments.old }
-    ensures { moments.new.items ≡ moments.old.items ++ moment ∷ [] }
-{
-    match moments.push(moment) {
+    match notes.push(note) {
         Ok(()) => {}
         Err(_) => unreachable!(),
     }

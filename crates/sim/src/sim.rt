@@ -242,10 +242,8 @@ impl<C: Commands> Sim<C> {
         ensures ok { OnOk result (self.new ≡ putting path.now bytes.now self.old) }
         ensures err { OnErr result (self.new ≡ self.old) }
     {
-        let content = content_or_empty(self.alloc, &self.history, path)?;
-        let content = joined(content, bytes)?;
-        self.store(path, Some(content))?;
-        Ok(())
+        let path = Path::from_str(self.alloc, path)?;
+        self.history.append(self.alloc, path, bytes)
     }
 
     /// So many of the bytes go behind what the file holds, or all where there are no more; none give no new stamp.
@@ -391,15 +389,6 @@ fn content_or_empty(alloc: Global, history: &History, path: &str) -> Result<Byte
         Some(content) => Ok(content.clone()?),
         None => Ok(Bytes::new(alloc)),
     }
-}
-
-/// The bytes behind those that a file holds.
-fn joined(content: Bytes, bytes: &[u8]) -> Result<Bytes, AllocError>
-    ensures { IfOk result (λ whole. whole ≡ content ++ bytes.now) }
-{
-    let mut whole = content.into_vec();
-    whole.extend_from_slice(bytes)?;
-    Ok(Bytes::from_vec(whole))
 }
 
 impl<C: Commands> Site for Sim<C> {

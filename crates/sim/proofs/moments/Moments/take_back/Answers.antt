@@ -1,19 +1,29 @@
-use Rattle.std.proofs.Common.{◌++◌, ◌∷◌, [], ◌∙◌, ap}
+use Rattle.std.proofs.Common.{◌∙◌, ◌-◌, ap, List, take, length}
+use Rattle.std.specs.HashMap.{get_by_text}
 use Rattle.model.specs.declared.event.Moment.{Moment}
-use Rattle.sim.specs.Places.{place_of}
-use Rattle.sim.proofs.Index.{indexed_back, indexed_event, is_listed}
+use Rattle.sim.proofs.Undoing.{told_less, whole_less, undone_at, untouched}
 use Rattle.sim.proofs.moments.Moments.take_back.Goals as goal
 
-pub put_back-requires : goal.put_back-requires
-put_back-requires c = is_listed c.in-Wrote.path _ c.self.inside.moments.items c.pop.new.self.items c.in-Wrote.by c.in-Wrote.content c.in-Wrote.stamp (c.self.invariant c.in-Wrote.path)
-    (c.in-Some.ensures.items ∙ ap (λ (m : Moment). c.pop.new.self.items ++ m ∷ []) c.in-Wrote.is)
+pub invariant_of-self-in-Change : goal.invariant_of-self-in-Change
+invariant_of-self-in-Change c path =
+    whole_less path c.in-Some.note (get_by_text c.self.inside.lasts) (get_by_text c.take_back.new.lasts) c.self.inside.notes.items c.pop.new.self.items c.in-Some.ensures.items
+    (λ p. undone_at p c.in-Some.note c.in-Change.by c.in-Change.path _ c.in-Change.before (get_by_text c.self.inside.lasts) (get_by_text c.take_back.new.lasts) c.in-Change.is c.as_str.ensures (c.take_back.ensures p))
+    (c.self.invariant path)
 
-pub invariant_of-self-in-Wrote : goal.invariant_of-self-in-Wrote
-invariant_of-self-in-Wrote c path = indexed_back path _ _ c.place_of-place.result c.self.inside.moments.items c.pop.new.self.items c.in-Wrote.by c.in-Wrote.path c.in-Wrote.content c.in-Wrote.stamp (c.self.invariant path)
-    (c.in-Some.ensures.items ∙ ap (λ (m : Moment). c.pop.new.self.items ++ m ∷ []) c.in-Wrote.is)
-    (c.place_of-place.ensures ∙ (λ i. place_of (c.as_str.ensures i) (c.deref.ensures.value i)))
-    (c.put_back.ensures path)
+pub returns-in-Change : goal.returns-in-Change
+returns-in-Change c =
+    told_less c.in-Some.note (get_by_text c.self.inside.lasts) (get_by_text c.take_back.new.lasts) c.self.inside.notes.items c.pop.new.self.items c.in-Some.ensures.items
+    (λ p. undone_at p c.in-Some.note c.in-Change.by c.in-Change.path _ c.in-Change.before (get_by_text c.self.inside.lasts) (get_by_text c.take_back.new.lasts) c.in-Change.is c.as_str.ensures (c.take_back.ensures p))
+    ∙ ap (λ (h : List Moment). take (length h - 1) h) c.self.view_is
 
-pub invariant_of-self-in_default-moment : goal.invariant_of-self-in_default-moment
-invariant_of-self-in_default-moment c path = indexed_event path _ c.self.inside.moments.items c.pop.new.self.items c.in_default-moment.field-0 (c.self.invariant path)
-    (c.in-Some.ensures.items ∙ ap (λ (m : Moment). c.pop.new.self.items ++ m ∷ []) c.in_default-moment.is)
+pub invariant_of-self-in_default-note : goal.invariant_of-self-in_default-note
+invariant_of-self-in_default-note c path =
+    whole_less path c.in-Some.note (get_by_text c.self.inside.lasts) (get_by_text c.self.inside.lasts) c.self.inside.notes.items c.pop.new.self.items c.in-Some.ensures.items
+    (λ p. untouched p c.in-Some.note c.in_default-note.field-0 (get_by_text c.self.inside.lasts) c.in_default-note.is)
+    (c.self.invariant path)
+
+pub returns : goal.returns
+returns c =
+    told_less c.in-Some.note (get_by_text c.self.inside.lasts) (get_by_text c.self.inside.lasts) c.self.inside.notes.items c.pop.new.self.items c.in-Some.ensures.items
+    (λ p. untouched p c.in-Some.note c.in_default-note.field-0 (get_by_text c.self.inside.lasts) c.in_default-note.is)
+    ∙ ap (λ (h : List Moment). take (length h - 1) h) c.self.view_is
