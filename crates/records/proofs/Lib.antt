@@ -1,0 +1,6 @@
+pub mod Writing
+pub mod Told
+pub mod Carrying
+pub mod Beginning
+pub mod Standing
+pub mod Places
