@@ -4,3 +4,4 @@ pub mod Carrying
 pub mod Beginning
 pub mod Standing
 pub mod Places
+pub mod States
