@@ -1,13 +1,21 @@
 -- The numbers of the records in force, path by path.
 use Rattle.std.proofs.Common.{◌≡◌, ◌⊎◌, inl, inr, ℕ, ◌+◌, ◌<◌, ◌==◌, Bool, true, false, List, [], ◌∷◌, ◌++◌, Option, Some, None, take, length, map, get_or, slice_get, refl, sym, ◌∙◌, ap, subst, arith}
-use Rattle.std.specs.Option.{option_and_then, option_map, option_copied}
+use Rattle.std.specs.Option.{option_and_then}
 use Rattle.std.proofs.Math.Seq.{get_or-append_seam}
 use Rattle.std.proofs.lemmas.Option.{slice_get-get_or, get_or_from_slice_get}
 use Rattle.std.proofs.lemmas.List.{get_or_append_left, length-append, map-append, take_more}
-use Rattle.std.proofs.lemmas.Bool.{cases_eq, eqb-true}
+use Rattle.std.proofs.lemmas.Bool.{cases_eq, false≢true}
 use Rattle.model.specs.declared.record.Record.{Record}
-use Rattle.model.specs.Records.{Made, in_force}
-use Rattle.paths.specs.Told.{text_at, texts_at}
+use Rattle.model.specs.declared.act.Act.{Act}
+use Rattle.model.specs.declared.graph.Edge.{Edge}
+use Rattle.model.specs.Graph.{outputs}
+use Rattle.model.specs.Records.{in_force}
+use Rattle.paths.specs.declared.line.Line.{Line}
+use Rattle.paths.specs.declared.manifest.Action.{Action}
+use Rattle.paths.specs.declared.manifest.Action.TheVariants.{Alias, Command}
+use Rattle.paths.specs.declared.manifest.Command.{Command as Commanded}
+use Rattle.paths.specs.Lists.{line_outputs}
+use Rattle.paths.specs.Told.{text_at, texts_at, edge_of}
 use Rattle.build_log.specs.Kept.{joined}
 use Rattle.build_log.specs.Log.{makings}
 
@@ -53,3 +61,18 @@ map_next f numbers i number before after one low is was pushed same =
 
 pub text_is : (paths : List (List ℕ)) (p : ℕ) (text : List ℕ) → slice_get paths p ≡ Some text → text ≡ text_at paths p
 text_is paths p text is = sym (get_or_from_slice_get paths p text [] is)
+
+-- ---- the edge of a line
+
+outputs_are : (paths : List (List ℕ)) (line : Line) (action : Action) → outputs (edge_of paths line action) ≡ texts_at paths (line_outputs line)
+outputs_are paths line Alias = sym (map-append (text_at paths) line.explicit_outputs line.implicit_outputs)
+outputs_are paths line (Command command) = sym (map-append (text_at paths) line.explicit_outputs line.implicit_outputs)
+
+pub edge_outputs : (paths : List (List ℕ)) (line : Line) (action : Action) (edge : Edge) → edge ≡ edge_of paths line action → texts_at paths (line_outputs line) ≡ outputs edge
+edge_outputs paths line action edge is = sym (ap outputs is ∙ outputs_are paths line action)
+
+pub no_alias : (paths : List (List ℕ)) (line : Line) (action : Action) (edge : Edge) → edge ≡ edge_of paths line action → action ≡ Alias → edge.phony ≡ false → ⊥
+no_alias paths line action edge is alias command = false≢true (sym command ∙ (ap (λ (e : Edge). e.phony) is ∙ ap (λ (a : Action). (edge_of paths line a).phony) alias))
+
+pub act_is : (paths : List (List ℕ)) (line : Line) (action : Action) (edge : Edge) (command : Commanded) → edge ≡ edge_of paths line action → action ≡ Command command → command.act ≡ edge.act
+act_is paths line action edge command is same = sym (ap (λ (e : Edge). e.act) is ∙ ap (λ (a : Action). (edge_of paths line a).act) same)

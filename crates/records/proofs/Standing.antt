@@ -27,9 +27,9 @@ use Rattle.records.specs.Logging.{MayStand, EndsWith, NoneInForce, EndedWell}
 pub distinct : (edges : List Edge) (i : ℕ) → IsMadeOnce edges → AreDistinct (outputs (edge_at edges i))
 distinct edges i once p twice = once p (inr (i, twice))
 
-pub some_outputs : (os : List (List ℕ)) → os ≢ [] → 0 < length os
-some_outputs [] some = absurd (some refl)
-some_outputs (o ∷ os) some = omega arith
+pub some_of : {X : Type 0} (f : X → List ℕ) (xs : List X) (os : List (List ℕ)) → map f xs ≡ os → os ≢ [] → 0 < length xs
+some_of f [] os is some = absurd (some (sym is))
+some_of f (x ∷ xs) os is some = omega arith
 
 pub line_of : (r : Record) (old new : List ℕ) → old ≡ [] → IsAppended (forms Two) r old new → IsLineOf (forms Two) r new
 line_of r old new none appended = record { spelled = appended.text ∙ ap (λ (l : List ℕ). l ++ record_line (forms Two) r) none; has = appended.has }

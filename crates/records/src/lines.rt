@@ -10,7 +10,7 @@ ghost use Rattle.links.specs.Told.{declared_by};
 
 use build_log::{begun_line, made_line};
 use links::{Graph, numbers_stand};
-use model::Record;
+use model::{Act, Record};
 use paths::{Action, EdgeId, PathId};
 use std::alloc::{AllocError, Global};
 
@@ -46,14 +46,23 @@ pub fn done_line_of(
     requires command { IsCommand (declared_by graph.now).edges (suc edge) }
     ensures { OnOk result (IsLineOf (forms Two) (Record.Done (outputs (edge_at (declared_by graph.now).edges (suc edge))) start (edge_at (declared_by graph.now).edges (suc edge)).act) line.new.items) }
 {
-    numbers_stand(graph);
     let outputs = output_texts(alloc, graph, edge)?;
     line.clear();
-    // an edge without a command, which has no act, is not handed in
-    if let Action::Command(command) = graph.manifest.action(edge) {
-        made_line(line, outputs.as_slice(), start, &command.act)?;
-    }
+    made_line(line, outputs.as_slice(), start, act_of(graph, edge))?;
     Ok(())
+}
+
+/// What the command of an edge does.
+fn act_of(graph: &Graph, edge: EdgeId) -> &Act
+    requires within { edge < length graph.now.manifest.lines }
+    requires command { IsCommand (declared_by graph.now).edges (suc edge) }
+    ensures { result.now ≡ (edge_at (declared_by graph.now).edges (suc edge)).act }
+{
+    numbers_stand(graph);
+    match graph.manifest.action(edge) {
+        Action::Alias => unreachable!(),
+        Action::Command(command) => &command.act,
+    }
 }
 
 /// The texts of what the edge makes. They are borrowed from the graph.
