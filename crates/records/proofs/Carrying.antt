@@ -215,9 +215,11 @@ module _ (tells : Bool) (B : Behaviour) (format : LogFormat) (own : OwnFiles) (e
 
       pub appended_last : EndsWith tells format own edges first new r
       appended_last tell kept =
-          let h = held_before line appends tell kept in
-          (h.1, ap (λ (c : Option (List ℕ)). read_log format.records c) (extended_view tell kept h.0 h.1 h.2 h.3 line (at_log_too line appends))
-          ∙ records_told format l.reads (Some (h.0 ++ line)) (h.1 ++ r ∷ []) (Whole, inr (grows_log Two h.0 line h.1 r h.3 is_line)))
+          let h = held_before line appends tell kept in (
+            h.1,
+            ap (λ (c : Option (List ℕ)). read_log format.records c) (extended_view tell kept h.0 h.1 h.2 h.3 line (at_log_too line appends))
+                ∙ records_told format l.reads (Some (h.0 ++ line)) (h.1 ++ r ∷ []) (Whole, inr (grows_log Two h.0 line h.1 r h.3 is_line)),
+          )
 
     module _ (may : MayStand tells B edges steps hand hand entry first now file.path r) where
       torn_logged : (part rest : List ℕ) → part ++ rest ≡ line → Appends tells file.path part now new → IsLoggedStill tells B format own edges steps hand entry first new

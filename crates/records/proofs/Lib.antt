@@ -5,3 +5,4 @@ pub mod Beginning
 pub mod Standing
 pub mod Places
 pub mod States
+pub mod Appending

@@ -34,8 +34,8 @@ pub placed : (rs : List Record) (paths : List (List ℕ)) (old new : List (Optio
 placed rs paths old new place one fits pushed is all p low = elim (cases_eq p place) [
   | inl here ↦ ap (option_and_then (slice_get (makings rs))) (at_end p here) ∙ (is ∙ ap (λ (n : ℕ). in_force rs (text_at paths n)) (sym here))
   | inr other ↦
-    let below : p < place = omega (arith, low, other) in
-    ap (option_and_then (slice_get (makings rs))) (before p below) ∙ all p below
+      let below : p < place = omega (arith, low, other) in
+      ap (option_and_then (slice_get (makings rs))) (before p below) ∙ all p below
 ]
   where
     at_end : (p : ℕ) → p ≡ place → joined (slice_get new p) ≡ one

@@ -51,8 +51,11 @@ module _ (format : LogFormat) (reads : ReadsRecords format) where
   pub torn_told : FrontOfLines forms → (text part rest line : List ℕ) (rs : List Record) (r : Record) → IsLog text rs → IsLineOf (forms Two) r line → part ++ rest ≡ line
       → (all : List Record) × (format.records (text ++ part) ≡ Some all) × ((all ≡ rs) ⊎ (all ≡ rs ++ r ∷ []))
   torn_told front text part rest line rs r log is_line split =
-      let found = front Two text part rest rs (r ∷ []) log (is_line.has, tt) (append-nil (record_line (forms Two) r) ∙ (sym is_line.spelled ∙ sym split)) in
-      (rs ++ found.0, ended_told (text ++ part) (rs ++ found.0) found.3, elim (front_of_one r found.0 found.1 found.2) [
-        | inl none ↦ inl (ap (λ (l : List Record). rs ++ l) none ∙ append-nil rs)
-        | inr one ↦ inr (ap (λ (l : List Record). rs ++ l) one)
-      ])
+      let found = front Two text part rest rs (r ∷ []) log (is_line.has, tt) (append-nil (record_line (forms Two) r) ∙ (sym is_line.spelled ∙ sym split)) in (
+        rs ++ found.0,
+        ended_told (text ++ part) (rs ++ found.0) found.3,
+        elim (front_of_one r found.0 found.1 found.2) [
+          | inl none ↦ inl (ap (λ (l : List Record). rs ++ l) none ∙ append-nil rs)
+          | inr one ↦ inr (ap (λ (l : List Record). rs ++ l) one)
+        ],
+      )
