@@ -100,7 +100,7 @@ module _ (tells : Bool) (B : Behaviour) (format : LogFormat) (own : OwnFiles) (e
     -- ---- the log is replaced by what is in force
 
     module _ (compacts : CompactionKeeps) (text : List ℕ) (is_stale : file.state ≡ Stale) (compacted : (rs : List Record) → Keeps rs file.log → IsLog text (compaction rs)) (writes : Writes tells own.build_log (Some text) now new) where
-      stamp : ℕ
+      abbrev stamp : ℕ
       stamp = (writes.history tell).0
 
       adds : Adds (IsRunning now.events) (IsRunning now.events) (Wrote Program own.build_log (Some text) stamp) now.history new.history
@@ -143,18 +143,18 @@ module _ (tells : Bool) (B : Behaviour) (format : LogFormat) (own : OwnFiles) (e
           (held_content (file_at (now.history ++ (appends.history tell).earlier) own.build_log) text
           (ap content_of (file_stays own.build_log now.history (appends.history tell).earlier elsewhere) ∙ holds))
 
-      adds : Adds (IsRunning now.events) (IsRunning now.events) wrote now.history new.history
-      adds =
+      puts : Adds (IsRunning now.events) (IsRunning now.events) wrote now.history new.history
+      puts =
           let x = appends.history tell in
           record { earlier = x.earlier; later = x.later; grows = x.grows; all_earlier = x.all_earlier; all_later = x.all_later }
 
       pub extended_view : view_of new.history own.build_log ≡ Some (text ++ bytes)
-      extended_view = written_view content (appends.history tell).stamp adds ∙ ap (λ (t : List ℕ). Some t) content_is
+      extended_view = written_view content (appends.history tell).stamp puts ∙ ap (λ (t : List ℕ). Some t) content_is
 
       pub extended_logged : (next : Option ℕ) (all : List Record) → format.records (text ++ bytes) ≡ Some all
           → (IsLogged B edges steps hand entry before first new → IsLogged B edges steps next entry (record { records = all; deps = before.deps }) first new)
           → IsLoggedAt B format own edges steps next entry first new
-      extended_logged next all told on = written_logged next content (appends.history tell).stamp all appends.events adds (ap format.records content_is ∙ told) on
+      extended_logged next all told on = written_logged next content (appends.history tell).stamp all appends.events puts (ap format.records content_is ∙ told) on
 
       -- the store had the records of the log
       pub before_is : before.records ≡ rs
