@@ -31,13 +31,13 @@ use Rattle.build_log.specs.Log.{Keeps, IsLog, compaction, CompactionKeeps}
 use Rattle.log_theory.specs.Logged.{IsLogged, IsLoggedAt}
 use Rattle.log_theory.specs.Writes.{WritesAt, GrewAt}
 use Rattle.log_theory.proofs.Calls.{log_elsewhere, log_written_at, looks_logged, build_log_logged}
+use Rattle.log_theory.proofs.Writing.{writes_at, appends_at}
 use Rattle.log_theory.proofs.Growing as growing
 use Rattle.records.specs.declared.file.State.{State}
 use Rattle.records.specs.declared.file.State.TheVariants.{Usable, Stale}
 use Rattle.records.specs.Held.{Held, AreRecordsIn, ReadsRecords, IsSameLog}
 use Rattle.records.specs.Logging.{HoldsStill, IsLoggedStill, IsHeldStill, IsLogging, MayStand, EndsWith}
 use Rattle.records.proofs.Told.{log_told, records_told, torn_told}
-use Rattle.records.proofs.Writing.{looks_at, writes_at, appends_at}
 
 held_content : (file : Option File) (text : List ℕ) → content_of file ≡ Some text → content_or_empty file ≡ text
 held_content None text is = absurd (cc)

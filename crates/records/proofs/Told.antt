@@ -11,7 +11,7 @@ use Rattle.build_log.specs.Form.{IsLineOf, record_line, lines_text, HaveLines}
 use Rattle.build_log.specs.Laws.{IsEndedOrTorn, LineGrowsLog, FrontOfLines}
 use Rattle.build_log.specs.Record.{forms}
 use Rattle.build_log.specs.Log.{IsLog}
-use Rattle.records.specs.Held.{text_in, AreRecordsIn, told_by, ReadsRecords}
+use Rattle.records.specs.Held.{text_in, AreRecordsIn, ReadsRecords}
 
 same_some : (a b : List Record) → Some a ≡ Some b → a ≡ b
 same_some a b is = cc

@@ -168,13 +168,20 @@ impl LogFile {
 fn log_of(alloc: Global, content: &Option<Bytes>) -> Result<(Log, State), AllocError>
     ensures { IfOk result (λ log. (rs : List Record) × ((tail : Tail) × IsRead forms (text_in content.now) rs tail) × Keeps rs log.0 × ((log.1 ≡ State.Usable) ↔ (IsLog (text_in content.now) rs × (WantsCompaction (length rs) (length (compaction rs)) → ⊥)))) }
 {
-    let text = match content {
-        Some(bytes) => bytes.as_slice(),
-        None => &[],
-    };
+    let text = bytes_in(content);
     let (log, tail) = Log::parse(alloc, text)?;
     let state = state_of(text, &log, tail);
     Ok((log, state))
+}
+
+/// What the file holds; one that is absent holds nothing.
+fn bytes_in(content: &Option<Bytes>) -> &[u8]
+    ensures { result.now ≡ text_in content.now }
+{
+    match content {
+        Some(bytes) => bytes.as_slice(),
+        None => &[],
+    }
 }
 
 /// What may be done with a file that holds the text, which tells the log and ends so.
