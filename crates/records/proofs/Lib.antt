@@ -6,4 +6,6 @@ pub mod Standing
 pub mod Places
 pub mod States
 pub mod Appending
+pub mod Replacing
+pub mod Causes
 pub mod Leaving
