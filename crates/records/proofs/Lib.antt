@@ -7,5 +7,4 @@ pub mod Places
 pub mod States
 pub mod Appending
 pub mod Replacing
-pub mod Causes
 pub mod Leaving

@@ -1,6 +1,6 @@
 //! The file of the log, and what it told when it was read.
 
-ghost use Rattle.std.specs.Prelude.{◌≡◌, ◌<◌, ◌↔◌, ◌^◌, ℕ, List, Option, IfOk, OnOk, OnErr, IsTrue, false, string_bytes, length, slice_get};
+ghost use Rattle.std.specs.Prelude.{◌≡◌, ◌<◌, ◌↔◌, ◌^◌, ℕ, List, Option, IfOk, OnOk, OnErr, IsTrue, IsFalse, false, string_bytes, length, slice_get};
 ghost use Rattle.std.specs.Option.{option_and_then, option_copied, option_map};
 ghost use Rattle.model.specs.World.{World, file_at, content_of};
 ghost use Rattle.model.specs.Calls.{OnlyLooks, HasCause, Sees};
@@ -189,9 +189,16 @@ fn state_of(text: &[u8], log: &Log, tail: Tail) -> State
     ensures { (rs : List Record) → IsRead forms text.now rs tail → Keeps rs log.now → (result ≡ State.Usable) ↔ (IsLog text.now rs × (WantsCompaction (length rs) (length (compaction rs)) → ⊥)) }
 {
     one_reading::<Log>();
-    if text.is_empty() || tail != Tail::Whole || log.wants_compaction() {
+    if text.is_empty() || is_other(tail) || log.wants_compaction() {
         State::Stale
     } else {
         State::Usable
     }
+}
+
+/// Whether a text that ends so is anything but whole lines of version 2.
+fn is_other(tail: Tail) -> bool
+    ensures { IsFalse result ↔ (tail ≡ Tail.Whole) }
+{
+    !matches!(tail, Tail::Whole)
 }
