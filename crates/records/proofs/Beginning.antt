@@ -1,9 +1,8 @@
 -- What a run carries of its log: how it begins, and how it goes on over calls that leave the log alone.
-use Rattle.std.proofs.Common.{◌≡◌, ◌≢◌, ◌⊎◌, inl, inr, ℕ, Bool, true, IsTrue, List, [], ◌∷◌, ◌++◌, Option, Some, None, refl, sym, ◌∙◌, ap, subst, append_assoc}
+use Rattle.std.proofs.Common.{◌≡◌, ◌≢◌, inl, inr, ℕ, Bool, true, IsTrue, List, [], ◌∷◌, ◌++◌, Option, Some, None, refl, sym, ◌∙◌, ap, subst, append_assoc}
 use Rattle.std.specs.List.{AllByRecursion}
 use Rattle.std.proofs.lemmas.List.{append-nil}
 use Rattle.std.proofs.lemmas.Bool.{false≢true}
-use Rattle.model.specs.declared.act.Act.{Act}
 use Rattle.model.specs.declared.event.Event.{Event}
 use Rattle.model.specs.declared.event.Event.TheVariants.{Start, Finish}
 use Rattle.model.specs.declared.event.Moment.{Moment}
@@ -11,7 +10,7 @@ use Rattle.model.specs.declared.event.Moment.TheVariants.{Happened}
 use Rattle.model.specs.declared.graph.Edge.{Edge}
 use Rattle.model.specs.declared.record.Record.{Record}
 use Rattle.model.specs.World.{World, file_at, content_of, view_of, runs, IsRunning, IsIdle}
-use Rattle.model.specs.Calls.{AllByOthers, Adds, OnlyLooks, Sees, Starts, Finishes}
+use Rattle.model.specs.Calls.{AllByOthers, Adds, OnlyLooks, Sees}
 use Rattle.model.specs.Graph.{IsCommand}
 use Rattle.model.specs.Outcome.{Behaviour}
 use Rattle.model.specs.Records.{OwnFiles, LogFormat, Store, store_in, read_log}
@@ -30,9 +29,9 @@ use Rattle.log_theory.proofs.Calls.{log_elsewhere, log_stays_at, entry_logged, l
 use Rattle.log_theory.proofs.Writing.{at_elsewhere}
 use Rattle.records.specs.declared.file.State.{State}
 use Rattle.records.specs.declared.file.State.TheVariants.{Usable, Stale}
-use Rattle.records.specs.Held.{Held, text_in, AreRecordsIn, MayBeAppendedTo, IsReadFrom, ReadsRecords}
-use Rattle.records.specs.Logging.{HoldsStill, IsLoggedStill, IsHeldStill, IsLogging}
-use Rattle.records.specs.Laws.{AreOfEntry, LogBegins, LeavesTheLog, LogStays}
+use Rattle.records.specs.Held.{Held, text_in, IsReadFrom, ReadsRecords}
+use Rattle.records.specs.Logging.{HoldsStill, IsLogging}
+use Rattle.records.specs.Laws.{LogBegins, LeavesTheLog, LogStays}
 use Rattle.records.proofs.Told.{records_told}
 
 -- ---- the entry

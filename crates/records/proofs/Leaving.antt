@@ -1,5 +1,5 @@
 -- Which calls leave the log alone, for whoever carries it over them.
-use Rattle.std.proofs.Common.{◌≡◌, ◌≢◌, inl, inr, ℕ, Bool, IsTrue, List, sym}
+use Rattle.std.proofs.Common.{◌≢◌, inl, inr, ℕ, Bool, IsTrue, List, sym}
 use Rattle.model.specs.declared.act.Act.{Act}
 use Rattle.model.specs.declared.graph.Edge.{Edge}
 use Rattle.model.specs.World.{World}

@@ -1,5 +1,5 @@
 -- Which texts may be appended to.
-use Rattle.std.proofs.Common.{◌≡◌, inl, inr, ℕ, List, [], ◌∷◌, length, refl, subst, arith}
+use Rattle.std.proofs.Common.{◌≡◌, inr, ℕ, List, [], ◌∷◌, length, arith}
 use Rattle.model.specs.declared.record.Record.{Record}
 use Rattle.build_log.specs.declared.tail.Tail.{Tail}
 use Rattle.build_log.specs.declared.tail.Tail.TheVariants.{Whole}
@@ -8,12 +8,6 @@ use Rattle.build_log.specs.Laws.{OneReading}
 use Rattle.build_log.specs.Record.{forms}
 use Rattle.build_log.specs.Log.{IsLog}
 use Rattle.records.proofs.Beginning.{no_log}
-
-pub whole_log : (text : List ℕ) (rs : List Record) (tail : Tail) → IsRead forms text rs tail → (text ≡ [] → ⊥) → tail ≡ Whole → IsLog text rs
-whole_log text rs tail read some whole = elim (subst (λ (t : Tail). IsRead forms text rs t) whole read) [
-  | inl none ↦ absurd (some none.0)
-  | inr log ↦ log
-]
 
 pub no_empty_log : (text : List ℕ) (rs : List Record) → IsLog text rs → length text ≡ 0 → ⊥
 no_empty_log [] rs log none = no_log rs log

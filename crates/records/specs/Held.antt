@@ -12,7 +12,7 @@ use Rattle.build_log.specs.Laws.{Reads}
 use Rattle.build_log.specs.Record.{forms}
 use Rattle.build_log.specs.Log.{Keeps, IsLog, compaction, makings}
 use Rattle.records.specs.declared.file.State.{State}
-use Rattle.records.specs.declared.file.State.TheVariants.{Usable, Stale}
+use Rattle.records.specs.declared.file.State.TheVariants.{Usable}
 
 -- the path of the log, what it told when it was read, and what may be done with its file
 pub record Held : Type 0 where

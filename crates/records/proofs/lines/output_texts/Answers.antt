@@ -1,4 +1,4 @@
-use Rattle.std.proofs.Common.{sym, ap, ◌∙◌, map, ◌∷◌, [], suc, get_or}
+use Rattle.std.proofs.Common.{ap, ◌∙◌, map, ◌∷◌, [], suc, get_or}
 use Rattle.std.proofs.lemmas.List.{take_all, map-append}
 use Rattle.model.specs.Graph.{edge_at}
 use Rattle.paths.specs.Lists.{line_at}

@@ -1,4 +1,4 @@
-use Rattle.std.proofs.Common.{◌≡◌, ℕ, List, sym, subst, ap, ◌∙◌}
+use Rattle.std.proofs.Common.{ℕ, List, subst, ap, ◌∙◌}
 use Rattle.model.specs.Calls.{Appends, AppendsOrNot}
 use Rattle.log_theory.specs.Writes.{WritesAt}
 use Rattle.log_theory.proofs.Writing.{then_at, appends_at, appends_or_not_at}

@@ -1,5 +1,4 @@
-use Rattle.std.proofs.Common.{◌≡◌, ℕ, List, sym, subst, ap, ◌∙◌, refl}
-use Rattle.model.specs.declared.record.Record.{Record}
+use Rattle.std.proofs.Common.{ℕ, List, sym, subst, ap, ◌∙◌, refl}
 use Rattle.build_log.specs.Log.{Keeps, IsLog, compaction}
 use Rattle.records.specs.Held.{Held}
 use Rattle.records.proofs.Results.{on_err}

@@ -1,5 +1,4 @@
-use Rattle.std.proofs.Common.{◌≡◌, ℕ, List, Some, sym, subst, suc}
-use Rattle.model.specs.declared.record.Record.{Record}
+use Rattle.std.proofs.Common.{Some, sym, subst, suc}
 use Rattle.model.specs.declared.record.Record.TheVariants.{Begun}
 use Rattle.model.specs.Graph.{edge_at, outputs}
 use Rattle.build_log.specs.declared.form.Version.TheVariants.{Two}
