@@ -1,5 +1,5 @@
 -- The two records of an edge may be put behind the others.
-use Rattle.std.proofs.Common.{◌≡◌, ◌≢◌, inr, ℕ, Bool, true, IsTrue, List, [], ◌∷◌, ◌++◌, Some, None, sym, ◌∙◌, ap, append_assoc, map, length, ◌<◌, arith}
+use Rattle.std.proofs.Common.{inr, ℕ, Bool, true, IsTrue, List, [], ◌∷◌, ◌++◌, Some, None, ◌∙◌, ap, append_assoc}
 use Rattle.model.specs.declared.event.Event.TheVariants.{Finish}
 use Rattle.model.specs.declared.event.Moment.{Moment}
 use Rattle.model.specs.declared.event.Moment.TheVariants.{Happened}
@@ -13,10 +13,7 @@ use Rattle.model.specs.Records.{OwnFiles, LogFormat, Store, in_force}
 use Rattle.model.specs.Schedule.{Step}
 use Rattle.model.specs.Premises.{EndedAt}
 use Rattle.model.specs.Kept.{StartedUnder}
-use Rattle.build_log.specs.declared.form.Version.TheVariants.{Two}
-use Rattle.build_log.specs.Form.{IsAppended, IsLineOf, record_line}
 use Rattle.build_log.specs.Kept.{AreDistinct}
-use Rattle.build_log.specs.Record.{forms}
 use Rattle.log_theory.specs.Writes.{WritesAt}
 use Rattle.log_theory.proofs.Growing as growing
 use Rattle.records.specs.Logging.{MayStand, EndsWith, NoneInForce, EndedWell}
@@ -24,13 +21,6 @@ use Rattle.records.specs.Logging.{MayStand, EndsWith, NoneInForce, EndedWell}
 -- no output stands twice
 pub distinct : (edges : List Edge) (i : ℕ) → IsMadeOnce edges → AreDistinct (outputs (edge_at edges i))
 distinct edges i once p twice = once p (inr (i, twice))
-
-pub some_of : {X : Type 0} (f : X → List ℕ) (xs : List X) (os : List (List ℕ)) → map f xs ≡ os → os ≢ [] → 0 < length xs
-some_of f [] os is some = absurd (some (sym is))
-some_of f (x ∷ xs) os is some = omega arith
-
-pub line_of : (r : Record) (old new : List ℕ) → old ≡ [] → IsAppended (forms Two) r old new → IsLineOf (forms Two) r new
-line_of r old new none appended = record { spelled = appended.text ∙ ap (λ (l : List ℕ). l ++ record_line (forms Two) r) none; has = appended.has }
 
 module _ (tells : Bool) (B : Behaviour) (edges : List Edge) (steps : List Step) (i : ℕ) (entry : Store) (first now : World) (path : List ℕ) (once : IsMadeOnce edges) where
   pub begun_may_stand : MayStand tells B edges steps (Some i) (Some i) entry first now path (Begun (outputs (edge_at edges i)))
