@@ -1,48 +1,20 @@
-//! Which edges are due before anything runs.
+//! Phony edges that are due, and paths that are absent.
 
-ghost use Rattle.std.specs.Prelude.{◌≡◌, ◌<◌, ℕ, List, All, IfOk, length, false};
+ghost use Rattle.std.specs.Prelude.{◌≡◌, ◌<◌, All, IfOk, length, true, false};
 ghost use Rattle.model.specs.Calls.{HasCause};
-ghost use Rattle.links.specs.Told.{declared_by};
+ghost use Rattle.links.specs.Links.{links_of};
 ghost use Rattle.looks.specs.Looking.{HasLooked, IfSeen};
-ghost use Rattle.looks.specs.Lacks.{HaveOutputs, IsConeUnrecorded};
-ghost use Rattle.looks.specs.Dues.{AreDue, IsAbsentAt, IsAnyAbsent, IsDuePath, IsAnyDuePath, IsDueEdge};
+ghost use Rattle.dues.specs.Dues.{IsAbsentAt, IsAnyAbsent, IsDuePath, IsAnyDuePath, IsDueAlias};
 
-use crate::table::Looks;
-use links::{Cone, Graph, lists_stand};
+use links::{Graph, lists_stand};
+use looks::{Looks, looks_follow};
 use model::SiteFault;
 use paths::{EdgeId, PathId};
 use site::Site;
-use std::alloc::Global;
 
-/// For each edge, whether it is in the cone and due: each command, as no output has a record, and aliases by the paths that
-/// they name.
-pub fn due_edges<S: Site>(
-    alloc: Global,
-    site: &mut S,
-    graph: &Graph,
-    cone: &Cone,
-    looks: &mut Looks,
-) -> Result<Vec<bool>, SiteFault>
-    requires running { (S.world site.old).stopped ≡ false }
-    requires fits { length looks.old.seen.items ≡ length graph.now.manifest.paths }
-    requires cone { (targets : List (List ℕ)) × IsConeUnrecorded graph.now targets cone.now }
-    requires outputs { HaveOutputs (declared_by graph.now).edges }
-    ensures looked { HasLooked S.tells graph.now (S.world site.old) (S.world site.new) looks.old looks.new }
-    ensures cause { HasCause (S.world site.old) (S.world site.new) result }
-    ensures fits { IfOk result (λ due. length due.items ≡ length graph.now.manifest.lines) }
-    ensures due { IfOk result (λ due. IfSeen S.tells graph.now (S.world site.old) (S.world site.new) looks.old (λ files. AreDue (declared_by graph.now).edges files cone.now.order.items due.items)) }
-{
-    lists_stand(graph);
-    let mut due = vec![in alloc; false; graph.edges()]?;
-    let order = cone.order.as_slice();
-    for edge in order {
-        due[edge.index()] = is_due(site, graph, looks, &due, *edge)?;
-    }
-    Ok(due)
-}
-
-/// Whether the edge is due, where it is known which edges before it are.
-fn is_due<S: Site>(
+/// Whether the phony edge is due, where it is known which edges before it are: it has no inputs and its file is absent, or one
+/// of its regular inputs is an absent source or made by a due edge.
+pub fn is_alias_due<S: Site>(
     site: &mut S,
     graph: &Graph,
     looks: &mut Looks,
@@ -53,14 +25,13 @@ fn is_due<S: Site>(
     requires fits { length looks.old.seen.items ≡ length graph.now.manifest.paths }
     requires within { edge < length graph.now.manifest.lines }
     requires due { length due.now ≡ length graph.now.manifest.lines }
+    requires alias { (links_of graph.now).phony edge ≡ true }
     ensures looked { HasLooked S.tells graph.now (S.world site.old) (S.world site.new) looks.old looks.new }
     ensures cause { HasCause (S.world site.old) (S.world site.new) result }
-    ensures due { IfOk result (λ is. IfSeen S.tells graph.now (S.world site.old) (S.world site.new) looks.old (IsDueEdge graph.now due.now edge is)) }
+    ensures due { IfOk result (λ is. IfSeen S.tells graph.now (S.world site.old) (S.world site.new) looks.old (λ files. IsDueAlias graph.now due.now edge files is)) }
 {
     lists_stand(graph);
-    if !graph.is_phony(edge) {
-        Ok(true)
-    } else if graph.inputs(edge).is_empty() {
+    if graph.inputs(edge).is_empty() {
         has_absent(site, graph, looks, graph.outputs(edge))
     } else {
         has_due_path(site, graph, looks, due, graph.regular_inputs(edge))
@@ -81,6 +52,7 @@ fn has_absent<S: Site>(
     ensures cause { HasCause (S.world site.old) (S.world site.new) result }
     ensures has { IfOk result (λ is. IfSeen S.tells graph.now (S.world site.old) (S.world site.new) looks.old (IsAnyAbsent graph.now paths.now is)) }
 {
+    looks_follow();
     for path in paths {
         if is_absent(site, graph, looks, *path)? {
             return Ok(true);
@@ -122,6 +94,7 @@ fn has_due_path<S: Site>(
     ensures cause { HasCause (S.world site.old) (S.world site.new) result }
     ensures has { IfOk result (λ is. IfSeen S.tells graph.now (S.world site.old) (S.world site.new) looks.old (IsAnyDuePath graph.now due.now paths.now is)) }
 {
+    looks_follow();
     for path in paths {
         if is_due_path(site, graph, looks, due, *path)? {
             return Ok(true);

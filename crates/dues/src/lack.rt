@@ -5,15 +5,17 @@ ghost use Rattle.model.specs.Calls.{OnlyLooks, HasCause};
 ghost use Rattle.model.specs.Graph.{targets_of};
 ghost use Rattle.links.specs.Told.{declared_by};
 ghost use Rattle.looks.specs.Seen.{AreSeen};
-ghost use Rattle.looks.specs.Lacks.{HaveOutputs, IsConeUnrecorded, IsFound, IsLackOf};
 ghost use Rattle.looks.specs.Looking.{HasLooked, IfSeen};
-ghost use Rattle.looks.specs.Dues.{IsMissingAt, IsFirstIn, IsFirstFor, IsFoundOfDue};
+ghost use Rattle.dues.specs.Stores.{HaveNoDepfiles, IfKnown, IsAnyCone, IsConeIn};
+ghost use Rattle.dues.specs.Lacks.{IsFound, IsLackOf, IsMissingAt, IsFirstIn, IsFirstFor, IsFoundOfDue};
 
-use crate::due::{due_edges, is_absent};
-use crate::table::Looks;
+use crate::aliases::is_absent;
+use crate::due::due_edges;
 use links::{Cone, Graph, lists_stand};
+use looks::{Looks, looks_follow};
 use model::SiteFault;
 use paths::{EdgeId, PathId};
+use records::Records;
 use site::Site;
 use std::alloc::Global;
 
@@ -26,25 +28,32 @@ pub struct Lack {
 }
 
 /// The first requested path that is missing, else the first missing input of the lowest due edge of the cone, in the order
-/// of its lists; where no output has a record every command is due. A path that only other edges need is not asked for.
+/// of its lists. Which commands are due the records of the build log say, with the files and what due edges make; none has a
+/// depfile.
+///
+/// What was seen of a path is not asked for again; of edges that read what a due edge makes only the inputs are asked for. A
+/// call takes time for the edges of the cone and their inputs, and for what is read by those that no due edge makes something
+/// for.
 pub fn first_lack<S: Site>(
     alloc: Global,
     site: &mut S,
     graph: &Graph,
     cone: &Cone,
     looks: &mut Looks,
+    records: &Records,
 ) -> Result<Option<Lack>, SiteFault>
     requires running { (S.world site.old).stopped ≡ false }
     requires fits { length looks.old.seen.items ≡ length graph.now.manifest.paths }
-    requires cone { (targets : List (List ℕ)) × IsConeUnrecorded graph.now targets cone.now }
-    requires outputs { HaveOutputs (declared_by graph.now).edges }
+    requires cone { IsAnyCone graph.now cone.now }
+    requires depfiles { HaveNoDepfiles (declared_by graph.now).edges }
     ensures looks { OnlyLooks S.tells (S.world site.old) (S.world site.new) }
     ensures cause { HasCause (S.world site.old) (S.world site.new) result }
     ensures fits { length looks.new.seen.items ≡ length graph.now.manifest.paths }
     ensures seen { IfSeen S.tells graph.now (S.world site.old) (S.world site.new) looks.old (λ files. AreSeen graph.now.manifest.paths files looks.new.seen.items) }
-    ensures found { IfOk result (λ found. (targets : List (List ℕ)) → IsConeUnrecorded graph.now targets cone.now → IfSeen S.tells graph.now (S.world site.old) (S.world site.new) looks.old (λ files. IsFound graph.now (targets_of (declared_by graph.now) targets) files found)) }
+    ensures found { IfOk result (λ found. IfKnown S.tells graph.now records.now (S.world site.old) (S.world site.new) looks.old (λ store files. (targets : List (List ℕ)) → IsConeIn graph.now store targets cone.now → IsFound graph.now store (targets_of (declared_by graph.now) targets) files found)) }
     ensures within { IfOk result (λ found. IfSome found (IsLackOf graph.now)) }
 {
+    looks_follow();
     lists_stand(graph);
     let targets = cone.targets.as_slice();
     match first_missing(site, graph, looks, targets)? {
@@ -53,7 +62,7 @@ pub fn first_lack<S: Site>(
             needed_by: None,
         })),
         None => {
-            let due = due_edges(alloc, site, graph, cone, looks)?;
+            let due = due_edges(alloc, site, graph, cone, looks, records)?;
             lack_of_due(site, graph, looks, &due)
         }
     }
@@ -74,6 +83,7 @@ fn lack_of_due<S: Site>(
     ensures found { IfOk result (λ found. IfSeen S.tells graph.now (S.world site.old) (S.world site.new) looks.old (λ files. IsFoundOfDue graph.now due.now files found)) }
     ensures within { IfOk result (λ found. IfSome found (IsLackOf graph.now)) }
 {
+    looks_follow();
     for place in 0..graph.edges() {
         let edge = graph.manifest.edge(place);
         if let Some(path) = missing_of_edge(site, graph, looks, due, edge)? {
@@ -126,6 +136,7 @@ fn first_missing<S: Site>(
     ensures first { IfOk result (λ found. IfSeen S.tells graph.now (S.world site.old) (S.world site.new) looks.old (λ files. IsFirstIn graph.now paths.now files found)) }
     ensures within { IfOk result (λ found. IfSome found (λ p. p < length graph.now.manifest.paths)) }
 {
+    looks_follow();
     for path in paths {
         if is_missing(site, graph, looks, *path)? {
             return Ok(Some(*path));
