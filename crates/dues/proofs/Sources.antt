@@ -8,8 +8,7 @@ use Rattle.model.specs.declared.graph.Edge.{Edge}
 use Rattle.model.specs.World.{file_at}
 use Rattle.model.specs.Graph.{has_number, edge_at, inputs, maker, targets_of}
 use Rattle.model.specs.OutOfDate.{IsDue, IsMissing, NoneIsMissing, IsFirstMissing}
-use Rattle.model.specs.Records.{recorded_inputs}
-use Rattle.build_theory.specs.Order.{no_records}
+use Rattle.model.specs.Records.{Store, recorded_inputs}
 use Rattle.build_theory.proofs.Lists.{all_append}
 use Rattle.paths.specs.Told.{text_at, texts_at}
 use Rattle.links.specs.declared.graph.Graph.{Graph}
@@ -20,11 +19,12 @@ use Rattle.links.specs.Cone.{mark_at, is_listed}
 use Rattle.links.specs.Linked.{IsConeOf, StandFor}
 use Rattle.links.specs.Links.{links_of}
 use Rattle.links.specs.Told.{declared_by}
-use Rattle.looks.specs.declared.lack.Lack.{Lack}
-use Rattle.looks.specs.Lacks.{IsConeUnrecorded, IsFound, IsLackedBy}
-use Rattle.looks.specs.Dues.{AreDue, NoneBelow, IsFirstIn, IsFirstFor, IsFirstOfDue, IsFoundOfDue, due_at, is_absent}
-use Rattle.looks.proofs.DueEdges.{none_there, there_none}
-use Rattle.looks.proofs.Slices.{at_has, suc_has}
+use Rattle.links.specs.Targets.{IsConeFor}
+use Rattle.dues.specs.declared.lack.Lack.{Lack}
+use Rattle.dues.specs.Dues.{AreDue, due_at, is_absent}
+use Rattle.dues.specs.Lacks.{IsFound, IsLackedBy, NoneBelow, IsFirstIn, IsFirstFor, IsFirstOfDue, IsFoundOfDue}
+use Rattle.dues.proofs.AliasDues.{none_there, there_none}
+use Rattle.dues.proofs.Slices.{at_has, suc_has}
 
 -- ---- one path
 
@@ -94,28 +94,29 @@ in_graph : (edges : List Edge) (recorded : ℕ → List (List ℕ)) (targets : L
     → (e : ℕ) → has_number order e ≡ true → e < length edges
 in_graph edges recorded targets order marks cone e h = omega (arith, listed_within marks e (cone.marked e ∙ h), cone.fits)
 
-pub listed_edge : (graph : Graph) → StandFor (declared_by graph).edges graph.manifest.paths (links_of graph) → (targets : List (List ℕ)) (cone : Cone) → IsConeUnrecorded graph targets cone → (order : List ℕ) → order ≡ cone.order.items → (k d : ℕ) → k < length order
+pub listed_edge : (graph : Graph) → StandFor (declared_by graph).edges graph.manifest.paths (links_of graph) → (recorded : ℕ → List (List ℕ)) (targets : List (List ℕ)) (cone : Cone) → IsConeFor graph recorded targets cone → (order : List ℕ) → order ≡ cone.order.items → (k d : ℕ) → k < length order
     → get_or order k d < length graph.manifest.lines
-listed_edge graph stands targets cone is order same k d lt =
+listed_edge graph stands recorded targets cone is order same k d lt =
     let edges = (declared_by graph).edges in
-    let low = in_graph edges (recorded_inputs no_records edges) (targets_of (declared_by graph) targets) cone.order.items cone.marks.items is.listed (get_or order k d)
+    let low = in_graph edges recorded (targets_of (declared_by graph) targets) cone.order.items cone.marks.items is.listed (get_or order k d)
     (subst (λ (l : List ℕ). has_number l (get_or order k d) ≡ true) same (at_has order k d lt)) in
     omega (arith, low, stands.fits)
 
 -- what is found of the due edges of the cone is what is told before anything runs
-pub found_of : (graph : Graph) → StandFor (declared_by graph).edges graph.manifest.paths (links_of graph) → (targets : List (List ℕ)) (order : List ℕ) (marks : List Mark) (files : List Moment) → IsConeOf (declared_by graph).edges (recorded_inputs no_records (declared_by graph).edges) targets order marks
-    → NoneIsMissing (declared_by graph).edges files targets → (due : List Bool) → AreDue (declared_by graph).edges files order due → (found : Option Lack) → IsFoundOfDue graph due files found → IsFound graph targets files found
-found_of graph stands targets order marks files cone of_targets due are None none = record {
+pub found_of : (graph : Graph) → StandFor (declared_by graph).edges graph.manifest.paths (links_of graph) → (targets : List (List ℕ)) (order : List ℕ) (marks : List Mark) (store : Store) (files : List Moment)
+    → IsConeOf (declared_by graph).edges (recorded_inputs store (declared_by graph).edges) targets order marks
+    → NoneIsMissing (declared_by graph).edges files targets → (due : List Bool) → AreDue (declared_by graph).edges store files order due → (found : Option Lack) → IsFoundOfDue graph due files found → IsFound graph store targets files found
+found_of graph stands targets order marks store files cone of_targets due are None none = record {
   of_targets = of_targets;
   of_edges = λ i asked.
       let edges = (declared_by graph).edges in
       let place = suc_has order i (cone.all i asked.within) in
-      let low : place.0 < length graph.manifest.lines = omega (arith, in_graph edges (recorded_inputs no_records edges) targets order marks cone place.0 place.2, stands.fits) in
+      let low : place.0 < length graph.manifest.lines = omega (arith, in_graph edges (recorded_inputs store edges) targets order marks cone place.0 place.2, stands.fits) in
       subst (λ (n : ℕ). NoneIsMissing edges files (inputs (edge_at edges n))) place.1
-      (none place.0 low ((are place.0).1 (place.2, subst (λ (n : ℕ). IsDue edges no_records [] files n) (sym place.1) asked.due)));
+      (none place.0 low ((are place.0).1 (place.2, subst (λ (n : ℕ). IsDue edges store [] files n) (sym place.1) asked.due)));
 }
-found_of graph stands targets order marks files cone of_targets due are (Some lack) first =
-    subst (IsLackedBy (declared_by graph).edges targets files (text_at graph.manifest.paths lack.path)) (sym {A = Option ℕ} first.needed_by) (
+found_of graph stands targets order marks store files cone of_targets due are (Some lack) first =
+    subst (IsLackedBy (declared_by graph).edges store targets files (text_at graph.manifest.paths lack.path)) (sym {A = Option ℕ} first.needed_by) (
     record {
       asked = record { within = cone.within first.edge listed.0; due = listed.1 };
       of_targets = of_targets;
@@ -123,10 +124,10 @@ found_of graph stands targets order marks files cone of_targets due are (Some la
           let edges = (declared_by graph).edges in
           let place = suc_has order k (cone.all k asked.within) in
           subst (λ (n : ℕ). NoneIsMissing edges files (inputs (edge_at edges n))) place.1
-          (first.lowest place.0 (omega (arith, less, place.1)) ((are place.0).1 (place.2, subst (λ (n : ℕ). IsDue edges no_records [] files n) (sym place.1) asked.due)));
+          (first.lowest place.0 (omega (arith, less, place.1)) ((are place.0).1 (place.2, subst (λ (n : ℕ). IsDue edges store [] files n) (sym place.1) asked.due)));
       first = first.first;
     }
     )
   where
-    listed : (has_number order first.edge ≡ true) × IsDue (declared_by graph).edges no_records [] files (suc first.edge)
+    listed : (has_number order first.edge ≡ true) × IsDue (declared_by graph).edges store [] files (suc first.edge)
     listed = (are first.edge).0 first.is_due

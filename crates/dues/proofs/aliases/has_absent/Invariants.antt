@@ -2,8 +2,8 @@ use Rattle.std.proofs.Common.{◌≡◌, false, take}
 use Rattle.std.specs.List.{list_any}
 use Rattle.build_theory.specs.Seen.{Unrefused}
 use Rattle.looks.specs.Looking.{HasLooked, IfSeen}
-use Rattle.looks.specs.Dues.{is_absent}
-use Rattle.looks.proofs.due.has_absent.Given as goal
+use Rattle.dues.specs.Dues.{is_absent}
+use Rattle.dues.proofs.aliases.has_absent.Given as goal
 
 abbrev pub invariant-loop-path : goal.invariant-loop-path
 invariant-loop-path g l = record {

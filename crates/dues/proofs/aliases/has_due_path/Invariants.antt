@@ -3,8 +3,8 @@ use Rattle.std.specs.List.{list_any}
 use Rattle.build_theory.specs.Seen.{Unrefused}
 use Rattle.links.specs.Links.{links_of}
 use Rattle.looks.specs.Looking.{HasLooked, IfSeen}
-use Rattle.looks.specs.Dues.{is_due_path}
-use Rattle.looks.proofs.due.has_due_path.Given as goal
+use Rattle.dues.specs.Dues.{is_due_path}
+use Rattle.dues.proofs.aliases.has_due_path.Given as goal
 
 abbrev pub invariant-loop-path : goal.invariant-loop-path
 invariant-loop-path g l = record {

@@ -1,8 +1,8 @@
 use Rattle.std.proofs.Common.{◌≡◌, ◌∙◌, rules}
 use Rattle.std.specs.Option.{is_none}
 use Rattle.paths.specs.Told.{text_at}
-use Rattle.looks.proofs.Stays.{absent_where_all_stay}
-use Rattle.looks.proofs.due.is_absent.Goals as goal
+use Rattle.dues.proofs.Stays.{absent_where_all_stay}
+use Rattle.dues.proofs.aliases.is_absent.Goals as goal
 
 pub returns-clause-absent : goal.returns-clause-absent
 returns-clause-absent g c told files stays seen =

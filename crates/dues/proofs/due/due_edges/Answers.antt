@@ -6,11 +6,11 @@ use Rattle.build_theory.specs.Order.{no_records, AreMakersFirst}
 use Rattle.build_theory.proofs.Calls.{unrefused_call, unrefused_then}
 use Rattle.links.specs.Links.{links_of}
 use Rattle.links.specs.Told.{declared_by}
-use Rattle.looks.specs.Dues.{AreDue, is_due_edge}
-use Rattle.looks.proofs.DueEdges.{due_one_more}
-use Rattle.looks.proofs.Sources.{listed_edge}
-use Rattle.looks.proofs.Stays.{looked_then, parts}
-use Rattle.looks.proofs.due.due_edges.Goals as goal
+use Rattle.dues.specs.Dues.{AreDue, is_due_edge}
+use Rattle.dues.proofs.DueEdges.{due_one_more}
+use Rattle.dues.proofs.Sources.{listed_edge}
+use Rattle.dues.proofs.Stays.{looked_then, parts}
+use Rattle.dues.proofs.due.due_edges.Goals as goal
 
 pub is_due-requires-clause-within : goal.is_due-requires-clause-within
 is_due-requires-clause-within g c =
@@ -19,7 +19,7 @@ is_due-requires-clause-within g c =
 
 pub returns-in_err-due-2-clause-looked : goal.returns-in_err-due-2-clause-looked
 returns-in_err-due-2-clause-looked g c =
-    looked_then g.S.Texts.tells c.args.graph.now (g.S.Texts.world c.args.site.now) (g.S.Texts.world c.loop-edge.site) (g.S.Texts.world c.is_due.new.site) c.args.looks.now c.loop-edge.looks c.is_due.new.looks c.loop-edge.invariant.looked c.is_due.ensures.looked
+    looked_then c.looks_follow.ensures.follow g.S.Texts.tells c.args.graph.now (g.S.Texts.world c.args.site.now) (g.S.Texts.world c.loop-edge.site) (g.S.Texts.world c.is_due.new.site) c.args.looks.now c.loop-edge.looks c.is_due.new.looks c.loop-edge.invariant.looked c.is_due.ensures.looked
 
 pub index_mut-requires : goal.index_mut-requires
 index_mut-requires g c =
@@ -37,7 +37,7 @@ loop-edge-preserved g c =
     let low = listed_edge graph c.lists_stand.ensures c.requires.cone.0 c.args.cone.now c.requires.cone.1 order c.as_slice-order.ensures.value place 0 c.loop-edge-test.true in
     let at : c.edge-item.result ≡ get_or order place 0 = c.edge-item.is ∙ get_or_default order place c.edge-item.result 0 c.loop-edge-test.true in
     record {
-      looked = looked_then g.S.Texts.tells c.args.graph.now (g.S.Texts.world c.args.site.now) (g.S.Texts.world c.loop-edge.site) (g.S.Texts.world c.is_due.new.site) c.args.looks.now c.loop-edge.looks c.is_due.new.looks c.loop-edge.invariant.looked c.is_due.ensures.looked;
+      looked = looked_then c.looks_follow.ensures.follow g.S.Texts.tells c.args.graph.now (g.S.Texts.world c.args.site.now) (g.S.Texts.world c.loop-edge.site) (g.S.Texts.world c.is_due.new.site) c.args.looks.now c.loop-edge.looks c.is_due.new.looks c.loop-edge.invariant.looked c.is_due.ensures.looked;
       unrefused = unrefused_then (g.S.Texts.world c.args.site.now) (g.S.Texts.world c.loop-edge.site) (g.S.Texts.world c.is_due.new.site) c.loop-edge.invariant.unrefused (unrefused_call (g.S.Texts.world c.loop-edge.site) (g.S.Texts.world c.is_due.new.site) _ c.in_ok-due-2.ensures.cause);
       fits = length-set due c.index.result c.in_ok-due-2.field-0 ∙ c.loop-edge.invariant.fits;
       due = λ told files stays seen.

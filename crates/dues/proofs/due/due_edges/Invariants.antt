@@ -2,8 +2,8 @@ use Rattle.std.proofs.Common.{◌≡◌, length, take}
 use Rattle.build_theory.specs.Seen.{Unrefused}
 use Rattle.links.specs.Told.{declared_by}
 use Rattle.looks.specs.Looking.{HasLooked, IfSeen}
-use Rattle.looks.specs.Dues.{AreDue}
-use Rattle.looks.proofs.due.due_edges.Given as goal
+use Rattle.dues.specs.Dues.{AreDue}
+use Rattle.dues.proofs.due.due_edges.Given as goal
 
 abbrev pub invariant-loop-edge : goal.invariant-loop-edge
 invariant-loop-edge g l = record {

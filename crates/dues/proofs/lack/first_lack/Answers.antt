@@ -3,27 +3,27 @@ use Rattle.model.specs.Graph.{targets_of}
 use Rattle.model.specs.OutOfDate.{NoneIsMissing}
 use Rattle.paths.specs.Told.{texts_at}
 use Rattle.links.specs.Told.{declared_by}
-use Rattle.looks.specs.Dues.{IsFirstIn, IsFoundOfDue}
-use Rattle.looks.proofs.Slices.{if_ok_then}
-use Rattle.looks.proofs.Sources.{found_of}
-use Rattle.looks.proofs.Stays.{looked_then, parts, seen_where_all_stay}
-use Rattle.looks.proofs.lack.first_lack.Goals as goal
+use Rattle.dues.specs.Lacks.{IsFirstIn, IsFoundOfDue}
+use Rattle.dues.proofs.Slices.{if_ok_then}
+use Rattle.dues.proofs.Sources.{found_of}
+use Rattle.dues.proofs.Stays.{looked_then, parts, seen_where_all_stay}
+use Rattle.dues.proofs.lack.first_lack.Goals as goal
 
 pub returns-in_err-due-in-None-clause-looks : goal.returns-in_err-due-in-None-clause-looks
-returns-in_err-due-in-None-clause-looks g c = (looked_then g.S.Texts.tells c.args.graph.now (g.S.Texts.world c.args.site.now) (g.S.Texts.world c.first_missing.new.site) (g.S.Texts.world c.due_edges.new.site) c.args.looks.now c.first_missing.new.looks c.due_edges.new.looks c.first_missing.ensures.looked c.due_edges.ensures.looked).looks
+returns-in_err-due-in-None-clause-looks g c = (looked_then c.looks_follow.ensures.follow g.S.Texts.tells c.args.graph.now (g.S.Texts.world c.args.site.now) (g.S.Texts.world c.first_missing.new.site) (g.S.Texts.world c.due_edges.new.site) c.args.looks.now c.first_missing.new.looks c.due_edges.new.looks c.first_missing.ensures.looked c.due_edges.ensures.looked).looks
 
 pub returns-in_err-due-in-None-clause-seen : goal.returns-in_err-due-in-None-clause-seen
-returns-in_err-due-in-None-clause-seen g c = seen_where_all_stay (looked_then g.S.Texts.tells c.args.graph.now (g.S.Texts.world c.args.site.now) (g.S.Texts.world c.first_missing.new.site) (g.S.Texts.world c.due_edges.new.site) c.args.looks.now c.first_missing.new.looks c.due_edges.new.looks c.first_missing.ensures.looked c.due_edges.ensures.looked)
+returns-in_err-due-in-None-clause-seen g c = seen_where_all_stay (looked_then c.looks_follow.ensures.follow g.S.Texts.tells c.args.graph.now (g.S.Texts.world c.args.site.now) (g.S.Texts.world c.first_missing.new.site) (g.S.Texts.world c.due_edges.new.site) c.args.looks.now c.first_missing.new.looks c.due_edges.new.looks c.first_missing.ensures.looked c.due_edges.ensures.looked)
 
 pub returns-in_ok-due-in-None-clause-looks : goal.returns-in_ok-due-in-None-clause-looks
 returns-in_ok-due-in-None-clause-looks g c =
-    (looked_then g.S.Texts.tells c.args.graph.now (g.S.Texts.world c.args.site.now) (g.S.Texts.world c.due_edges.new.site) (g.S.Texts.world c.lack_of_due.new.site) c.args.looks.now c.due_edges.new.looks c.lack_of_due.new.looks
-    (looked_then g.S.Texts.tells c.args.graph.now (g.S.Texts.world c.args.site.now) (g.S.Texts.world c.first_missing.new.site) (g.S.Texts.world c.due_edges.new.site) c.args.looks.now c.first_missing.new.looks c.due_edges.new.looks c.first_missing.ensures.looked c.due_edges.ensures.looked) c.lack_of_due.ensures.looked).looks
+    (looked_then c.looks_follow.ensures.follow g.S.Texts.tells c.args.graph.now (g.S.Texts.world c.args.site.now) (g.S.Texts.world c.due_edges.new.site) (g.S.Texts.world c.lack_of_due.new.site) c.args.looks.now c.due_edges.new.looks c.lack_of_due.new.looks
+    (looked_then c.looks_follow.ensures.follow g.S.Texts.tells c.args.graph.now (g.S.Texts.world c.args.site.now) (g.S.Texts.world c.first_missing.new.site) (g.S.Texts.world c.due_edges.new.site) c.args.looks.now c.first_missing.new.looks c.due_edges.new.looks c.first_missing.ensures.looked c.due_edges.ensures.looked) c.lack_of_due.ensures.looked).looks
 
 pub returns-in_ok-due-in-None-clause-seen : goal.returns-in_ok-due-in-None-clause-seen
 returns-in_ok-due-in-None-clause-seen g c =
-    seen_where_all_stay (looked_then g.S.Texts.tells c.args.graph.now (g.S.Texts.world c.args.site.now) (g.S.Texts.world c.due_edges.new.site) (g.S.Texts.world c.lack_of_due.new.site) c.args.looks.now c.due_edges.new.looks c.lack_of_due.new.looks
-    (looked_then g.S.Texts.tells c.args.graph.now (g.S.Texts.world c.args.site.now) (g.S.Texts.world c.first_missing.new.site) (g.S.Texts.world c.due_edges.new.site) c.args.looks.now c.first_missing.new.looks c.due_edges.new.looks c.first_missing.ensures.looked c.due_edges.ensures.looked) c.lack_of_due.ensures.looked)
+    seen_where_all_stay (looked_then c.looks_follow.ensures.follow g.S.Texts.tells c.args.graph.now (g.S.Texts.world c.args.site.now) (g.S.Texts.world c.due_edges.new.site) (g.S.Texts.world c.lack_of_due.new.site) c.args.looks.now c.due_edges.new.looks c.lack_of_due.new.looks
+    (looked_then c.looks_follow.ensures.follow g.S.Texts.tells c.args.graph.now (g.S.Texts.world c.args.site.now) (g.S.Texts.world c.first_missing.new.site) (g.S.Texts.world c.due_edges.new.site) c.args.looks.now c.first_missing.new.looks c.due_edges.new.looks c.first_missing.ensures.looked c.due_edges.ensures.looked) c.lack_of_due.ensures.looked)
 
 pub returns-in_ok-due-in-None-clause-found : goal.returns-in_ok-due-in-None-clause-found
 returns-in_ok-due-in-None-clause-found g c =
@@ -31,7 +31,7 @@ returns-in_ok-due-in-None-clause-found g c =
     let graph = c.args.graph.now in
     let numbers = c.args.cone.now.targets.items in
     let last = parts g.S.Texts.tells c.args.graph.now (g.S.Texts.world c.args.site.now) (g.S.Texts.world c.due_edges.new.site) (g.S.Texts.world c.lack_of_due.new.site) c.args.looks.now c.due_edges.new.looks c.lack_of_due.new.looks
-    (looked_then g.S.Texts.tells c.args.graph.now (g.S.Texts.world c.args.site.now) (g.S.Texts.world c.first_missing.new.site) (g.S.Texts.world c.due_edges.new.site) c.args.looks.now c.first_missing.new.looks c.due_edges.new.looks c.first_missing.ensures.looked c.due_edges.ensures.looked) c.lack_of_due.ensures.looked.looks told files stays seen in
+    (looked_then c.looks_follow.ensures.follow g.S.Texts.tells c.args.graph.now (g.S.Texts.world c.args.site.now) (g.S.Texts.world c.first_missing.new.site) (g.S.Texts.world c.due_edges.new.site) c.args.looks.now c.first_missing.new.looks c.due_edges.new.looks c.first_missing.ensures.looked c.due_edges.ensures.looked) c.lack_of_due.ensures.looked.looks told files stays seen in
     let both = parts g.S.Texts.tells c.args.graph.now (g.S.Texts.world c.args.site.now) (g.S.Texts.world c.first_missing.new.site) (g.S.Texts.world c.due_edges.new.site) c.args.looks.now c.first_missing.new.looks c.due_edges.new.looks c.first_missing.ensures.looked
     c.due_edges.ensures.looked.looks told files last.0 seen in
     let first = subst (IsFirstIn graph c.as_slice-targets.result.now files) c.in-None.is (c.in_ok-path.ensures.first told files both.0 seen) in

@@ -4,17 +4,17 @@ use Rattle.model.specs.OutOfDate.{IsMissing, NoneIsMissing, IsFirstMissing}
 use Rattle.build_theory.proofs.Calls.{unrefused_call, unrefused_then}
 use Rattle.paths.specs.Told.{text_at, texts_at}
 use Rattle.links.specs.Told.{declared_by}
-use Rattle.looks.proofs.Sources.{none_more, first_here}
-use Rattle.looks.proofs.Stays.{looked_then, parts}
-use Rattle.looks.proofs.lack.first_missing.Goals as goal
+use Rattle.dues.proofs.Sources.{none_more, first_here}
+use Rattle.dues.proofs.Stays.{looked_then, parts}
+use Rattle.dues.proofs.lack.first_missing.Goals as goal
 
 pub returns-in_err-is_missing-clause-looked : goal.returns-in_err-is_missing-clause-looked
 returns-in_err-is_missing-clause-looked g c =
-    looked_then g.S.Texts.tells c.args.graph.now (g.S.Texts.world c.args.site.now) (g.S.Texts.world c.loop-path.site) (g.S.Texts.world c.is_missing.new.site) c.args.looks.now c.loop-path.looks c.is_missing.new.looks c.loop-path.invariant.looked c.is_missing.ensures.looked
+    looked_then c.looks_follow.ensures.follow g.S.Texts.tells c.args.graph.now (g.S.Texts.world c.args.site.now) (g.S.Texts.world c.loop-path.site) (g.S.Texts.world c.is_missing.new.site) c.args.looks.now c.loop-path.looks c.is_missing.new.looks c.loop-path.invariant.looked c.is_missing.ensures.looked
 
 pub returns-then-branch-clause-looked : goal.returns-then-branch-clause-looked
 returns-then-branch-clause-looked g c =
-    looked_then g.S.Texts.tells c.args.graph.now (g.S.Texts.world c.args.site.now) (g.S.Texts.world c.loop-path.site) (g.S.Texts.world c.is_missing.new.site) c.args.looks.now c.loop-path.looks c.is_missing.new.looks c.loop-path.invariant.looked c.is_missing.ensures.looked
+    looked_then c.looks_follow.ensures.follow g.S.Texts.tells c.args.graph.now (g.S.Texts.world c.args.site.now) (g.S.Texts.world c.loop-path.site) (g.S.Texts.world c.is_missing.new.site) c.args.looks.now c.loop-path.looks c.is_missing.new.looks c.loop-path.invariant.looked c.is_missing.ensures.looked
 
 pub returns-then-branch-clause-first : goal.returns-then-branch-clause-first
 returns-then-branch-clause-first g c told files stays seen =
@@ -29,7 +29,7 @@ returns-then-branch-clause-first g c told files stays seen =
 
 pub loop-path-preserved : goal.loop-path-preserved
 loop-path-preserved g c = record {
-  looked = looked_then g.S.Texts.tells c.args.graph.now (g.S.Texts.world c.args.site.now) (g.S.Texts.world c.loop-path.site) (g.S.Texts.world c.is_missing.new.site) c.args.looks.now c.loop-path.looks c.is_missing.new.looks c.loop-path.invariant.looked c.is_missing.ensures.looked;
+  looked = looked_then c.looks_follow.ensures.follow g.S.Texts.tells c.args.graph.now (g.S.Texts.world c.args.site.now) (g.S.Texts.world c.loop-path.site) (g.S.Texts.world c.is_missing.new.site) c.args.looks.now c.loop-path.looks c.is_missing.new.looks c.loop-path.invariant.looked c.is_missing.ensures.looked;
   unrefused = unrefused_then (g.S.Texts.world c.args.site.now) (g.S.Texts.world c.loop-path.site) (g.S.Texts.world c.is_missing.new.site) c.loop-path.invariant.unrefused (unrefused_call (g.S.Texts.world c.loop-path.site) (g.S.Texts.world c.is_missing.new.site) _ c.in_ok-is_missing.ensures.cause);
   none = λ told files stays seen.
       let edges = (declared_by c.args.graph.now).edges in

@@ -4,7 +4,7 @@ use Rattle.model.specs.OutOfDate.{NoneIsMissing}
 use Rattle.paths.specs.Told.{texts_at}
 use Rattle.links.specs.Told.{declared_by}
 use Rattle.looks.specs.Looking.{HasLooked, IfSeen}
-use Rattle.looks.proofs.lack.first_missing.Given as goal
+use Rattle.dues.proofs.lack.first_missing.Given as goal
 
 abbrev pub invariant-loop-path : goal.invariant-loop-path
 invariant-loop-path g l = record {

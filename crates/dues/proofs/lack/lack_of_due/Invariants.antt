@@ -1,8 +1,8 @@
 use Rattle.build_theory.specs.Seen.{Unrefused}
 use Rattle.links.specs.Told.{declared_by}
 use Rattle.looks.specs.Looking.{HasLooked, IfSeen}
-use Rattle.looks.specs.Dues.{NoneBelow}
-use Rattle.looks.proofs.lack.lack_of_due.Given as goal
+use Rattle.dues.specs.Lacks.{NoneBelow}
+use Rattle.dues.proofs.lack.lack_of_due.Given as goal
 
 abbrev pub invariant-loop-place : goal.invariant-loop-place
 invariant-loop-place g l = record {

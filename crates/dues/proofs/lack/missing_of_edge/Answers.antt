@@ -1,9 +1,10 @@
 use Rattle.std.proofs.Common.{◌≡◌, List, ℕ, true, length, subst, rules}
 use Rattle.links.specs.Links.{links_of}
-use Rattle.looks.specs.Dues.{due_at, IsFirstIn}
-use Rattle.looks.proofs.Slices.{within_by, if_ok_then}
-use Rattle.looks.proofs.Sources.{first_for}
-use Rattle.looks.proofs.lack.missing_of_edge.Goals as goal
+use Rattle.dues.specs.Dues.{due_at}
+use Rattle.dues.specs.Lacks.{IsFirstIn}
+use Rattle.dues.proofs.Slices.{within_by, if_ok_then}
+use Rattle.dues.proofs.Sources.{first_for}
+use Rattle.dues.proofs.lack.missing_of_edge.Goals as goal
 
 pub first_missing-requires-clause-within : goal.first_missing-requires-clause-within
 first_missing-requires-clause-within g c =
