@@ -3,14 +3,14 @@ use Rattle.std.specs.Prelude.{◌≡◌, ◌≢◌, ℕ, Bool, true, IsTrue, Lis
 use Rattle.model.specs.declared.act.Act.{Act}
 use Rattle.model.specs.declared.graph.Edge.{Edge}
 use Rattle.model.specs.declared.record.Record.{Record}
-use Rattle.model.specs.World.{World, file_at, content_of, view_of, runs, IsIdle}
+use Rattle.model.specs.World.{World, file_at, content_of, view_of, runs, IsRunning, IsIdle}
 use Rattle.model.specs.Calls.{OnlyLooks, Sees, Starts, Finishes}
 use Rattle.model.specs.Graph.{IsCommand}
 use Rattle.model.specs.Outcome.{Behaviour}
 use Rattle.model.specs.Records.{OwnFiles, LogFormat, Store, store_in}
 use Rattle.model.specs.Schedule.{Step}
 use Rattle.model.specs.Premises.{FilesAreKept}
-use Rattle.log_theory.specs.Writes.{WritesAt}
+use Rattle.log_theory.specs.Writes.{GrewAt}
 use Rattle.records.specs.Held.{Held, IsReadFrom, ReadsRecords}
 use Rattle.records.specs.Logging.{IsLogging, IsLoggedStill}
 
@@ -29,10 +29,18 @@ LogBegins =
     → IsReadFrom content rs file → (IsTrue tells → Sees (λ history. content_of (file_at history file.path)) content before.history after.history)
     → IsLogging tells B format own edges [] None (store_in format own (view_of first.history)) first now file × AreOfEntry tells format own edges first now rs
 
--- a call that writes at another path alone, or one that starts or takes in a command
-abbrev pub LeavesTheLog : Bool → OwnFiles → World → World → Type 0
-LeavesTheLog tells own now new =
-    ((path : List ℕ) × (path ≢ own.build_log) × WritesAt tells path now new)
+-- A call that starts and takes in nothing, in which the program wrote at one path alone, perhaps never: a tick, a write, a removal,
+-- a look. Where the files are kept, that path is not the log's.
+pub record WritesElsewhere (tells : Bool) (own : OwnFiles) (edges : List Edge) (first now new : World) : Type 0 where
+  pub events : new.events ≡ now.events
+  pub path : List ℕ
+  pub other : IsTrue tells → FilesAreKept own edges first.history new.history → path ≢ own.build_log
+  pub history : IsTrue tells → GrewAt path (IsRunning now.events) now.history new.history
+
+-- a call that writes elsewhere, or one that starts or takes in a command
+abbrev pub LeavesTheLog : Bool → OwnFiles → List Edge → World → World → World → Type 0
+LeavesTheLog tells own edges first now new =
+    WritesElsewhere tells own edges first now new
     ⊎ ((i : ℕ) × (act : Act) × Starts tells i act now new)
     ⊎ ((i : ℕ) × (ok : Bool) × Finishes tells i ok now new)
 
@@ -40,6 +48,6 @@ LeavesTheLog tells own now new =
 abbrev pub LogStays : Type 0
 LogStays =
     (tells : Bool) (B : Behaviour) (format : LogFormat) (own : OwnFiles) (edges : List Edge) (steps many : List Step) (hand next : Option ℕ) (entry : Store) (first now new : World) (file : Held)
-    → LeavesTheLog tells own now new → ((job : ℕ) → runs job new.events ≡ true → IsCommand edges job)
+    → LeavesTheLog tells own edges first now new → ((job : ℕ) → runs job new.events ≡ true → IsCommand edges job)
     → IsLoggedStill tells B format own edges many next entry first new
     → IsLogging tells B format own edges steps hand entry first now file → IsLogging tells B format own edges many next entry first new file

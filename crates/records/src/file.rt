@@ -79,7 +79,8 @@ impl LogFile {
         alloc: Global,
         graph: &Graph,
     ) -> Result<Vec<Option<usize>>, AllocError>
-        ensures { IfOk result (λ places. (rs : List Record) → Keeps rs self.now.log → AreMade rs graph.now.manifest.paths places.items) }
+        ensures fits { IfOk result (λ places. length places.items ≡ length graph.now.manifest.paths) }
+        ensures made { IfOk result (λ places. (rs : List Record) → Keeps rs self.now.log → AreMade rs graph.now.manifest.paths places.items) }
     {
         let count = graph.manifest.paths.len();
         let mut places = Vec::with_capacity(alloc, count)?;

@@ -1,6 +1,6 @@
 //! The records of a build.
 
-ghost use Rattle.std.specs.Prelude.{◌≡◌, ◌≢◌, ◌<◌, [], ℕ, suc, List, Option, Some, None, IfOk, OnOk, OnErr, IsTrue, true, false, string_bytes, length};
+ghost use Rattle.std.specs.Prelude.{◌≡◌, ◌≢◌, ◌<◌, ◌≤◌, [], ℕ, suc, List, Option, Some, None, IfOk, OnOk, OnErr, IsTrue, true, false, string_bytes, length};
 ghost use Rattle.std.specs.Option.{option_copied, option_map};
 ghost use Rattle.model.specs.declared.event.Moment.{Moment};
 ghost use Rattle.model.specs.World.{World, file_at, content_of};
@@ -62,10 +62,11 @@ impl Records {
         })
     }
 
-    /// The record in force at the entry for a path that the graph had when the log was read; none for others. It takes no
-    /// memory.
+    /// The record in force at the entry for a path that the graph had when the log was read; none for a path that it got
+    /// later, whatever the log tells of its text. It takes no memory.
     pub fn made(&self, path: PathId) -> Option<&Done>
-        ensures { (rs : List Record) (paths : List (List ℕ)) → IsOf rs paths self.now → path < length paths → option_map made_of (option_copied result) ≡ in_force rs (text_at paths path) }
+        ensures made { (rs : List Record) (paths : List (List ℕ)) → IsOf rs paths self.now → path < length paths → option_map made_of (option_copied result) ≡ in_force rs (text_at paths path) }
+        ensures later { (rs : List Record) (paths : List (List ℕ)) → IsOf rs paths self.now → length paths ≤ path → result ≡ None }
     {
         let place = (*self.places.get(path.index())?)?;
         self.file.done_at(place)
