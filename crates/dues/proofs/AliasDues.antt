@@ -1,5 +1,5 @@
 -- Which phony edges are due before anything runs.
-use Rattle.std.proofs.Common.{◌≡◌, ◌↔◌, inl, inr, ℕ, suc, ◌+◌, ◌<◌, ◌==◌, cond, Bool, true, false, List, [], ◌∷◌, Option, Some, None, map, length, refl, sym, ◌∙◌, ap, subst, arith}
+use Rattle.std.proofs.Common.{◌≡◌, ◌↔◌, inl, inr, ℕ, suc, ◌<◌, ◌==◌, cond, Bool, true, List, [], ◌∷◌, Option, Some, None, map, length, refl, sym, ◌∙◌, ap, subst, arith}
 use Rattle.std.specs.List.{list_any}
 use Rattle.std.specs.Option.{is_none}
 use Rattle.std.proofs.lemmas.Bool.{false≢true, cases_Bool, eqb-true}
@@ -14,7 +14,7 @@ use Rattle.build_theory.proofs.Lists.{has-left}
 use Rattle.paths.specs.Told.{text_at, texts_at}
 use Rattle.links.specs.Links.{Links}
 use Rattle.links.specs.Linked.{StandFor}
-use Rattle.dues.specs.Dues.{AreMakersKnown, due_at, due_by, is_absent, is_due_path, is_due_alias}
+use Rattle.dues.specs.Dues.{AreMakersKnown, due_by, is_absent, is_due_path, is_due_alias}
 use Rattle.dues.proofs.Slices.{any_number, number_any, has_text, number_of}
 
 -- ---- lists

@@ -1,28 +1,28 @@
 -- Which commands are due before anything runs.
 use Rattle.std.proofs.Common.{◌≡◌, ◌⊎◌, ◌↔◌, inl, inr, ℕ, suc, ◌<◌, ◌||◌, ◌&&◌, not, cond, Bool, true, false, List, [], ◌∷◌, ◌++◌, Option, Some, None, is_some, bytes_eq, map, length, refl, sym, ◌∙◌, ap, subst}
 use Rattle.std.specs.Prelude.{is_none, find}
-use Rattle.std.specs.List.{list_any, AllByRecursion}
-use Rattle.std.proofs.lemmas.Bool.{false≢true, true≢false, or_cases, or_left, or_right, cases_Bool}
+use Rattle.std.specs.List.{list_any}
+use Rattle.std.proofs.lemmas.Bool.{false≢true, or_cases, or_left, or_right, cases_Bool}
 use Rattle.model.specs.declared.event.Moment.{Moment}
 use Rattle.model.specs.declared.graph.Edge.{Edge}
 use Rattle.model.specs.declared.reason.Reason.{Reason}
 use Rattle.model.specs.declared.reason.Reason.TheVariants.{OutputAbsent, NoRecord, OtherAct, InputAbsent, InputChanged, InputLater, OutputOlder, DepsUnknown}
-use Rattle.model.specs.World.{file_at, stamp_of, view_of}
+use Rattle.model.specs.World.{stamp_of, view_of}
 use Rattle.model.specs.Graph.{has, has_number, edge_at, maker, later_number, regular_inputs, inputs, IsCommand}
-use Rattle.model.specs.Judgement.{OutputFacts, InputFacts, Facts, is_later, start_of, holds, all_reasons, reason_of}
+use Rattle.model.specs.Judgement.{InputFacts, Facts, is_later, start_of, holds, all_reasons, reason_of}
 use Rattle.model.specs.OutOfDate.{IsDue, WasJudged, Stale, Below, AliasOfNothing, AliasOfAbsent, AliasOfDue, IsMissing, IsOutOfDate, ListsCounted, input_facts, facts_of, is_made_anew}
-use Rattle.model.specs.Reading.{IsAlias, Counts, IsRead, Itself, Through, needs}
+use Rattle.model.specs.Reading.{IsRead, Itself, Through, needs}
 use Rattle.model.specs.Records.{Store, recorded_inputs}
 use Rattle.build_theory.proofs.Lists.{bytes_same, same_bytes, has-left, has-right, same_some, some_none}
-use Rattle.paths.specs.Told.{text_at, texts_at}
+use Rattle.paths.specs.Told.{text_at}
 use Rattle.links.specs.declared.graph.Graph.{Graph}
 use Rattle.links.specs.Linked.{StandFor}
 use Rattle.links.specs.Links.{links_of}
-use Rattle.links.specs.Told.{declared_by, recorded_by}
+use Rattle.links.specs.Told.{declared_by}
 use Rattle.records.specs.declared.records.Records.{Records}
 use Rattle.verdict.specs.Judged.{IsReasonBy, AreRecordedOf, MayBeJudgedBy}
 use Rattle.dues.specs.Stores.{IsStoreOf}
-use Rattle.dues.specs.Dues.{AreMakersKnown, due_at, due_by, is_made_due, reads_due}
+use Rattle.dues.specs.Dues.{AreMakersKnown, due_by, is_made_due, reads_due}
 use Rattle.dues.proofs.AliasDues.{some_number}
 use Rattle.dues.proofs.Slices.{any_number, number_any, has_text, number_of}
 

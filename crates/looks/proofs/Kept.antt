@@ -1,10 +1,9 @@
 -- Paths that keep their files through calls that only look.
-use Rattle.std.proofs.Common.{◌≡◌, ℕ, suc, zero, Bool, true, false, IsTrue, List, [], ◌∷◌, ◌++◌, Option, ◌⊎◌, inl, inr, length, get_or, refl, sym, ◌∙◌, ap, subst, append_assoc, slice_set, ◌<◌}
-use Rattle.std.proofs.lemmas.Bool.{false≢true}
+use Rattle.std.proofs.Common.{◌≡◌, ℕ, Bool, true, List, [], ◌++◌, Option, inl, inr, length, sym, ◌∙◌, ap, subst, append_assoc, slice_set, ◌<◌}
 use Rattle.std.proofs.lemmas.List.{append-nil, get_or-set_same, get_or-set_other}
 use Rattle.model.specs.declared.event.Moment.{Moment}
 use Rattle.model.specs.World.{File, file_at, stamp_of}
-use Rattle.model.specs.Calls.{OnlyLooks, Sees}
+use Rattle.model.specs.Calls.{Sees}
 use Rattle.paths.specs.Told.{text_at}
 use Rattle.looks.specs.declared.table.Look.{Look}
 use Rattle.looks.specs.declared.table.Look.TheVariants.{Unasked}

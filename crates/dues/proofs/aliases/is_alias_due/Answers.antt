@@ -1,7 +1,7 @@
 use Rattle.std.proofs.Common.{length}
 use Rattle.links.specs.Links.{links_of}
 use Rattle.dues.proofs.Slices.{within_by}
-use Rattle.dues.proofs.due.is_due.Goals as goal
+use Rattle.dues.proofs.aliases.is_alias_due.Goals as goal
 
 pub has_absent-requires-clause-within : goal.has_absent-requires-clause-within
 has_absent-requires-clause-within g c =
