@@ -1,5 +1,5 @@
 -- Which commands are due before anything runs.
-use Rattle.std.proofs.Common.{◌≡◌, ◌⊎◌, ◌↔◌, inl, inr, ℕ, suc, ◌<◌, ◌||◌, ◌&&◌, not, cond, Bool, true, false, List, [], ◌∷◌, ◌++◌, Option, Some, None, is_some, bytes_eq, map, length, refl, sym, ◌∙◌, ap, subst}
+use Rattle.std.proofs.Common.{◌≡◌, ◌⊎◌, ◌↔◌, inl, inr, ℕ, zero, suc, ◌<◌, ◌||◌, ◌&&◌, not, cond, Bool, true, false, List, [], ◌∷◌, ◌++◌, Option, Some, None, is_some, bytes_eq, map, length, refl, sym, ◌∙◌, ap, subst}
 use Rattle.std.specs.Prelude.{is_none, find}
 use Rattle.std.specs.List.{list_any}
 use Rattle.std.proofs.lemmas.Bool.{false≢true, or_cases, or_left, or_right, cases_Bool}
@@ -7,9 +7,9 @@ use Rattle.model.specs.declared.event.Moment.{Moment}
 use Rattle.model.specs.declared.graph.Edge.{Edge}
 use Rattle.model.specs.declared.reason.Reason.{Reason}
 use Rattle.model.specs.declared.reason.Reason.TheVariants.{OutputAbsent, NoRecord, OtherAct, InputAbsent, InputChanged, InputLater, OutputOlder, DepsUnknown}
-use Rattle.model.specs.World.{stamp_of, view_of}
+use Rattle.model.specs.World.{File, stamp_of, view_of}
 use Rattle.model.specs.Graph.{has, has_number, edge_at, maker, later_number, regular_inputs, inputs, IsCommand}
-use Rattle.model.specs.Judgement.{InputFacts, Facts, is_later, start_of, holds, all_reasons, reason_of}
+use Rattle.model.specs.Judgement.{OutputFacts, InputFacts, Facts, is_later, start_of, holds, all_reasons, reason_of}
 use Rattle.model.specs.OutOfDate.{IsDue, WasJudged, Stale, Below, AliasOfNothing, AliasOfAbsent, AliasOfDue, IsMissing, IsOutOfDate, ListsCounted, input_facts, facts_of, is_made_anew}
 use Rattle.model.specs.Reading.{IsRead, Itself, Through, needs}
 use Rattle.model.specs.Records.{Store, recorded_inputs}
@@ -20,6 +20,7 @@ use Rattle.links.specs.Linked.{StandFor}
 use Rattle.links.specs.Links.{links_of}
 use Rattle.links.specs.Told.{declared_by}
 use Rattle.records.specs.declared.records.Records.{Records}
+use Rattle.verdict.specs.Facts.{flag_at}
 use Rattle.verdict.specs.Judged.{IsReasonBy, AreRecordedOf, MayBeJudgedBy}
 use Rattle.dues.specs.Stores.{IsStoreOf}
 use Rattle.dues.specs.Dues.{AreMakersKnown, due_by, is_made_due, reads_due}
@@ -115,28 +116,28 @@ module _ (edges : List Edge) (store : Store) (files : List Moment) (i : ℕ) (re
       (λ h. let p = any_text test (input_facts edges [] files files) read h in text_any test (input_facts edges [] files files) other p.0 ((counted_too p.0).1 ((counted p.0).0 p.1)) p.2)
       (λ h. let p = any_text test (input_facts edges [] files files) other h in text_any test (input_facts edges [] files files) read p.0 ((counted p.0).1 ((counted_too p.0).0 p.1)) p.2)
 
-  abbrev by : Facts
-  by = facts_of edges store [] files files i read
+  abbrev facts : Facts
+  facts = facts_of edges store [] files files i read
 
-  abbrev by_other : Facts
-  by_other = facts_of edges store [] files files i other
+  abbrev others : Facts
+  others = facts_of edges store [] files files i other
 
-  holds_same : (r : Reason) → holds by r ≡ holds by_other r
+  holds_same : (r : Reason) → holds facts r ≡ holds others r
   holds_same OutputAbsent = refl
   holds_same NoRecord = refl
   holds_same OtherAct = refl
-  holds_same InputAbsent = any_input (λ p. is_none p.stamp)
-  holds_same InputChanged = any_input (λ p. p.changed)
+  holds_same InputAbsent = any_input (λ (p : InputFacts). is_none p.stamp)
+  holds_same InputChanged = any_input (λ (p : InputFacts). p.changed)
   holds_same InputLater =
-      any_alike (λ o. list_any (λ p. is_later p.stamp (start_of o.made)) (ins read)) (λ o. list_any (λ p. is_later p.stamp (start_of o.made)) (ins other)) by.outputs
-      (λ o. any_input (λ p. is_later p.stamp (start_of o.made)))
+      any_alike (λ (o : OutputFacts). list_any (λ (p : InputFacts). is_later p.stamp (start_of o.made)) (ins read)) (λ (o : OutputFacts). list_any (λ (p : InputFacts). is_later p.stamp (start_of o.made)) (ins other)) facts.outputs
+      (λ (o : OutputFacts). any_input (λ (p : InputFacts). is_later p.stamp (start_of o.made)))
   holds_same OutputOlder =
       ap (λ (b : Bool). not (edge_at edges i).restat && b)
-      (any_alike (λ o. list_any (λ p. is_later p.stamp o.stamp) (ins read)) (λ o. list_any (λ p. is_later p.stamp o.stamp) (ins other)) by.outputs (λ o. any_input (λ p. is_later p.stamp o.stamp)))
+      (any_alike (λ (o : OutputFacts). list_any (λ (p : InputFacts). is_later p.stamp o.stamp) (ins read)) (λ (o : OutputFacts). list_any (λ (p : InputFacts). is_later p.stamp o.stamp) (ins other)) facts.outputs (λ (o : OutputFacts). any_input (λ (p : InputFacts). is_later p.stamp o.stamp)))
   holds_same DepsUnknown = refl
 
-  pub reason_alike : reason_of by ≡ reason_of by_other
-  reason_alike = find_same (λ r. holds by r) (λ r. holds by_other r) all_reasons holds_same
+  pub reason_alike : reason_of facts ≡ reason_of others
+  reason_alike = find_same (λ r. holds facts r) (λ r. holds others r) all_reasons holds_same
 
 -- ---- one command
 
@@ -193,7 +194,7 @@ module _ (graph : Graph) (stands : StandFor (declared_by graph).edges graph.mani
         counted = known.counted;
         verdict =
             sym (found_among (λ r. holds (facts_of edges store [] files files (suc e) known.read) r) (OutputAbsent ∷ NoRecord ∷ OtherAct ∷ []) (InputChanged ∷ InputLater ∷ OutputOlder ∷ DepsUnknown ∷ []) InputAbsent
-            (text_any (λ x. is_none x.stamp) (input_facts edges [] files files) known.read p ((known.counted p).1 (inl read)) (ap (λ f. is_none (stamp_of f)) missing.absent)));
+            (text_any (λ (x : InputFacts). is_none x.stamp) (input_facts edges [] files files) known.read p ((known.counted p).1 (inl read)) (ap (λ (f : Option File). is_none (stamp_of f)) missing.absent)));
       })
 
   by_regular : (n : ℕ) → has_number ((links_of graph).regular e) n ≡ true → made_due n ≡ true → Due (suc e)
@@ -233,9 +234,9 @@ module _ (graph : Graph) (stands : StandFor (declared_by graph).edges graph.mani
         false≢true (sym none ∙ or_right (list_any made_due ((links_of graph).regular e)) (list_any made_due ((links_of graph).recorded e)) (number_any made_due ((links_of graph).recorded e) n.0 n.1
         (flag_of n.0 l (stands.recorded_within e n.0 n.1) (needs_recorded (text_at paths n.0) (recorded_has n.0 n.1)) (ap (maker edges) n.2 ∙ made) is)))
 
-    module _ (reason : Option Reason) (by : IsReasonBy edges store [] files files (suc e) reason) where
+    module _ (reason : Option Reason) (so : IsReasonBy edges store [] files files (suc e) reason) where
       stale_said : IsOutOfDate edges store [] files files (suc e) → is_some reason ≡ true
-      stale_said stale = ap is_some (by.is ∙ reason_alike edges store files (suc e) by.read stale.read by.counted stale.counted) ∙ sym stale.verdict
+      stale_said stale = ap is_some (so.is ∙ reason_alike edges store files (suc e) so.read stale.read so.counted stale.counted) ∙ sym stale.verdict
 
       due_said : (k : ℕ) → k ≡ suc e → Due k → is_some reason ≡ true
       due_said _ same (WasJudged k judged) = absurd (false≢true judged)
@@ -250,11 +251,15 @@ module _ (graph : Graph) (stands : StandFor (declared_by graph).edges graph.mani
 
       pub due_by_reason : (is_some reason ≡ true) ↔ Due (suc e)
       due_by_reason = (
-        (λ is. Stale (suc e) command refl (record { read = by.read; counted = by.counted; verdict = sym is ∙ ap is_some by.is })),
+        (λ is. Stale (suc e) command refl (record { read = so.read; counted = so.counted; verdict = sym is ∙ ap is_some so.is })),
         (λ is. due_said (suc e) refl is),
       )
 
 -- ---- before anything ran
+
+no_flag : (p : ℕ) → flag_at [] p ≡ false
+no_flag zero = refl
+no_flag (suc p) = refl
 
 not_anew : (edges : List Edge) (same : Bool) (o : Option ℕ) → false ≡ is_made_anew edges [] same o
 not_anew edges same None = refl
@@ -262,10 +267,10 @@ not_anew edges same (Some j) = refl
 
 -- each edge may be judged by the files and records of the entry
 pub may_be_judged : (graph : Graph) (records : Records) (store : Store) (files : List Moment) → IsStoreOf graph records store → (i : ℕ) → MayBeJudgedBy graph store.records [] store [] files files i (λ p. true)
-may_be_judged graph records store files of i = record {
+may_be_judged graph records store files is i = record {
   records = refl;
-  recorded = of.in_use i;
+  recorded = is.in_use i;
   untouched = λ o h. refl;
-  flagged = λ p lt counted. not_anew (declared_by graph).edges _ (maker (declared_by graph).edges (text_at graph.manifest.paths p));
+  flagged = λ p lt counted. no_flag p ∙ not_anew (declared_by graph).edges _ (maker (declared_by graph).edges (text_at graph.manifest.paths p));
   paths = record { made = λ p h. refl; read = λ p h. refl; recorded = λ p h. refl };
 }

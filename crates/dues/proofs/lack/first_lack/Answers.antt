@@ -27,7 +27,7 @@ returns-in_ok-due-in-None-clause-seen g c =
 
 pub returns-in_ok-due-in-None-clause-found : goal.returns-in_ok-due-in-None-clause-found
 returns-in_ok-due-in-None-clause-found g c =
-    if_ok_then c.lack_of_due.result c.lack_of_due.ensures.found (λ found told_of store of told files stays seen targets cone.
+    if_ok_then c.lack_of_due.result c.lack_of_due.ensures.found (λ found told_by store known_by told files stays seen targets cone.
     let graph = c.args.graph.now in
     let numbers = c.args.cone.now.targets.items in
     let last = parts g.S.Texts.tells c.args.graph.now (g.S.Texts.world c.args.site.now) (g.S.Texts.world c.due_edges.new.site) (g.S.Texts.world c.lack_of_due.new.site) c.args.looks.now c.due_edges.new.looks c.lack_of_due.new.looks
@@ -38,8 +38,8 @@ returns-in_ok-due-in-None-clause-found g c =
     let of_targets : NoneIsMissing (declared_by graph).edges files (targets_of (declared_by graph) targets) =
     subst (NoneIsMissing (declared_by graph).edges files) cone.numbers (subst (λ (l : List ℕ). NoneIsMissing (declared_by graph).edges files (texts_at graph.manifest.paths l)) c.as_slice-targets.ensures.value first) in
     found_of graph c.lists_stand.ensures (targets_of (declared_by graph) targets) c.args.cone.now.order.items c.args.cone.now.marks.items store files cone.listed of_targets c.in_ok-due-in-None.due.items
-    (c.in_ok-due-in-None.ensures.due store of told files both.1 both.2 targets cone) found
-    (subst (λ (l : List Bool). IsFoundOfDue graph l files found) c.deref.ensures.value (told_of told files last.1 last.2)))
+    (c.in_ok-due-in-None.ensures.due store known_by told files both.1 both.2 targets cone) found
+    (subst (λ (l : List Bool). IsFoundOfDue graph l files found) c.deref.ensures.value (told_by told files last.1 last.2)))
 
 pub returns-in_err-path-clause-seen : goal.returns-in_err-path-clause-seen
 returns-in_err-path-clause-seen g c = seen_where_all_stay c.first_missing.ensures.looked
