@@ -7,9 +7,9 @@ use Rattle.model.specs.declared.event.Moment.{Moment}
 use Rattle.model.specs.declared.graph.Edge.{Edge}
 use Rattle.model.specs.declared.reason.Reason.{Reason}
 use Rattle.model.specs.declared.reason.Reason.TheVariants.{OutputAbsent, NoRecord, OtherAct, InputAbsent, InputChanged, InputLater, OutputOlder, DepsUnknown}
-use Rattle.model.specs.World.{File, stamp_of, view_of}
+use Rattle.model.specs.World.{File, file_at, stamp_of, view_of}
 use Rattle.model.specs.Graph.{has, has_number, edge_at, maker, later_number, regular_inputs, inputs, IsCommand}
-use Rattle.model.specs.Judgement.{OutputFacts, InputFacts, Facts, is_later, start_of, holds, all_reasons, reason_of}
+use Rattle.model.specs.Judgement.{OutputFacts, InputFacts, Facts, is_later, is_same_number, start_of, holds, all_reasons, reason_of}
 use Rattle.model.specs.OutOfDate.{IsDue, WasJudged, Stale, Below, AliasOfNothing, AliasOfAbsent, AliasOfDue, IsMissing, IsOutOfDate, ListsCounted, input_facts, facts_of, is_made_anew}
 use Rattle.model.specs.Reading.{IsRead, Itself, Through, needs}
 use Rattle.model.specs.Records.{Store, recorded_inputs}
@@ -261,9 +261,9 @@ no_flag : (p : ℕ) → flag_at [] p ≡ false
 no_flag zero = refl
 no_flag (suc p) = refl
 
-not_anew : (edges : List Edge) (same : Bool) (o : Option ℕ) → false ≡ is_made_anew edges [] same o
-not_anew edges same None = refl
-not_anew edges same (Some j) = refl
+not_anew : (all : List Edge) (same : Bool) (o : Option ℕ) → false ≡ is_made_anew all [] same o
+not_anew all same None = refl
+not_anew all same (Some j) = refl
 
 -- each edge may be judged by the files and records of the entry
 pub may_be_judged : (graph : Graph) (records : Records) (store : Store) (files : List Moment) → IsStoreOf graph records store → (i : ℕ) → MayBeJudgedBy graph store.records [] store [] files files i (λ p. true)
@@ -271,6 +271,8 @@ may_be_judged graph records store files is i = record {
   records = refl;
   recorded = is.in_use i;
   untouched = λ o h. refl;
-  flagged = λ p lt counted. no_flag p ∙ not_anew (declared_by graph).edges _ (maker (declared_by graph).edges (text_at graph.manifest.paths p));
+  flagged = λ p lt counted.
+      let stamp = stamp_of (file_at files (text_at graph.manifest.paths p)) in
+      no_flag p ∙ not_anew (declared_by graph).edges (is_same_number stamp stamp) (maker (declared_by graph).edges (text_at graph.manifest.paths p));
   paths = record { made = λ p h. refl; read = λ p h. refl; recorded = λ p h. refl };
 }

@@ -1,5 +1,5 @@
 -- Lists of numbers, and the texts that they stand for.
-use Rattle.std.proofs.Common.{◌≡◌, ◌⊎◌, inl, inr, ℕ, zero, suc, ◌<◌, ◌==◌, Bool, true, List, [], ◌∷◌, Result, Ok, Err, IfOk, bytes_eq, map, get_or, length, sym, ◌∙◌, ap, arith, subst}
+use Rattle.std.proofs.Common.{◌≡◌, ◌⊎◌, inl, inr, ℕ, zero, suc, ◌<◌, ◌==◌, Bool, true, List, [], ◌∷◌, Result, Ok, Err, IfOk, bytes_eq, map, get_or, length, refl, sym, ◌∙◌, ap, arith, subst}
 use Rattle.std.specs.List.{list_any}
 use Rattle.std.proofs.lemmas.Bool.{eqb-true, eq-eqb, or_cases, or_left, or_right, false≢true, cases_Bool}
 use Rattle.model.specs.Graph.{has, has_number}
