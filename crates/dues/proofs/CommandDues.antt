@@ -144,116 +144,116 @@ module _ (edges : List Edge) (store : Store) (files : List Moment) (i : ℕ) (re
 module _ (graph : Graph) (stands : StandFor (declared_by graph).edges graph.manifest.paths (links_of graph)) (store : Store) (files : List Moment) (due : List Bool) (e : ℕ)
     (in_use : AreRecordedOf graph store (suc e)) (command : IsCommand (declared_by graph).edges (suc e)) (known : AreMakersKnown (declared_by graph).edges store files due (suc e))
   where
-  abbrev edges : List Edge
-  edges = (declared_by graph).edges
+    abbrev edges : List Edge
+    edges = (declared_by graph).edges
 
-  abbrev paths : List (List ℕ)
-  paths = graph.manifest.paths
+    abbrev paths : List (List ℕ)
+    paths = graph.manifest.paths
 
-  abbrev Due : ℕ → Type 0
-  Due i = IsDue edges store [] files i
+    abbrev Due : ℕ → Type 0
+    Due i = IsDue edges store [] files i
 
-  abbrev made_due : ℕ → Bool
-  made_due n = is_made_due (links_of graph) due n
+    abbrev made_due : ℕ → Bool
+    made_due n = is_made_due (links_of graph) due n
 
-  needs_regular : (p : List ℕ) → has (regular_inputs (edge_at edges (suc e))) p ≡ true → has (needs edges (recorded_inputs store edges) (suc e)) p ≡ true
-  needs_regular p h =
-      has-left (inputs (edge_at edges (suc e))) (recorded_inputs store edges (suc e)) p (has-left (regular_inputs (edge_at edges (suc e))) (edge_at edges (suc e)).order_only_inputs p h)
+    needs_regular : (p : List ℕ) → has (regular_inputs (edge_at edges (suc e))) p ≡ true → has (needs edges (recorded_inputs store edges) (suc e)) p ≡ true
+    needs_regular p h =
+        has-left (inputs (edge_at edges (suc e))) (recorded_inputs store edges (suc e)) p (has-left (regular_inputs (edge_at edges (suc e))) (edge_at edges (suc e)).order_only_inputs p h)
 
-  needs_recorded : (p : List ℕ) → has (recorded_inputs store edges (suc e)) p ≡ true → has (needs edges (recorded_inputs store edges) (suc e)) p ≡ true
-  needs_recorded p h = has-right (inputs (edge_at edges (suc e))) (recorded_inputs store edges (suc e)) p h
+    needs_recorded : (p : List ℕ) → has (recorded_inputs store edges (suc e)) p ≡ true → has (needs edges (recorded_inputs store edges) (suc e)) p ≡ true
+    needs_recorded p h = has-right (inputs (edge_at edges (suc e))) (recorded_inputs store edges (suc e)) p h
 
-  -- a path that is flagged has a due maker
-  flagged : (n : ℕ) → n < length paths → has (needs edges (recorded_inputs store edges) (suc e)) (text_at paths n) ≡ true → made_due n ≡ true → (j : ℕ) × (maker edges (text_at paths n) ≡ Some j) × Due j
-  flagged n lt need is = by_maker ((links_of graph).maker n) refl
-    where
-      by_maker : (o : Option ℕ) → (links_of graph).maker n ≡ o → (j : ℕ) × (maker edges (text_at paths n) ≡ Some j) × Due j
-      by_maker None none = absurd (false≢true (sym (ap (due_by due false) none) ∙ is))
-      by_maker (Some m) some =
-          let made : maker edges (text_at paths n) ≡ Some (suc m) = stands.makers n lt ∙ ap later_number some in
-          (suc m, made, (known.makers (text_at paths n) m need made).0 (sym (ap (due_by due false) some) ∙ is))
+    -- a path that is flagged has a due maker
+    flagged : (n : ℕ) → n < length paths → has (needs edges (recorded_inputs store edges) (suc e)) (text_at paths n) ≡ true → made_due n ≡ true → (j : ℕ) × (maker edges (text_at paths n) ≡ Some j) × Due j
+    flagged n lt need is = by_maker ((links_of graph).maker n) refl
+      where
+        by_maker : (o : Option ℕ) → (links_of graph).maker n ≡ o → (j : ℕ) × (maker edges (text_at paths n) ≡ Some j) × Due j
+        by_maker None none = absurd (false≢true (sym (ap (due_by due false) none) ∙ is))
+        by_maker (Some m) some =
+            let made : maker edges (text_at paths n) ≡ Some (suc m) = stands.makers n lt ∙ ap later_number some in
+            (suc m, made, (known.makers (text_at paths n) m need made).0 (sym (ap (due_by due false) some) ∙ is))
 
-  -- and one with a due maker is flagged
-  flag_of : (n : ℕ) (j : ℕ) → n < length paths → has (needs edges (recorded_inputs store edges) (suc e)) (text_at paths n) ≡ true → maker edges (text_at paths n) ≡ Some j → Due j → made_due n ≡ true
-  flag_of n j lt need made is =
-      let m = some_number ((links_of graph).maker n) j (sym (stands.makers n lt) ∙ made) in
-      ap (due_by due false) m.1 ∙ (known.makers (text_at paths n) m.0 need (made ∙ ap Some (sym m.2))).1 (subst (λ (q : ℕ). Due q) (sym m.2) is)
+    -- and one with a due maker is flagged
+    flag_of : (n : ℕ) (j : ℕ) → n < length paths → has (needs edges (recorded_inputs store edges) (suc e)) (text_at paths n) ≡ true → maker edges (text_at paths n) ≡ Some j → Due j → made_due n ≡ true
+    flag_of n j lt need made is =
+        let m = some_number ((links_of graph).maker n) j (sym (stands.makers n lt) ∙ made) in
+        ap (due_by due false) m.1 ∙ (known.makers (text_at paths n) m.0 need (made ∙ ap Some (sym m.2))).1 (subst (λ (q : ℕ). Due q) (sym m.2) is)
 
-  regular_has : (n : ℕ) → has_number ((links_of graph).regular e) n ≡ true → has (regular_inputs (edge_at edges (suc e))) (text_at paths n) ≡ true
-  regular_has n h = subst (λ (l : List (List ℕ)). has l (text_at paths n) ≡ true) (stands.regular_are e) (has_text paths ((links_of graph).regular e) n h)
+    regular_has : (n : ℕ) → has_number ((links_of graph).regular e) n ≡ true → has (regular_inputs (edge_at edges (suc e))) (text_at paths n) ≡ true
+    regular_has n h = subst (λ (l : List (List ℕ)). has l (text_at paths n) ≡ true) (stands.regular_are e) (has_text paths ((links_of graph).regular e) n h)
 
-  recorded_has : (n : ℕ) → has_number ((links_of graph).recorded e) n ≡ true → has (recorded_inputs store edges (suc e)) (text_at paths n) ≡ true
-  recorded_has n h = in_use (text_at paths n) ∙ has_text paths ((links_of graph).recorded e) n h
+    recorded_has : (n : ℕ) → has_number ((links_of graph).recorded e) n ≡ true → has (recorded_inputs store edges (suc e)) (text_at paths n) ≡ true
+    recorded_has n h = in_use (text_at paths n) ∙ has_text paths ((links_of graph).recorded e) n h
 
-  -- it reads a missing source
-  stale_by : (p : List ℕ) → IsRead edges (view_of files) (suc e) p → IsMissing edges files p → Due (suc e)
-  stale_by p read missing =
-      Stale (suc e) command refl (
-      record {
-        read = known.read;
-        counted = known.counted;
-        verdict =
-            sym (found_among (λ r. holds (facts_of edges store [] files files (suc e) known.read) r) (OutputAbsent ∷ NoRecord ∷ OtherAct ∷ []) (InputChanged ∷ InputLater ∷ OutputOlder ∷ DepsUnknown ∷ []) InputAbsent
-            (text_any (λ (x : InputFacts). is_none x.stamp) (input_facts edges [] files files) known.read p ((known.counted p).1 (inl read)) (ap (λ (f : Option File). is_none (stamp_of f)) missing.absent)));
-      })
+    -- it reads a missing source
+    stale_by : (p : List ℕ) → IsRead edges (view_of files) (suc e) p → IsMissing edges files p → Due (suc e)
+    stale_by p read missing =
+        Stale (suc e) command refl (
+        record {
+          read = known.read;
+          counted = known.counted;
+          verdict =
+              sym (found_among (λ r. holds (facts_of edges store [] files files (suc e) known.read) r) (OutputAbsent ∷ NoRecord ∷ OtherAct ∷ []) (InputChanged ∷ InputLater ∷ OutputOlder ∷ DepsUnknown ∷ []) InputAbsent
+              (text_any (λ (x : InputFacts). is_none x.stamp) (input_facts edges [] files files) known.read p ((known.counted p).1 (inl read)) (ap (λ (f : Option File). is_none (stamp_of f)) missing.absent)));
+        })
 
-  by_regular : (n : ℕ) → has_number ((links_of graph).regular e) n ≡ true → made_due n ≡ true → Due (suc e)
-  by_regular n h is =
-      let input = regular_has n h in
-      let below = flagged n (stands.regular_within e n h) (needs_regular (text_at paths n) input) is in
-      let reads = through edges store files below.0 below.2 (suc e) (text_at paths n) input below.1 in
-      elim reads.why [
-        | inl missing ↦ stale_by reads.path reads.read missing
-        | inr made ↦ Below (suc e) made.0 reads.path command refl (inl reads.read) made.1 made.2
-      ]
+    by_regular : (n : ℕ) → has_number ((links_of graph).regular e) n ≡ true → made_due n ≡ true → Due (suc e)
+    by_regular n h is =
+        let input = regular_has n h in
+        let below = flagged n (stands.regular_within e n h) (needs_regular (text_at paths n) input) is in
+        let reads = through edges store files below.0 below.2 (suc e) (text_at paths n) input below.1 in
+        elim reads.why [
+          | inl missing ↦ stale_by reads.path reads.read missing
+          | inr made ↦ Below (suc e) made.0 reads.path command refl (inl reads.read) made.1 made.2
+        ]
 
-  by_recorded : (n : ℕ) → has_number ((links_of graph).recorded e) n ≡ true → made_due n ≡ true → Due (suc e)
-  by_recorded n h is =
-      let input = recorded_has n h in
-      let below = flagged n (stands.recorded_within e n h) (needs_recorded (text_at paths n) input) is in
-      Below (suc e) below.0 (text_at paths n) command refl (inr input) below.1 below.2
+    by_recorded : (n : ℕ) → has_number ((links_of graph).recorded e) n ≡ true → made_due n ≡ true → Due (suc e)
+    by_recorded n h is =
+        let input = recorded_has n h in
+        let below = flagged n (stands.recorded_within e n h) (needs_recorded (text_at paths n) input) is in
+        Below (suc e) below.0 (text_at paths n) command refl (inr input) below.1 below.2
 
-  pub due_by_flags : reads_due (links_of graph) due e ≡ true → Due (suc e)
-  due_by_flags is = elim (or_cases (list_any made_due ((links_of graph).regular e)) (list_any made_due ((links_of graph).recorded e)) is) [
-    | inl regular ↦ let n = any_number made_due ((links_of graph).regular e) regular in by_regular n.0 n.1 n.2
-    | inr recorded ↦ let n = any_number made_due ((links_of graph).recorded e) recorded in by_recorded n.0 n.1 n.2
-  ]
+    pub due_by_flags : reads_due (links_of graph) due e ≡ true → Due (suc e)
+    due_by_flags is = elim (or_cases (list_any made_due ((links_of graph).regular e)) (list_any made_due ((links_of graph).recorded e)) is) [
+      | inl regular ↦ let n = any_number made_due ((links_of graph).regular e) regular in by_regular n.0 n.1 n.2
+      | inr recorded ↦ let n = any_number made_due ((links_of graph).recorded e) recorded in by_recorded n.0 n.1 n.2
+    ]
 
-  -- ---- where no due edge makes what it names
+    -- ---- where no due edge makes what it names
 
-  module _ (none : reads_due (links_of graph) due e ≡ false) where
-    no_regular : (q : List ℕ) (l : ℕ) → has (regular_inputs (edge_at edges (suc e))) q ≡ true → maker edges q ≡ Some l → Due l → ⊥
-    no_regular q l h made is =
-        let n = number_of paths ((links_of graph).regular e) q (subst (λ (t : List (List ℕ)). has t q ≡ true) (sym (stands.regular_are e)) h) in
-        false≢true (sym none ∙ or_left (list_any made_due ((links_of graph).regular e)) (list_any made_due ((links_of graph).recorded e)) (number_any made_due ((links_of graph).regular e) n.0 n.1
-        (flag_of n.0 l (stands.regular_within e n.0 n.1) (needs_regular (text_at paths n.0) (regular_has n.0 n.1)) (ap (maker edges) n.2 ∙ made) is)))
+    module _ (none : reads_due (links_of graph) due e ≡ false) where
+      no_regular : (q : List ℕ) (l : ℕ) → has (regular_inputs (edge_at edges (suc e))) q ≡ true → maker edges q ≡ Some l → Due l → ⊥
+      no_regular q l h made is =
+          let n = number_of paths ((links_of graph).regular e) q (subst (λ (t : List (List ℕ)). has t q ≡ true) (sym (stands.regular_are e)) h) in
+          false≢true (sym none ∙ or_left (list_any made_due ((links_of graph).regular e)) (list_any made_due ((links_of graph).recorded e)) (number_any made_due ((links_of graph).regular e) n.0 n.1
+          (flag_of n.0 l (stands.regular_within e n.0 n.1) (needs_regular (text_at paths n.0) (regular_has n.0 n.1)) (ap (maker edges) n.2 ∙ made) is)))
 
-    no_recorded : (q : List ℕ) (l : ℕ) → has (recorded_inputs store edges (suc e)) q ≡ true → maker edges q ≡ Some l → Due l → ⊥
-    no_recorded q l h made is =
-        let n = number_of paths ((links_of graph).recorded e) q (sym (in_use q) ∙ h) in
-        false≢true (sym none ∙ or_right (list_any made_due ((links_of graph).regular e)) (list_any made_due ((links_of graph).recorded e)) (number_any made_due ((links_of graph).recorded e) n.0 n.1
-        (flag_of n.0 l (stands.recorded_within e n.0 n.1) (needs_recorded (text_at paths n.0) (recorded_has n.0 n.1)) (ap (maker edges) n.2 ∙ made) is)))
+      no_recorded : (q : List ℕ) (l : ℕ) → has (recorded_inputs store edges (suc e)) q ≡ true → maker edges q ≡ Some l → Due l → ⊥
+      no_recorded q l h made is =
+          let n = number_of paths ((links_of graph).recorded e) q (sym (in_use q) ∙ h) in
+          false≢true (sym none ∙ or_right (list_any made_due ((links_of graph).regular e)) (list_any made_due ((links_of graph).recorded e)) (number_any made_due ((links_of graph).recorded e) n.0 n.1
+          (flag_of n.0 l (stands.recorded_within e n.0 n.1) (needs_recorded (text_at paths n.0) (recorded_has n.0 n.1)) (ap (maker edges) n.2 ∙ made) is)))
 
-    module _ (reason : Option Reason) (so : IsReasonBy edges store [] files files (suc e) reason) where
-      stale_said : IsOutOfDate edges store [] files files (suc e) → is_some reason ≡ true
-      stale_said stale = ap is_some (so.is ∙ reason_alike edges store files (suc e) so.read stale.read so.counted stale.counted) ∙ sym stale.verdict
+      module _ (reason : Option Reason) (so : IsReasonBy edges store [] files files (suc e) reason) where
+        stale_said : IsOutOfDate edges store [] files files (suc e) → is_some reason ≡ true
+        stale_said stale = ap is_some (so.is ∙ reason_alike edges store files (suc e) so.read stale.read so.counted stale.counted) ∙ sym stale.verdict
 
-      due_said : (k : ℕ) → k ≡ suc e → Due k → is_some reason ≡ true
-      due_said _ same (WasJudged k judged) = absurd (false≢true judged)
-      due_said _ same (Stale k is_command unjudged stale) = stale_said (subst (λ (q : ℕ). IsOutOfDate edges store [] files files q) same stale)
-      due_said _ same (Below k j p is_command unjudged (inl read) made below) =
-          let at = named edges store files (suc e) p (subst (λ (q : ℕ). IsRead edges (view_of files) q p) same read) j made below in
-          absurd (no_regular at.0 at.1 at.2 at.3 at.4)
-      due_said _ same (Below k j p is_command unjudged (inr recorded) made below) = absurd (no_recorded p j (subst (λ (q : ℕ). has (recorded_inputs store edges q) p ≡ true) same recorded) made below)
-      due_said _ same (AliasOfNothing k o phony empty output absent) = absurd (false≢true (sym command ∙ (ap (λ (q : ℕ). (edge_at edges q).phony) (sym same) ∙ phony)))
-      due_said _ same (AliasOfAbsent k p phony input source absent) = absurd (false≢true (sym command ∙ (ap (λ (q : ℕ). (edge_at edges q).phony) (sym same) ∙ phony)))
-      due_said _ same (AliasOfDue k j p phony input made below) = absurd (false≢true (sym command ∙ (ap (λ (q : ℕ). (edge_at edges q).phony) (sym same) ∙ phony)))
+        due_said : (k : ℕ) → k ≡ suc e → Due k → is_some reason ≡ true
+        due_said _ same (WasJudged k judged) = absurd (false≢true judged)
+        due_said _ same (Stale k is_command unjudged stale) = stale_said (subst (λ (q : ℕ). IsOutOfDate edges store [] files files q) same stale)
+        due_said _ same (Below k j p is_command unjudged (inl read) made below) =
+            let at = named edges store files (suc e) p (subst (λ (q : ℕ). IsRead edges (view_of files) q p) same read) j made below in
+            absurd (no_regular at.0 at.1 at.2 at.3 at.4)
+        due_said _ same (Below k j p is_command unjudged (inr recorded) made below) = absurd (no_recorded p j (subst (λ (q : ℕ). has (recorded_inputs store edges q) p ≡ true) same recorded) made below)
+        due_said _ same (AliasOfNothing k o phony empty output absent) = absurd (false≢true (sym command ∙ (ap (λ (q : ℕ). (edge_at edges q).phony) (sym same) ∙ phony)))
+        due_said _ same (AliasOfAbsent k p phony input source absent) = absurd (false≢true (sym command ∙ (ap (λ (q : ℕ). (edge_at edges q).phony) (sym same) ∙ phony)))
+        due_said _ same (AliasOfDue k j p phony input made below) = absurd (false≢true (sym command ∙ (ap (λ (q : ℕ). (edge_at edges q).phony) (sym same) ∙ phony)))
 
-      pub due_by_reason : (is_some reason ≡ true) ↔ Due (suc e)
-      due_by_reason = (
-        (λ is. Stale (suc e) command refl (record { read = so.read; counted = so.counted; verdict = sym is ∙ ap is_some so.is })),
-        (λ is. due_said (suc e) refl is),
-      )
+        pub due_by_reason : (is_some reason ≡ true) ↔ Due (suc e)
+        due_by_reason = (
+          (λ is. Stale (suc e) command refl (record { read = so.read; counted = so.counted; verdict = sym is ∙ ap is_some so.is })),
+          (λ is. due_said (suc e) refl is),
+        )
 
 -- ---- before anything ran
 
