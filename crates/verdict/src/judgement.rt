@@ -53,7 +53,14 @@ pub fn reason<S: Site>(
     let Action::Command(command) = graph.manifest.action(edge) else {
         return Ok(None);
     };
-    let outputs = outputs_of(site, graph, looks, records, &command.act, graph.outputs(edge))?;
+    let outputs = outputs_of(
+        site,
+        graph,
+        looks,
+        records,
+        &command.act,
+        graph.outputs(edge),
+    )?;
     let inputs = inputs_of(alloc, site, graph, looks, changed, edge)?;
     Ok(judge(&Facts {
         act: &command.act,
