@@ -17,15 +17,19 @@ use Rattle.model.specs.Records.{Store, recorded_inputs}
 use Rattle.model.specs.OutOfDate.{Counted, ListsCounted, output_facts, input_facts}
 use Rattle.model.specs.Judgement.{OutputFacts, InputFacts, Facts as AllFacts, reason_of}
 use Rattle.build_theory.proofs.Lists.{has_number-left, has_number-right, has_number-cases}
-use Rattle.paths.specs.Told.{text_at, texts_at}
+use Rattle.paths.specs.declared.line.Line.{Line}
+use Rattle.paths.specs.declared.manifest.Action.TheVariants.{Command}
+use Rattle.paths.specs.declared.manifest.Command.{Command as Commanded}
+use Rattle.paths.specs.Told.{text_at, texts_at, edge_of}
 use Rattle.links.specs.declared.graph.Graph.{Graph}
 use Rattle.links.specs.Linked.{StandFor}
 use Rattle.links.specs.Links.{links_of}
 use Rattle.links.specs.Alias.{counts_if_present}
 use Rattle.links.specs.ReadingOf.{IsReadingOf, IsCountedIn}
 use Rattle.links.specs.Told.{declared_by, recorded_by}
-use Rattle.dirty.specs.declared.table.Facts.{Facts}
-use Rattle.dirty.specs.Reasons.{IsReasonOf}
+use Rattle.dirty.specs.declared.inputs.Inputs.{Inputs}
+use Rattle.dirty.specs.declared.outputs.Outputs.{Outputs}
+use Rattle.dirty.specs.Summaries.{AreOutputs, AreInputs}
 use Rattle.verdict.specs.Facts.{flag_at, output_at, stamp_at, all_inputs, AreIn, HasOutputs, HasInputs}
 use Rattle.verdict.specs.Judged.{HasPathsOf, AreRecordedOf, MayBeJudgedBy, IsAnswer, everything}
 use Rattle.verdict.proofs.Reasons.{Alike, reason_same, outputs_alike, takes, taken, taken_inputs, taken_has, has_taken, flat_has, has_flat, has_text, number_of, are_in}
@@ -74,8 +78,8 @@ module _ (graph : Graph) (stands : StandFor (declared_by graph).edges graph.mani
   recs_within n h = stands.recorded_within e n h
 
   module _ (files : List Moment) where
-    abbrev read : List ℕ
-    read = taken graph files false regs ++ taken graph files true recs
+    abbrev both : List ℕ
+    both = taken graph files false regs ++ taken graph files true recs
 
     counts_so : (n : ℕ) → takes graph files false n ≡ true → (counts_if_present (links_of graph) n ≡ false) ⊎ IsSome (view_of files (text_at graph.manifest.paths n))
     counts_so n is = elim (or_cases (is_some (stamp_at graph.manifest.paths files n)) (not (counts_if_present (links_of graph) n)) is) [
@@ -90,12 +94,12 @@ module _ (graph : Graph) (stands : StandFor (declared_by graph).edges graph.mani
     ]
 
     module _ (store : Store) (in_use : AreRecordedOf graph store (suc e)) where
-      pub counted : ListsCounted (declared_by graph).edges store files (suc e) (texts_at graph.manifest.paths read)
+      pub counted : ListsCounted (declared_by graph).edges store files (suc e) (texts_at graph.manifest.paths both)
       counted p = (listed, all)
         where
-          listed : has (texts_at graph.manifest.paths read) p ≡ true → Counted (declared_by graph).edges store files (suc e) p
+          listed : has (texts_at graph.manifest.paths both) p ≡ true → Counted (declared_by graph).edges store files (suc e) p
           listed h =
-              let n = number_of graph.manifest.paths read p h in
+              let n = number_of graph.manifest.paths both p h in
               elim (has_number-cases (taken graph files false regs) (taken graph files true recs) n.0 n.1) [
                 | inl named ↦
                     let is = taken_has graph files false regs n.0 named in
@@ -112,19 +116,19 @@ module _ (graph : Graph) (stands : StandFor (declared_by graph).edges graph.mani
                     inr (in_use p ∙ subst (λ (q : List ℕ). has (texts_at graph.manifest.paths recs) q ≡ true) n.2 (has_text graph.manifest.paths recs n.0 (taken_has graph files true recs n.0 found).0))
               ]
 
-          all : Counted (declared_by graph).edges store files (suc e) p → has (texts_at graph.manifest.paths read) p ≡ true
+          all : Counted (declared_by graph).edges store files (suc e) p → has (texts_at graph.manifest.paths both) p ≡ true
           all is = elim is [
             | inl named ↦
                 let at = (reading.read (view_of files) p).0 named in
                 let counts = subst (λ (q : List ℕ). (counts_if_present (links_of graph) at.path ≡ false) ⊎ IsSome (view_of files q)) (sym at.text) at.counts in
-                subst (λ (q : List ℕ). has (texts_at graph.manifest.paths read) q ≡ true) at.text
-                (has_text graph.manifest.paths read at.path
+                subst (λ (q : List ℕ). has (texts_at graph.manifest.paths both) q ≡ true) at.text
+                (has_text graph.manifest.paths both at.path
                 (has_number-left (taken graph files false regs) (taken graph files true recs) at.path
                 (has_taken graph files false regs at.path (has_flat (links_of graph).regular es at.edge at.path at.listed at.input) (so_counts at.path counts))))
             | inr found ↦
                 let n = number_of graph.manifest.paths recs p (sym (in_use p) ∙ found) in
-                subst (λ (q : List ℕ). has (texts_at graph.manifest.paths read) q ≡ true) n.2
-                (has_text graph.manifest.paths read n.0 (has_number-right (taken graph files false regs) (taken graph files true recs) n.0 (has_taken graph files true recs n.0 n.1 refl)))
+                subst (λ (q : List ℕ). has (texts_at graph.manifest.paths both) q ≡ true) n.2
+                (has_text graph.manifest.paths both n.0 (has_number-right (taken graph files false regs) (taken graph files true recs) n.0 (has_taken graph files true recs n.0 n.1 refl)))
           ]
 
   -- the set has the paths of these numbers
@@ -162,10 +166,10 @@ module _ (graph : Graph) (stands : StandFor (declared_by graph).edges graph.mani
         (λ n h. may.untouched (text_at paths n) (ap (λ (l : List (List ℕ)). has l (text_at paths n)) (sym (stands.outputs_are e)) ∙ has_text paths outs n h))
 
     -- a path that is taken in counts, so that its flag is right
-    flagged : (n : ℕ) → n < length paths → has_number (read files) n ≡ true → flag_at flags n ≡ (input_facts edges ran old files (text_at paths n)).changed
-    flagged n lt h = may.flagged n lt ((counted files store may.recorded (text_at paths n)).0 (has_text paths (read files) n h))
+    flagged : (n : ℕ) → n < length paths → has_number (both files) n ≡ true → flag_at flags n ≡ (input_facts edges ran old files (text_at paths n)).changed
+    flagged n lt h = may.flagged n lt ((counted files store may.recorded (text_at paths n)).0 (has_text paths (both files) n h))
 
-    all_are : all_inputs graph flags false files regs ++ all_inputs graph flags true files recs ≡ map (input_facts edges ran old files) (texts_at paths (read files))
+    all_are : all_inputs graph flags false files regs ++ all_inputs graph flags true files recs ≡ map (input_facts edges ran old files) (texts_at paths (both files))
     all_are =
         ap (λ (l : List InputFacts). l ++ all_inputs graph flags true files recs)
         (taken_inputs graph files flags edges ran old false regs
@@ -176,19 +180,23 @@ module _ (graph : Graph) (stands : StandFor (declared_by graph).edges graph.mani
         ∙ (sym (map-append (input_facts edges ran old files) (texts_at paths (taken graph files false regs)) (texts_at paths (taken graph files true recs)))
         ∙ ap (map (input_facts edges ran old files)) (sym (map-append (text_at paths) (taken graph files false regs) (taken graph files true recs)))))
 
-  pub is_answer : (rs : List Record) (flags : List Bool) (facts : Facts) (reason : Option Reason) → facts.act.now ≡ (edge_at (declared_by graph).edges (suc e)).act
-      → facts.restat ≡ (edge_at (declared_by graph).edges (suc e)).restat → facts.deps ≡ (edge_at (declared_by graph).edges (suc e)).deps → (edge_at (declared_by graph).edges (suc e)).act.depfile ≡ []
-      → (set : List ℕ → Bool) (files : List Moment) → HasOutputs graph facts.act.now rs ((links_of graph).outputs e) facts.outputs set files → HasInputs graph flags es e facts.inputs set files
-      → IsReasonOf facts reason → IsAnswer graph rs flags e reason set files
-  is_answer rs flags facts reason act_is restat_is deps_is no_depfile set files of_outputs of_inputs judged store ran old may = record {
-    read = texts_at graph.manifest.paths (read files);
-    counted = counted files store may.recorded;
-    is =
-        judged (map (output_at graph.manifest.paths rs files) ((links_of graph).outputs e)) (all_inputs graph flags false files regs ++ all_inputs graph flags true files recs)
-        (of_outputs (outputs_in store may.recorded set may.paths)) (of_inputs (regs_in store may.recorded set may.paths) (recs_in store may.recorded set may.paths))
-        ∙ same_reason facts.act.now (edge_at (declared_by graph).edges (suc e)).act act_is facts.restat (edge_at (declared_by graph).edges (suc e)).restat restat_is facts.deps (edge_at (declared_by graph).edges (suc e)).deps deps_is facts.depfile
-        (is_some (file_at old (edge_at (declared_by graph).edges (suc e)).act.depfile)) no_depfile (map (output_at graph.manifest.paths rs files) ((links_of graph).outputs e))
-        (texts_at graph.manifest.paths ((links_of graph).outputs e)) (outputs (edge_at (declared_by graph).edges (suc e))) (stands.outputs_are e) (output_facts store old) (alike rs flags store ran old files set may)
-        (all_inputs graph flags false files regs ++ all_inputs graph flags true files recs)
-        (map (input_facts (declared_by graph).edges ran old files) (texts_at graph.manifest.paths (read files))) (all_are rs flags store ran old files set may);
-  }
+  -- the edge is that of a line with this command, and these outputs and inputs were taken in
+  module _ (line : Line) (command : Commanded) (edge_is : edge_at (declared_by graph).edges (suc e) ≡ edge_of graph.manifest.paths line (Command command))
+      (no_depfile : (edge_at (declared_by graph).edges (suc e)).act.depfile ≡ []) where
+    pub is_answer : (rs : List Record) (flags : List Bool) (made : Outputs) (inputs : Inputs) (depfile : Bool) (reason : Option Reason) (set : List ℕ → Bool) (files : List Moment)
+        → HasOutputs graph command.act rs ((links_of graph).outputs e) made set files → HasInputs graph flags es e inputs set files
+        → ((outs : List OutputFacts) (ins : List InputFacts) → AreOutputs command.act outs made → AreInputs ins inputs → reason ≡ reason_of (with_all command.act command.restat command.deps depfile outs ins))
+        → IsAnswer graph rs flags e reason set files
+    is_answer rs flags made inputs depfile reason set files of_outputs of_inputs judged store ran old may = record {
+      read = texts_at graph.manifest.paths (both files);
+      counted = counted files store may.recorded;
+      is =
+          judged (map (output_at graph.manifest.paths rs files) ((links_of graph).outputs e)) (all_inputs graph flags false files regs ++ all_inputs graph flags true files recs)
+          (of_outputs (outputs_in store may.recorded set may.paths)) (of_inputs (regs_in store may.recorded set may.paths) (recs_in store may.recorded set may.paths))
+          ∙ same_reason command.act (edge_at (declared_by graph).edges (suc e)).act (sym (ap (λ (edge : Edge). edge.act) edge_is)) command.restat (edge_at (declared_by graph).edges (suc e)).restat
+            (sym (ap (λ (edge : Edge). edge.restat) edge_is)) command.deps (edge_at (declared_by graph).edges (suc e)).deps (sym (ap (λ (edge : Edge). edge.deps) edge_is)) depfile
+            (is_some (file_at old (edge_at (declared_by graph).edges (suc e)).act.depfile)) no_depfile (map (output_at graph.manifest.paths rs files) ((links_of graph).outputs e))
+            (texts_at graph.manifest.paths ((links_of graph).outputs e)) (outputs (edge_at (declared_by graph).edges (suc e))) (stands.outputs_are e) (output_facts store old) (alike rs flags store ran old files set may)
+            (all_inputs graph flags false files regs ++ all_inputs graph flags true files recs)
+            (map (input_facts (declared_by graph).edges ran old files) (texts_at graph.manifest.paths (both files))) (all_are rs flags store ran old files set may);
+    }

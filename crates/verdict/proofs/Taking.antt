@@ -120,11 +120,18 @@ module _ (tells : Bool) (graph : Graph) (a b c : World) (one two : Looks) (follo
       (takes_then flags always (flat_map of_edge (take k xs)) (of_edge (get_or xs k d)) zero old new so then)
 
   -- what is read, then what is recorded
-  pub has_inputs : (flags : List Bool) (of_edge : ℕ → List ℕ) (ns ms : List ℕ) (none read all : Inputs) → AreInputs [] none
+  pub has_inputs : (flags : List Bool) (ns ms : List ℕ) (none read all : Inputs) → AreInputs [] none
       → IfKept tells graph.manifest.paths a b one.seen.items (TakesAll graph flags false ns none read)
       → IfKept tells graph.manifest.paths b c two.seen.items (TakesAll graph flags true ms read all)
       → IfKept tells graph.manifest.paths a c one.seen.items (λ set files. AreIn set graph.manifest.paths ns → AreIn set graph.manifest.paths ms → AreInputs (all_inputs graph flags false files ns ++ all_inputs graph flags true files ms) all)
-  has_inputs flags of_edge ns ms none read all of_none so then told set kept seen in_ns in_ms =
+  has_inputs flags ns ms none read all of_none so then told set kept seen in_ns in_ms =
       let now = between told set kept seen in
       subst (λ (l : List InputFacts). AreInputs (l ++ all_inputs graph flags true c.history ms) all) (inputs_stay graph flags false set b.history c.history now.3 ns in_ns)
       (then told set now.1 now.2 in_ms (all_inputs graph flags false b.history ns) (so told set now.0 seen in_ns [] of_none))
+
+  -- outputs that were taken in by the first call, and what the second one leaves
+  pub with_outputs : (act : Act) (rs : List Record) (ns : List ℕ) (outputs : Outputs) (So : (List ℕ → Bool) → List Moment → Type 0) → IfKept tells graph.manifest.paths a b one.seen.items (HasOutputs graph act rs ns outputs)
+      → IfKept tells graph.manifest.paths b c two.seen.items So → IfKept tells graph.manifest.paths a c one.seen.items (λ set files. HasOutputs graph act rs ns outputs set files × So set files)
+  with_outputs act rs ns outputs So so then told set kept seen =
+      let now = between told set kept seen in
+      (outputs_later act rs ns outputs so told set kept seen, then told set now.1 now.2)
