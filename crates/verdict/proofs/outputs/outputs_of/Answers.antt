@@ -1,14 +1,21 @@
 use Rattle.std.proofs.Common.{◌≡◌, ◌<◌, ◌∙◌, ℕ, List, Option, None, length, take, sym, ap, subst, arith}
 use Rattle.std.proofs.lemmas.List.{take_all}
 use Rattle.model.specs.Records.{Made, in_force}
-use Rattle.build_theory.proofs.Calls.{unrefused_call, unrefused_then}
+use Rattle.build_theory.proofs.Calls.{unrefused_none, unrefused_call, unrefused_then}
 use Rattle.paths.specs.Told.{text_at}
 use Rattle.looks.specs.Seen.{IfKept, IsStampIn}
 use Rattle.dirty.specs.Summaries.{TakesOutput}
 use Rattle.verdict.specs.Facts.{HasOutputs}
 use Rattle.verdict.proofs.Reasons.{at_has}
-use Rattle.verdict.proofs.Taking.{outputs_more}
+use Rattle.verdict.proofs.Taking.{looked_none, outputs_more}
 use Rattle.verdict.proofs.outputs.outputs_of.Goals as goal
+
+pub loop-path-init : goal.loop-path-init
+loop-path-init g c = record {
+  looked = looked_none g.S.Texts.tells c.args.graph.now (g.S.Texts.world c.args.site.now) c.args.looks.now;
+  unrefused = unrefused_none (g.S.Texts.world c.args.site.now) c.requires.running;
+  outputs = λ rs of told set kept seen within. c.new-outputs.ensures c.args.act.now;
+}
 
 pub stamp_of-requires-clause-within : goal.stamp_of-requires-clause-within
 stamp_of-requires-clause-within g c =
