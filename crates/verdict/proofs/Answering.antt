@@ -1,8 +1,8 @@
 -- The facts that were taken in give the answer for an edge.
-use Rattle.std.proofs.Common.{◌≡◌, ◌⊎◌, ◌↔◌, inl, inr, ℕ, suc, ◌<◌, ◌||◌, not, Bool, true, false, List, [], ◌∷◌, ◌++◌, Option, Some, None, IsSome, map, length, refl, sym, ◌∙◌, ap, subst}
+use Rattle.std.proofs.Common.{◌≡◌, ◌⊎◌, inl, inr, ℕ, suc, ◌<◌, not, Bool, true, false, List, [], ◌++◌, Option, Some, None, IsSome, map, length, refl, sym, ◌∙◌, ap, subst}
 use Rattle.std.specs.Prelude.{is_some}
 use Rattle.std.specs.List.{flat_map}
-use Rattle.std.proofs.lemmas.Bool.{false≢true, or_cases, or_left, or_right, cases_Bool}
+use Rattle.std.proofs.lemmas.Bool.{false≢true, or_cases, or_left, or_right}
 use Rattle.std.proofs.lemmas.List.{map-append}
 use Rattle.model.specs.declared.act.Act.{Act}
 use Rattle.model.specs.declared.graph.Deps.{Deps}
@@ -12,8 +12,7 @@ use Rattle.model.specs.declared.event.Moment.{Moment}
 use Rattle.model.specs.declared.record.Record.{Record}
 use Rattle.model.specs.World.{File, file_at, stamp_of, content_of, view_of}
 use Rattle.model.specs.Graph.{has, has_number, edge_at, outputs}
-use Rattle.model.specs.Reading.{IsRead}
-use Rattle.model.specs.Records.{Store, recorded_inputs}
+use Rattle.model.specs.Records.{Store}
 use Rattle.model.specs.OutOfDate.{Counted, ListsCounted, output_facts, input_facts}
 use Rattle.model.specs.Judgement.{OutputFacts, InputFacts, Facts as AllFacts, reason_of}
 use Rattle.build_theory.proofs.Lists.{has_number-left, has_number-right, has_number-cases}
@@ -25,8 +24,8 @@ use Rattle.links.specs.declared.graph.Graph.{Graph}
 use Rattle.links.specs.Linked.{StandFor}
 use Rattle.links.specs.Links.{links_of}
 use Rattle.links.specs.Alias.{counts_if_present}
-use Rattle.links.specs.ReadingOf.{IsReadingOf, IsCountedIn}
-use Rattle.links.specs.Told.{declared_by, recorded_by}
+use Rattle.links.specs.ReadingOf.{IsReadingOf}
+use Rattle.links.specs.Told.{declared_by}
 use Rattle.dirty.specs.declared.inputs.Inputs.{Inputs}
 use Rattle.dirty.specs.declared.outputs.Outputs.{Outputs}
 use Rattle.dirty.specs.Summaries.{AreOutputs, AreInputs}

@@ -1,9 +1,8 @@
 -- The reason by numbers is the reason in the words of paths.
-use Rattle.std.proofs.Common.{◌≡◌, ◌⊎◌, inl, inr, ℕ, suc, ◌<◌, ◌==◌, ◌&&◌, ◌||◌, not, cond, Bool, true, false, List, [], ◌∷◌, ◌++◌, Option, Some, None, map, bytes_eq, length, get_or, zero, arith, refl, sym, ◌∙◌, ap, subst}
+use Rattle.std.proofs.Common.{◌≡◌, inl, inr, ℕ, suc, ◌<◌, ◌==◌, ◌&&◌, ◌||◌, not, cond, Bool, true, false, List, [], ◌∷◌, ◌++◌, Option, Some, map, bytes_eq, length, get_or, zero, arith, refl, sym, ◌∙◌, ap, subst}
 use Rattle.std.specs.Prelude.{find, is_some, is_none}
-use Rattle.std.specs.List.{flat_map, list_any, AllByRecursion}
-use Rattle.std.proofs.lemmas.Bool.{false≢true, eqb-true, eq-eqb, or_cases, or_left, or_right, cases_Bool}
-use Rattle.std.proofs.lemmas.List.{map-append}
+use Rattle.std.specs.List.{flat_map, list_any}
+use Rattle.std.proofs.lemmas.Bool.{false≢true, eqb-true, eq-eqb, or_cases, or_left, or_right}
 use Rattle.model.specs.declared.act.Act.{Act}
 use Rattle.model.specs.declared.graph.Deps.{Deps}
 use Rattle.model.specs.declared.reason.Reason.{Reason}
@@ -11,7 +10,7 @@ use Rattle.model.specs.declared.reason.Reason.TheVariants.{OutputAbsent, NoRecor
 use Rattle.model.specs.declared.event.Moment.{Moment}
 use Rattle.model.specs.declared.graph.Edge.{Edge}
 use Rattle.model.specs.declared.record.Record.{Record}
-use Rattle.model.specs.World.{File, file_at, stamp_of, content_of}
+use Rattle.model.specs.World.{file_at, stamp_of}
 use Rattle.model.specs.Graph.{has, has_number}
 use Rattle.model.specs.Records.{Store, Made, in_force}
 use Rattle.model.specs.OutOfDate.{output_facts, input_facts}
@@ -21,7 +20,7 @@ use Rattle.paths.specs.Told.{text_at, texts_at}
 use Rattle.links.specs.declared.graph.Graph.{Graph}
 use Rattle.links.specs.Links.{links_of}
 use Rattle.links.specs.Alias.{counts_if_present}
-use Rattle.verdict.specs.Facts.{flag_at, output_at, stamp_at, one_input, all_inputs, AreIn}
+use Rattle.verdict.specs.Facts.{flag_at, output_at, stamp_at, all_inputs, AreIn}
 
 -- ---- deps records count for nothing without a depfile
 

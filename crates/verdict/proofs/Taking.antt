@@ -1,6 +1,6 @@
 -- What is taken in, one path after another, while others write.
 use Rattle.std.proofs.Common.{◌≡◌, ℕ, ◌+◌, ◌<◌, Bool, true, false, IsTrue, List, [], ◌∷◌, ◌++◌, Option, None, map, length, take, get_or, refl, sym, ◌∙◌, ap, subst, append_assoc}
-use Rattle.std.specs.List.{flat_map, AllByRecursion}
+use Rattle.std.specs.List.{flat_map}
 use Rattle.std.proofs.lemmas.List.{append-nil, take_more, map-append}
 use Rattle.std.proofs.lemmas.Grind.{flat_map-append}
 use Rattle.model.specs.declared.act.Act.{Act}
@@ -20,7 +20,7 @@ use Rattle.looks.specs.Looking.{HasLooked, LooksFollow, FilesStay}
 use Rattle.dirty.specs.declared.inputs.Inputs.{Inputs}
 use Rattle.dirty.specs.declared.outputs.Outputs.{Outputs}
 use Rattle.dirty.specs.Summaries.{AreOutputs, AreInputs, TakesOutput}
-use Rattle.verdict.specs.Facts.{output_at, stamp_at, one_input, all_inputs, AreIn, HasOutputs, TakesOne, TakesAll, HasInputs}
+use Rattle.verdict.specs.Facts.{output_at, stamp_at, one_input, all_inputs, AreIn, HasOutputs, TakesOne, TakesAll}
 
 pub looked_none : (tells : Bool) (graph : Graph) (w : World) (looks : Looks) → HasLooked tells graph w w looks looks
 looked_none tells graph w looks = record { looks = looks_none tells w; fits = refl; seen = λ told set kept seen. seen }

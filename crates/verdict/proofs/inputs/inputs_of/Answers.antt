@@ -1,4 +1,4 @@
-use Rattle.std.proofs.Common.{◌∙◌, List, ℕ, false, true, length, subst}
+use Rattle.std.proofs.Common.{List, ℕ, true, length, subst}
 use Rattle.std.specs.List.{flat_map}
 use Rattle.links.specs.Links.{links_of}
 use Rattle.links.specs.ReadingOf.{edges_in}

@@ -1,4 +1,4 @@
-use Rattle.std.proofs.Common.{◌≡◌, ◌<◌, ◌∙◌, ℕ, List, Option, None, length, take, sym, ap, subst, arith}
+use Rattle.std.proofs.Common.{◌<◌, ◌∙◌, ℕ, List, Option, None, length, sym, ap, subst, arith}
 use Rattle.std.proofs.lemmas.List.{take_all}
 use Rattle.model.specs.Records.{Made, in_force}
 use Rattle.build_theory.proofs.Calls.{unrefused_none, unrefused_call, unrefused_then}
