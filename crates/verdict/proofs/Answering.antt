@@ -35,10 +35,10 @@ use Rattle.verdict.proofs.Reasons.{Alike, reason_same, outputs_alike, takes, tak
 
 there : (file : Option File) → is_some (stamp_of file) ≡ true → IsSome (content_of file)
 there None is = absurd (false≢true is)
-there (Some file) is = tt
+there (Some file) is = refl
 
 stamped : (file : Option File) → IsSome (content_of file) → is_some (stamp_of file) ≡ true
-stamped None is = absurd is
+stamped None is = absurd (false≢true is)
 stamped (Some file) is = refl
 
 not_true : (b : Bool) → not b ≡ true → b ≡ false
@@ -143,7 +143,7 @@ module _ (graph : Graph) (stands : StandFor (declared_by graph).edges graph.mani
         (λ n h.
         let at = flat_has (links_of graph).regular es n h in
         has_paths.read (text_at graph.manifest.paths n)
-        ((reading.read everything (text_at graph.manifest.paths n)).1 (record { edge = at.0; listed = at.1; path = n; input = at.2; text = refl; counts = inr tt })))
+        ((reading.read everything (text_at graph.manifest.paths n)).1 (record { edge = at.0; listed = at.1; path = n; input = at.2; text = refl; counts = inr refl })))
 
     recs_in : AreIn set graph.manifest.paths recs
     recs_in = are_in set graph.manifest.paths recs (λ n h. has_paths.recorded (text_at graph.manifest.paths n) (in_use (text_at graph.manifest.paths n) ∙ has_text graph.manifest.paths recs n h))

@@ -24,7 +24,7 @@ use Rattle.verdict.specs.Facts.{flag_at, output_at, stamp_at, all_inputs, AreIn}
 
 -- ---- deps records count for nothing without a depfile
 
-abbrev Alike : List OutputFacts → List OutputFacts → Type 0
+abbrev pub Alike : List OutputFacts → List OutputFacts → Type 0
 Alike [] [] = Unit {0}
 Alike [] (y ∷ ys) = ⊥
 Alike (x ∷ xs) [] = ⊥
