@@ -193,9 +193,9 @@ module _ (graph : Graph) (stands : StandFor (declared_by graph).edges graph.mani
           judged (map (output_at graph.manifest.paths rs files) ((links_of graph).outputs e)) (all_inputs graph flags false files regs ++ all_inputs graph flags true files recs)
           (of_outputs (outputs_in store may.recorded set may.paths)) (of_inputs (regs_in store may.recorded set may.paths) (recs_in store may.recorded set may.paths))
           ∙ same_reason command.act (edge_at (declared_by graph).edges (suc e)).act (sym (ap (λ (edge : Edge). edge.act) edge_is)) command.restat (edge_at (declared_by graph).edges (suc e)).restat
-            (sym (ap (λ (edge : Edge). edge.restat) edge_is)) command.deps (edge_at (declared_by graph).edges (suc e)).deps (sym (ap (λ (edge : Edge). edge.deps) edge_is)) depfile
-            (is_some (file_at old (edge_at (declared_by graph).edges (suc e)).act.depfile)) no_depfile (map (output_at graph.manifest.paths rs files) ((links_of graph).outputs e))
-            (texts_at graph.manifest.paths ((links_of graph).outputs e)) (outputs (edge_at (declared_by graph).edges (suc e))) (stands.outputs_are e) (output_facts store old) (alike rs flags store ran old files set may)
-            (all_inputs graph flags false files regs ++ all_inputs graph flags true files recs)
-            (map (input_facts (declared_by graph).edges ran old files) (texts_at graph.manifest.paths (both files))) (all_are rs flags store ran old files set may);
+          (sym (ap (λ (edge : Edge). edge.restat) edge_is)) command.deps (edge_at (declared_by graph).edges (suc e)).deps (sym (ap (λ (edge : Edge). edge.deps) edge_is)) depfile
+          (is_some (file_at old (edge_at (declared_by graph).edges (suc e)).act.depfile)) no_depfile (map (output_at graph.manifest.paths rs files) ((links_of graph).outputs e))
+          (texts_at graph.manifest.paths ((links_of graph).outputs e)) (outputs (edge_at (declared_by graph).edges (suc e))) (stands.outputs_are e) (output_facts store old) (alike rs flags store ran old files set may)
+          (all_inputs graph flags false files regs ++ all_inputs graph flags true files recs)
+          (map (input_facts (declared_by graph).edges ran old files) (texts_at graph.manifest.paths (both files))) (all_are rs flags store ran old files set may);
     }

@@ -33,8 +33,8 @@ returns-clause-reason g c rs of told set kept seen =
     let act = c.command_of-command.result.now.act in
     let taken = c.in_ok-inputs.ensures.inputs in
     let both = with_outputs tells graph a b d c.args.looks.now c.outputs_of.new.looks (c.looks_follow.ensures.follow tells a b d) (c.looks_follow.ensures.stay tells b d) c.outputs_of.ensures.looked c.inputs_of.ensures.looked.looks
-        act rs ((links_of graph).outputs c.args.edge) c.in_ok-outputs.outputs (HasInputs graph c.args.changed.now taken.edges c.args.edge c.in_ok-inputs.inputs)
-        (subst (λ (l : List ℕ). IfKept tells graph.manifest.paths a b c.args.looks.now.seen.items (HasOutputs graph act rs l c.in_ok-outputs.outputs)) c.outputs.ensures (c.in_ok-outputs.ensures.outputs rs of))
-        taken.all told set kept seen in
+    act rs ((links_of graph).outputs c.args.edge) c.in_ok-outputs.outputs (HasInputs graph c.args.changed.now taken.edges c.args.edge c.in_ok-inputs.inputs)
+    (subst (λ (l : List ℕ). IfKept tells graph.manifest.paths a b c.args.looks.now.seen.items (HasOutputs graph act rs l c.in_ok-outputs.outputs)) c.outputs.ensures (c.in_ok-outputs.ensures.outputs rs of))
+    taken.all told set kept seen in
     is_answer graph c.lists_stand.ensures c.args.edge taken.edges taken.reading (line_at graph.manifest.lines c.args.edge) c.command_of-command.result.now c.command_of-command.ensures c.requires.depfile rs c.args.changed.now
     c.in_ok-outputs.outputs c.in_ok-inputs.inputs false c.judge.result set d.history both.0 both.1 c.judge.ensures
