@@ -9,7 +9,7 @@ use Rattle.model.specs.Records.{in_force}
 use Rattle.model.specs.Judgement.{OutputFacts, InputFacts}
 use Rattle.paths.specs.Told.{text_at}
 use Rattle.links.specs.declared.graph.Graph.{Graph}
-use Rattle.links.specs.Links.{Links, links_of}
+use Rattle.links.specs.Links.{links_of}
 use Rattle.links.specs.Alias.{counts_if_present}
 use Rattle.links.specs.ReadingOf.{IsReadingOf}
 use Rattle.looks.specs.declared.table.Look.{Look}

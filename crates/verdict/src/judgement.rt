@@ -4,6 +4,8 @@ ghost use Rattle.std.specs.Prelude.{◌≡◌, ◌<◌, List, IfOk, [], false, s
 ghost use Rattle.model.specs.declared.record.Record.{Record};
 ghost use Rattle.model.specs.Calls.{HasCause};
 ghost use Rattle.model.specs.Graph.{edge_at};
+ghost use Rattle.paths.specs.Lists.{line_at};
+ghost use Rattle.paths.specs.Told.{edge_of};
 ghost use Rattle.links.specs.Told.{declared_by};
 ghost use Rattle.links.specs.Links.{links_of};
 ghost use Rattle.looks.specs.Looking.{HasLooked};
@@ -17,7 +19,7 @@ use dirty::{Facts, judge};
 use links::{Graph, lists_stand, numbers_stand};
 use looks::{Looks, looks_follow};
 use model::{Reason, SiteFault};
-use paths::{Action, EdgeId};
+use paths::{Action, Command, EdgeId};
 use records::Records;
 use site::Site;
 use std::alloc::Global;
@@ -49,11 +51,15 @@ pub fn reason<S: Site>(
 {
     looks_follow();
     lists_stand(graph);
-    numbers_stand(graph);
-    let Action::Command(command) = graph.manifest.action(edge) else {
-        return Ok(None);
-    };
-    let outputs = outputs_of(site, graph, looks, records, &command.act, graph.outputs(edge))?;
+    let command = command_of(graph, edge);
+    let outputs = outputs_of(
+        site,
+        graph,
+        looks,
+        records,
+        &command.act,
+        graph.outputs(edge),
+    )?;
     let inputs = inputs_of(alloc, site, graph, looks, changed, edge)?;
     Ok(judge(&Facts {
         act: &command.act,
@@ -63,4 +69,17 @@ pub fn reason<S: Site>(
         outputs,
         inputs,
     }))
+}
+
+/// What the edge does.
+fn command_of(graph: &Graph, edge: EdgeId) -> &Command
+    requires within { edge < length graph.now.manifest.lines }
+    requires command { (links_of graph.now).phony edge ≡ false }
+    ensures { edge_at (declared_by graph.now).edges (suc edge) ≡ edge_of graph.now.manifest.paths (line_at graph.now.manifest.lines edge) (Action.Command result.now) }
+{
+    numbers_stand(graph);
+    match graph.manifest.action(edge) {
+        Action::Alias => unreachable!(),
+        Action::Command(command) => command,
+    }
 }
