@@ -1,5 +1,5 @@
 -- An append behind a log that was made usable first.
-use Rattle.std.proofs.Common.{◌≡◌, ℕ, Bool, List, Option, sym, subst}
+use Rattle.std.proofs.Common.{◌≡◌, ℕ, Bool, List, Option, subst}
 use Rattle.model.specs.declared.graph.Edge.{Edge}
 use Rattle.model.specs.declared.record.Record.{Record}
 use Rattle.model.specs.World.{World}
@@ -12,10 +12,10 @@ use Rattle.build_log.specs.Form.{IsLineOf}
 use Rattle.build_log.specs.Laws.{LineGrowsLog, FrontOfLines}
 use Rattle.build_log.specs.Record.{forms}
 use Rattle.log_theory.specs.Writes.{WritesAt}
+use Rattle.log_theory.proofs.Writing.{then_at}
 use Rattle.records.specs.declared.file.State.TheVariants.{Usable}
 use Rattle.records.specs.Held.{Held, IsSameLog}
 use Rattle.records.specs.Logging.{IsLoggedStill, IsLogging, MayStand, EndsWith}
-use Rattle.records.proofs.Writing.{writes_then}
 use Rattle.records.proofs.Carrying.{appended, appended_last, appended_or_not}
 
 module _ (tells : Bool) (B : Behaviour) (format : LogFormat) (own : OwnFiles) (edges : List Edge) (steps : List Step) (hand : Option ℕ) (entry : Store) (first old mid new : World) (a b : Held)
@@ -23,7 +23,7 @@ module _ (tells : Bool) (B : Behaviour) (format : LogFormat) (own : OwnFiles) (e
     (grows_log : LineGrowsLog forms) (front : FrontOfLines forms) (r : Record) (line : List ℕ) (is_line : IsLineOf (forms Two) r line) where
   -- what may stand behind the log before it was made usable may so afterwards
   may_later : (next : Option ℕ) → MayStand tells B edges steps hand next entry first old a.path r → MayStand tells B edges steps hand next entry first mid b.path r
-  may_later next may later tell w store logged = may later tell (writes_then tells a.path old mid later writes (subst (λ (p : List ℕ). WritesAt tells p mid later) same.path w)) store logged
+  may_later next may later tell w store logged = may later tell (then_at tells a.path old mid later writes (subst (λ (p : List ℕ). WritesAt tells p mid later) same.path w)) store logged
 
   pub append_ok : (next : Option ℕ) → MayStand tells B edges steps hand next entry first old a.path r → Appends tells b.path line mid new
       → IsLogging tells B format own edges steps next entry first new b × EndsWith tells format own edges first new r

@@ -1,25 +1,22 @@
 -- What a run carries of its log: how it begins, and how it goes on over calls that leave the log alone.
-use Rattle.std.proofs.Common.{◌≡◌, ◌≢◌, ◌⊎◌, inl, inr, ℕ, Bool, true, false, IsTrue, List, [], ◌∷◌, ◌++◌, Option, Some, None, bytes_eq, refl, sym, ◌∙◌, ap, subst, append_assoc}
+use Rattle.std.proofs.Common.{◌≡◌, ◌≢◌, inl, inr, ℕ, Bool, true, IsTrue, List, [], ◌∷◌, ◌++◌, Option, Some, None, refl, sym, ◌∙◌, ap, subst, append_assoc}
 use Rattle.std.specs.List.{AllByRecursion}
 use Rattle.std.proofs.lemmas.List.{append-nil}
-use Rattle.std.proofs.lemmas.Bool.{false≢true, false_from_ne_true}
-use Rattle.model.specs.declared.act.Act.{Act}
+use Rattle.std.proofs.lemmas.Bool.{false≢true}
 use Rattle.model.specs.declared.event.Event.{Event}
 use Rattle.model.specs.declared.event.Event.TheVariants.{Start, Finish}
 use Rattle.model.specs.declared.event.Moment.{Moment}
-use Rattle.model.specs.declared.event.Moment.TheVariants.{Wrote, Happened}
-use Rattle.model.specs.declared.event.Writer.TheVariants.{Program, Command, Someone}
+use Rattle.model.specs.declared.event.Moment.TheVariants.{Happened}
 use Rattle.model.specs.declared.graph.Edge.{Edge}
 use Rattle.model.specs.declared.record.Record.{Record}
 use Rattle.model.specs.World.{World, file_at, content_of, view_of, runs, IsRunning, IsIdle}
-use Rattle.model.specs.Calls.{Adds, OnlyLooks, Sees, Starts, Finishes}
-use Rattle.model.specs.Graph.{has, edge_at, outputs, IsCommand}
+use Rattle.model.specs.Calls.{AllByOthers, Adds, OnlyLooks, Sees}
+use Rattle.model.specs.Graph.{IsCommand}
 use Rattle.model.specs.Outcome.{Behaviour}
 use Rattle.model.specs.Records.{OwnFiles, LogFormat, Store, store_in, read_log}
 use Rattle.model.specs.Schedule.{Step}
 use Rattle.model.specs.Premises.{FilesAreKept, IsWithinEdge, IsNoEdit}
 use Rattle.build_theory.proofs.Calls.{looks_then}
-use Rattle.build_theory.proofs.Lists.{same_bytes}
 use Rattle.build_theory.proofs.Files.{IsElsewhere, file_stays}
 use Rattle.build_theory.proofs.Looks.{kept_before, looks_keep, sees_so}
 use Rattle.build_theory.proofs.Starting.{since}
@@ -28,14 +25,13 @@ use Rattle.build_log.specs.Record.{forms, first_line}
 use Rattle.build_log.specs.Form.{lines_text}
 use Rattle.build_log.specs.Log.{IsLog}
 use Rattle.log_theory.specs.Logged.{IsLoggedAt}
-use Rattle.log_theory.specs.Writes.{WritesAt, GrewAt, IsAtOrByOthers}
-use Rattle.log_theory.proofs.Calls.{log_stays_at, entry_logged, looks_logged}
-use Rattle.log_theory.proofs.Edits.{log_apart}
+use Rattle.log_theory.proofs.Calls.{log_elsewhere, log_stays_at, entry_logged, looks_logged}
+use Rattle.log_theory.proofs.Writing.{at_elsewhere}
 use Rattle.records.specs.declared.file.State.{State}
 use Rattle.records.specs.declared.file.State.TheVariants.{Usable, Stale}
-use Rattle.records.specs.Held.{Held, text_in, AreRecordsIn, MayBeAppendedTo, IsReadFrom, ReadsRecords}
-use Rattle.records.specs.Logging.{HoldsStill, IsLoggedStill, IsHeldStill, IsLogging}
-use Rattle.records.specs.Laws.{AreOfEntry, LogBegins, LeavesTheLog, LogStays}
+use Rattle.records.specs.Held.{Held, text_in, IsReadFrom, ReadsRecords}
+use Rattle.records.specs.Logging.{HoldsStill, IsLogging}
+use Rattle.records.specs.Laws.{LogBegins, LeavesTheLog, LogStays}
 use Rattle.records.proofs.Told.{records_told}
 
 -- ---- the entry
@@ -120,25 +116,14 @@ log_begins_so tells B format own edges first before after now file content rs id
 
 -- ---- calls that leave the log alone
 
-others_elsewhere : (own : OwnFiles) (edges : List Edge) (path log : List ℕ) (running : ℕ → Type 0) → path ≢ log
-    → ((job : ℕ) → running job → (p : List ℕ) → (p ≡ log) → IsWithinEdge edges (Wrote (Command job) p None 0) → ⊥)
-    → (ms : List Moment) → AllByRecursion (IsAtOrByOthers path running) ms → AllByRecursion (IsWithinEdge edges) ms → AllByRecursion IsNoEdit ms → AllByRecursion (IsElsewhere log) ms
-others_elsewhere own edges path log running other apart [] at within edits = tt
-others_elsewhere own edges path log running other apart (Wrote Program p content stamp ∷ ms) at within edits =
-    (false_from_ne_true (bytes_eq p log) (λ same. other (sym at.0 ∙ same_bytes p log same)), others_elsewhere own edges path log running other apart ms at.1 within.1 edits.1)
-others_elsewhere own edges path log running other apart (Wrote (Command job) p content stamp ∷ ms) at within edits =
-    (false_from_ne_true (bytes_eq p log) (λ same. apart job at.0 p (same_bytes p log same) within.0), others_elsewhere own edges path log running other apart ms at.1 within.1 edits.1)
-others_elsewhere own edges path log running other apart (Wrote Someone p content stamp ∷ ms) at within edits = absurd edits.0
-others_elsewhere own edges path log running other apart (Happened event ∷ ms) at within edits = absurd at.0
-
 -- the history grew
 abbrev Grew : World → World → Type 0
 Grew now new = (more : List Moment) × (new.history ≡ now.history ++ more)
 
-grew : (tells : Bool) (own : OwnFiles) (now new : World) → IsTrue tells → LeavesTheLog tells own now new → Grew now new
-grew tells own now new tell (inl (path, other, writes)) = let call = writes.history tell in (call.more, call.grows)
-grew tells own now new tell (inr (inl (i, act, starts))) = let adds = starts.history tell in (adds.earlier ++ Happened (Start i act now.ticked) ∷ adds.later, adds.grows)
-grew tells own now new tell (inr (inr (i, ok, finishes))) = let adds = finishes.history tell in (adds.earlier ++ Happened (Finish i ok) ∷ adds.later, adds.grows)
+grew : (tells : Bool) (own : OwnFiles) (edges : List Edge) (first now new : World) → IsTrue tells → LeavesTheLog tells own edges first now new → Grew now new
+grew tells own edges first now new tell (inl writes) = let call = writes.history tell in (call.more, call.grows)
+grew tells own edges first now new tell (inr (inl (i, act, starts))) = let adds = starts.history tell in (adds.earlier ++ Happened (Start i act now.ticked) ∷ adds.later, adds.grows)
+grew tells own edges first now new tell (inr (inr (i, ok, finishes))) = let adds = finishes.history tell in (adds.earlier ++ Happened (Finish i ok) ∷ adds.later, adds.grows)
 
 module _ (tells : Bool) (B : Behaviour) (format : LogFormat) (own : OwnFiles) (edges : List Edge) (steps : List Step) (hand : Option ℕ) (entry : Store) (first now new : World) (file : Held)
     (l : IsLogging tells B format own edges steps hand entry first now file) (commands : (job : ℕ) → runs job new.events ≡ true → IsCommand edges job)
@@ -149,28 +134,27 @@ module _ (tells : Bool) (B : Behaviour) (format : LogFormat) (own : OwnFiles) (e
   edits : (ms : List Moment) → new.history ≡ now.history ++ ms → AllByRecursion IsNoEdit ms
   edits ms grows = since IsNoEdit first.history (l.grows tell).0 now.history ms new.history (l.grows tell).1 grows kept.edits
 
-  log_left : (job : ℕ) → runs job now.events ≡ true → (p : List ℕ) → p ≡ own.build_log → IsWithinEdge edges (Wrote (Command job) p None 0) → ⊥
-  log_left job is p same (inl makes) =
-      (log_apart own edges own.build_log kept.own_files kept.own_files.build_log job (l.commands job is)).0 (subst (λ (q : List ℕ). has (outputs (edge_at edges job)) q ≡ true) same makes)
-  log_left job is p same (inr depfile) = (log_apart own edges own.build_log kept.own_files kept.own_files.build_log job (l.commands job is)).1 (sym same ∙ depfile)
-
   happened_stays : (event : Event) → Adds (IsRunning now.events) (IsRunning new.events) (Happened event) now.history new.history → view_of new.history own.build_log ≡ view_of now.history own.build_log
   happened_stays event adds =
       let ms = adds.earlier ++ Happened event ∷ adds.later in
       ap content_of (log_stays_at own edges kept.own_files own.build_log kept.own_files.build_log (IsRunning now.events) (IsRunning new.events) l.commands commands (Happened event) now.history new.history tt adds
       (within ms adds.grows) (edits ms adds.grows))
 
-  view_stays : LeavesTheLog tells own now new → view_of new.history own.build_log ≡ view_of now.history own.build_log
-  view_stays (inl (path, other, writes)) =
+  -- where others write, the log is not
+  theirs : (ms : List Moment) → AllByOthers (IsRunning now.events) ms → AllByRecursion (IsWithinEdge edges) ms → AllByRecursion IsNoEdit ms → AllByRecursion (IsElsewhere own.build_log) ms
+  theirs ms all w e = log_elsewhere own edges kept.own_files own.build_log kept.own_files.build_log (IsRunning now.events) l.commands ms all w e
+
+  view_stays : LeavesTheLog tells own edges first now new → view_of new.history own.build_log ≡ view_of now.history own.build_log
+  view_stays (inl writes) =
       let call = writes.history tell in
       ap content_of (ap (λ (h : List Moment). file_at h own.build_log) call.grows
-      ∙ file_stays own.build_log now.history call.more (others_elsewhere own edges path own.build_log (IsRunning now.events) other log_left call.more call.all (within call.more call.grows) (edits call.more call.grows)))
+      ∙ file_stays own.build_log now.history call.more (at_elsewhere edges (IsRunning now.events) writes.path own.build_log (writes.other tell kept) theirs call.more call.all (within call.more call.grows) (edits call.more call.grows)))
   view_stays (inr (inl (i, act, starts))) = happened_stays (Start i act now.ticked) (starts.history tell)
   view_stays (inr (inr (i, ok, finishes))) = happened_stays (Finish i ok) (finishes.history tell)
 
-  pub held_stays : LeavesTheLog tells own now new → HoldsStill file.state file.log (view_of new.history own.build_log)
+  pub held_stays : LeavesTheLog tells own edges first now new → HoldsStill file.state file.log (view_of new.history own.build_log)
   held_stays leaves =
-      let g = grew tells own now new tell leaves in
+      let g = grew tells own edges first now new tell leaves in
       subst (λ (c : Option (List ℕ)). HoldsStill file.state file.log c) (sym (view_stays leaves)) (l.held tell (kept_before own edges first.history now.history new.history g.0 g.1 kept))
 
 pub log_stays_so : LogStays
@@ -181,7 +165,7 @@ log_stays_so tells B format own edges steps many hand next entry first now new f
   commands = commands;
   grows = λ tell.
       let was = l.grows tell in
-      let call = grew tells own now new tell leaves in
+      let call = grew tells own edges first now new tell leaves in
       (was.0 ++ call.0, call.1 ∙ (ap (λ (h : List Moment). h ++ call.0) was.1 ∙ append_assoc first.history was.0 call.0));
   held = λ tell kept. held_stays tells B format own edges steps hand entry first now new file l commands tell kept leaves;
   logged = logged;

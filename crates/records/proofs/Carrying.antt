@@ -1,24 +1,19 @@
 -- What a run carries of its build log, call by call.
-use Rattle.std.proofs.Common.{◌≡◌, ◌≢◌, ◌⊎◌, inl, inr, ℕ, Bool, true, false, IsTrue, List, [], ◌∷◌, ◌++◌, Option, Some, None, bytes_eq, refl, sym, ◌∙◌, ap, subst, append_assoc}
+use Rattle.std.proofs.Common.{◌≡◌, ◌⊎◌, inl, inr, ℕ, Bool, true, IsTrue, List, [], ◌∷◌, ◌++◌, Option, Some, None, refl, sym, ◌∙◌, ap, subst, append_assoc}
 use Rattle.std.specs.List.{AllByRecursion}
-use Rattle.std.proofs.lemmas.List.{append-nil}
-use Rattle.std.proofs.lemmas.Bool.{false≢true, false_from_ne_true}
-use Rattle.model.specs.declared.act.Act.{Act}
 use Rattle.model.specs.declared.event.Event.{Event}
-use Rattle.model.specs.declared.event.Event.TheVariants.{Start, Finish}
 use Rattle.model.specs.declared.event.Moment.{Moment}
-use Rattle.model.specs.declared.event.Moment.TheVariants.{Wrote, Happened}
-use Rattle.model.specs.declared.event.Writer.TheVariants.{Program, Command, Someone}
+use Rattle.model.specs.declared.event.Moment.TheVariants.{Wrote}
+use Rattle.model.specs.declared.event.Writer.TheVariants.{Program}
 use Rattle.model.specs.declared.graph.Edge.{Edge}
 use Rattle.model.specs.declared.record.Record.{Record}
 use Rattle.model.specs.World.{World, File, file_at, content_of, view_of, runs, IsRunning}
 use Rattle.model.specs.Calls.{Adds, Writes, WritesOrNot, Appends, AppendsOrNot, Extends, OnlyLooks, content_or_empty}
-use Rattle.model.specs.Graph.{IsCommand}
 use Rattle.model.specs.Outcome.{Behaviour}
 use Rattle.model.specs.Records.{OwnFiles, LogFormat, Store, store_in, read_log, in_force}
 use Rattle.model.specs.Schedule.{Step}
 use Rattle.model.specs.Premises.{FilesAreKept, IsWithinEdge, IsNoEdit}
-use Rattle.build_theory.proofs.Lists.{all_parts, same_bytes}
+use Rattle.build_theory.proofs.Lists.{all_parts}
 use Rattle.build_theory.proofs.Files.{IsElsewhere, file_stays}
 use Rattle.build_theory.proofs.Looks.{kept_before}
 use Rattle.build_theory.proofs.Starting.{since}
@@ -29,15 +24,15 @@ use Rattle.build_log.specs.Laws.{LineGrowsLog, FrontOfLines}
 use Rattle.build_log.specs.Record.{forms}
 use Rattle.build_log.specs.Log.{Keeps, IsLog, compaction, CompactionKeeps}
 use Rattle.log_theory.specs.Logged.{IsLogged, IsLoggedAt}
-use Rattle.log_theory.specs.Writes.{WritesAt, GrewAt}
+use Rattle.log_theory.specs.Writes.{WritesAt}
 use Rattle.log_theory.proofs.Calls.{log_elsewhere, log_written_at, looks_logged, build_log_logged}
+use Rattle.log_theory.proofs.Writing.{writes_at, appends_at}
 use Rattle.log_theory.proofs.Growing as growing
 use Rattle.records.specs.declared.file.State.{State}
 use Rattle.records.specs.declared.file.State.TheVariants.{Usable, Stale}
-use Rattle.records.specs.Held.{Held, AreRecordsIn, ReadsRecords, IsSameLog}
+use Rattle.records.specs.Held.{Held}
 use Rattle.records.specs.Logging.{HoldsStill, IsLoggedStill, IsHeldStill, IsLogging, MayStand, EndsWith}
 use Rattle.records.proofs.Told.{log_told, records_told, torn_told}
-use Rattle.records.proofs.Writing.{looks_at, writes_at, appends_at}
 
 held_content : (file : Option File) (text : List ℕ) → content_of file ≡ Some text → content_or_empty file ≡ text
 held_content None text is = absurd (cc)

@@ -1,4 +1,4 @@
-pub mod Writing
+pub mod Results
 pub mod Told
 pub mod Carrying
 pub mod Beginning
@@ -6,3 +6,5 @@ pub mod Standing
 pub mod Places
 pub mod States
 pub mod Appending
+pub mod Replacing
+pub mod Leaving

@@ -1,12 +1,11 @@
 -- The numbers of the records in force, path by path.
-use Rattle.std.proofs.Common.{◌≡◌, ◌⊎◌, inl, inr, ℕ, ◌+◌, ◌<◌, ◌==◌, Bool, true, false, List, [], ◌∷◌, ◌++◌, Option, Some, None, take, length, map, get_or, slice_get, refl, sym, ◌∙◌, ap, subst, arith}
+use Rattle.std.proofs.Common.{◌≡◌, inl, inr, ℕ, ◌+◌, ◌<◌, false, List, [], ◌∷◌, ◌++◌, Option, None, take, length, map, get_or, slice_get, unwrap_or, sym, ◌∙◌, ap, arith}
 use Rattle.std.specs.Option.{option_and_then}
 use Rattle.std.proofs.Math.Seq.{get_or-append_seam}
-use Rattle.std.proofs.lemmas.Option.{slice_get-get_or, get_or_from_slice_get}
+use Rattle.std.proofs.lemmas.Option.{slice_get-get_or, unwrap_or-slice_get}
 use Rattle.std.proofs.lemmas.List.{get_or_append_left, length-append, map-append, take_more}
 use Rattle.std.proofs.lemmas.Bool.{cases_eq, false≢true}
 use Rattle.model.specs.declared.record.Record.{Record}
-use Rattle.model.specs.declared.act.Act.{Act}
 use Rattle.model.specs.declared.graph.Edge.{Edge}
 use Rattle.model.specs.Graph.{outputs}
 use Rattle.model.specs.Records.{in_force}
@@ -59,8 +58,8 @@ map_next f numbers i number before after one low is was pushed same =
     pushed ∙ (ap (λ (l : List _). l ++ one ∷ []) was ∙ (ap (λ t. map f (take i numbers) ++ t ∷ []) same
     ∙ (sym (map-append f (take i numbers) (number ∷ [])) ∙ ap (map f) (sym (take_more numbers i number low ∙ ap (λ (n : ℕ). take i numbers ++ n ∷ []) (sym is))))))
 
-pub text_is : (paths : List (List ℕ)) (p : ℕ) (text : List ℕ) → slice_get paths p ≡ Some text → text ≡ text_at paths p
-text_is paths p text is = sym (get_or_from_slice_get paths p text [] is)
+pub no_text : (paths : List (List ℕ)) (p : ℕ) → slice_get paths p ≡ None → [] ≡ text_at paths p
+no_text paths p none = ap (λ (o : Option (List ℕ)). unwrap_or o []) (sym none) ∙ unwrap_or-slice_get paths p []
 
 -- ---- the edge of a line
 

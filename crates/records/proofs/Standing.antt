@@ -1,16 +1,15 @@
 -- The two records of an edge may be put behind the others.
-use Rattle.std.proofs.Common.{◌≡◌, ◌≢◌, ◌⊎◌, inl, inr, ℕ, Bool, true, IsTrue, List, [], ◌∷◌, ◌++◌, Option, Some, None, refl, sym, ◌∙◌, ap, subst, append_assoc, map, length, ◌<◌, zero, suc, arith}
-use Rattle.model.specs.declared.event.Event.{Event}
-use Rattle.model.specs.declared.event.Event.TheVariants.{Start, Finish}
+use Rattle.std.proofs.Common.{◌≡◌, ◌≢◌, inr, ℕ, Bool, true, IsTrue, List, [], ◌∷◌, ◌++◌, Some, None, sym, ◌∙◌, ap, append_assoc, map, length, ◌<◌, arith}
+use Rattle.model.specs.declared.event.Event.TheVariants.{Finish}
 use Rattle.model.specs.declared.event.Moment.{Moment}
 use Rattle.model.specs.declared.event.Moment.TheVariants.{Happened}
 use Rattle.model.specs.declared.graph.Edge.{Edge}
 use Rattle.model.specs.declared.record.Record.{Record}
 use Rattle.model.specs.declared.record.Record.TheVariants.{Begun, Done}
-use Rattle.model.specs.World.{World, view_of}
-use Rattle.model.specs.Graph.{has, edge_at, outputs, IsMadeOnce}
+use Rattle.model.specs.World.{World}
+use Rattle.model.specs.Graph.{edge_at, outputs, IsMadeOnce}
 use Rattle.model.specs.Outcome.{Behaviour}
-use Rattle.model.specs.Records.{OwnFiles, LogFormat, Store, store_in, in_force}
+use Rattle.model.specs.Records.{OwnFiles, LogFormat, Store, in_force}
 use Rattle.model.specs.Schedule.{Step}
 use Rattle.model.specs.Premises.{EndedAt}
 use Rattle.model.specs.Kept.{StartedUnder}
@@ -19,7 +18,6 @@ use Rattle.build_log.specs.Form.{IsAppended, IsLineOf, record_line}
 use Rattle.build_log.specs.Kept.{AreDistinct}
 use Rattle.build_log.specs.Record.{forms}
 use Rattle.log_theory.specs.Writes.{WritesAt}
-use Rattle.log_theory.specs.Logged.{IsLogged}
 use Rattle.log_theory.proofs.Growing as growing
 use Rattle.records.specs.Logging.{MayStand, EndsWith, NoneInForce, EndedWell}
 

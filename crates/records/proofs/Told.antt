@@ -1,5 +1,5 @@
 -- What a log's text tells, by the format.
-use Rattle.std.proofs.Common.{◌≡◌, ◌⊎◌, inl, inr, ℕ, List, [], ◌∷◌, ◌++◌, Option, Some, None, refl, sym, ◌∙◌, ap, subst}
+use Rattle.std.proofs.Common.{◌≡◌, ◌⊎◌, inl, inr, ℕ, List, [], ◌∷◌, ◌++◌, Option, Some, None, refl, sym, ◌∙◌, ap}
 use Rattle.std.proofs.lemmas.List.{append-nil}
 use Rattle.model.specs.declared.record.Record.{Record}
 use Rattle.model.specs.Records.{LogFormat, read_log}
@@ -7,11 +7,11 @@ use Rattle.build_log.specs.declared.form.Version.TheVariants.{Two}
 use Rattle.build_log.specs.declared.tail.Tail.{Tail}
 use Rattle.build_log.specs.declared.tail.Tail.TheVariants.{Whole, Old, Torn, Damaged}
 use Rattle.build_log.specs.Text.{IsRead}
-use Rattle.build_log.specs.Form.{IsLineOf, record_line, lines_text, HaveLines}
-use Rattle.build_log.specs.Laws.{IsEndedOrTorn, LineGrowsLog, FrontOfLines}
+use Rattle.build_log.specs.Form.{IsLineOf, record_line}
+use Rattle.build_log.specs.Laws.{IsEndedOrTorn, FrontOfLines}
 use Rattle.build_log.specs.Record.{forms}
 use Rattle.build_log.specs.Log.{IsLog}
-use Rattle.records.specs.Held.{text_in, AreRecordsIn, told_by, ReadsRecords}
+use Rattle.records.specs.Held.{AreRecordsIn, ReadsRecords}
 
 same_some : (a b : List Record) → Some a ≡ Some b → a ≡ b
 same_some a b is = cc

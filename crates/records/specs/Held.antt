@@ -5,15 +5,14 @@ use Rattle.model.specs.declared.record.Record.{Record}
 use Rattle.model.specs.Records.{LogFormat, in_force}
 use Rattle.paths.specs.Told.{text_at}
 use Rattle.build_log.specs.declared.done.Done.{Done}
-use Rattle.build_log.specs.declared.form.Version.TheVariants.{Two}
 use Rattle.build_log.specs.declared.tail.Tail.{Tail}
-use Rattle.build_log.specs.declared.tail.Tail.TheVariants.{Whole, Old, Torn, Damaged}
 use Rattle.build_log.specs.Kept.{Table, WantsCompaction, joined}
 use Rattle.build_log.specs.Text.{IsRead}
+use Rattle.build_log.specs.Laws.{Reads}
 use Rattle.build_log.specs.Record.{forms}
 use Rattle.build_log.specs.Log.{Keeps, IsLog, compaction, makings}
 use Rattle.records.specs.declared.file.State.{State}
-use Rattle.records.specs.declared.file.State.TheVariants.{Usable, Stale}
+use Rattle.records.specs.declared.file.State.TheVariants.{Usable}
 
 -- the path of the log, what it told when it was read, and what may be done with its file
 pub record Held : Type 0 where
@@ -49,15 +48,6 @@ pub record IsSameLog (old new : Held) : Type 0 where
   pub path : new.path ≡ old.path
   pub log : new.log ≡ old.log
 
--- ---- how a text is read
-
--- the records of a text that ends so; None where it is damaged
-abbrev pub told_by : Tail → List Record → Option (List Record)
-told_by Whole rs = Some rs
-told_by Old rs = Some rs
-told_by Torn rs = Some rs
-told_by Damaged rs = None
-
 -- the texts of build logs are read as they are defined
 abbrev pub ReadsRecords : LogFormat → Type 0
-ReadsRecords format = (text : List ℕ) (rs : List Record) (tail : Tail) → IsRead forms text rs tail → format.records text ≡ told_by tail rs
+ReadsRecords format = Reads forms format.records

@@ -1,6 +1,6 @@
 //! The file of the log, and what it told when it was read.
 
-ghost use Rattle.std.specs.Prelude.{◌≡◌, ◌<◌, ◌↔◌, ◌^◌, ℕ, List, Option, IfOk, OnOk, OnErr, IsTrue, false, string_bytes, length, slice_get};
+ghost use Rattle.std.specs.Prelude.{◌≡◌, ◌<◌, ◌↔◌, ◌^◌, ℕ, List, Option, IfOk, OnOk, OnErr, IsTrue, IsFalse, false, string_bytes, length, slice_get};
 ghost use Rattle.std.specs.Option.{option_and_then, option_copied, option_map};
 ghost use Rattle.model.specs.World.{World, file_at, content_of};
 ghost use Rattle.model.specs.Calls.{OnlyLooks, HasCause, Sees};
@@ -168,13 +168,20 @@ impl LogFile {
 fn log_of(alloc: Global, content: &Option<Bytes>) -> Result<(Log, State), AllocError>
     ensures { IfOk result (λ log. (rs : List Record) × ((tail : Tail) × IsRead forms (text_in content.now) rs tail) × Keeps rs log.0 × ((log.1 ≡ State.Usable) ↔ (IsLog (text_in content.now) rs × (WantsCompaction (length rs) (length (compaction rs)) → ⊥)))) }
 {
-    let text = match content {
-        Some(bytes) => bytes.as_slice(),
-        None => &[],
-    };
+    let text = bytes_in(content);
     let (log, tail) = Log::parse(alloc, text)?;
     let state = state_of(text, &log, tail);
     Ok((log, state))
+}
+
+/// What the file holds; one that is absent holds nothing.
+fn bytes_in(content: &Option<Bytes>) -> &[u8]
+    ensures { result.now ≡ text_in content.now }
+{
+    match content {
+        Some(bytes) => bytes.as_slice(),
+        None => &[],
+    }
 }
 
 /// What may be done with a file that holds the text, which tells the log and ends so.
@@ -182,9 +189,16 @@ fn state_of(text: &[u8], log: &Log, tail: Tail) -> State
     ensures { (rs : List Record) → IsRead forms text.now rs tail → Keeps rs log.now → (result ≡ State.Usable) ↔ (IsLog text.now rs × (WantsCompaction (length rs) (length (compaction rs)) → ⊥)) }
 {
     one_reading::<Log>();
-    if text.is_empty() || tail != Tail::Whole || log.wants_compaction() {
+    if text.is_empty() || is_other(tail) || log.wants_compaction() {
         State::Stale
     } else {
         State::Usable
     }
+}
+
+/// Whether a text that ends so is anything but whole lines of version 2.
+fn is_other(tail: Tail) -> bool
+    ensures { IsFalse result ↔ (tail ≡ Tail.Whole) }
+{
+    !matches!(tail, Tail::Whole)
 }
