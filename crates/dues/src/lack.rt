@@ -31,9 +31,9 @@ pub struct Lack {
 /// of its lists. Which commands are due the records of the build log say, with the files and what due edges make; none has a
 /// depfile.
 ///
-/// What was seen of a path is not asked for again; of edges that read what a due edge makes only the inputs are asked for. A
-/// call takes time for the edges of the cone and their inputs, and for what is read by those that no due edge makes something
-/// for.
+/// What was seen of a path is not asked for again. Of a command that reads what a due edge makes only inputs are asked for,
+/// and it takes time for its regular and recorded inputs alone; any other command is judged by `verdict::reason`, which walks
+/// what it reads through phony edges. Memory is taken for one flag for each edge of the graph, and for what `reason` takes.
 pub fn first_lack<S: Site>(
     alloc: Global,
     site: &mut S,
