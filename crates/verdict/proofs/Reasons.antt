@@ -1,29 +1,30 @@
 -- The reason by numbers is the reason in the words of paths.
-use Rattle.std.proofs.Common.{◌≡◌, ◌⊎◌, inl, inr, ℕ, suc, ◌<◌, ◌==◌, ◌&&◌, ◌||◌, not, cond, Bool, true, false, List, [], ◌∷◌, ◌++◌, Option, Some, None, map, bytes_eq, length, get_or, zero, arith, refl, sym, ◌∙◌, ap, subst}
+use Rattle.std.proofs.Common.{◌≡◌, inl, inr, ℕ, suc, ◌<◌, ◌==◌, ◌&&◌, ◌||◌, not, cond, Bool, true, false, List, [], ◌∷◌, ◌++◌, Option, Some, map, bytes_eq, length, get_or, zero, arith, refl, sym, ◌∙◌, ap, subst}
 use Rattle.std.specs.Prelude.{find, is_some, is_none}
-use Rattle.std.specs.List.{flat_map, list_any, AllByRecursion}
-use Rattle.std.proofs.lemmas.Bool.{false≢true, eqb-true, eq-eqb, or_cases, or_left, or_right, cases_Bool}
-use Rattle.std.proofs.lemmas.List.{map-append}
+use Rattle.std.specs.List.{flat_map, list_any}
+use Rattle.std.proofs.lemmas.Bool.{false≢true, eqb-true, eq-eqb, or_cases, or_left, or_right}
 use Rattle.model.specs.declared.act.Act.{Act}
 use Rattle.model.specs.declared.graph.Deps.{Deps}
 use Rattle.model.specs.declared.reason.Reason.{Reason}
 use Rattle.model.specs.declared.reason.Reason.TheVariants.{OutputAbsent, NoRecord, OtherAct, InputAbsent, InputChanged, InputLater, OutputOlder, DepsUnknown}
 use Rattle.model.specs.declared.event.Moment.{Moment}
-use Rattle.model.specs.World.{File, file_at, stamp_of, content_of}
+use Rattle.model.specs.declared.graph.Edge.{Edge}
+use Rattle.model.specs.declared.record.Record.{Record}
+use Rattle.model.specs.World.{file_at, stamp_of}
 use Rattle.model.specs.Graph.{has, has_number}
-use Rattle.model.specs.Records.{Made}
+use Rattle.model.specs.Records.{Store, Made, in_force}
+use Rattle.model.specs.OutOfDate.{output_facts, input_facts}
 use Rattle.model.specs.Judgement.{OutputFacts, InputFacts, Facts, holds, has_other_act, is_later, start_of, is_empty_text, is_unset, is_same_number, reason_of, all_reasons}
 use Rattle.build_theory.proofs.Lists.{same_bytes, bytes_same, has_number-left, has_number-right, has_number-cases}
 use Rattle.paths.specs.Told.{text_at, texts_at}
 use Rattle.links.specs.declared.graph.Graph.{Graph}
 use Rattle.links.specs.Links.{links_of}
 use Rattle.links.specs.Alias.{counts_if_present}
-use Rattle.verdict.specs.Facts.{flag_at, output_at, stamp_at, one_input, all_inputs, AreIn}
-use Rattle.verdict.specs.Judged.{Known, IsKnownBy, output_in, input_in}
+use Rattle.verdict.specs.Facts.{flag_at, output_at, stamp_at, all_inputs, AreIn}
 
 -- ---- deps records count for nothing without a depfile
 
-abbrev Alike : List OutputFacts → List OutputFacts → Type 0
+abbrev pub Alike : List OutputFacts → List OutputFacts → Type 0
 Alike [] [] = Unit {0}
 Alike [] (y ∷ ys) = ⊥
 Alike (x ∷ xs) [] = ⊥
@@ -64,13 +65,18 @@ module _ (act : Act) (restat : Bool) (deps : Deps) (one two : Bool) (xs ys : Lis
   pub reason_same : reason_of first ≡ reason_of second
   reason_same = find_same (λ r. holds first r) (λ r. holds second r) all_reasons holds_same
 
--- ---- numbers and what is known of their paths
+-- ---- numbers and their paths
 
-module _ (paths : List (List ℕ)) (told : ℕ → Option Made) (flags : List Bool) (known : Known) (is_known : IsKnownBy paths told flags known) (files : List Moment) where
-  pub outputs_alike : (ns : List ℕ) → ((n : ℕ) → has_number ns n ≡ true → n < length paths) → Alike (map (output_at paths files told) ns) (map (output_in known files) (texts_at paths ns))
-  outputs_alike [] within = tt
-  outputs_alike (n ∷ ns) within =
-      (refl, is_known.made n (within n (or_left (n == n) (has_number ns n) (eq-eqb n n refl))), outputs_alike ns (λ m h. within m (or_right (n == m) (has_number ns m) h)))
+-- outputs with the same stamps at the entry and now are alike, whatever deps records they have
+module _ (paths : List (List ℕ)) (rs : List Record) (store : Store) (old new : List Moment) (records : store.records ≡ rs) where
+  pub outputs_alike : (ns : List ℕ) → ((n : ℕ) → has_number ns n ≡ true → stamp_of (file_at new (text_at paths n)) ≡ stamp_of (file_at old (text_at paths n)))
+      → Alike (map (output_at paths rs new) ns) (map (output_facts store old) (texts_at paths ns))
+  outputs_alike [] untouched = tt
+  outputs_alike (n ∷ ns) untouched = (
+    untouched n (or_left (n == n) (has_number ns n) (eq-eqb n n refl)),
+    ap (λ (l : List Record). in_force l (text_at paths n)) (sym records),
+    outputs_alike ns (λ m h. untouched m (or_right (n == m) (has_number ns m) h)),
+  )
 
 module _ (graph : Graph) (files : List Moment) where
   -- the path is taken in: always, or where it counts
@@ -81,34 +87,36 @@ module _ (graph : Graph) (files : List Moment) where
   taken always [] = []
   taken always (n ∷ ns) = cond (takes always n) (n ∷ taken always ns) (taken always ns)
 
-  pub taken_inputs : (told : ℕ → Option Made) (flags : List Bool) (known : Known) → IsKnownBy graph.manifest.paths told flags known → (always : Bool) (ns : List ℕ) → ((n : ℕ) → has_number ns n ≡ true → n < length graph.manifest.paths)
-      → all_inputs graph flags always files ns ≡ map (input_in known files) (texts_at graph.manifest.paths (taken always ns))
-  taken_inputs told flags known is_known always [] within = refl
-  taken_inputs told flags known is_known always (n ∷ ns) within = by_case (takes always n)
+  -- the flags of these paths are right
+  abbrev pub AreRight : List Bool → List Edge → List ℕ → List Moment → List ℕ → Type 0
+  AreRight flags edges ran old ns = (n : ℕ) → has_number ns n ≡ true → flag_at flags n ≡ (input_facts edges ran old files (text_at graph.manifest.paths n)).changed
+
+  pub taken_inputs : (flags : List Bool) (edges : List Edge) (ran : List ℕ) (old : List Moment) (always : Bool) (ns : List ℕ) → AreRight flags edges ran old (taken always ns)
+      → all_inputs graph flags always files ns ≡ map (input_facts edges ran old files) (texts_at graph.manifest.paths (taken always ns))
+  taken_inputs flags edges ran old always [] right = refl
+  taken_inputs flags edges ran old always (n ∷ ns) right = by_case (takes always n) (taken_inputs flags edges ran old always ns) right
     where
-      rest : all_inputs graph flags always files ns ≡ map (input_in known files) (texts_at graph.manifest.paths (taken always ns))
-      rest = taken_inputs told flags known is_known always ns (λ m h. within m (or_right (n == m) (has_number ns m) h))
-
-      here : flag_at flags n ≡ known.anew (text_at graph.manifest.paths n)
-      here = is_known.anew n (within n (or_left (n == n) (has_number ns n) (eq-eqb n n refl)))
-
-      by_case : (t : Bool) → cond t (record { stamp = stamp_at graph.manifest.paths files n; changed = flag_at flags n } ∷ []) [] ++ all_inputs graph flags always files ns
-          ≡ map (input_in known files) (texts_at graph.manifest.paths (cond t (n ∷ taken always ns) (taken always ns)))
-      by_case true =
-          ap (λ (b : Bool). record { stamp = stamp_at graph.manifest.paths files n; changed = b } ∷ all_inputs graph flags always files ns) here
-          ∙ ap (λ (l : List InputFacts). input_in known files (text_at graph.manifest.paths n) ∷ l) rest
-      by_case false = rest
+      by_case : (t : Bool) → (AreRight flags edges ran old (taken always ns) → all_inputs graph flags always files ns ≡ map (input_facts edges ran old files) (texts_at graph.manifest.paths (taken always ns)))
+          → AreRight flags edges ran old (cond t (n ∷ taken always ns) (taken always ns))
+          → cond t (record { stamp = stamp_at graph.manifest.paths files n; changed = flag_at flags n } ∷ []) [] ++ all_inputs graph flags always files ns
+          ≡ map (input_facts edges ran old files) (texts_at graph.manifest.paths (cond t (n ∷ taken always ns) (taken always ns)))
+      by_case true rest are =
+          ap (λ (b : Bool). record { stamp = stamp_at graph.manifest.paths files n; changed = b } ∷ all_inputs graph flags always files ns) (are n (or_left (n == n) (has_number (taken always ns) n) (eq-eqb n n refl)))
+          ∙ ap (λ (l : List InputFacts). input_facts edges ran old files (text_at graph.manifest.paths n) ∷ l)
+          (rest (λ m h. are m (or_right (n == m) (has_number (taken always ns) m) h)))
+      by_case false rest are = rest are
 
   pub taken_has : (always : Bool) (ns : List ℕ) (n : ℕ) → has_number (taken always ns) n ≡ true → (has_number ns n ≡ true) × (takes always n ≡ true)
   taken_has always [] n h = absurd (false≢true h)
-  taken_has always (m ∷ ns) n h = by_case (takes always m) refl h
+  taken_has always (m ∷ ns) n h = by_case (takes always m) refl (taken_has always ns n) h
     where
-      by_case : (t : Bool) → takes always m ≡ t → has_number (cond t (m ∷ taken always ns) (taken always ns)) n ≡ true → (has_number (m ∷ ns) n ≡ true) × (takes always n ≡ true)
-      by_case true is h = elim (or_cases (m == n) (has_number (taken always ns) n) h) [
+      by_case : (t : Bool) → takes always m ≡ t → (has_number (taken always ns) n ≡ true → (has_number ns n ≡ true) × (takes always n ≡ true))
+          → has_number (cond t (m ∷ taken always ns) (taken always ns)) n ≡ true → (has_number (m ∷ ns) n ≡ true) × (takes always n ≡ true)
+      by_case true is rest h = elim (or_cases (m == n) (has_number (taken always ns) n) h) [
         | inl here ↦ (or_left (m == n) (has_number ns n) here, subst (λ (k : ℕ). takes always k ≡ true) (eqb-true m n here) is)
-        | inr later ↦ let more = taken_has always ns n later in (or_right (m == n) (has_number ns n) more.0, more.1)
+        | inr later ↦ let more = rest later in (or_right (m == n) (has_number ns n) more.0, more.1)
       ]
-      by_case false is h = let more = taken_has always ns n h in (or_right (m == n) (has_number ns n) more.0, more.1)
+      by_case false is rest h = let more = rest h in (or_right (m == n) (has_number ns n) more.0, more.1)
 
   pub has_taken : (always : Bool) (ns : List ℕ) (n : ℕ) → has_number ns n ≡ true → takes always n ≡ true → has_number (taken always ns) n ≡ true
   has_taken always [] n h is = absurd (false≢true h)
@@ -160,3 +168,7 @@ pub at_has : (xs : List ℕ) (k d : ℕ) → k < length xs → has_number xs (ge
 at_has [] k d lt = absurd (omega (arith, lt))
 at_has (x ∷ xs) zero d lt = or_left (x == x) (has_number xs x) (eq-eqb x x refl)
 at_has (x ∷ xs) (suc k) d lt = or_right (x == get_or xs k d) (has_number xs (get_or xs k d)) (at_has xs k d (omega (arith, lt)))
+
+-- what is so of these numbers is so of the slice that has them
+pub within_by : (n : ℕ) (ns ms : List ℕ) → ms ≡ ns → ((p : ℕ) → has_number ns p ≡ true → p < n) → (p : ℕ) → has_number ms p ≡ true → p < n
+within_by n ns ms is within p h = within p (subst (λ (l : List ℕ). has_number l p ≡ true) is h)

@@ -3,12 +3,13 @@ use Rattle.std.specs.Prelude.{◌≡◌, ◌||◌, not, ℕ, Bool, true, false, 
 use Rattle.std.specs.List.{AllByRecursion, flat_map}
 use Rattle.model.specs.declared.act.Act.{Act}
 use Rattle.model.specs.declared.event.Moment.{Moment}
+use Rattle.model.specs.declared.record.Record.{Record}
 use Rattle.model.specs.World.{World, file_at, stamp_of}
-use Rattle.model.specs.Records.{Made}
+use Rattle.model.specs.Records.{in_force}
 use Rattle.model.specs.Judgement.{OutputFacts, InputFacts}
 use Rattle.paths.specs.Told.{text_at}
 use Rattle.links.specs.declared.graph.Graph.{Graph}
-use Rattle.links.specs.Links.{Links, links_of}
+use Rattle.links.specs.Links.{links_of}
 use Rattle.links.specs.Alias.{counts_if_present}
 use Rattle.links.specs.ReadingOf.{IsReadingOf}
 use Rattle.looks.specs.declared.table.Look.{Look}
@@ -21,9 +22,9 @@ use Rattle.dirty.specs.Summaries.{AreOutputs, AreInputs}
 abbrev pub flag_at : List Bool → ℕ → Bool
 flag_at flags p = get_or flags p false
 
--- an output, as these files and what is told of commands have it; no deps record is taken
-abbrev pub output_at : List (List ℕ) → List Moment → (ℕ → Option Made) → ℕ → OutputFacts
-output_at paths files told p = record { stamp = stamp_of (file_at files (text_at paths p)); made = told p; deps_start = None }
+-- an output, as these records and files have it; no deps record is taken, since an edge without a depfile is judged by none
+abbrev pub output_at : List (List ℕ) → List Record → List Moment → ℕ → OutputFacts
+output_at paths rs files p = record { stamp = stamp_of (file_at files (text_at paths p)); made = in_force rs (text_at paths p); deps_start = None }
 
 -- the stamp of the file at the path of this number
 abbrev pub stamp_at : List (List ℕ) → List Moment → ℕ → Option ℕ
@@ -45,9 +46,9 @@ AreIn set paths numbers = AllByRecursion (λ p. set (text_at paths p) ≡ true) 
 -- ---- what calls answer, for each set of paths that keep their files
 
 -- these outputs were taken in
-abbrev pub HasOutputs : Graph → Act → (ℕ → Option Made) → List ℕ → Outputs → (List ℕ → Bool) → List Moment → Type 0
-HasOutputs graph act told numbers outputs set files =
-    AreIn set graph.manifest.paths numbers → AreOutputs act (map (output_at graph.manifest.paths files told) numbers) outputs
+abbrev pub HasOutputs : Graph → Act → List Record → List ℕ → Outputs → (List ℕ → Bool) → List Moment → Type 0
+HasOutputs graph act rs numbers outputs set files =
+    AreIn set graph.manifest.paths numbers → AreOutputs act (map (output_at graph.manifest.paths rs files) numbers) outputs
 
 -- the path of this stamp was taken in, after others
 abbrev pub TakesOne : Graph → List Bool → Bool → ℕ → Option ℕ → Inputs → Inputs → Type 0

@@ -18,6 +18,7 @@ use model::SiteFault;
 use paths::{EdgeId, PathId};
 use site::Site;
 use std::alloc::Global;
+use std::slice;
 
 /// The facts of what the edge reads, through phony edges too, and of its recorded inputs.
 pub(crate) fn inputs_of<S: Site>(
@@ -39,33 +40,19 @@ pub(crate) fn inputs_of<S: Site>(
     lists_stand(graph);
     let reading = graph.reading(alloc, edge)?;
     let mut inputs = Inputs::new();
-    add_read(site, graph, looks, changed, &reading, &mut inputs)?;
+    add_edges(site, graph, looks, changed, edges_of(&reading), &mut inputs)?;
     let recorded = graph.recorded_inputs(edge);
     add_paths(site, graph, looks, changed, true, recorded, &mut inputs)?;
     Ok(inputs)
 }
 
-/// Takes in what is read: the regular inputs of these edges, as far as they count.
-fn add_read<S: Site>(
-    site: &mut S,
-    graph: &Graph,
-    looks: &mut Looks,
-    changed: &[bool],
-    reading: &Reading,
-    inputs: &mut Inputs,
-) -> Result<(), SiteFault>
-    requires running { (S.world site.old).stopped ≡ false }
-    requires fits { length looks.old.seen.items ≡ length graph.now.manifest.paths }
-    requires within { (d : ℕ) → has_number (edges_in reading.now) d ≡ true → d < length graph.now.manifest.lines }
-    ensures looked { HasLooked S.tells graph.now (S.world site.old) (S.world site.new) looks.old looks.new }
-    ensures cause { HasCause (S.world site.old) (S.world site.new) result }
-    ensures taken { OnOk result (IfKept S.tells graph.now.manifest.paths (S.world site.old) (S.world site.new) looks.old.seen.items (TakesAll graph.now changed.now false (flat_map (links_of graph.now).regular (edges_in reading.now)) inputs.old inputs.new)) }
+/// The edges whose regular inputs are read.
+fn edges_of(reading: &Reading) -> &[EdgeId]
+    ensures { result.now ≡ edges_in reading.now }
 {
     match reading {
-        Reading::Itself(edge) => add_edges(site, graph, looks, changed, &[*edge], inputs),
-        Reading::Through(edges) => {
-            add_edges(site, graph, looks, changed, edges.as_slice(), inputs)
-        }
+        Reading::Itself(edge) => slice::from_ref(edge),
+        Reading::Through(edges) => edges.as_slice(),
     }
 }
 

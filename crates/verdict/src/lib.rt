@@ -2,11 +2,8 @@
 #![tactic(auto)]
 
 mod inputs;
-mod made;
+mod judgement;
 mod outputs;
-mod reason;
 mod stamps;
 
-pub use made::Made;
-pub use model::Reason;
-pub use reason::reason;
+pub use judgement::reason;

@@ -1,27 +1,29 @@
 //! The facts of an edge's outputs.
 
-ghost use Rattle.std.specs.Prelude.{◌≡◌, ◌<◌, ℕ, IfOk, true, false, length};
+ghost use Rattle.std.specs.Prelude.{◌≡◌, ◌<◌, ℕ, List, IfOk, true, false, length};
+ghost use Rattle.model.specs.declared.record.Record.{Record};
 ghost use Rattle.model.specs.Calls.{HasCause};
 ghost use Rattle.model.specs.Graph.{has_number};
 ghost use Rattle.looks.specs.Looking.{HasLooked};
 ghost use Rattle.looks.specs.Seen.{IfKept};
+ghost use Rattle.records.specs.Known.{IsOf};
 ghost use Rattle.verdict.specs.Facts.{HasOutputs};
 
-use crate::made::Made;
 use crate::stamps::stamp_of;
 use dirty::{OutputFacts, Outputs};
 use links::Graph;
 use looks::{Looks, looks_follow};
 use model::{Act, SiteFault};
 use paths::PathId;
+use records::Records;
 use site::Site;
 
 /// The facts of these outputs of an edge that does this now.
-pub(crate) fn outputs_of<S: Site, M: Made>(
+pub(crate) fn outputs_of<S: Site>(
     site: &mut S,
     graph: &Graph,
     looks: &mut Looks,
-    made: &M,
+    records: &Records,
     act: &Act,
     paths: &[PathId],
 ) -> Result<Outputs, SiteFault>
@@ -30,7 +32,7 @@ pub(crate) fn outputs_of<S: Site, M: Made>(
     requires within { (p : ℕ) → has_number paths.now p ≡ true → p < length graph.now.manifest.paths }
     ensures looked { HasLooked S.tells graph.now (S.world site.old) (S.world site.new) looks.old looks.new }
     ensures cause { HasCause (S.world site.old) (S.world site.new) result }
-    ensures outputs { IfOk result (λ outputs. IfKept S.tells graph.now.manifest.paths (S.world site.old) (S.world site.new) looks.old.seen.items (HasOutputs graph.now act.now (M.told made.now) paths.now outputs)) }
+    ensures outputs { IfOk result (λ outputs. (rs : List Record) → IsOf rs graph.now.manifest.paths records.now → IfKept S.tells graph.now.manifest.paths (S.world site.old) (S.world site.new) looks.old.seen.items (HasOutputs graph.now act.now rs paths.now outputs)) }
 {
     looks_follow();
     let mut outputs = Outputs::new();
@@ -38,7 +40,7 @@ pub(crate) fn outputs_of<S: Site, M: Made>(
         let stamp = stamp_of(site, graph, looks, *path)?;
         let facts = OutputFacts {
             stamp,
-            made: made.made(*path),
+            made: records.made(*path),
             deps_start: None,
         };
         outputs.add(act, &facts);

@@ -1,7 +1,9 @@
-use Rattle.std.proofs.Common.{take}
+use Rattle.std.proofs.Common.{List, take}
+use Rattle.model.specs.declared.record.Record.{Record}
 use Rattle.build_theory.specs.Seen.{Unrefused}
 use Rattle.looks.specs.Looking.{HasLooked}
 use Rattle.looks.specs.Seen.{IfKept}
+use Rattle.records.specs.Known.{IsOf}
 use Rattle.verdict.specs.Facts.{HasOutputs}
 use Rattle.verdict.proofs.outputs.outputs_of.Given as goal
 
@@ -9,5 +11,6 @@ abbrev pub invariant-loop-path : goal.invariant-loop-path
 invariant-loop-path g l = record {
   looked : HasLooked g.S.Texts.tells l.graph (g.S.Texts.world l.fn.site) (g.S.Texts.world l.site) l.fn.looks l.looks;
   unrefused : Unrefused (g.S.Texts.world l.fn.site) (g.S.Texts.world l.site);
-  outputs : IfKept g.S.Texts.tells l.graph.manifest.paths (g.S.Texts.world l.fn.site) (g.S.Texts.world l.site) l.fn.looks.seen.items (HasOutputs l.graph l.act (g.M.Made.told l.made) (take l.path-index l.paths) l.outputs);
+  outputs : (rs : List Record) → IsOf rs l.graph.manifest.paths l.records
+      → IfKept g.S.Texts.tells l.graph.manifest.paths (g.S.Texts.world l.fn.site) (g.S.Texts.world l.site) l.fn.looks.seen.items (HasOutputs l.graph l.act rs (take l.path-index l.paths) l.outputs);
 }
