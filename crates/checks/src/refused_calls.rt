@@ -46,23 +46,18 @@ const CASES: [(&str, &str, &str); 4] = [
 ];
 
 /// The calls that each of these builds makes at least once.
-const CALLS: [Call; 6] = [
+const CALLS: [Call; 7] = [
     Call::Read,
     Call::Stat,
     Call::Tick,
     Call::MakeDirs,
     Call::Start,
     Call::WaitAny,
+    Call::Show,
 ];
 
 /// The calls that no build makes yet.
-const OTHER_CALLS: [Call; 5] = [
-    Call::Append,
-    Call::Replace,
-    Call::Write,
-    Call::Remove,
-    Call::Show,
-];
+const OTHER_CALLS: [Call; 4] = [Call::Append, Call::Replace, Call::Write, Call::Remove];
 
 /// More calls of a kind than these builds make.
 const MANY: u64 = 100;

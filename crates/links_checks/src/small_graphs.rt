@@ -1,7 +1,7 @@
 //! Cones, reading sets and users of small graphs.
 
 use crate::one_file::graph_of_lines;
-use crate::told::{cone_text, read_text, users_text};
+use crate::told::{has_cone, is_used, reads};
 use std::alloc::Global;
 use std::test::Fail;
 
@@ -18,12 +18,9 @@ const CONE: [&str; 6] = [
 fn makers_and_validators_are_in_the_cone(rt: HostRuntime) -> Result<(), Fail> {
     let alloc = rt.alloc();
     let graph = graph_of_lines(alloc, &CONE)?;
-    assert_eq!(rt; cone_text(alloc, &graph, &["c"])?.as_str(), "d b c v w ");
-    assert_eq!(rt; cone_text(alloc, &graph, &["b"])?.as_str(), "b ");
-    assert_eq!(rt;
-        cone_text(alloc, &graph, &["a", "z"])?.as_str(),
-        "unknown 1"
-    );
+    has_cone(&rt, alloc, &graph, &["c"], "d b c v w ")?;
+    has_cone(&rt, alloc, &graph, &["b"], "b ")?;
+    has_cone(&rt, alloc, &graph, &["a", "z"], "unknown 1")?;
     Ok(())
 }
 
@@ -32,12 +29,12 @@ fn makers_and_validators_are_in_the_cone(rt: HostRuntime) -> Result<(), Fail> {
 fn defaults_are_targets(rt: HostRuntime) -> Result<(), Fail> {
     let alloc = rt.alloc();
     let all = graph_of_lines(alloc, &["build b: r a", "build c: r b", "build d: r"])?;
-    assert_eq!(rt; cone_text(alloc, &all, &[])?.as_str(), "b c d ");
+    has_cone(&rt, alloc, &all, &[], "b c d ")?;
     let one = graph_of_lines(
         alloc,
         &["build b: r a", "build c: r b", "build d: r", "default d"],
     )?;
-    assert_eq!(rt; cone_text(alloc, &one, &[])?.as_str(), "d ");
+    has_cone(&rt, alloc, &one, &[], "d ")?;
     Ok(())
 }
 
@@ -51,7 +48,7 @@ fn a_cycle_begins_with_its_lowest_edge(rt: HostRuntime) -> Result<(), Fail> {
         "build c: r b",
     ];
     let graph = graph_of_lines(alloc, &lines)?;
-    assert_eq!(rt; cone_text(alloc, &graph, &["t"])?.as_str(), "a c b a ");
+    has_cone(&rt, alloc, &graph, &["t"], "a c b a ")?;
     Ok(())
 }
 
@@ -67,9 +64,9 @@ fn an_edge_reads_through_phony_edges(rt: HostRuntime) -> Result<(), Fail> {
         "build f: r a",
     ];
     let graph = graph_of_lines(alloc, &lines)?;
-    assert_eq!(rt; read_text(alloc, &graph, 0)?.as_str(), "?p a a b ");
-    assert_eq!(rt; read_text(alloc, &graph, 4)?.as_str(), "s ?p a b ");
-    assert_eq!(rt; read_text(alloc, &graph, 5)?.as_str(), "a ");
+    reads(&rt, alloc, &graph, 0, "?p a a b ")?;
+    reads(&rt, alloc, &graph, 4, "s ?p a b ")?;
+    reads(&rt, alloc, &graph, 5, "a ")?;
     Ok(())
 }
 
@@ -78,8 +75,8 @@ fn an_edge_uses_a_path_as_often_as_it_names_it(rt: HostRuntime) -> Result<(), Fa
     let alloc = rt.alloc();
     let lines = ["build c: r a a | b || a", "build d: r b |@ a", "build e: r"];
     let graph = graph_of_lines(alloc, &lines)?;
-    assert_eq!(rt; users_text(alloc, &graph, "a")?.as_str(), "0 0 0 ");
-    assert_eq!(rt; users_text(alloc, &graph, "b")?.as_str(), "0 1 ");
-    assert_eq!(rt; users_text(alloc, &graph, "c")?.as_str(), "");
+    is_used(&rt, alloc, &graph, "a", "0 0 0 ")?;
+    is_used(&rt, alloc, &graph, "b", "0 1 ")?;
+    is_used(&rt, alloc, &graph, "c", "")?;
     Ok(())
 }

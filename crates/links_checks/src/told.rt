@@ -3,11 +3,12 @@
 use links::{ConeFault, Graph, Reading};
 use paths::{EdgeId, PathId};
 use std::alloc::{AllocError, Global};
+use std::process::Abort;
 use std::test::Fail;
 use text::{Items, Path};
 
 /// The first outputs of the edges of the cone in their order, the paths of a cycle, or another fault.
-pub fn cone_text(alloc: Global, graph: &Graph, targets: &[&str]) -> Result<String, Fail> {
+fn cone_text(alloc: Global, graph: &Graph, targets: &[&str]) -> Result<String, Fail> {
     let mut paths = Items::new(alloc);
     for target in targets {
         paths.push(Path::from_str(alloc, target)?)?;
@@ -49,7 +50,7 @@ fn push_path(text: &mut String, graph: &Graph, path: PathId) -> Result<(), Alloc
 }
 
 /// What the edge at this place reads; a path that counts only where it is present has a question mark.
-pub fn read_text(alloc: Global, graph: &Graph, place: usize) -> Result<String, AllocError> {
+fn read_text(alloc: Global, graph: &Graph, place: usize) -> Result<String, AllocError> {
     let mut text = String::new(alloc);
     if place < graph.edges() {
         match graph.reading(alloc, graph.manifest.edge(place))? {
@@ -80,7 +81,7 @@ fn push_read(text: &mut String, graph: &Graph, edge: EdgeId) -> Result<(), Alloc
 }
 
 /// The places of the edges that name this path as an input or a recorded input.
-pub fn users_text(alloc: Global, graph: &Graph, path: &str) -> Result<String, AllocError> {
+fn users_text(alloc: Global, graph: &Graph, path: &str) -> Result<String, AllocError> {
     match graph.manifest.paths.number_of(path) {
         Some(number) if number.index() < graph.paths() => { edges_text(alloc, graph.users(number)) }
         _ => String::from_str(alloc, "unknown"),
@@ -94,4 +95,40 @@ fn edges_text(alloc: Global, edges: &[EdgeId]) -> Result<String, AllocError> {
         text.push_str(format!(in alloc; "{place} ")?.as_str())?;
     }
     Ok(text)
+}
+
+/// The cone of these targets is told so.
+pub fn has_cone(
+    rt: &impl Abort,
+    alloc: Global,
+    graph: &Graph,
+    targets: &[&str],
+    told: &str,
+) -> Result<(), Fail> {
+    assert_eq!(rt; cone_text(alloc, graph, targets)?.as_str(), told);
+    Ok(())
+}
+
+/// What the edge at this place reads is told so.
+pub fn reads(
+    rt: &impl Abort,
+    alloc: Global,
+    graph: &Graph,
+    place: usize,
+    told: &str,
+) -> Result<(), Fail> {
+    assert_eq!(rt; read_text(alloc, graph, place)?.as_str(), told);
+    Ok(())
+}
+
+/// The edges that use the path are told so.
+pub fn is_used(
+    rt: &impl Abort,
+    alloc: Global,
+    graph: &Graph,
+    path: &str,
+    told: &str,
+) -> Result<(), Fail> {
+    assert_eq!(rt; users_text(alloc, graph, path)?.as_str(), told);
+    Ok(())
 }
