@@ -12,7 +12,8 @@ use Rattle.plan.specs.declared.step.End.{End}
 use Rattle.plan.specs.declared.step.Standing.{Standing}
 use Rattle.plan.specs.declared.step.Standing.TheVariants.{Outside, Unjudged, Clean, OutOfDate, Running, Well, Failed, Alias, Known}
 use Rattle.plan.specs.declared.step.Step.TheVariants.{Ended as Over}
-use Rattle.plan.specs.Planned.{IsNextOf}
+use Rattle.plan.specs.declared.plan.Plan.{Plan}
+use Rattle.plan.specs.Planned.{IsPlanned, IsNextOf}
 use Rattle.runner.specs.Course.{Course, Suits, IsOn}
 use Rattle.runner.specs.declared.state.State.{State}
 
@@ -33,10 +34,11 @@ pub record IsInHand (task : Task) (steps : List Done) (i : ℕ) : Type 0 where
   pub stale : has_number (out_of_date_in steps) i ≡ true
   pub taken_in : (has_number (started_in steps) i ≡ false) ⊎ (has_number (ended_in steps) i ≡ true)
 
--- where a fault has left a run: `met` is the edge whose start or taking in met it
-pub record IsCut (tells : Bool) (course : Course) (now : World) : Type 0 where
+-- where a fault has left a run, with its plan: `met` is the edge whose start or taking in met it
+pub record IsCut (tells : Bool) (course : Course) (graph : Graph) (plan : Plan) (now : World) : Type 0 where
   pub steps : List Done
   pub met : Option ℕ
+  pub planned : IsPlanned (task_of course.asked course.store) graph plan steps
   pub cut : IsCutOff tells course.behaviour course.format course.own course.asked course.store steps met course.entry now
   pub in_hand : (i : ℕ) → met ≡ Some i → IsInHand (task_of course.asked course.store) steps i
 
