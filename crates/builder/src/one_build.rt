@@ -14,17 +14,18 @@ ghost use Rattle.builder.specs.Reports.{report_in, IsUnrecorded, SaysNoCone, Sho
 ghost use Rattle.builder.specs.Taken.{IsTaken};
 
 use crate::asked::{Asked, Limits};
-use crate::commands::commands_among;
+use crate::commands::due_commands;
 use crate::names::{first_outputs, path_texts};
+use crate::own_files::{LOG, TICK, own_path};
 use crate::report::{Options, Refusal, Report};
-use crate::sources::check_sources;
+use crate::sources::{Known, check_sources};
 use crate::taken::check_taken;
-use crate::tick::tick_path;
 use display::Display;
 use links::{Cone, ConeFault, Graph};
 use manifest::reads_longer;
 use plan::{Plan, task_of};
-use runner::{Summary, run_plan};
+use records::Records;
+use runner::{Setting, State, Summary, run_plan};
 use site::Site;
 use std::alloc::{AllocError, Global};
 use text::Text;
@@ -78,9 +79,11 @@ fn build_graph<S: Site>(
     requires unrecorded { IsUnrecorded graph.now }
     ensures { BuildsFor S.tells (declared_by graph.now) asked.now (S.world site.old) (S.world site.new) (report_in result) }
 {
+    let path = own_path(alloc, asked.folder.as_str(), LOG)?;
+    let records = Records::read(alloc, site, graph, path)?;
     let cone = cone_of(alloc, graph, asked)?;
-    check_sources(alloc, site, graph, &cone)?;
-    run_cone(alloc, site, graph, &cone, asked, options)
+    let known = check_sources(alloc, site, graph, &cone, &records)?;
+    run_cone(alloc, site, graph, &cone, asked, options, records, known)
 }
 
 /// The cone of what was asked for.
@@ -134,6 +137,8 @@ fn run_cone<S: Site>(
     cone: &Cone,
     asked: &Asked<'_>,
     options: &Options,
+    records: Records,
+    known: Known,
 ) -> Result<Report, Report>
     requires idle { IsIdle (S.world site.old).events }
     requires running { (S.world site.old).stopped ≡ false }
@@ -144,11 +149,18 @@ fn run_cone<S: Site>(
     ensures ran { RunsFor S.tells graph.now asked.now (S.world site.old) (S.world site.new) (report_in result) }
     ensures faults { PassesNoFault (S.world site.old) (S.world site.new) (run_answer (report_in result)) }
 {
-    let tick = tick_path(alloc, asked.folder.as_str())?;
-    let mut plan = plan_of(alloc, graph, cone, asked.limits)?;
-    let unstarted = commands_among(graph, &cone.order);
-    let mut display = Display::new(alloc, &options.pattern, options.verbose, unstarted);
-    let summary = run_plan(alloc, site, graph, tick.as_str(), &mut plan, &mut display)?;
+    let Known { looks, due } = known;
+    let tick = own_path(alloc, asked.folder.as_str(), TICK)?;
+    let plan = plan_of(alloc, graph, cone, asked.limits)?;
+    let unstarted = due_commands(graph, &due);
+    let display = Display::new(alloc, &options.pattern, options.verbose, unstarted);
+    let state = State::new(alloc, graph, plan, looks, records, display, due)?;
+    let setting = Setting {
+        alloc,
+        graph,
+        tick: tick.as_str(),
+    };
+    let summary = run_plan(site, setting, state)?;
     Ok(report(alloc, graph, summary)?)
 }
 

@@ -8,8 +8,15 @@ use Rattle.model.specs.OutOfDate.{IsMissing, NoneIsMissing, IsFirstMissing, Noth
 use Rattle.paths.specs.Told.{text_at, texts_at}
 use Rattle.links.specs.declared.graph.Graph.{Graph}
 use Rattle.links.specs.Told.{declared_by}
+use Rattle.links.specs.declared.cone.Cone.{Cone}
+use Rattle.looks.specs.declared.table.Looks.{Looks}
+use Rattle.records.specs.declared.records.Records.{Records}
+use Rattle.model.specs.World.{World}
 use Rattle.dues.specs.declared.lack.Lack.{Lack}
-use Rattle.dues.specs.Dues.{due_at}
+use Rattle.dues.specs.declared.lack.Found.{Found}
+use Rattle.dues.specs.declared.lack.Found.TheVariants.{Missing, Present}
+use Rattle.dues.specs.Stores.{IfKnown, IsConeIn}
+use Rattle.dues.specs.Dues.{due_at, AreDue}
 
 -- ---- what is told
 
@@ -22,6 +29,21 @@ IsLackedBy edges store requested files path (Some e) = IsMissingInput edges stor
 abbrev pub IsFound : Graph → Store → List (List ℕ) → List Moment → Option Lack → Type 0
 IsFound graph store requested files None = NothingIsMissing (declared_by graph).edges store [] files requested
 IsFound graph store requested files (Some lack) = IsLackedBy (declared_by graph).edges store requested files (text_at graph.manifest.paths lack.path) lack.needed_by
+
+-- the missing source, if one is missing
+abbrev pub lack_in : Found → Option Lack
+lack_in (Missing lack) = Some lack
+lack_in (Present due) = None
+
+-- so it is of the flags, where no source is missing
+abbrev pub IfPresent : Found → (List Bool → Type 0) → Type 0
+IfPresent (Missing lack) So = Unit {0}
+IfPresent (Present due) So = So due.items
+
+-- a flag for each edge of the graph, which says whether the edge is in the cone and due
+pub record HasDue (tells : Bool) (graph : Graph) (records : Records) (cone : Cone) (old new : World) (before : Looks) (due : List Bool) : Type 0 where
+  pub fits : length due ≡ length graph.manifest.lines
+  pub due : IfKnown tells graph records old new before (λ store files. (targets : List (List ℕ)) → IsConeIn graph store targets cone → AreDue (declared_by graph).edges store files cone.order.items due)
 
 -- the edge, if one is named, is one of so many
 abbrev pub IsEdgeBelow : ℕ → Option ℕ → Type 0

@@ -7,7 +7,7 @@ ghost use Rattle.links.specs.Told.{declared_by};
 ghost use Rattle.looks.specs.Seen.{AreSeen};
 ghost use Rattle.looks.specs.Looking.{HasLooked, IfSeen};
 ghost use Rattle.dues.specs.Stores.{HaveNoDepfiles, IfKnown, IsAnyCone, IsConeIn};
-ghost use Rattle.dues.specs.Lacks.{IsFound, IsLackOf, IsMissingAt, IsFirstIn, IsFirstFor, IsFoundOfDue};
+ghost use Rattle.dues.specs.Lacks.{IsFound, lack_in, IfPresent, HasDue, IsLackOf, IsMissingAt, IsFirstIn, IsFirstFor, IsFoundOfDue};
 
 use crate::aliases::is_absent;
 use crate::due::due_edges;
@@ -27,21 +27,29 @@ pub struct Lack {
     pub needed_by: Option<EdgeId>,
 }
 
+/// What is found of the sources of a cone before anything runs.
+#[derive(Debug, Drop)]
+pub enum Found {
+    Missing(Lack),
+    /// None is missing. For each edge of the graph, whether it is in the cone and due.
+    Present(Vec<bool>),
+}
+
 /// The first requested path that is missing, else the first missing input of the lowest due edge of the cone, in the order
-/// of its lists. Which commands are due the records of the build log say, with the files and what due edges make; none has a
+/// of its lists; where none is missing, which edges are due. Which commands are due the records of the build log say, with the files and what due edges make; none has a
 /// depfile.
 ///
 /// What was seen of a path is not asked for again. Of a command that reads what a due edge makes only inputs are asked for,
 /// and it takes time for its regular and recorded inputs alone; any other command is judged by `verdict::reason`, which walks
 /// what it reads through phony edges. Memory is taken for one flag for each edge of the graph, and for what `reason` takes.
-pub fn first_lack<S: Site>(
+pub fn sources<S: Site>(
     alloc: Global,
     site: &mut S,
     graph: &Graph,
     cone: &Cone,
     looks: &mut Looks,
     records: &Records,
-) -> Result<Option<Lack>, SiteFault>
+) -> Result<Found, SiteFault>
     requires running { (S.world site.old).stopped ≡ false }
     requires fits { length looks.old.seen.items ≡ length graph.now.manifest.paths }
     requires cone { IsAnyCone graph.now cone.now }
@@ -50,20 +58,24 @@ pub fn first_lack<S: Site>(
     ensures cause { HasCause (S.world site.old) (S.world site.new) result }
     ensures fits { length looks.new.seen.items ≡ length graph.now.manifest.paths }
     ensures seen { IfSeen S.tells graph.now (S.world site.old) (S.world site.new) looks.old (λ files. AreSeen graph.now.manifest.paths files looks.new.seen.items) }
-    ensures found { IfOk result (λ found. IfKnown S.tells graph.now records.now (S.world site.old) (S.world site.new) looks.old (λ store files. (targets : List (List ℕ)) → IsConeIn graph.now store targets cone.now → IsFound graph.now store (targets_of (declared_by graph.now) targets) files found)) }
-    ensures within { IfOk result (λ found. IfSome found (IsLackOf graph.now)) }
+    ensures found { IfOk result (λ found. IfKnown S.tells graph.now records.now (S.world site.old) (S.world site.new) looks.old (λ store files. (targets : List (List ℕ)) → IsConeIn graph.now store targets cone.now → IsFound graph.now store (targets_of (declared_by graph.now) targets) files (lack_in found))) }
+    ensures due { IfOk result (λ found. IfPresent found (λ due. HasDue S.tells graph.now records.now cone.now (S.world site.old) (S.world site.new) looks.old due)) }
+    ensures within { IfOk result (λ found. IfSome (lack_in found) (IsLackOf graph.now)) }
 {
     looks_follow();
     lists_stand(graph);
     let targets = cone.targets.as_slice();
     match first_missing(site, graph, looks, targets)? {
-        Some(path) => Ok(Some(Lack {
+        Some(path) => Ok(Found::Missing(Lack {
             path,
             needed_by: None,
         })),
         None => {
             let due = due_edges(alloc, site, graph, cone, looks, records)?;
-            lack_of_due(site, graph, looks, &due)
+            match lack_of_due(site, graph, looks, &due)? {
+                Some(lack) => Ok(Found::Missing(lack)),
+                None => Ok(Found::Present(due)),
+            }
         }
     }
 }

@@ -6,4 +6,4 @@ mod commands;
 mod due;
 mod lack;
 
-pub use lack::{Lack, first_lack};
+pub use lack::{Found, Lack, sources};
