@@ -1,16 +1,17 @@
 //! One build.
 
-ghost use Rattle.std.specs.Prelude.{◌≡◌, ◌<◌, All, IfOk, IfErr, false, vec_len, length};
+ghost use Rattle.std.specs.Prelude.{◌≡◌, ◌<◌, ◌×◌, All, IfOk, IfErr, false, vec_len, length};
 ghost use Rattle.model.specs.World.{IsIdle};
 ghost use Rattle.model.specs.Graph.{IsMadeOnce};
 ghost use Rattle.model.specs.SingleBuild.{PassesNoFault};
 ghost use Rattle.links.specs.Told.{declared_by};
-ghost use Rattle.looks.specs.Lacks.{IsConeUnrecorded};
+ghost use Rattle.dues.specs.Stores.{IsAnyCone};
 ghost use Rattle.manifest.specs.Answer.{IsGraph};
 ghost use Rattle.paths.specs.Told.{text_at};
+ghost use Rattle.runner.specs.Course.{Course};
 ghost use Rattle.runner.specs.Ran.{AreEdgesOf};
 ghost use Rattle.builder.specs.Build.{limits_of, BuildsFor, IsBuild};
-ghost use Rattle.builder.specs.Reports.{report_in, IsUnrecorded, SaysNoCone, ShowsFault, IsPlanFor, SaysEnd, RunsFor, run_answer};
+ghost use Rattle.builder.specs.Reports.{report_in, IsUnrecorded, IsConeUnrecorded, SaysNoCone, ShowsFault, IsPlanFor, MayRun, SaysEnd, SaysRun, run_answer};
 ghost use Rattle.builder.specs.Taken.{IsTaken};
 
 use crate::asked::{Asked, Limits};
@@ -32,9 +33,12 @@ use text::Text;
 
 /// Builds the targets, or the default ones where none is given (manual: "Default target statements").
 ///
+/// What the build log in the folder of `builddir` (manual: "Top-level variables") tells is believed: a command whose outputs are in
+/// order by their records is not started. Each start and each good end is put behind the log; one that is damaged tells nothing.
+///
 /// A refusal has started and written nothing. `NotTaken` goes before every other refusal of the graph. Where a call was
 /// refused, a fault is answered, and nothing was started after it; where the site has stopped, that is the fault. The file
-/// that gets new stamps lies in the folder of `builddir` (manual: "Top-level variables").
+/// that gets new stamps lies beside the log.
 pub fn build<S: Site>(alloc: Global, site: &mut S, options: &Options, targets: &[Text]) -> Report
     requires { IsIdle (S.world site.old).events }
     ensures { IsBuild S.tells S.outcome options.now.file (limits_of options.now) targets.now (S.world site.old) (S.world site.new) result }
@@ -142,11 +146,14 @@ fn run_cone<S: Site>(
 ) -> Result<Report, Report>
     requires idle { IsIdle (S.world site.old).events }
     requires running { (S.world site.old).stopped ≡ false }
+    requires formed { IsGraph (declared_by graph.now) }
+    requires taken { IsTaken (declared_by graph.now).edges }
+    requires once { IsMadeOnce (declared_by graph.now).edges }
     requires unrecorded { IsUnrecorded graph.now }
     requires marks { vec_len cone.now.marks ≡ length graph.now.manifest.lines }
-    requires within { All (λ e. e < length graph.now.manifest.lines) cone.now.order.items }
-    requires cone { IsConeUnrecorded graph.now asked.now.targets cone.now }
-    ensures ran { RunsFor S.tells graph.now asked.now (S.world site.old) (S.world site.new) (report_in result) }
+    requires due { vec_len known.due ≡ length graph.now.manifest.lines }
+    requires ready { (course : Course) × MayRun S.tells graph.now asked.now cone.now records known.looks course (S.world site.old) }
+    ensures ran { (course : Course) → MayRun S.tells graph.now asked.now cone.now records known.looks course (S.world site.old) → SaysRun S.tells course graph.now (S.world site.new) (report_in result) }
     ensures faults { PassesNoFault (S.world site.old) (S.world site.new) (run_answer (report_in result)) }
 {
     let Known { looks, due } = known;

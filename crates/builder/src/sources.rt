@@ -1,13 +1,15 @@
 //! Missing sources.
 
-ghost use Rattle.std.specs.Prelude.{◌≡◌, ℕ, List, false, length, IfOk, IfErr, OnOk};
+ghost use Rattle.std.specs.Prelude.{◌≡◌, ◌<◌, false, length, vec_len, IfOk, IfErr, OnOk};
 ghost use Rattle.std.specs.Option.{option_map};
-ghost use Rattle.model.specs.Calls.{OnlyLooks, HasCause};
+ghost use Rattle.model.specs.Calls.{OnlyLooks};
 ghost use Rattle.build_theory.specs.Seen.{Unrefused};
 ghost use Rattle.links.specs.Told.{declared_by};
 ghost use Rattle.paths.specs.Told.{text_at};
-ghost use Rattle.looks.specs.Lacks.{HaveOutputs, IsConeUnrecorded, IsEdgeBelow, IsLackOf};
-ghost use Rattle.builder.specs.Reports.{first_output_of, HasSources, LacksSource};
+ghost use Rattle.dues.specs.Lacks.{IsEdgeBelow, IsLackOf};
+ghost use Rattle.dues.specs.Stores.{IsAnyCone};
+ghost use Rattle.builder.specs.Reports.{first_output_of, HasSources, IsSeenAtEntry, LacksSource};
+ghost use Rattle.builder.specs.Taken.{IsTaken};
 
 use crate::names::{first_output, path_text};
 use crate::report::{Missing, Refusal, Report};
