@@ -7,7 +7,7 @@ ghost use Rattle.model.specs.SingleBuild.{task_of};
 ghost use Rattle.plan.specs.declared.step.Step.TheVariants as step;
 ghost use Rattle.plan.specs.Planned.{IsNextOf};
 ghost use Rattle.runner.specs.Course.{Course, Suits, IsOn};
-ghost use Rattle.runner.specs.Going.{IsGoing, IsOver, IsCut, AreEnough, work_left};
+ghost use Rattle.runner.specs.Going.{IsGoing, IsOver, IsCut, AreSet, work_left};
 ghost use Rattle.runner.specs.Cutting.{Cuts, IsOfWait};
 
 use crate::cut::Cut;
@@ -27,7 +27,7 @@ pub fn go_on<S: Site>(
 ) -> Result<Option<End>, Cut>
     requires running { (S.world site.old).stopped ≡ false }
     requires going { IsGoing S.tells setting.tick.now setting.graph.now state.old (S.world site.old) }
-    requires enough { AreEnough setting.graph.now (vec_len state.old.set) }
+    requires enough { AreSet setting.graph.now state.old.set.items }
     ensures cuts { Cuts (S.world site.old) (S.world site.new) result }
     ensures nearer { IfOk result (λ end. MatchOption end (work_left state.new.plan.standings.items < work_left state.old.plan.standings.items) (λ end. Unit {0})) }
     ensures set { state.new.set ≡ state.old.set }
