@@ -36,15 +36,18 @@ pub fn run_plan<S: Site>(
     requires running { (S.world site.old).stopped ≡ false }
     requires going { IsGoing S.tells setting.tick.now setting.graph.now state (S.world site.old) }
     requires enough { AreSet setting.graph.now state.set.items }
-    ensures ran { (course : Course) → Suits course setting.tick.now setting.graph.now → IsOn S.tells course setting.graph.now None state (S.world site.old) → HasRun S.tells course (S.world site.new) result }
+    ensures ran { (course : Course) → Suits course setting.entry.tick.now setting.entry.graph.now → IsOn S.tells course setting.entry.graph.now None state.entry (S.world site.old) → HasRun S.tells course (S.world site.new) result }
     ensures seen { IfErr result (λ cut. IsSeen (S.world site.old) (S.world site.new) (fault_of cut)) }
-    ensures faults { PassesNoFault (S.world site.old) (S.world site.new) (answer_of setting.graph.now result) }
+    ensures faults { PassesNoFault (S.world site.old) (S.world site.new) (answer_of setting.entry.graph.now result) }
     ensures left { IfErr result (IsLeft (S.world site.new)) }
-    ensures edges { IfOk result (AreEdgesOf setting.graph.now) }
+    ensures edges { IfOk result (AreEdgesOf setting.entry.graph.now) }
 {
     let mut state = state;
     match run(site, setting, &mut state) {
-        Ok(end) => Ok(summary(&state.plan, state.failed, end)),
+        Ok(end) => {
+            let failed = state.failed;
+            Ok(summary(&state.plan, failed, end))
+        }
         Err(cut) => Err(take_in_rest(site, state.plan.running(), cut)),
     }
 }
@@ -55,8 +58,8 @@ fn run<S: Site>(site: &mut S, setting: Setting<'_>, state: &mut State<'_>) -> Re
     requires going { IsGoing S.tells setting.tick.now setting.graph.now state.old (S.world site.old) }
     requires enough { AreSet setting.graph.now state.old.set.items }
     ensures cuts { Cuts (S.world site.old) (S.world site.new) result }
-    ensures over { IfOk result (λ end. (course : Course) → Suits course setting.tick.now setting.graph.now → IsOn S.tells course setting.graph.now None state.old (S.world site.old) → IsOver S.tells course setting.graph.now state.new end (S.world site.new)) }
-    ensures cut { OnErr result ((course : Course) → Suits course setting.tick.now setting.graph.now → IsOn S.tells course setting.graph.now None state.old (S.world site.old) → IsCut S.tells course setting.graph.now state.new.plan (S.world site.new)) }
+    ensures over { IfOk result (λ end. (course : Course) → Suits course setting.entry.tick.now setting.entry.graph.now → IsOn S.tells course setting.entry.graph.now None state.old (S.world site.old) → IsOver S.tells course setting.entry.graph.now state.new end (S.world site.new)) }
+    ensures cut { OnErr result ((course : Course) → Suits course setting.entry.tick.now setting.entry.graph.now → IsOn S.tells course setting.entry.graph.now None state.old (S.world site.old) → IsCut S.tells course setting.entry.graph.now state.new.plan (S.world site.new)) }
 {
     'run: loop {
         if let Some(end) = go_on(site, setting, state)? {

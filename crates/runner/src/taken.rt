@@ -39,8 +39,8 @@ pub fn take_in<S: Site>(
     ensures of_wait { IfErr result (IsOfWait (S.world site.old) (S.world site.new)) }
     ensures nearer { OnOk result (work_left state.new.plan.standings.items < work_left state.old.plan.standings.items) }
     ensures set { state.new.set ≡ state.old.set }
-    ensures on { OnOk result ((course : Course) → Suits course setting.tick.now setting.graph.now → (on : IsOn S.tells course setting.graph.now None state.old (S.world site.old)) → IsNextOf (task_of course.asked course.store) on.steps step.Wait → IsOn S.tells course setting.graph.now None state.new (S.world site.new)) }
-    ensures cut { OnErr result ((course : Course) → Suits course setting.tick.now setting.graph.now → (on : IsOn S.tells course setting.graph.now None state.old (S.world site.old)) → IsNextOf (task_of course.asked course.store) on.steps step.Wait → IsCut S.tells course setting.graph.now state.new.plan (S.world site.new)) }
+    ensures on { OnOk result ((course : Course) → Suits course setting.entry.tick.now setting.entry.graph.now → (on : IsOn S.tells course setting.entry.graph.now None state.old (S.world site.old)) → IsNextOf (task_of course.asked course.store) on.steps step.Wait → IsOn S.tells course setting.entry.graph.now None state.new (S.world site.new)) }
+    ensures cut { OnErr result ((course : Course) → Suits course setting.entry.tick.now setting.entry.graph.now → (on : IsOn S.tells course setting.entry.graph.now None state.old (S.world site.old)) → IsNextOf (task_of course.asked course.store) on.steps step.Wait → IsCut S.tells course setting.entry.graph.now state.new.plan (S.world site.new)) }
 {
     match site.wait_any() {
         Ok(finished) => {
@@ -69,8 +69,8 @@ fn note_end(
     requires running { standing_at state.old.plan.standings.items edge ≡ Standing.Running }
     requires enough { AreSet setting.graph.now state.old.set.items }
     ensures nearer { work_left state.new.plan.standings.items < work_left state.old.plan.standings.items }
-    ensures ended { HasEnded setting.graph.now edge state.old state.new }
-    ensures planned { TakesStep setting.graph.now state.old.plan state.new.plan (Finished (suc edge) ok) }
+    ensures ended { HasEnded setting.entry.graph.now edge state.old state.new }
+    ensures planned { TakesStep setting.entry.graph.now state.old.plan state.new.plan (Finished (suc edge) ok) }
     ensures noted { OnOk result (state.new.failed.items ≡ failed_after state.old.failed.items edge ok) }
 {
     let outputs = setting.graph.outputs(edge);
@@ -100,8 +100,8 @@ fn record_end<S: Site>(
     ensures at_start { (S.world site.new).failures_at_start ≡ (S.world site.old).failures_at_start }
     ensures plan { state.new.plan ≡ state.old.plan }
     ensures set { state.new.set ≡ state.old.set }
-    ensures on { OnOk result ((course : Course) → Suits course setting.tick.now setting.graph.now → IsTakenIn S.tells course setting.graph.now (suc edge) (get_or state.old.starts.items edge 0) ok state.old (S.world site.old) → IsOn S.tells course setting.graph.now None state.new (S.world site.new)) }
-    ensures cut { OnErr result ((course : Course) → Suits course setting.tick.now setting.graph.now → IsTakenIn S.tells course setting.graph.now (suc edge) (get_or state.old.starts.items edge 0) ok state.old (S.world site.old) → IsCut S.tells course setting.graph.now state.new.plan (S.world site.new)) }
+    ensures on { OnOk result ((course : Course) → Suits course setting.entry.tick.now setting.entry.graph.now → IsTakenIn S.tells course setting.entry.graph.now (suc edge) (get_or state.old.starts.items edge 0) ok state.old (S.world site.old) → IsOn S.tells course setting.entry.graph.now None state.new (S.world site.new)) }
+    ensures cut { OnErr result ((course : Course) → Suits course setting.entry.tick.now setting.entry.graph.now → IsTakenIn S.tells course setting.entry.graph.now (suc edge) (get_or state.old.starts.items edge 0) ok state.old (S.world site.old) → IsCut S.tells course setting.entry.graph.now state.new.plan (S.world site.new)) }
 {
     if !ok {
         return Ok(());

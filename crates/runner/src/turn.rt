@@ -31,8 +31,8 @@ pub fn go_on<S: Site>(
     ensures cuts { Cuts (S.world site.old) (S.world site.new) result }
     ensures nearer { IfOk result (λ end. MatchOption end (work_left state.new.plan.standings.items < work_left state.old.plan.standings.items) (λ end. Unit {0})) }
     ensures set { state.new.set ≡ state.old.set }
-    ensures on { IfOk result (λ end. (course : Course) → Suits course setting.tick.now setting.graph.now → IsOn S.tells course setting.graph.now None state.old (S.world site.old) → MatchOption end (IsOn S.tells course setting.graph.now None state.new (S.world site.new)) (λ end. IsOver S.tells course setting.graph.now state.new end (S.world site.new))) }
-    ensures cut { OnErr result ((course : Course) → Suits course setting.tick.now setting.graph.now → IsOn S.tells course setting.graph.now None state.old (S.world site.old) → IsCut S.tells course setting.graph.now state.new.plan (S.world site.new)) }
+    ensures on { IfOk result (λ end. (course : Course) → Suits course setting.entry.tick.now setting.entry.graph.now → IsOn S.tells course setting.entry.graph.now None state.old (S.world site.old) → MatchOption end (IsOn S.tells course setting.entry.graph.now None state.new (S.world site.new)) (λ end. IsOver S.tells course setting.entry.graph.now state.new end (S.world site.new))) }
+    ensures cut { OnErr result ((course : Course) → Suits course setting.entry.tick.now setting.entry.graph.now → IsOn S.tells course setting.entry.graph.now None state.old (S.world site.old) → IsCut S.tells course setting.entry.graph.now state.new.plan (S.world site.new)) }
 {
     match state.plan.next() {
         Step::Judge(edge) => {
