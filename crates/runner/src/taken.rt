@@ -1,6 +1,6 @@
 //! Taking in a command that has ended.
 
-ghost use Rattle.std.specs.Prelude.{◌≡◌, ◌<◌, ◌×◌, ℕ, suc, None, Some, true, false, length, vec_len, get_or, IfErr, OnOk, OnErr};
+ghost use Rattle.std.specs.Prelude.{◌≡◌, ◌<◌, ℕ, suc, None, Some, true, false, length, vec_len, get_or, IfErr, OnOk, OnErr};
 ghost use Rattle.model.specs.World.{World};
 ghost use Rattle.model.specs.Calls.{HasCause};
 ghost use Rattle.model.specs.Graph.{IsCommand};
