@@ -1,6 +1,7 @@
 -- What a run keeps goes on over the calls of its site: one lemma for each part, and one for each kind of call.
-use Rattle.std.proofs.Common.{◌≡◌, ◌≢◌, inl, inr, ℕ, suc, Bool, true, false, IsTrue, List, [], ◌∷◌, ◌++◌, Option, Some, None, refl, sym, ◌∙◌, ap, subst, append_assoc}
+use Rattle.std.proofs.Common.{◌≡◌, ◌≢◌, inl, inr, ℕ, suc, Bool, true, false, IsTrue, List, [], ◌∷◌, ◌++◌, length, Option, Some, None, refl, sym, ◌∙◌, ap, subst, append_assoc}
 use Rattle.std.proofs.lemmas.List.{append-nil}
+use Rattle.std.proofs.lemmas.Bool.{false≢true}
 use Rattle.model.specs.declared.event.Event.{Event}
 use Rattle.model.specs.declared.event.Event.TheVariants.{Start}
 use Rattle.model.specs.declared.event.Moment.{Moment}
@@ -12,20 +13,28 @@ use Rattle.model.specs.Schedule.{Step as Done, running_in, out_of_date_in}
 use Rattle.model.specs.SingleBuild.{task_of}
 use Rattle.model.specs.Kept.{StartedUnder}
 use Rattle.build_theory.specs.Run.{IsRunOrRest}
+use Rattle.build_theory.proofs.Lists.{same_some}
 use Rattle.build_theory.proofs.Runs.{rest_begins}
+use Rattle.build_log.specs.declared.done.Done.{Done as Line}
+use Rattle.build_log.specs.Kept.{Table}
+use Rattle.build_log.specs.Log.{Keeps}
 use Rattle.log_theory.specs.Writes.{WritesAt}
 use Rattle.log_theory.specs.Ledger.{IsCarried, IsCutOff}
-use Rattle.log_theory.proofs.Ledger.{command_of, running_of, stale_command, carried_looks, carried_ticks, carried_response, carried_log, carried_hand}
+use Rattle.log_theory.proofs.Ledger.{command_of, running_of, stale_command, carried_looks, carried_ticks, carried_response, carried_log, carried_hand, cut_off}
 use Rattle.log_theory.proofs.Writing.{looks_at, ticks_grew}
 use Rattle.links.specs.declared.graph.Graph.{Graph}
 use Rattle.paths.specs.Told.{text_at}
 use Rattle.looks.specs.declared.table.Look.{Look}
 use Rattle.looks.specs.Seen.{look_at, look_of, is_asked, AreKept, AreSeenOf}
-use Rattle.records.specs.Held.{Held}
+use Rattle.plan.specs.declared.plan.Plan.{Plan}
+use Rattle.plan.specs.Planned.{IsPlanned}
+use Rattle.records.specs.declared.records.Records.{Records}
+use Rattle.records.specs.Held.{Held, IsSameLog, AreMade}
 use Rattle.records.specs.Logging.{IsLogging, IsLoggedStill}
 use Rattle.records.specs.Laws.{WritesElsewhere, LeavesTheLog, LogStays}
 use Rattle.runner.specs.declared.state.State.{State}
 use Rattle.runner.specs.Course.{Course, Suits, edges_of, is_quiet, IsSeenStill, AreTold, AreStarted, IsOn}
+use Rattle.runner.specs.Going.{IsInHand, IsCut}
 use Rattle.runner.proofs.Quiet.{KeepsQuiet, RunBy, quiet_own, quiet_response, quiet_looks}
 
 -- ---- the parts
@@ -128,3 +137,140 @@ module _ (tells : Bool) (course : Course) (graph : Graph) where
       room = on.room;
       noted = on.noted;
     }
+
+    -- a call that only looks
+    pub looks_leave : OnlyLooks tells now new → Leaves now new
+    looks_leave looks = inl (record { events = looks.events; path = course.own.deps_log; other = λ tell kept same. on.logging.apart (sym same); history = (looks_at tells course.own.deps_log now new looks).history })
+
+    pub looks_quiet : OnlyLooks tells now new → Quietly on.steps now new
+    looks_quiet looks = quiet_looks tells course.own (edges_of course) on.steps course.entry now new (grown on.steps hand now on.carried) (run_by on.steps hand now on.carried) looks
+
+    pub looks_carried : OnlyLooks tells now new → Carried on.steps hand new
+    looks_carried looks = carried_looks tells course.behaviour course.format course.own course.asked course.store course.entry on.steps hand now new looks on.carried
+
+    abbrev pub on_looks : OnlyLooks tells now new → IsOn tells course graph hand state new
+    on_looks looks = on_over (looks_carried looks) (looks_leave looks) (looks_quiet looks) looks.events
+
+    -- a tick
+    module _ (tick : List ℕ) (suits : Suits course tick graph) where
+      pub ticks_carried : (stamp : ℕ) → Ticks tells tick stamp now new → Carried on.steps hand new
+      ticks_carried stamp ticks =
+          carried_ticks tells course.behaviour course.format course.own course.asked course.store course.entry on.steps hand now new tick suits.owned suits.no_build_log suits.no_deps_log stamp ticks on.carried
+
+      pub ticks_quiet : (stamp : ℕ) → Ticks tells tick stamp now new → Quietly on.steps now new
+      ticks_quiet stamp ticks =
+          quiet_own tells course.own (edges_of course) on.steps course.entry now new (grown on.steps hand now on.carried) (run_by on.steps hand now on.carried) tick suits.owned (ticks_grew tells tick stamp now new ticks)
+
+      pub ticks_leave : (stamp : ℕ) → Ticks tells tick stamp now new → Leaves now new
+      ticks_leave stamp ticks = inl (record { events = ticks.events; path = tick; other = λ tell kept. suits.no_build_log; history = ticks_grew tells tick stamp now new ticks })
+
+      abbrev pub on_ticks : (stamp : ℕ) → Ticks tells tick stamp now new → IsOn tells course graph hand state new
+      on_ticks stamp ticks = on_over (ticks_carried stamp ticks) (ticks_leave stamp ticks) (ticks_quiet stamp ticks) ticks.events
+
+    -- the response file of an edge that was judged out of date is written, or removed
+    module _ (i : ℕ) (stale : has_number (out_of_date_in on.steps) i ≡ true) (writes : WritesAt tells (edge_at (edges_of course) i).act.response_path now new) where
+      command : IsCommand (edges_of course) i
+      command = stale_is_command on.steps hand now on.carried i stale
+
+      pub response_carried : Carried on.steps hand new
+      response_carried = carried_response tells course.behaviour course.format course.own course.asked course.store course.entry on.steps hand now new i stale writes on.carried
+
+      pub response_quiet : Quietly on.steps now new
+      response_quiet = quiet_response tells course.own (edges_of course) on.steps course.entry now new (grown on.steps hand now on.carried) (run_by on.steps hand now on.carried) i command writes.history
+
+      pub response_leaves : Leaves now new
+      response_leaves = inl (record {
+        events = writes.events;
+        path = (edge_at (edges_of course) i).act.response_path;
+        other = λ tell kept same. false≢true (sym (kept.own_files.responses i command).1 ∙ (ap course.own.files same ∙ kept.own_files.build_log));
+        history = writes.history;
+      })
+
+      abbrev pub on_response : IsOn tells course graph hand state new
+      on_response = on_over response_carried response_leaves response_quiet writes.events
+
+  -- ---- an edge is taken in hand
+
+  pub hand_carried : (steps : List Done) (now : World) (i : ℕ) → Carried steps None now → Carried steps (Some i) now
+  hand_carried steps now i carried = carried_hand tells course.behaviour course.format course.own course.asked course.store course.entry steps now i carried
+
+  abbrev pub on_hand : (state : State) (now : World) (i : ℕ) → IsOn tells course graph None state now → IsOn tells course graph (Some i) state now
+  on_hand state now i on = record {
+    steps = on.steps;
+    planned = on.planned;
+    carried = hand_carried on.steps now i on.carried;
+    logging = logging_with on.steps None (Some i) now state.records.file (hand_carried on.steps now i on.carried) on.logging;
+    told = on.told;
+    seen = on.seen;
+    anew = on.anew;
+    started = on.started;
+    room = on.room;
+    noted = on.noted;
+  }
+
+  -- ---- a record is put behind the log
+
+  -- the state with other records
+  abbrev pub with_records : State → Records → State
+  with_records state records =
+      record { plan = state.plan; looks = state.looks; records = records; display = state.display; due = state.due; starts = state.starts; failed = state.failed; set = state.set }
+
+  pub told_by : (state : State) (now : World) (records : Records) → IsSameLog state.records.file records.file → records.places.items ≡ state.records.places.items
+      → AreTold tells course graph state now → AreTold tells course graph (with_records state records) now
+  told_by state now records same places told = record {
+    records = told.records;
+    known = record {
+      keeps = subst (λ (log : Table Line). Keeps told.records log) (sym same.log) told.known.keeps;
+      fits = ap length places ∙ told.known.fits;
+      made = subst (λ (l : List (Option ℕ)). AreMade told.records graph.manifest.paths l) (sym places) told.known.made;
+    };
+    same = told.same;
+  }
+
+  module _ (tick : List ℕ) (suits : Suits course tick graph) (hand next : Option ℕ) (state : State) (now new : World) (on : IsOn tells course graph hand state now) (writes : WritesAt tells state.records.file.path now new) where
+    pub log_writes : WritesAt tells course.own.build_log now new
+    log_writes = subst (λ (path : List ℕ). WritesAt tells path now new) on.logging.path writes
+
+    -- whether it stands there or not
+    pub log_carried : IsLoggedStill tells course.behaviour course.format course.own (edges_of course) on.steps next course.store course.entry new → Carried on.steps next new
+    log_carried logged =
+        carried_log tells course.behaviour course.format course.own course.asked course.store course.entry on.steps hand next now new course.own.build_log suits.log_owned log_writes (λ tell kept was. logged tell kept) on.carried
+
+    pub log_quiet : Quietly on.steps now new
+    log_quiet =
+        quiet_own tells course.own (edges_of course) on.steps course.entry now new (grown on.steps hand now on.carried) (run_by on.steps hand now on.carried) course.own.build_log suits.log_owned log_writes.history
+
+    abbrev pub on_log : (records : Records) → IsSameLog state.records.file records.file → records.places.items ≡ state.records.places.items → Logging on.steps next new records.file
+        → IsOn tells course graph next (with_records state records) new
+    on_log records same places logging = record {
+      steps = on.steps;
+      planned = on.planned;
+      carried = log_carried logging.logged;
+      logging = logging;
+      told = told_by state new records same places (told_over on.steps state now new log_quiet on.told);
+      seen = seen_over on.steps state now new log_quiet on.seen;
+      anew = on.anew;
+      started = started_over on.steps state now new log_writes.events on.started;
+      room = on.room;
+      noted = on.noted;
+    }
+
+  -- ---- where a fault cuts a run off
+
+  abbrev pub Cut : Plan → World → Type 0
+  Cut plan new = IsCut tells course graph plan new
+
+  cut_of : (steps : List Done) (hand : Option ℕ) (new : World) → Carried steps hand new → IsCutOff tells course.behaviour course.format course.own course.asked course.store steps hand course.entry new
+  cut_of steps hand new carried = cut_off tells course.behaviour course.format course.own course.asked course.store course.entry steps hand new carried
+
+  -- with no edge in hand
+  pub cut_free : (plan : Plan) (new : World) (steps : List Done) → IsPlanned (task_of course.asked course.store) graph plan steps → Carried steps None new → Cut plan new
+  cut_free plan new steps planned carried = record { steps = steps; met = None; planned = planned; cut = cut_of steps None new carried; in_hand = λ i is. nothing i is }
+    where
+      nothing : (i : ℕ) → None ≡ Some i → IsInHand (task_of course.asked course.store) steps i
+      nothing i is = cc
+
+  -- with the edge in hand whose start or taking in met it
+  pub cut_met : (plan : Plan) (new : World) (steps : List Done) (i : ℕ) → IsInHand (task_of course.asked course.store) steps i → IsPlanned (task_of course.asked course.store) graph plan steps → Carried steps (Some i) new → Cut plan new
+  cut_met plan new steps i at planned carried =
+      record { steps = steps; met = Some i; planned = planned; cut = cut_of steps (Some i) new carried; in_hand = λ k is. subst (λ (n : ℕ). IsInHand (task_of course.asked course.store) steps n) (same_some i k is) at }
