@@ -1,2 +1,3 @@
 pub mod Quiet
 pub mod Keeping
+pub mod Places

@@ -1,14 +1,13 @@
 //! Judging an edge.
 
-ghost use Rattle.std.specs.Prelude.{◌≡◌, ◌<◌, ℕ, suc, None, false, OnOk, OnErr};
+ghost use Rattle.std.specs.Prelude.{◌≡◌, ◌<◌, ℕ, suc, Bool, None, false, is_some, get_or, OnOk, OnErr};
 ghost use Rattle.model.specs.Calls.{OnlyLooks, HasCause};
 ghost use Rattle.model.specs.Schedule.{Judged, IsLawfulStep};
 ghost use Rattle.model.specs.SingleBuild.{task_of};
 ghost use Rattle.plan.specs.declared.step.Step.TheVariants as step;
-ghost use Rattle.plan.specs.Planned.{IsOffered};
+ghost use Rattle.plan.specs.Planned.{IsOffered, is_stale};
 ghost use Rattle.runner.specs.Course.{Course, Suits, IsOn};
 ghost use Rattle.runner.specs.Going.{IsGoing, work_left};
-ghost use Rattle.verdict.specs.Judged.{verdict_of};
 
 use crate::setting::Setting;
 use crate::state::State;

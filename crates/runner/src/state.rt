@@ -45,7 +45,7 @@ impl<'a> State<'a> {
         ensures plan { IfOk result (λ state. state.plan ≡ plan) }
         ensures looks { IfOk result (λ state. state.looks ≡ looks) }
         ensures records { IfOk result (λ state. state.records ≡ records) }
-        ensures display { IfOk result (λ state. state.display ≡ display) }
+        ensures display { IfOk result (λ state. state.display ≡ display.entry) }
         ensures due { IfOk result (λ state. state.due ≡ due) }
         ensures starts { IfOk result (λ state. vec_len state.starts ≡ length graph.now.manifest.lines) }
         ensures failed { IfOk result (λ state. state.failed.items ≡ []) }
