@@ -1,3 +1,9 @@
 pub mod Quiet
 pub mod Keeping
 pub mod Places
+pub mod Results
+pub mod Work
+pub mod Cutting
+pub mod Counting
+pub mod Running
+pub mod Ends
