@@ -1,3 +1,4 @@
 pub mod Quiet
 pub mod Keeping
 pub mod Places
+pub mod Launching
