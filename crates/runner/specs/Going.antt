@@ -5,9 +5,12 @@ use Rattle.model.specs.World.{World}
 use Rattle.model.specs.Graph.{has_number}
 use Rattle.model.specs.Schedule.{Task, Step as Done, Ended, MayStart, NoneMayBeJudged, out_of_date_in, started_in, ended_in}
 use Rattle.model.specs.SingleBuild.{task_of}
+use Rattle.lowest.specs.Flags as flags
 use Rattle.links.specs.declared.graph.Graph.{Graph}
 use Rattle.links.specs.Links.{links_of}
 use Rattle.log_theory.specs.Ledger.{IsCutOff}
+use Rattle.looks.specs.declared.table.Look.TheVariants.{Unasked}
+use Rattle.looks.specs.Seen.{look_at}
 use Rattle.plan.specs.declared.step.End.{End}
 use Rattle.plan.specs.declared.step.Standing.{Standing}
 use Rattle.plan.specs.declared.step.Standing.TheVariants.{Outside, Unjudged, Clean, OutOfDate, Running, Well, Failed, Alias, Known}
@@ -45,6 +48,30 @@ pub record IsCut (tells : Bool) (course : Course) (graph : Graph) (plan : Plan) 
 -- no edge has more outputs
 abbrev pub AreEnough : Graph → ℕ → Type 0
 AreEnough graph count = (e : ℕ) → e < length graph.manifest.lines → length ((links_of graph).outputs e) ≤ count
+
+-- as many flags as an edge may have outputs, and each is set
+pub record AreSet (graph : Graph) (all : List Bool) : Type 0 where
+  pub enough : AreEnough graph (length all)
+  pub set : (k : ℕ) → k < length all → flags.has all k ≡ true
+
+-- ---- the end of a command
+
+-- What the end of the command of an edge changes beside its plan's steps: all its outputs count as changed, and what was seen of
+-- them is forgotten.
+pub record HasEnded (graph : Graph) (e : ℕ) (old new : State) : Type 0 where
+  pub changed : (p : ℕ) → has_number ((links_of graph).outputs e) p ≡ true → flags.has new.plan.changed.items p ≡ true
+  pub unchanged : (p : ℕ) → has_number ((links_of graph).outputs e) p ≡ false → flags.has new.plan.changed.items p ≡ flags.has old.plan.changed.items p
+  pub forgotten : (p : ℕ) → has_number ((links_of graph).outputs e) p ≡ true → look_at new.looks.seen.items p ≡ Unasked
+  pub seen : (p : ℕ) → has_number ((links_of graph).outputs e) p ≡ false → look_at new.looks.seen.items p ≡ look_at old.looks.seen.items p
+  pub fits : length new.looks.seen.items ≡ length old.looks.seen.items
+  pub records : new.records ≡ old.records
+  pub starts : new.starts ≡ old.starts
+  pub set : new.set ≡ old.set
+
+-- the failed edges, when the command of one more has ended
+abbrev pub failed_after : List ℕ → ℕ → Bool → List ℕ
+failed_after failed e true = failed
+failed_after failed e false = failed ++ e ∷ []
 
 -- ---- the work that is left
 
