@@ -251,7 +251,7 @@ module _ (tells : Bool) (course : Course) (graph : Graph) where
       seen = seen_over on.steps state now new log_quiet on.seen;
       anew = on.anew;
       started = started_over on.steps state now new log_writes.events on.started;
-      room = on.room;
+      room = record { looks = on.room.looks; starts = on.room.starts };
       noted = on.noted;
     }
 

@@ -1,9 +1,11 @@
 pub mod Quiet
 pub mod Keeping
 pub mod Places
+pub mod Launching
 pub mod Results
 pub mod Work
 pub mod Cutting
+pub mod Launched
 pub mod Counting
 pub mod Running
 pub mod Ends

@@ -25,6 +25,7 @@ use links::Graph;
 use model::{Act, SiteFault};
 use paths::{Action, EdgeId};
 use plan::Plan;
+use records::log_stays;
 use site::Site;
 
 /// Starts the command of an edge: makes the folders that it writes into, shows what is shown at a start, says in the log that it
@@ -47,6 +48,7 @@ pub fn start_edge<S: Site>(
     ensures on { OnOk result ((course : Course) → Suits course setting.entry.tick.now setting.entry.graph.now → (on : IsOn S.tells course setting.entry.graph.now None state.old (S.world site.old)) → IsLawfulStep (task_of course.asked course.store) on.steps (Started (suc edge)) → IsOn S.tells course setting.entry.graph.now None state.new (S.world site.new)) }
     ensures cut { OnErr result ((course : Course) → Suits course setting.entry.tick.now setting.entry.graph.now → (on : IsOn S.tells course setting.entry.graph.now None state.old (S.world site.old)) → IsLawfulStep (task_of course.asked course.store) on.steps (Started (suc edge)) → IsCut S.tells course setting.entry.graph.now state.new.plan (S.world site.new)) }
 {
+    log_stays();
     make_folders(site, setting, edge)?;
     state
         .display
@@ -87,6 +89,7 @@ fn launch<S: Site>(
     ensures on { OnOk result ((course : Course) → Suits course setting.entry.tick.now setting.entry.graph.now → IsBegun S.tells course setting.entry.graph.now (suc edge) state.old (S.world site.old) → IsOn S.tells course setting.entry.graph.now None state.new (S.world site.new)) }
     ensures cut { OnErr result ((course : Course) → Suits course setting.entry.tick.now setting.entry.graph.now → IsBegun S.tells course setting.entry.graph.now (suc edge) state.old (S.world site.old) → IsCut S.tells course setting.entry.graph.now state.new.plan (S.world site.new)) }
 {
+    log_stays();
     let act = act(setting.graph, edge);
     write_response(site, act)?;
     let stamp = site.tick(setting.tick)?;
