@@ -67,7 +67,7 @@ pub record HasEnded (graph : Graph) (e : ℕ) (old new : State) : Type 0 where
   pub seen : (p : ℕ) → has_number ((links_of graph).outputs e) p ≡ false → look_at new.looks.seen.items p ≡ look_at old.looks.seen.items p
   pub fits : length new.looks.seen.items ≡ length old.looks.seen.items
   pub records : new.records ≡ old.records
-  pub starts : new.starts ≡ old.starts
+  pub starts : new.starts.items ≡ old.starts.items
   pub set : new.set ≡ old.set
 
 -- the failed edges, when the command of one more has ended

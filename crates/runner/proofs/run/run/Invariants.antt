@@ -9,7 +9,7 @@ invariant-run g l = record {
   unrefused : Unrefused (g.S.Texts.world l.fn.site) (g.S.Texts.world l.site);
   starts : StartsUnrefused (g.S.Texts.world l.fn.site) (g.S.Texts.world l.site);
   set : l.state.set ≡ l.fn.state.set;
-  on : (course : Course) → Suits course l.setting.tick l.setting.graph → IsOn g.S.Texts.tells course l.setting.graph None l.fn.state (g.S.Texts.world l.fn.site) → IsOn g.S.Texts.tells course l.setting.graph None l.state (g.S.Texts.world l.site);
+  on : (course : Course) → Suits course l.setting.tick.now l.setting.graph.now → IsOn g.S.Texts.tells course l.setting.graph.now None l.fn.state (g.S.Texts.world l.fn.site) → IsOn g.S.Texts.tells course l.setting.graph.now None l.state (g.S.Texts.world l.site);
 }
 
 abbrev pub decreases-run : goal.decreases-run
