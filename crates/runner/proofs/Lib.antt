@@ -9,3 +9,6 @@ pub mod Launched
 pub mod Counting
 pub mod Running
 pub mod Ends
+pub mod Finishing
+pub mod Noting
+pub mod Recording

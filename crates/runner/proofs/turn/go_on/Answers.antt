@@ -9,7 +9,7 @@ judge-requires-clause-going g c =
     (going, c.in-Judge.ensures.lawful (task_of going.course.asked going.course.store) c.args.setting.graph.now going.on.steps going.on.planned going.on.carried.run.lawful)
 
 pub returns-in_err-map_err-in-Judge-clause-cut : goal.returns-in_err-map_err-in-Judge-clause-cut
-returns-in_err-map_err-in-Judge-clause-cut g c = on_err _ (λ course suits on.
+returns-in_err-map_err-in-Judge-clause-cut g c = on_err c.from_residual.result (λ course suits on.
     cut_looking g.S.Texts.tells course c.args.setting.graph.now (g.S.Texts.world c.args.site.now) c.args.state.now c.judge.new.state.plan (g.S.Texts.world c.judge.new.site)
     (err_by c.judge.result c.map_err.result _ c.map_err.ensures.variant c.in_err-map_err-in-Judge.was c.judge.ensures.plan) c.judge.ensures.looks on)
 
@@ -19,7 +19,7 @@ start_edge-requires-clause-going g c =
     (going, c.in-Start.ensures.lawful (task_of going.course.asked going.course.store) c.args.setting.graph.now going.on.steps going.on.planned going.on.carried.run.lawful)
 
 pub returns-in_err-map_err-in-Start-clause-cut : goal.returns-in_err-map_err-in-Start-clause-cut
-returns-in_err-map_err-in-Start-clause-cut g c = on_err _ (λ course suits on.
+returns-in_err-map_err-in-Start-clause-cut g c = on_err c.from_residual-in_err-map_err-in-Start.result (λ course suits on.
     err_by c.start_edge.result c.map_err-in-Start.result _ c.map_err-in-Start.ensures.variant c.in_err-map_err-in-Start.was c.start_edge.ensures.cut course suits on
     (c.in-Start.ensures.lawful (task_of course.asked course.store) c.args.setting.graph.now on.steps on.planned on.carried.run.lawful))
 
@@ -29,7 +29,7 @@ take_in-requires-clause-waits g c =
     (going, c.in-Wait.ensures.lawful (task_of going.course.asked going.course.store) c.args.setting.graph.now going.on.steps going.on.planned going.on.carried.run.lawful)
 
 pub returns-in_err-take_in-in-Wait-clause-cut : goal.returns-in_err-take_in-in-Wait-clause-cut
-returns-in_err-take_in-in-Wait-clause-cut g c = on_err _ (λ course suits on.
+returns-in_err-take_in-in-Wait-clause-cut g c = on_err c.from_residual-in_err-take_in-in-Wait.result (λ course suits on.
     c.in_err-take_in-in-Wait.ensures.cut course suits on (c.in-Wait.ensures.lawful (task_of course.asked course.store) c.args.setting.graph.now on.steps on.planned on.carried.run.lawful))
 
 pub returns-in_ok-map_err-in-Judge-clause-on : goal.returns-in_ok-map_err-in-Judge-clause-on
