@@ -6,7 +6,7 @@ use Rattle.std.proofs.lemmas.Bool.{false≢true, cases_Bool, or_cases, or_left, 
 use Rattle.model.specs.declared.event.Event.TheVariants.{Finish}
 use Rattle.model.specs.declared.graph.BuildGraph.{BuildGraph}
 use Rattle.model.specs.declared.graph.Edge.{Edge}
-use Rattle.model.specs.World.{World, IsIdle}
+use Rattle.model.specs.World.{World, file_at, stamp_of}
 use Rattle.model.specs.Calls.{Finishes}
 use Rattle.model.specs.Graph.{has, has_number, edge_at, outputs, maker, later_number, IsMadeOnce}
 use Rattle.model.specs.Schedule.{Task, Step as Done, Ended, IsLawfulStep, started_in, ended_in, running_in, well_in, failed_in, out_of_date_in}
@@ -20,6 +20,7 @@ use Rattle.build_theory.proofs.Calls.{looks_none}
 use Rattle.build_theory.proofs.Runs.{rest_begins, rest_finishes}
 use Rattle.log_theory.proofs.Ledger.{command_of, running_of, carried_well, carried_failed}
 use Rattle.log_theory.proofs.TakenIn.{says_failed, says_nothing, ended_here}
+use Rattle.lowest.specs.Flags as flags
 use Rattle.paths.specs.Told.{text_at}
 use Rattle.links.specs.declared.graph.Graph.{Graph}
 use Rattle.links.specs.Links.{links_of}
@@ -196,7 +197,7 @@ module _ (tells : Bool) (course : Course) (tick : List ℕ) (graph : Graph) (sui
     end_seen : IsSeenStill tells course graph more after mid
     end_seen tell kept p asked quiet = by_output (has_number ((links_of graph).outputs e) p) refl
       where
-        by_output : (b : Bool) → has_number ((links_of graph).outputs e) p ≡ b → look_at after.looks.seen.items p ≡ _
+        by_output : (b : Bool) → has_number ((links_of graph).outputs e) p ≡ b → look_at after.looks.seen.items p ≡ look_of (stamp_of (file_at mid.history (text_at graph.manifest.paths p)))
         by_output true made = absurd (false≢true (sym (ap is_asked (ended.forgotten p made)) ∙ asked))
         by_output false other = ended.seen p other ∙ seen_over tells course graph on.steps state now mid end_quiet on.seen tell kept p asked_then still
           where
@@ -221,10 +222,7 @@ module _ (tells : Bool) (course : Course) (tick : List ℕ) (graph : Graph) (sui
     end_anew : AreAnew course graph more after
     end_anew p lt unfailed = by_output (has_number ((links_of graph).outputs e) p) refl
       where
-        abbrev makes : ℕ → Bool
-        makes i = has (outputs (edge_at (edges_of course) i)) (text_at graph.manifest.paths p)
-
-        by_output : (b : Bool) → has_number ((links_of graph).outputs e) p ≡ b → _ ≡ is_anew (edges_of course) more (text_at graph.manifest.paths p)
+        by_output : (b : Bool) → has_number ((links_of graph).outputs e) p ≡ b → flags.has after.plan.changed.items p ≡ is_anew (edges_of course) more (text_at graph.manifest.paths p)
         by_output true made =
             ended.changed p made
             ∙ sym (any_number (λ i. has (outputs (edge_at (edges_of course) i)) (text_at graph.manifest.paths p)) (well_in more) (suc e)

@@ -34,11 +34,12 @@ listed (x ∷ xs) (suc k) lt = or_right (x == slice_index xs k) (has_number xs (
 
 module _ (old new all : List Bool) (outs : List ℕ) (n : ℕ) (flagged : AreFlagged old new outs (take n all)) where
   -- where so many are set, the flag of each of the paths is
-  pub flags_set : n ≡ length outs → length outs ≤ length all → ((k : ℕ) → k < length all → has all k ≡ true) → (p : ℕ) → has_number outs p ≡ true → has new p ≡ true
-  flags_set many enough set p there =
+  pub flags_set : n ≡ length outs → (set : List Bool) → all ≡ set → length outs ≤ length set → ((k : ℕ) → k < length set → has set k ≡ true) → (p : ℕ) → has_number outs p ≡ true → has new p ≡ true
+  flags_set many set same enough each p there =
       let place = place_of outs p there in
       let lt = place.1 in
-      subst (λ (q : ℕ). has new q ≡ true) place.2 (flagged.given place.0 lt ∙ (first_flags n all place.0 (omega (arith, lt, many)) ∙ set place.0 (omega (arith, lt, enough))))
+      subst (λ (q : ℕ). has new q ≡ true) place.2
+      (flagged.given place.0 lt ∙ (first_flags n all place.0 (omega (arith, lt, many)) ∙ (ap (λ (l : List Bool). has l place.0) same ∙ each place.0 (omega (arith, lt, enough)))))
 
   pub flags_kept : (p : ℕ) → has_number outs p ≡ false → has new p ≡ has old p
   flags_kept p other = flagged.others p (λ k lt is. false≢true (sym other ∙ (ap (has_number outs) (sym is) ∙ listed outs k lt)))

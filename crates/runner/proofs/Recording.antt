@@ -60,10 +60,10 @@ module _ (tells : Bool) (course : Course) (tick : List ℕ) (graph : Graph) (sui
   ended : has_number (ended_in taken.on.steps) (suc e) ≡ true
   ended = ap (λ (l : List Done). has_number (ended_in l) (suc e)) taken.last ∙ in_right ended_in ended-append taken.before (Ended (suc e) true ∷ []) (suc e) (has_number-one (suc e))
 
-  stale : has_number (out_of_date_in taken.on.steps) (suc e) ≡ true
+  pub stale : has_number (out_of_date_in taken.on.steps) (suc e) ≡ true
   stale = kept.started (suc e) (kept.ended (suc e) ended)
 
-  command_here : IsCommand (edges_of course) (suc e)
+  pub command_here : IsCommand (edges_of course) (suc e)
   command_here = (kept.judged (suc e) (kept.out_of_date (suc e) stale)).1
 
   in_hand : IsInHand task taken.on.steps (suc e)
@@ -110,11 +110,11 @@ module _ (tells : Bool) (course : Course) (tick : List ℕ) (graph : Graph) (sui
         (all : (B : Behaviour) (format : LogFormat) (own : OwnFiles) (steps : List Done) (entry : Store) (first : World) → EndedWell tells B (declared_by graph).edges steps (suc e) start first now
         → IsLogging tells B format own (declared_by graph).edges steps (Some (suc e)) entry first now state.records.file → IsLogging tells B format own (declared_by graph).edges steps None entry first mid records.file)
         (stays : LogStays) (path : List ℕ) (path_is : path ≡ (edge_at (declared_by graph).edges (suc e)).act.response_path) (new : World) (removes : WritesAt tells path mid new) where
-      logging_then : Logging tells course graph taken.on.steps None mid records.file
+      pub logging_then : Logging tells course graph taken.on.steps None mid records.file
       logging_then = subst (λ (g : BuildGraph). IsLogging tells course.behaviour course.format course.own g.edges taken.on.steps None course.store course.entry mid records.file) (sym suits.same)
           (all course.behaviour course.format course.own taken.on.steps course.store course.entry ended_well logging_told)
 
-      removes_it : WritesAt tells (edge_at (edges_of course) (suc e)).act.response_path mid new
+      pub removes_it : WritesAt tells (edge_at (edges_of course) (suc e)).act.response_path mid new
       removes_it = subst (λ (g : BuildGraph). WritesAt tells (edge_at g.edges (suc e)).act.response_path mid new) (sym suits.same) (subst (λ (p : List ℕ). WritesAt tells p mid new) path_is removes)
 
       abbrev recorded : IsOn tells course graph None (with_records tells course graph state records) mid

@@ -10,9 +10,9 @@ returns-in_err-push-clause-nearer c = finished_less c.args.state.now.plan.standi
 
 pub returns-in_err-push-clause-ended : goal.returns-in_err-push-clause-ended
 returns-in_err-push-clause-ended c = record {
-  changed = flags_set c.args.state.now.plan.changed.items c.finished.new.self.changed.items c.args.state.now.set.items ((links_of c.args.setting.graph.now).outputs c.args.edge) _ c.finished.ensures.flags
-      (omega (arith, ap length c.outputs-outputs.ensures)) (c.requires.enough.enough c.args.edge (edge_within c.args.setting.graph.now c.args.state.now.plan c.args.edge c.requires.over c.requires.running)) c.requires.enough.set;
-  unchanged = flags_kept c.args.state.now.plan.changed.items c.finished.new.self.changed.items c.args.state.now.set.items ((links_of c.args.setting.graph.now).outputs c.args.edge) _ c.finished.ensures.flags;
+  changed = flags_set c.args.state.now.plan.changed.items c.finished.new.self.changed.items c.deref.result.now ((links_of c.args.setting.graph.now).outputs c.args.edge) (length c.outputs-outputs.result.now) c.finished.ensures.flags
+      (ap length c.outputs-outputs.ensures) c.args.state.now.set.items c.deref.ensures.value (c.requires.enough.enough c.args.edge (edge_within c.args.setting.graph.now c.args.state.now.plan c.args.edge c.requires.over c.requires.running)) c.requires.enough.set;
+  unchanged = flags_kept c.args.state.now.plan.changed.items c.finished.new.self.changed.items c.deref.result.now ((links_of c.args.setting.graph.now).outputs c.args.edge) (length c.outputs-outputs.result.now) c.finished.ensures.flags;
   forgotten = λ p made. c.forget.ensures.forgotten p (ap (λ (l : List ℕ). has_number l p) c.outputs-outputs.ensures ∙ made);
   seen = λ p other. c.forget.ensures.others p (ap (λ (l : List ℕ). has_number l p) c.outputs-outputs.ensures ∙ other);
   fits = c.forget.ensures.fits;
@@ -26,9 +26,9 @@ returns-in_ok-push-clause-nearer c = finished_less c.args.state.now.plan.standin
 
 pub returns-in_ok-push-clause-ended : goal.returns-in_ok-push-clause-ended
 returns-in_ok-push-clause-ended c = record {
-  changed = flags_set c.args.state.now.plan.changed.items c.finished.new.self.changed.items c.args.state.now.set.items ((links_of c.args.setting.graph.now).outputs c.args.edge) _ c.finished.ensures.flags
-      (omega (arith, ap length c.outputs-outputs.ensures)) (c.requires.enough.enough c.args.edge (edge_within c.args.setting.graph.now c.args.state.now.plan c.args.edge c.requires.over c.requires.running)) c.requires.enough.set;
-  unchanged = flags_kept c.args.state.now.plan.changed.items c.finished.new.self.changed.items c.args.state.now.set.items ((links_of c.args.setting.graph.now).outputs c.args.edge) _ c.finished.ensures.flags;
+  changed = flags_set c.args.state.now.plan.changed.items c.finished.new.self.changed.items c.deref.result.now ((links_of c.args.setting.graph.now).outputs c.args.edge) (length c.outputs-outputs.result.now) c.finished.ensures.flags
+      (ap length c.outputs-outputs.ensures) c.args.state.now.set.items c.deref.ensures.value (c.requires.enough.enough c.args.edge (edge_within c.args.setting.graph.now c.args.state.now.plan c.args.edge c.requires.over c.requires.running)) c.requires.enough.set;
+  unchanged = flags_kept c.args.state.now.plan.changed.items c.finished.new.self.changed.items c.deref.result.now ((links_of c.args.setting.graph.now).outputs c.args.edge) (length c.outputs-outputs.result.now) c.finished.ensures.flags;
   forgotten = λ p made. c.forget.ensures.forgotten p (ap (λ (l : List ℕ). has_number l p) c.outputs-outputs.ensures ∙ made);
   seen = λ p other. c.forget.ensures.others p (ap (λ (l : List ℕ). has_number l p) c.outputs-outputs.ensures ∙ other);
   fits = c.forget.ensures.fits;
@@ -42,9 +42,9 @@ returns-else-not-ok-clause-nearer c = finished_less c.args.state.now.plan.standi
 
 pub returns-else-not-ok-clause-ended : goal.returns-else-not-ok-clause-ended
 returns-else-not-ok-clause-ended c = record {
-  changed = flags_set c.args.state.now.plan.changed.items c.finished.new.self.changed.items c.args.state.now.set.items ((links_of c.args.setting.graph.now).outputs c.args.edge) _ c.finished.ensures.flags
-      (omega (arith, ap length c.outputs-outputs.ensures)) (c.requires.enough.enough c.args.edge (edge_within c.args.setting.graph.now c.args.state.now.plan c.args.edge c.requires.over c.requires.running)) c.requires.enough.set;
-  unchanged = flags_kept c.args.state.now.plan.changed.items c.finished.new.self.changed.items c.args.state.now.set.items ((links_of c.args.setting.graph.now).outputs c.args.edge) _ c.finished.ensures.flags;
+  changed = flags_set c.args.state.now.plan.changed.items c.finished.new.self.changed.items c.deref.result.now ((links_of c.args.setting.graph.now).outputs c.args.edge) (length c.outputs-outputs.result.now) c.finished.ensures.flags
+      (ap length c.outputs-outputs.ensures) c.args.state.now.set.items c.deref.ensures.value (c.requires.enough.enough c.args.edge (edge_within c.args.setting.graph.now c.args.state.now.plan c.args.edge c.requires.over c.requires.running)) c.requires.enough.set;
+  unchanged = flags_kept c.args.state.now.plan.changed.items c.finished.new.self.changed.items c.deref.result.now ((links_of c.args.setting.graph.now).outputs c.args.edge) (length c.outputs-outputs.result.now) c.finished.ensures.flags;
   forgotten = λ p made. c.forget.ensures.forgotten p (ap (λ (l : List ℕ). has_number l p) c.outputs-outputs.ensures ∙ made);
   seen = λ p other. c.forget.ensures.others p (ap (λ (l : List ℕ). has_number l p) c.outputs-outputs.ensures ∙ other);
   fits = c.forget.ensures.fits;
