@@ -6,3 +6,4 @@ pub mod Results
 pub mod Work
 pub mod Cutting
 pub mod Launched
+pub mod Begins
