@@ -5,5 +5,7 @@ pub mod Launching
 pub mod Results
 pub mod Work
 pub mod Cutting
+pub mod Settled
 pub mod Launched
+pub mod Judging
 pub mod Begins
