@@ -148,3 +148,7 @@ module _ (tells : Bool) (course : Course) (graph : Graph) (stays : LogStays) (ti
           room = record { looks = looked.fits ∙ on.room.looks; starts = on.room.starts };
           noted = on.noted ∙ sym (failed_judged on.steps (suc e) stale);
         }
+
+-- the edge names no depfile
+pub judged_bare : (course : Course) (graph : Graph) (tick : List ℕ) → Suits course tick graph → (i : ℕ) → IsCommand (edges_of course) i → (edge_at (declared_by graph).edges i).act.depfile ≡ []
+judged_bare course graph tick suits i command = subst (λ (b : BuildGraph). (edge_at b.edges i).act.depfile ≡ []) suits.same (suits.bare i command).0
