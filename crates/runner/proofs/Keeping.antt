@@ -265,7 +265,7 @@ module _ (tells : Bool) (course : Course) (graph : Graph) where
 
   -- with no edge in hand
   pub cut_free : (plan : Plan) (new : World) (steps : List Done) → IsPlanned (task_of course.asked course.store) graph plan steps → Carried steps None new → Cut plan new
-  cut_free plan new steps planned carried = record { steps = steps; met = None; planned = planned; cut = cut_of steps None new carried; in_hand = λ i is. nothing i is }
+  cut_free plan new steps planned carried = record { steps = steps; met = None; planned = planned; run = carried.run; cut = cut_of steps None new carried; in_hand = λ i is. nothing i is }
     where
       nothing : (i : ℕ) → None ≡ Some i → IsInHand (task_of course.asked course.store) steps i
       nothing i is = cc
@@ -273,4 +273,4 @@ module _ (tells : Bool) (course : Course) (graph : Graph) where
   -- with the edge in hand whose start or taking in met it
   pub cut_met : (plan : Plan) (new : World) (steps : List Done) (i : ℕ) → IsInHand (task_of course.asked course.store) steps i → IsPlanned (task_of course.asked course.store) graph plan steps → Carried steps (Some i) new → Cut plan new
   cut_met plan new steps i at planned carried =
-      record { steps = steps; met = Some i; planned = planned; cut = cut_of steps (Some i) new carried; in_hand = λ k is. subst (λ (n : ℕ). IsInHand (task_of course.asked course.store) steps n) (same_some i k is) at }
+      record { steps = steps; met = Some i; planned = planned; run = carried.run; cut = cut_of steps (Some i) new carried; in_hand = λ k is. subst (λ (n : ℕ). IsInHand (task_of course.asked course.store) steps n) (same_some i k is) at }

@@ -9,3 +9,9 @@ pub mod Settled
 pub mod Launched
 pub mod Judging
 pub mod Begins
+pub mod Counting
+pub mod Running
+pub mod Ends
+pub mod Finishing
+pub mod Noting
+pub mod Recording

@@ -5,6 +5,7 @@ use Rattle.model.specs.World.{World}
 use Rattle.model.specs.Graph.{has_number}
 use Rattle.model.specs.Schedule.{Task, Step as Done, Ended, MayStart, NoneMayBeJudged, out_of_date_in, started_in, ended_in}
 use Rattle.model.specs.SingleBuild.{task_of}
+use Rattle.build_theory.specs.Run.{IsRun}
 use Rattle.lowest.specs.Flags as flags
 use Rattle.links.specs.declared.graph.Graph.{Graph}
 use Rattle.links.specs.Links.{links_of}
@@ -42,6 +43,7 @@ pub record IsCut (tells : Bool) (course : Course) (graph : Graph) (plan : Plan) 
   pub steps : List Done
   pub met : Option ℕ
   pub planned : IsPlanned (task_of course.asked course.store) graph plan steps
+  pub run : IsRun tells course.own (task_of course.asked course.store) steps course.entry now
   pub cut : IsCutOff tells course.behaviour course.format course.own course.asked course.store steps met course.entry now
   pub in_hand : (i : ℕ) → met ≡ Some i → IsInHand (task_of course.asked course.store) steps i
 
@@ -65,7 +67,7 @@ pub record HasEnded (graph : Graph) (e : ℕ) (old new : State) : Type 0 where
   pub seen : (p : ℕ) → has_number ((links_of graph).outputs e) p ≡ false → look_at new.looks.seen.items p ≡ look_at old.looks.seen.items p
   pub fits : length new.looks.seen.items ≡ length old.looks.seen.items
   pub records : new.records ≡ old.records
-  pub starts : new.starts ≡ old.starts
+  pub starts : new.starts.items ≡ old.starts.items
   pub set : new.set ≡ old.set
 
 -- the failed edges, when the command of one more has ended

@@ -1,54 +1,30 @@
-use Rattle.std.proofs.Common.{rules, ◌≡◌, ◌⊎◌, ℕ, List, Option, false, OnOk, OnErr, ◌+◌, ◌-◌, ◌*◌, ◌<◌, ◌≤◌, length, ◌/◌, ◌%◌, Bool, true, nat_eq, nat_lt, [], ◌∷◌, ◌++◌, slice_index_or, slice_set, bit_and, bit_or, Fits, w8, w32, w64, Bor, MutBor}
-use Rattle.model.specs.World.{World, IsIdle}
-use Rattle.model.specs.Schedule.{Step as Done}
-use Rattle.model.specs.Calls.{HasCause}
-use Rattle.build_theory.specs.Seen.{IsSeen}
-use Rattle.log_theory.specs.Ledger.{IsCutOff}
-use Rattle.runner.specs.Course.{Course}
-use Rattle.runner.specs.Cut.{fault_of, IsLeft}
-use Rattle.runner.specs.Cutting.{IfWaiting, SomeRuns, SoManyRun, IsStoppedBy, TakesIn}
+use Rattle.std.proofs.Common.{◌∙◌}
+use Rattle.build_theory.proofs.Calls.{unrefused_call, unrefused_then}
+use Rattle.log_theory.proofs.Ledger.{cut_looks, cut_finishes}
+use Rattle.runner.proofs.Counting.{some_of_many, many_less}
+use Rattle.runner.proofs.Cutting.{some_still}
+use Rattle.runner.proofs.Results.{on_err}
 use Rattle.runner.proofs.rest.take_in_all.Goals as goal
 
--- src/rest.rt:51:5
-pub rest-init : goal.rest-init
-rest-init g c = ?
-
--- src/rest.rt:52:9
 pub wait_any-requires : goal.wait_any-requires
-wait_any-requires g c = ?
+wait_any-requires g c = some_of_many c.rest.left (g.S.Texts.world c.rest.site).events c.rest.invariant.many c.rest-test.true
 
--- src/rest.rt:52:9
-pub returns-in_err-wait_any-clause-cause : goal.returns-in_err-wait_any-clause-cause
-returns-in_err-wait_any-clause-cause g c = ?
-
--- src/rest.rt:52:9
-pub returns-in_err-wait_any-clause-at_start : goal.returns-in_err-wait_any-clause-at_start
-returns-in_err-wait_any-clause-at_start g c = ?
-
--- src/rest.rt:52:9
 pub returns-in_err-wait_any-clause-runs : goal.returns-in_err-wait_any-clause-runs
-returns-in_err-wait_any-clause-runs g c = ?
+returns-in_err-wait_any-clause-runs g c = on_err c.from_residual.result
+    (some_still g.S.Texts.tells (g.S.Texts.world c.rest.site) (g.S.Texts.world c.wait_any.new.self)
+    (some_of_many c.rest.left (g.S.Texts.world c.rest.site).events c.rest.invariant.many c.rest-test.true) c.in_err-wait_any.ensures.err)
 
--- src/rest.rt:52:9
 pub returns-in_err-wait_any-clause-rest : goal.returns-in_err-wait_any-clause-rest
-returns-in_err-wait_any-clause-rest g c = ?
+returns-in_err-wait_any-clause-rest g c course steps met cut =
+    cut_looks g.S.Texts.tells course.behaviour course.format course.own course.asked course.store course.entry steps met (g.S.Texts.world c.rest.site) (g.S.Texts.world c.wait_any.new.self) c.in_err-wait_any.ensures.err
+    (c.rest.invariant.rest course steps met cut)
 
--- src/rest.rt:51:5
 pub rest-preserved : goal.rest-preserved
-rest-preserved g c = ?
-
--- src/rest.rt:41:1
-pub returns-clause-cause : goal.returns-clause-cause
-returns-clause-cause g c = ?
-
--- src/rest.rt:41:1
-pub returns-clause-at_start : goal.returns-clause-at_start
-returns-clause-at_start g c = ?
-
--- src/rest.rt:41:1
-pub returns-clause-idle : goal.returns-clause-idle
-returns-clause-idle g c = ?
-
--- src/rest.rt:41:1
-pub returns-clause-rest : goal.returns-clause-rest
-returns-clause-rest g c = ?
+rest-preserved g c = record {
+  many = many_less g.S.Texts.tells c.rest.left (g.S.Texts.world c.rest.site) (g.S.Texts.world c.wait_any.new.self) c.in_ok-wait_any.field-0.job c.in_ok-wait_any.field-0.ok c.rest.invariant.many c.in_ok-wait_any.ensures.finishes;
+  unrefused = unrefused_then (g.S.Texts.world c.args.site.now) (g.S.Texts.world c.rest.site) (g.S.Texts.world c.wait_any.new.self) c.rest.invariant.unrefused (unrefused_call (g.S.Texts.world c.rest.site) (g.S.Texts.world c.wait_any.new.self) _ c.in_ok-wait_any.ensures.cause);
+  at_start = c.in_ok-wait_any.ensures.finishes.at_start ∙ c.rest.invariant.at_start;
+  rest = λ course steps met cut.
+      cut_finishes g.S.Texts.tells course.behaviour course.format course.own course.asked course.store course.entry steps met (g.S.Texts.world c.rest.site) (g.S.Texts.world c.wait_any.new.self) c.in_ok-wait_any.field-0.job c.in_ok-wait_any.field-0.ok c.in_ok-wait_any.ensures.finishes
+      (c.rest.invariant.rest course steps met cut);
+}

@@ -1,17 +1,16 @@
-use Rattle.std.proofs.Common.{◌≡◌, Bool, None, false, IfOk, IfErr, OnErr, Ok, ℕ, ◌+◌, ◌-◌, ◌*◌, ◌<◌, ◌≤◌, length}
-use Rattle.model.specs.World.{World}
-use Rattle.model.specs.SingleBuild.{PassesNoFault}
-use Rattle.build_theory.specs.Seen.{IsSeen}
-use Rattle.runner.specs.Cut.{fault_of, IsLeft}
+use Rattle.std.proofs.Common.{◌≡◌, None}
+use Rattle.build_theory.specs.Seen.{Unrefused, StartsUnrefused}
 use Rattle.runner.specs.Course.{Course, Suits, IsOn}
-use Rattle.runner.specs.Going.{IsGoing, IsOver, IsCut, AreSet}
-use Rattle.runner.specs.Ran.{HasRun, AreEdgesOf, answer_of}
-use Rattle.runner.specs.Cutting.{Cuts}
-use Rattle.links.specs.declared.graph.Graph.{Graph}
+use Rattle.runner.specs.Going.{work_left}
 use Rattle.runner.proofs.run.run.Given as goal
 
 abbrev pub invariant-run : goal.invariant-run
-invariant-run g l = ?
+invariant-run g l = record {
+  unrefused : Unrefused (g.S.Texts.world l.fn.site) (g.S.Texts.world l.site);
+  starts : StartsUnrefused (g.S.Texts.world l.fn.site) (g.S.Texts.world l.site);
+  set : l.state.set ≡ l.fn.state.set;
+  on : (course : Course) → Suits course l.setting.tick.now l.setting.graph.now → IsOn g.S.Texts.tells course l.setting.graph.now None l.fn.state (g.S.Texts.world l.fn.site) → IsOn g.S.Texts.tells course l.setting.graph.now None l.state (g.S.Texts.world l.site);
+}
 
 abbrev pub decreases-run : goal.decreases-run
-decreases-run g l = ?
+decreases-run g l = work_left l.state.plan.standings.items

@@ -1,37 +1,54 @@
-use Rattle.std.proofs.Common.{rules, ◌≡◌, ◌<◌, suc, None, false, get_or, IfErr, OnOk, OnErr, ℕ, ◌+◌, ◌-◌, ◌*◌, ◌≤◌, length, ◌/◌, ◌%◌, Bool, true, nat_eq, nat_lt, List, [], ◌∷◌, ◌++◌, slice_set, bit_and, bit_or, Fits, w8, w32, w64, Bor, MutBor}
-use Rattle.model.specs.Calls.{HasCause}
-use Rattle.model.specs.Schedule.{Ended as Finished}
-use Rattle.model.specs.SingleBuild.{task_of}
-use Rattle.plan.specs.declared.step.Standing.{Standing}
-use Rattle.plan.specs.declared.step.Step.TheVariants as step
-use Rattle.plan.specs.Standing.{standing_at}
-use Rattle.plan.specs.Planned.{IsPlanOver, IsNextOf, TakesStep}
-use Rattle.runner.specs.Course.{Course, Suits, IsOn}
-use Rattle.runner.specs.Going.{IsGoing, IsCut, AreSet, HasEnded, failed_after, work_left}
-use Rattle.runner.specs.Starting.{IsTakenIn}
-use Rattle.runner.specs.Cutting.{Cuts, IsOfWait}
+use Rattle.std.proofs.Common.{ℕ, ◌≡◌, ◌∙◌, List, Bool, length, refl, sym, ap, subst, arith}
+use Rattle.model.specs.Graph.{has_number}
+use Rattle.links.specs.Links.{links_of}
+use Rattle.runner.proofs.Work.{finished_less}
+use Rattle.runner.proofs.Noting.{flags_set, flags_kept, edge_within}
 use Rattle.runner.proofs.taken.note_end.Goals as goal
 
--- src/taken.rt:82:9
 pub returns-in_err-push-clause-nearer : goal.returns-in_err-push-clause-nearer
-returns-in_err-push-clause-nearer c = ?
+returns-in_err-push-clause-nearer c = finished_less c.args.state.now.plan.standings.items c.finished.new.self.standings.items c.args.edge c.args.ok c.requires.running c.finished.ensures.stands
 
--- src/taken.rt:82:9
 pub returns-in_err-push-clause-ended : goal.returns-in_err-push-clause-ended
-returns-in_err-push-clause-ended c = ?
+returns-in_err-push-clause-ended c = record {
+  changed = flags_set c.args.state.now.plan.changed.items c.finished.new.self.changed.items c.args.state.now.set.items ((links_of c.args.setting.graph.now).outputs c.args.edge) _ c.finished.ensures.flags
+      (omega (arith, ap length c.outputs-outputs.ensures)) (c.requires.enough.enough c.args.edge (edge_within c.args.setting.graph.now c.args.state.now.plan c.args.edge c.requires.over c.requires.running)) c.requires.enough.set;
+  unchanged = flags_kept c.args.state.now.plan.changed.items c.finished.new.self.changed.items c.args.state.now.set.items ((links_of c.args.setting.graph.now).outputs c.args.edge) _ c.finished.ensures.flags;
+  forgotten = λ p made. c.forget.ensures.forgotten p (ap (λ (l : List ℕ). has_number l p) c.outputs-outputs.ensures ∙ made);
+  seen = λ p other. c.forget.ensures.others p (ap (λ (l : List ℕ). has_number l p) c.outputs-outputs.ensures ∙ other);
+  fits = c.forget.ensures.fits;
+  records = refl;
+  starts = refl;
+  set = refl;
+}
 
--- src/taken.rt:62:1
 pub returns-in_ok-push-clause-nearer : goal.returns-in_ok-push-clause-nearer
-returns-in_ok-push-clause-nearer c = ?
+returns-in_ok-push-clause-nearer c = finished_less c.args.state.now.plan.standings.items c.finished.new.self.standings.items c.args.edge c.args.ok c.requires.running c.finished.ensures.stands
 
--- src/taken.rt:62:1
 pub returns-in_ok-push-clause-ended : goal.returns-in_ok-push-clause-ended
-returns-in_ok-push-clause-ended c = ?
+returns-in_ok-push-clause-ended c = record {
+  changed = flags_set c.args.state.now.plan.changed.items c.finished.new.self.changed.items c.args.state.now.set.items ((links_of c.args.setting.graph.now).outputs c.args.edge) _ c.finished.ensures.flags
+      (omega (arith, ap length c.outputs-outputs.ensures)) (c.requires.enough.enough c.args.edge (edge_within c.args.setting.graph.now c.args.state.now.plan c.args.edge c.requires.over c.requires.running)) c.requires.enough.set;
+  unchanged = flags_kept c.args.state.now.plan.changed.items c.finished.new.self.changed.items c.args.state.now.set.items ((links_of c.args.setting.graph.now).outputs c.args.edge) _ c.finished.ensures.flags;
+  forgotten = λ p made. c.forget.ensures.forgotten p (ap (λ (l : List ℕ). has_number l p) c.outputs-outputs.ensures ∙ made);
+  seen = λ p other. c.forget.ensures.others p (ap (λ (l : List ℕ). has_number l p) c.outputs-outputs.ensures ∙ other);
+  fits = c.forget.ensures.fits;
+  records = refl;
+  starts = refl;
+  set = refl;
+}
 
--- src/taken.rt:62:1
 pub returns-else-not-ok-clause-nearer : goal.returns-else-not-ok-clause-nearer
-returns-else-not-ok-clause-nearer c = ?
+returns-else-not-ok-clause-nearer c = finished_less c.args.state.now.plan.standings.items c.finished.new.self.standings.items c.args.edge c.args.ok c.requires.running c.finished.ensures.stands
 
--- src/taken.rt:62:1
 pub returns-else-not-ok-clause-ended : goal.returns-else-not-ok-clause-ended
-returns-else-not-ok-clause-ended c = ?
+returns-else-not-ok-clause-ended c = record {
+  changed = flags_set c.args.state.now.plan.changed.items c.finished.new.self.changed.items c.args.state.now.set.items ((links_of c.args.setting.graph.now).outputs c.args.edge) _ c.finished.ensures.flags
+      (omega (arith, ap length c.outputs-outputs.ensures)) (c.requires.enough.enough c.args.edge (edge_within c.args.setting.graph.now c.args.state.now.plan c.args.edge c.requires.over c.requires.running)) c.requires.enough.set;
+  unchanged = flags_kept c.args.state.now.plan.changed.items c.finished.new.self.changed.items c.args.state.now.set.items ((links_of c.args.setting.graph.now).outputs c.args.edge) _ c.finished.ensures.flags;
+  forgotten = λ p made. c.forget.ensures.forgotten p (ap (λ (l : List ℕ). has_number l p) c.outputs-outputs.ensures ∙ made);
+  seen = λ p other. c.forget.ensures.others p (ap (λ (l : List ℕ). has_number l p) c.outputs-outputs.ensures ∙ other);
+  fits = c.forget.ensures.fits;
+  records = refl;
+  starts = refl;
+  set = refl;
+}
