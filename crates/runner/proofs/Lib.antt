@@ -5,7 +5,10 @@ pub mod Launching
 pub mod Results
 pub mod Work
 pub mod Cutting
+pub mod Settled
 pub mod Launched
+pub mod Judging
+pub mod Begins
 pub mod Counting
 pub mod Running
 pub mod Ends

@@ -14,6 +14,7 @@ use crate::state::State;
 use model::{Reason, SiteFault};
 use paths::EdgeId;
 use plan::Verdict;
+use records::log_stays;
 use site::Site;
 use verdict::reason;
 
@@ -34,6 +35,7 @@ pub fn judge<S: Site>(
     ensures on { OnOk result ((course : Course) → Suits course setting.entry.tick.now setting.entry.graph.now → (on : IsOn S.tells course setting.entry.graph.now None state.old (S.world site.old)) → ((stale : Bool) → IsLawfulStep (task_of course.asked course.store) on.steps (Judged (suc edge) stale)) → IsOn S.tells course setting.entry.graph.now None state.new (S.world site.new)) }
     ensures plan { OnErr result (state.new.plan ≡ state.old.plan) }
 {
+    log_stays();
     let plan = &state.plan;
     let reason = reason(
         setting.alloc,
