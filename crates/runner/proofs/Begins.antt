@@ -1,5 +1,5 @@
 -- An edge is taken in hand, and the log says that it is begun.
-use Rattle.std.proofs.Common.{◌≡◌, ◌≢◌, ℕ, suc, Bool, List, [], Option, Some, None, Result, inl, inr, sym, ap, subst}
+use Rattle.std.proofs.Common.{◌≡◌, ◌≢◌, ℕ, suc, Bool, List, [], Some, None, inl, inr, sym, ap, subst}
 use Rattle.model.specs.declared.graph.BuildGraph.{BuildGraph}
 use Rattle.model.specs.declared.graph.Edge.{Edge}
 use Rattle.model.specs.World.{World}
@@ -19,9 +19,9 @@ use Rattle.records.specs.Logging.{IsLogging, IsLoggedStill, NoneInForce}
 use Rattle.records.specs.Laws.{LogStays}
 use Rattle.runner.specs.declared.state.State.{State}
 use Rattle.runner.specs.Course.{Course, Suits, edges_of, IsOn}
-use Rattle.runner.specs.Going.{IsInHand, IsCut}
+use Rattle.runner.specs.Going.{IsCut}
 use Rattle.runner.specs.Starting.{IsBegun}
-use Rattle.runner.proofs.Keeping.{Logging, stale_is_command, looks_carried, on_looks, on_hand, on_log, log_carried, cut_free, cut_met}
+use Rattle.runner.proofs.Keeping.{stale_is_command, looks_carried, on_looks, on_hand, on_log, log_carried, cut_free, cut_met}
 
 module _ (tells : Bool) (course : Course) (graph : Graph) (tick : List ℕ) (suits : Suits course tick graph) where
   pub declared_once : IsMadeOnce (declared_by graph).edges

@@ -1,6 +1,6 @@
 -- How many commands run.
-use Rattle.std.proofs.Common.{◌≡◌, ◌⊎◌, inl, inr, ℕ, zero, suc, ◌+◌, ◌-◌, ◌<◌, ◌≤◌, ◌==◌, ◌&&◌, ◌||◌, not, cond, filter, Bool, true, false, List, [], ◌∷◌, ◌++◌, length, refl, sym, ◌∙◌, ap, subst, arith}
-use Rattle.std.proofs.lemmas.Bool.{false≢true, true≢false, eq-eqb, eqb-true, or_left, cases_Bool}
+use Rattle.std.proofs.Common.{◌≡◌, ℕ, suc, ◌+◌, ◌-◌, ◌<◌, ◌≤◌, ◌==◌, ◌&&◌, ◌||◌, not, cond, filter, Bool, true, false, List, [], ◌∷◌, ◌++◌, length, refl, sym, ◌∙◌, ap, subst, arith}
+use Rattle.std.proofs.lemmas.Bool.{false≢true, true≢false, eq-eqb, eqb-true, or_left}
 use Rattle.model.specs.declared.event.Event.{Event}
 use Rattle.model.specs.declared.event.Event.TheVariants.{Finish}
 use Rattle.model.specs.World.{World, runs, IsIdle}
@@ -16,7 +16,7 @@ use Rattle.build_theory.proofs.Events.{runs_push}
 use Rattle.build_theory.proofs.Orderly.{orderly_of, started_before}
 use Rattle.build_theory.proofs.Steps.{in_right, started-append}
 use Rattle.build_theory.proofs.Runs.{running_now}
-use Rattle.links.specs.Held.{times, StandOnce}
+use Rattle.links.specs.Held.{times}
 use Rattle.runner.specs.Cutting.{SoManyRun}
 
 -- ---- numbers that stand once

@@ -1,5 +1,5 @@
 -- What a run has done at its end.
-use Rattle.std.proofs.Common.{◌≡◌, ℕ, suc, Bool, List, map, length, Option, None, Some, Ok, Err, refl, sym, ◌∙◌, ap, subst}
+use Rattle.std.proofs.Common.{◌≡◌, ℕ, Bool, List, length, Option, None, Some, Ok, Err, refl, sym, subst}
 use Rattle.model.specs.World.{World}
 use Rattle.model.specs.Calls.{OnlyLooks}
 use Rattle.model.specs.Schedule.{Task, Step as Done, well_in}
@@ -8,7 +8,6 @@ use Rattle.log_theory.specs.Ledger.{IsCutOff}
 use Rattle.log_theory.proofs.Ledger.{cut_off, carried_looks}
 use Rattle.links.specs.declared.graph.Graph.{Graph}
 use Rattle.plan.specs.declared.plan.Plan.{Plan}
-use Rattle.plan.specs.declared.step.End.{End}
 use Rattle.plan.specs.declared.step.End.TheVariants as ending
 use Rattle.runner.specs.declared.cut.Cut.{Cut}
 use Rattle.runner.specs.declared.summary.Summary.TheVariants.{Well, Failed}

@@ -1,5 +1,5 @@
 -- The command of a running edge is taken in, and its end is noted.
-use Rattle.std.proofs.Common.{◌≡◌, ◌≢◌, ◌⊎◌, inl, inr, ℕ, zero, suc, ◌<◌, ◌==◌, ◌||◌, ◌&&◌, not, Bool, true, false, IsTrue, List, [], ◌∷◌, ◌++◌, map, length, get_or, bytes_eq, Option, Some, None, refl, sym, ◌∙◌, ap, subst, arith}
+use Rattle.std.proofs.Common.{◌≡◌, inl, inr, ℕ, zero, suc, ◌<◌, ◌==◌, ◌||◌, not, Bool, true, false, List, [], ◌∷◌, ◌++◌, map, length, get_or, bytes_eq, Option, Some, None, refl, sym, ◌∙◌, ap, subst, arith}
 use Rattle.std.specs.List.{list_any}
 use Rattle.std.proofs.lemmas.List.{append-nil, map-append}
 use Rattle.std.proofs.lemmas.Bool.{false≢true, cases_Bool, or_cases, or_left, or_right, and_from, not_from_false, false_from_ne_true, eqb-true, eq-eqb}
@@ -27,13 +27,12 @@ use Rattle.links.specs.Links.{links_of}
 use Rattle.links.specs.Linked.{StandFor}
 use Rattle.links.specs.Told.{declared_by}
 use Rattle.looks.specs.declared.table.Look.{Look}
-use Rattle.looks.specs.Seen.{look_at, look_of, is_asked, AreSeenOf}
+use Rattle.looks.specs.Seen.{look_at, look_of, is_asked}
 use Rattle.plan.specs.declared.plan.Plan.{Plan}
 use Rattle.plan.specs.declared.step.Step.TheVariants.{Wait}
 use Rattle.plan.specs.Planned.{IsPlanned, IsNextOf, TakesStep}
 use Rattle.records.specs.declared.records.Records.{Records}
 use Rattle.records.specs.Known.{IsOf}
-use Rattle.records.specs.Logging.{EndedWell}
 use Rattle.records.specs.Laws.{LogStays}
 use Rattle.runner.specs.declared.state.State.{State}
 use Rattle.runner.specs.Course.{Course, Suits, edges_of, is_quiet, is_anew, IsSeenStill, AreAnew, AreTold, AreStarted, HasRoom, IsOn}

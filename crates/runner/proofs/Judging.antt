@@ -1,17 +1,16 @@
 -- An edge is judged, rightly by the files of now.
-use Rattle.std.proofs.Common.{◌≡◌, inl, inr, ℕ, suc, ◌<◌, ◌&&◌, not, Vec, Global, Bool, true, false, IsTrue, List, [], ◌∷◌, ◌++◌, length, map, Option, Some, None, is_some, refl, sym, ◌∙◌, ap, subst}
+use Rattle.std.proofs.Common.{◌≡◌, ℕ, suc, ◌<◌, ◌&&◌, not, Vec, Global, Bool, true, IsTrue, List, [], ◌∷◌, ◌++◌, length, Option, None, is_some, sym, ◌∙◌, ap, subst}
 use Rattle.std.proofs.lemmas.List.{append-nil}
-use Rattle.model.specs.declared.event.Moment.{Moment}
 use Rattle.model.specs.declared.graph.BuildGraph.{BuildGraph}
 use Rattle.model.specs.declared.graph.Edge.{Edge}
 use Rattle.model.specs.declared.reason.Reason.{Reason}
 use Rattle.model.specs.declared.record.Record.{Record}
-use Rattle.model.specs.World.{World, file_at, stamp_of, IsIdle}
+use Rattle.model.specs.World.{World, file_at, stamp_of}
 use Rattle.model.specs.Calls.{OnlyLooks}
-use Rattle.model.specs.Graph.{has, has_number, edge_at, maker, IsCommand, IsMadeOnce}
+use Rattle.model.specs.Graph.{has, has_number, edge_at, IsCommand}
 use Rattle.model.specs.Records.{recorded_inputs}
 use Rattle.model.specs.Judgement.{is_same_number}
-use Rattle.model.specs.OutOfDate.{is_made_anew, input_facts, Counted, IsVerdict}
+use Rattle.model.specs.OutOfDate.{input_facts, Counted, IsVerdict}
 use Rattle.model.specs.Schedule.{Step as Done, Judged, IsLawfulStep, MayBeJudged, started_in, ended_in, well_in, failed_in, running_in}
 use Rattle.model.specs.Premises.{FilesAreKept, RecordedApart}
 use Rattle.model.specs.SingleBuild.{task_of}
@@ -33,9 +32,9 @@ use Rattle.plan.specs.Planned.{TakesStep}
 use Rattle.records.specs.Laws.{LogStays}
 use Rattle.records.specs.Known.{IsOf}
 use Rattle.verdict.specs.Facts.{flag_at}
-use Rattle.verdict.specs.Judged.{IsAnswer, IsReasonBy, MayBeJudgedBy, AreUntouched, HasPathsOf, AreFlagsOf, AreRecordedOf}
+use Rattle.verdict.specs.Judged.{IsAnswer, IsReasonBy, MayBeJudgedBy, AreUntouched, HasPathsOf}
 use Rattle.runner.specs.declared.state.State.{State}
-use Rattle.runner.specs.Course.{Course, Suits, edges_of, is_quiet, is_anew, AreStarted, IsSeenStill, IsOn}
+use Rattle.runner.specs.Course.{Course, Suits, edges_of, is_quiet, AreStarted, IsOn}
 use Rattle.runner.proofs.Quiet.{quiet_less}
 use Rattle.runner.proofs.Keeping.{Carried, looks_carried, looks_leave, looks_quiet, logging_over, told_over, started_more}
 use Rattle.runner.proofs.Launching.{anew_over}
@@ -115,7 +114,7 @@ module _ (tells : Bool) (course : Course) (graph : Graph) (stays : LogStays) (ti
     right tell files apart =
         let quiet = looks_quiet tells course graph stays None state now new on looks tell files in
         let by = answer on.told.records on.told.known tell (is_quiet course.own (edges_of course) on.steps) quiet.1 (on.seen tell quiet.0) course.store (well_in on.steps) course.entry.history
-            (may_be_judged tell files apart quiet.0) in
+        (may_be_judged tell files apart quiet.0) in
         let over = subst (λ (es : List Edge). IsReasonBy es course.store (well_in on.steps) course.entry.history new.history (suc e) reason) (sym same_edges) by in
         record { read = over.read; counted = over.counted; verdict = told ∙ ap (λ (r : Option Reason). is_some r) over.is }
 

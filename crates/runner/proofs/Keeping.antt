@@ -1,15 +1,14 @@
 -- What a run keeps goes on over the calls of its site: one lemma for each part, and one for each kind of call.
-use Rattle.std.proofs.Common.{◌≡◌, ◌≢◌, inl, inr, ℕ, suc, Bool, true, false, IsTrue, List, [], ◌∷◌, ◌++◌, length, Option, Some, None, refl, sym, ◌∙◌, ap, subst, append_assoc}
+use Rattle.std.proofs.Common.{◌≡◌, inl, ℕ, suc, Bool, true, IsTrue, List, [], ◌∷◌, ◌++◌, length, Option, Some, None, sym, ◌∙◌, ap, subst, append_assoc}
 use Rattle.std.proofs.lemmas.List.{append-nil}
 use Rattle.std.proofs.lemmas.Bool.{false≢true}
 use Rattle.model.specs.declared.event.Event.{Event}
 use Rattle.model.specs.declared.event.Event.TheVariants.{Start}
 use Rattle.model.specs.declared.event.Moment.{Moment}
-use Rattle.model.specs.World.{World, File, file_at, stamp_of, runs, IsRunning}
+use Rattle.model.specs.World.{World, File, file_at, stamp_of, runs}
 use Rattle.model.specs.Calls.{OnlyLooks, Ticks}
 use Rattle.model.specs.Graph.{has_number, edge_at, IsCommand}
-use Rattle.model.specs.Records.{OwnFiles}
-use Rattle.model.specs.Schedule.{Step as Done, running_in, out_of_date_in}
+use Rattle.model.specs.Schedule.{Step as Done, out_of_date_in}
 use Rattle.model.specs.SingleBuild.{task_of}
 use Rattle.model.specs.Kept.{StartedUnder}
 use Rattle.build_theory.specs.Run.{IsRunOrRest}
@@ -25,13 +24,13 @@ use Rattle.log_theory.proofs.Writing.{looks_at, ticks_grew}
 use Rattle.links.specs.declared.graph.Graph.{Graph}
 use Rattle.paths.specs.Told.{text_at}
 use Rattle.looks.specs.declared.table.Look.{Look}
-use Rattle.looks.specs.Seen.{look_at, look_of, is_asked, AreKept, AreSeenOf}
+use Rattle.looks.specs.Seen.{look_of, AreKept, AreSeenOf}
 use Rattle.plan.specs.declared.plan.Plan.{Plan}
 use Rattle.plan.specs.Planned.{IsPlanned}
 use Rattle.records.specs.declared.records.Records.{Records}
 use Rattle.records.specs.Held.{Held, IsSameLog, AreMade}
 use Rattle.records.specs.Logging.{IsLogging, IsLoggedStill}
-use Rattle.records.specs.Laws.{WritesElsewhere, LeavesTheLog, LogStays}
+use Rattle.records.specs.Laws.{LeavesTheLog, LogStays}
 use Rattle.runner.specs.declared.state.State.{State}
 use Rattle.runner.specs.Course.{Course, Suits, edges_of, is_quiet, IsSeenStill, AreTold, AreStarted, IsOn}
 use Rattle.runner.specs.Going.{IsInHand, IsCut}

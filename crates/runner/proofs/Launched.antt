@@ -1,8 +1,7 @@
 -- What a start comes to: what the site shows of it, and where a fault leaves the run.
-use Rattle.std.proofs.Common.{◌≡◌, ◌≢◌, ◌⊎◌, inl, inr, ℕ, suc, ◌<◌, ltb, Vec, Global, Bool, true, false, IsTrue, List, [], ◌∷◌, ◌++◌, length, get_or, slice_set, OnOk, OnErr, Option, Some, None, Result, Ok, Err, refl, sym, ◌∙◌, ap, subst, arith, append_assoc}
+use Rattle.std.proofs.Common.{◌≡◌, ◌≢◌, inl, inr, ℕ, suc, ◌<◌, ltb, Vec, Global, Bool, true, false, List, [], ◌∷◌, ◌++◌, length, get_or, slice_set, OnOk, OnErr, Some, None, Result, Ok, Err, refl, sym, ◌∙◌, ap, subst, arith, append_assoc}
 use Rattle.std.proofs.lemmas.List.{get_or-set_same, length-set, length_push, with_items_is}
 use Rattle.std.specs.Vec.{with_items}
-use Rattle.std.proofs.lemmas.Bool.{false≢true}
 use Rattle.std.proofs.lemmas.Bool.Decides.{Decides-ltb}
 use Rattle.model.specs.declared.act.Act.{Act}
 use Rattle.model.specs.declared.event.Event.{Event}
@@ -10,10 +9,9 @@ use Rattle.model.specs.declared.event.Event.TheVariants.{Start}
 use Rattle.model.specs.declared.graph.BuildGraph.{BuildGraph}
 use Rattle.model.specs.World.{World, runs}
 use Rattle.model.specs.Calls.{OnlyLooks, Ticks, TicksOrNot, Starts, StartsOrNot, Writes}
-use Rattle.model.specs.Graph.{has_number, edge_at, IsCommand}
-use Rattle.model.specs.Schedule.{Step as Done, Started, IsLawfulStep}
+use Rattle.model.specs.Graph.{edge_at, IsCommand}
+use Rattle.model.specs.Schedule.{Step as Done, Started}
 use Rattle.model.specs.SingleBuild.{task_of}
-use Rattle.build_theory.proofs.Calls.{start_shown}
 use Rattle.build_theory.proofs.Runs.{not_running}
 use Rattle.log_theory.specs.Writes.{WritesAt}
 use Rattle.log_theory.specs.Ledger.{IsReadyToStart}

@@ -1,25 +1,25 @@
 -- Quiet paths: no call of a run writes them.
-use Rattle.std.proofs.Common.{◌≡◌, ◌≢◌, ◌⊎◌, inl, inr, ℕ, zero, suc, ◌==◌, ◌||◌, ◌&&◌, not, Bool, true, false, IsTrue, List, [], ◌∷◌, ◌++◌, get_or, bytes_eq, refl, sym, ◌∙◌, ap, subst, append_assoc}
+use Rattle.std.proofs.Common.{◌≡◌, ◌⊎◌, inl, inr, ℕ, zero, suc, ◌==◌, ◌&&◌, not, Bool, true, false, IsTrue, List, [], ◌∷◌, ◌++◌, get_or, bytes_eq, refl, sym, ◌∙◌, ap, subst}
 use Rattle.std.specs.List.{AllByRecursion, list_any}
 use Rattle.std.proofs.lemmas.List.{append-nil}
-use Rattle.std.proofs.lemmas.Bool.{false≢true, true≢false, cases_Bool, or_cases, or_left, or_right, and_parts, and_from, not-true, not_from_false, eqb-true, eq-eqb, false_from_ne_true}
+use Rattle.std.proofs.lemmas.Bool.{false≢true, true≢false, or_cases, or_left, or_right, and_parts, and_from, not-true, not_from_false, eqb-true, eq-eqb, false_from_ne_true}
 use Rattle.model.specs.declared.event.Event.{Event}
 use Rattle.model.specs.declared.event.Moment.{Moment}
 use Rattle.model.specs.declared.event.Moment.TheVariants.{Happened}
 use Rattle.model.specs.declared.graph.Edge.{Edge}
-use Rattle.model.specs.World.{World, file_at, IsRunning, IsIdle}
-use Rattle.model.specs.Calls.{AllByOthers, Adds, OnlyLooks, Ticks, TicksOrNot}
+use Rattle.model.specs.World.{World, IsRunning}
+use Rattle.model.specs.Calls.{AllByOthers, Adds, OnlyLooks}
 use Rattle.model.specs.Graph.{has, has_number, no_edge, edge_at, outputs, IsCommand}
 use Rattle.model.specs.Records.{OwnFiles}
-use Rattle.model.specs.Schedule.{Task, Step as Done, Started, started_in, ended_in, running_in}
-use Rattle.model.specs.Premises.{FilesAreKept, OwnFilesApart, IsWithinEdge, IsNoEdit}
-use Rattle.build_theory.proofs.Lists.{same_bytes, bytes_same, all_append, all_parts, same_rest, has_number-left}
+use Rattle.model.specs.Schedule.{Step as Done, Started, started_in, ended_in, running_in}
+use Rattle.model.specs.Premises.{FilesAreKept, IsWithinEdge, IsNoEdit}
+use Rattle.build_theory.proofs.Lists.{same_bytes, bytes_same, all_append, all_parts, same_rest}
 use Rattle.build_theory.proofs.Files.{IsElsewhere, file_stays, others_elsewhere}
 use Rattle.build_theory.proofs.Looks.{kept_before}
 use Rattle.build_theory.proofs.Starting.{since}
 use Rattle.build_theory.proofs.Steps.{running_is, running_parts, started-append, ended-append, in_left}
-use Rattle.log_theory.specs.Writes.{GrewAt, WritesAt}
-use Rattle.log_theory.proofs.Writing.{at_elsewhere, looks_at, ticks_grew}
+use Rattle.log_theory.specs.Writes.{GrewAt}
+use Rattle.log_theory.proofs.Writing.{at_elsewhere}
 use Rattle.looks.specs.Seen.{AreKept}
 use Rattle.runner.specs.Course.{is_private, is_under_way, is_quiet}
 
@@ -181,7 +181,7 @@ module _ (tells : Bool) (own : OwnFiles) (edges : List Edge) (steps : List Done)
     quiet_at path loud grew tell kept =
         let call = grew tell in
         by_elsewhere tell call.more call.grows (λ files p is within edits.
-            at_elsewhere edges (IsRunning now.events) path p (λ same. loud tell files (ap (is_quiet own edges steps) same ∙ is)) (others_quiet (IsRunning now.events) by p is) call.more call.all within edits) kept
+        at_elsewhere edges (IsRunning now.events) path p (λ same. loud tell files (ap (is_quiet own edges steps) same ∙ is)) (others_quiet (IsRunning now.events) by p is) call.more call.all within edits) kept
 
     -- one of its own files: a tick, a log
     pub quiet_own : (path : List ℕ) → own.files path ≡ true → (IsTrue tells → GrewAt path (IsRunning now.events) now.history new.history) → KeepsQuiet tells own edges steps first now new
@@ -202,8 +202,8 @@ module _ (tells : Bool) (own : OwnFiles) (edges : List Edge) (steps : List Done)
     quiet_adds after event adds tell kept =
         let call = adds tell in
         by_elsewhere tell (call.earlier ++ Happened event ∷ call.later) call.grows (λ files p is within edits.
-            let w = all_parts (IsWithinEdge edges) call.earlier (Happened event ∷ call.later) within in
-            let e = all_parts IsNoEdit call.earlier (Happened event ∷ call.later) edits in
-            all_append (IsElsewhere p) call.earlier (Happened event ∷ call.later)
-            (others_quiet (IsRunning now.events) by p is call.earlier call.all_earlier w.0 e.0)
-            (tt, others_quiet (IsRunning new.events) after p is call.later call.all_later w.1.1 e.1.1)) kept
+        let w = all_parts (IsWithinEdge edges) call.earlier (Happened event ∷ call.later) within in
+        let e = all_parts IsNoEdit call.earlier (Happened event ∷ call.later) edits in
+        all_append (IsElsewhere p) call.earlier (Happened event ∷ call.later)
+        (others_quiet (IsRunning now.events) by p is call.earlier call.all_earlier w.0 e.0)
+        (tt, others_quiet (IsRunning new.events) after p is call.later call.all_later w.1.1 e.1.1)) kept

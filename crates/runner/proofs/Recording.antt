@@ -1,5 +1,5 @@
 -- The end of a command that went well is put into the log, and its response file is removed.
-use Rattle.std.proofs.Common.{◌≡◌, ◌≢◌, inl, inr, ℕ, suc, ◌<◌, Bool, true, false, List, [], ◌∷◌, ◌++◌, length, Option, Some, None, refl, sym, ◌∙◌, ap, subst, arith}
+use Rattle.std.proofs.Common.{◌≡◌, ◌≢◌, inl, inr, ℕ, suc, ◌<◌, Bool, true, List, [], ◌∷◌, length, Option, Some, None, refl, sym, ◌∙◌, ap, subst, arith}
 use Rattle.model.specs.declared.graph.BuildGraph.{BuildGraph}
 use Rattle.model.specs.World.{World}
 use Rattle.model.specs.Graph.{has_number, edge_at, outputs, IsCommand, IsMadeOnce}
@@ -12,7 +12,6 @@ use Rattle.build_theory.proofs.Steps.{IsKept, kept_lawful, ended-append, in_righ
 use Rattle.log_theory.specs.Writes.{WritesAt}
 use Rattle.links.specs.declared.graph.Graph.{Graph}
 use Rattle.links.specs.Told.{declared_by}
-use Rattle.plan.specs.declared.plan.Plan.{Plan}
 use Rattle.records.specs.declared.records.Records.{Records}
 use Rattle.records.specs.Held.{IsSameLog}
 use Rattle.records.specs.Logging.{IsLogging, IsLoggedStill, EndedWell}

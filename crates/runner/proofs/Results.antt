@@ -1,5 +1,5 @@
 -- What holds where a call was well, or failed.
-use Rattle.std.proofs.Common.{◌≡◌, Bool, true, false, is_ok, OnOk, OnErr, MatchOption, Option, Some, None, Result, Ok, Err, refl, sym, ◌∙◌, ap, subst}
+use Rattle.std.proofs.Common.{◌≡◌, is_ok, OnOk, OnErr, MatchOption, Option, Some, None, Result, Ok, Err, sym, ◌∙◌, ap, subst}
 use Rattle.std.proofs.lemmas.Bool.{false≢true}
 
 pub ok_then : {T E : Type 0} {P Q : Type 0} (r : Result T E) → OnOk r P → (P → Q) → OnOk r Q

@@ -1,17 +1,16 @@
 -- What an edge reads whose turn to be judged has come: it is settled, and quiet.
-use Rattle.std.proofs.Common.{◌≡◌, ◌⊎◌, inl, inr, ℕ, suc, ◌<◌, ◌&&◌, not, Bool, true, false, IsTrue, List, [], ◌∷◌, ◌++◌, length, Option, Some, None, refl, sym, ◌∙◌, ap, subst}
-use Rattle.std.specs.List.{list_any}
+use Rattle.std.proofs.Common.{◌≡◌, ◌⊎◌, inl, inr, ℕ, ◌&&◌, not, Bool, true, false, IsTrue, List, Option, Some, None, refl, sym, ◌∙◌, ap, subst}
 use Rattle.std.proofs.lemmas.Bool.{false≢true, true≢false, cases_Bool, false_from_ne_true}
 use Rattle.model.specs.declared.event.Moment.{Moment}
 use Rattle.model.specs.declared.graph.Edge.{Edge}
-use Rattle.model.specs.World.{World, View, file_at, stamp_of, view_of, IsIdle}
+use Rattle.model.specs.World.{World, View, stamp_of, view_of, IsIdle}
 use Rattle.model.specs.Graph.{has, has_number, edge_at, maker, outputs, regular_inputs, inputs, IsCommand, IsMadeOnce}
 use Rattle.model.specs.Reading.{IsRead, Itself, Through, needs}
 use Rattle.model.specs.Records.{OwnFiles, Store, recorded_inputs}
 use Rattle.model.specs.OutOfDate.{is_made_anew, Counted}
-use Rattle.model.specs.Schedule.{Task, Step as Done, IsSettled, Done as ByItself, Alias, MayBeJudged, judged_in, clean_in, out_of_date_in, started_in, ended_in, well_in, failed_in, running_in, done_in}
+use Rattle.model.specs.Schedule.{Task, Step as Done, IsSettled, Done as ByItself, Alias, judged_in, clean_in, well_in, failed_in, running_in, done_in}
 use Rattle.model.specs.Premises.{FilesAreKept, OwnFilesApart, RecordedApart}
-use Rattle.model.specs.SingleBuild.{Asked, task_of}
+use Rattle.model.specs.SingleBuild.{Asked}
 use Rattle.build_theory.specs.Run.{IsRunOrRest}
 use Rattle.build_theory.proofs.Lists.{has-left, has-right, has_number-cases, same_some, some_none}
 use Rattle.build_theory.proofs.Makers.{maker_has, maker_is}
@@ -22,7 +21,7 @@ use Rattle.build_theory.proofs.Exit.{unchanged, may_not}
 use Rattle.log_theory.proofs.Carried.{read_apart}
 use Rattle.verdict.specs.Judged.{everything, HasPathsOf, AreUntouched}
 use Rattle.runner.specs.Course.{is_quiet, is_anew}
-use Rattle.runner.proofs.Quiet.{IsQuiet, quiet_from, any_number, number_of_any}
+use Rattle.runner.proofs.Quiet.{quiet_from, any_number, number_of_any}
 
 -- ---- settled edges
 
@@ -74,7 +73,7 @@ module _ (edges : List Edge) (steps : List Done) (kept : IsKept edges steps) whe
       | inr none ↦ false_from_ne_true (is_anew edges steps p) (λ some.
           let k = number_of_any makes (well_in steps) some in
           false≢true (sym none ∙ subst (λ (n : ℕ). has_number (well_in steps) n ≡ true) (same_some k.0 j (sym (maker_is edges p k.0 once k.2) ∙ is)) k.1))
-        ∙ sym (ap (λ (b : Bool). b && not ((edge_at edges j).restat && same)) none)
+          ∙ sym (ap (λ (b : Bool). b && not ((edge_at edges j).restat && same)) none)
     ]
       where
         by_flags : (w r : Bool) → w ≡ true → r ≡ false → (w && not (r && same)) ≡ true

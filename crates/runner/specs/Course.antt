@@ -13,7 +13,6 @@ use Rattle.model.specs.Kept.{StartedUnder}
 use Rattle.model.specs.SingleBuild.{Asked, task_of}
 use Rattle.paths.specs.Told.{text_at}
 use Rattle.links.specs.declared.graph.Graph.{Graph}
-use Rattle.links.specs.Links.{links_of}
 use Rattle.links.specs.Told.{declared_by, recorded_by, AreSameInputs}
 use Rattle.lowest.specs.Flags as flags
 use Rattle.plan.specs.Planned.{IsPlanned}

@@ -2,7 +2,7 @@
 use Rattle.std.specs.Prelude.{◌≡◌, ◌<◌, ℕ, suc, Bool, List, map, length, All, Option, Some, None, Result, Ok, Err}
 use Rattle.model.specs.World.{World}
 use Rattle.model.specs.Graph.{edge_at, first_output}
-use Rattle.model.specs.Schedule.{Task, Step, well_in, failed_in}
+use Rattle.model.specs.Schedule.{Step, well_in, failed_in}
 use Rattle.model.specs.SingleBuild.{Answer, task_of}
 use Rattle.model.specs.SingleBuild as answer
 use Rattle.build_theory.specs.Run.{IsRun}

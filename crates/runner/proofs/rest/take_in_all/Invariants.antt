@@ -1,5 +1,4 @@
 use Rattle.std.proofs.Common.{◌≡◌, ℕ, List, Option}
-use Rattle.model.specs.World.{World}
 use Rattle.model.specs.Schedule.{Step as Done}
 use Rattle.build_theory.specs.Seen.{Unrefused}
 use Rattle.log_theory.specs.Ledger.{IsCutOff}

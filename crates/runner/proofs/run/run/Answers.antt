@@ -1,6 +1,6 @@
-use Rattle.std.proofs.Common.{None, List, Bool, subst, sym}
+use Rattle.std.proofs.Common.{None}
 use Rattle.runner.specs.Course.{IsOn}
-use Rattle.runner.specs.Going.{IsOver, AreSet}
+use Rattle.runner.specs.Going.{IsOver}
 use Rattle.runner.proofs.Results.{some_of, on_err}
 use Rattle.runner.proofs.run.run.Goals as goal
 

@@ -1,4 +1,4 @@
-use Rattle.std.proofs.Common.{ℕ, suc, ◌<◌, List, slice_set, Err, subst, ap, sym, ◌∙◌}
+use Rattle.std.proofs.Common.{ℕ, ◌<◌, List, slice_set, Err, subst, ap, sym, ◌∙◌}
 use Rattle.std.specs.Vec.{with_items}
 use Rattle.std.proofs.lemmas.Result.{err_from_is_err_and}
 use Rattle.model.specs.World.{runs}
@@ -55,7 +55,7 @@ returns-clause-on g c =
     c.events-known.result.now c.events.result.now c.events-known.ensures c.events.ensures c.start-result.ensures.cause.earlier c.note_start.ensures.still c.note_start.ensures.planned c.note_start.ensures.flags made)
 
 pub returns-clause-cut : goal.returns-clause-cut
-returns-clause-cut g c = 
+returns-clause-cut g c =
     err_then c.start-result.result c.start-result.ensures.err (λ made course suits begun.
     launch_cut g.S.Texts.tells course c.args.setting.graph.now c.log_stays.ensures c.args.setting.tick.now suits c.args.state.now (g.S.Texts.world c.args.site.now) (g.S.Texts.world c.write_response.new.site) c.args.edge c.act-act.result.now
     c.act-act.ensures begun c.write_response.ensures.at (g.S.Texts.world c.tick.new.self) c.in_ok-stamp.stamp c.in_ok-stamp.ensures.ticks

@@ -1,5 +1,4 @@
 use Rattle.std.proofs.Common.{suc}
-use Rattle.model.specs.World.{World}
 use Rattle.build_theory.proofs.Calls.{looks_then}
 use Rattle.runner.proofs.Results.{on_err, ok_then}
 use Rattle.runner.proofs.Launched.{err_then}

@@ -1,4 +1,4 @@
-use Rattle.std.proofs.Common.{ℕ, ◌≡◌, ◌∙◌, List, Bool, length, refl, sym, ap, subst, arith}
+use Rattle.std.proofs.Common.{ℕ, ◌∙◌, List, length, refl, ap}
 use Rattle.model.specs.Graph.{has_number}
 use Rattle.links.specs.Links.{links_of}
 use Rattle.runner.proofs.Work.{finished_less}

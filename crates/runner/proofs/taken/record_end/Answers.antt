@@ -1,4 +1,4 @@
-use Rattle.std.proofs.Common.{ℕ, suc, ◌≡◌, ◌∙◌, List, get_or, sym, ap, subst, arith}
+use Rattle.std.proofs.Common.{ℕ, ◌∙◌, get_or, ap, arith}
 use Rattle.model.specs.declared.act.Act.{Act}
 use Rattle.runner.proofs.Places.{read_item}
 use Rattle.runner.proofs.Results.{on_ok, on_err}

@@ -1,4 +1,4 @@
-use Rattle.std.proofs.Common.{◌≡◌, ℕ, suc, ◌∙◌, List, None, inl, ap, sym, refl, subst, arith}
+use Rattle.std.proofs.Common.{◌≡◌, ℕ, suc, ◌∙◌, None, inl, ap, refl, subst, arith}
 use Rattle.model.specs.Calls.{Finishes}
 use Rattle.plan.specs.Standing.{standing_at}
 use Rattle.runner.proofs.Cutting.{some_still, cause_err}
