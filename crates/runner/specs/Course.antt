@@ -13,7 +13,6 @@ use Rattle.model.specs.Kept.{StartedUnder}
 use Rattle.model.specs.SingleBuild.{Asked, task_of}
 use Rattle.paths.specs.Told.{text_at}
 use Rattle.links.specs.declared.graph.Graph.{Graph}
-use Rattle.links.specs.Links.{links_of}
 use Rattle.links.specs.Told.{declared_by, recorded_by, AreSameInputs}
 use Rattle.lowest.specs.Flags as flags
 use Rattle.plan.specs.Planned.{IsPlanned}
@@ -37,13 +36,15 @@ abbrev pub edges_of : Course → List Edge
 edges_of course = course.asked.graph.edges
 
 -- The graph declares what was asked, with the recorded inputs that are in use; each path is made once; a command has outputs, and
--- names no depfile and no `restat`; ticks touch a file of the program's own that is no log; no command ran at the entry.
+-- names no depfile and no `restat`; the build log is a file of the program's own; ticks touch another such file, that is no log; no
+-- command ran at the entry.
 pub record Suits (course : Course) (tick : List ℕ) (graph : Graph) : Type 0 where
   pub same : course.asked.graph ≡ declared_by graph
   pub recorded : AreSameInputs (recorded_inputs course.store (edges_of course)) (recorded_by graph)
   pub once : IsMadeOnce (edges_of course)
   pub some : (i : ℕ) → IsCommand (edges_of course) i → outputs (edge_at (edges_of course) i) ≢ []
   pub bare : (i : ℕ) → IsCommand (edges_of course) i → ((edge_at (edges_of course) i).act.depfile ≡ []) × ((edge_at (edges_of course) i).restat ≡ false)
+  pub log_owned : course.own.files course.own.build_log ≡ true
   pub owned : course.own.files tick ≡ true
   pub no_build_log : tick ≢ course.own.build_log
   pub no_deps_log : tick ≢ course.own.deps_log
@@ -51,9 +52,9 @@ pub record Suits (course : Course) (tick : List ℕ) (graph : Graph) : Type 0 wh
 
 -- ---- what was seen
 
--- the depfile or the response file of an edge
+-- the depfile or the response file of a command
 abbrev pub is_private : List Edge → List ℕ → Bool
-is_private edges p = list_any (λ edge. has (edge.act.depfile ∷ edge.act.response_path ∷ []) p) edges
+is_private edges p = list_any (λ edge. not edge.phony && has (edge.act.depfile ∷ edge.act.response_path ∷ []) p) edges
 
 -- an output of a command that runs
 abbrev pub is_under_way : List Edge → List Done → List ℕ → Bool
@@ -94,6 +95,11 @@ pub record AreTold (tells : Bool) (course : Course) (graph : Graph) (state : Sta
 abbrev pub AreStarted : Course → List Done → State → World → Type 0
 AreStarted course steps state now = (e : ℕ) → has_number (running_in steps) (suc e) ≡ true → StartedUnder (suc e) (get_or state.starts.items e 0) course.entry now
 
+-- the state has room for each path and each edge of the graph
+pub record HasRoom (graph : Graph) (state : State) : Type 0 where
+  pub looks : length state.looks.seen.items ≡ length graph.manifest.paths
+  pub starts : length state.starts.items ≡ length graph.manifest.lines
+
 -- What a run that goes on has kept since the entry. `hand` is the edge whose start or recording is under way, `failed` are those
 -- whose failure is noted.
 pub record IsOn (tells : Bool) (course : Course) (graph : Graph) (hand : Option ℕ) (state : State) (now : World) : Type 0 where
@@ -105,4 +111,5 @@ pub record IsOn (tells : Bool) (course : Course) (graph : Graph) (hand : Option 
   pub seen : IsSeenStill tells course graph steps state now
   pub anew : AreAnew course graph steps state
   pub started : AreStarted course steps state now
+  pub room : HasRoom graph state
   pub noted : map suc state.failed.items ≡ failed_in steps

@@ -1,13 +1,17 @@
 -- A run that goes on, that has ended, or that a fault cuts off.
-use Rattle.std.specs.Prelude.{◌≡◌, ◌⊎◌, ℕ, suc, ◌≤◌, ◌<◌, Bool, true, false, List, [], ◌∷◌, ◌++◌, length, Option, Some, None}
+use Rattle.std.specs.Prelude.{◌≡◌, ◌⊎◌, ℕ, ◌≤◌, ◌<◌, Bool, true, false, List, [], ◌∷◌, ◌++◌, length, Option, Some, None}
 use Rattle.std.specs.List.{sum_by}
 use Rattle.model.specs.World.{World}
 use Rattle.model.specs.Graph.{has_number}
 use Rattle.model.specs.Schedule.{Task, Step as Done, Ended, MayStart, NoneMayBeJudged, out_of_date_in, started_in, ended_in}
 use Rattle.model.specs.SingleBuild.{task_of}
+use Rattle.build_theory.specs.Run.{IsRun}
+use Rattle.lowest.specs.Flags as flags
 use Rattle.links.specs.declared.graph.Graph.{Graph}
 use Rattle.links.specs.Links.{links_of}
 use Rattle.log_theory.specs.Ledger.{IsCutOff}
+use Rattle.looks.specs.declared.table.Look.TheVariants.{Unasked}
+use Rattle.looks.specs.Seen.{look_at}
 use Rattle.plan.specs.declared.step.End.{End}
 use Rattle.plan.specs.declared.step.Standing.{Standing}
 use Rattle.plan.specs.declared.step.Standing.TheVariants.{Outside, Unjudged, Clean, OutOfDate, Running, Well, Failed, Alias, Known}
@@ -39,12 +43,37 @@ pub record IsCut (tells : Bool) (course : Course) (graph : Graph) (plan : Plan) 
   pub steps : List Done
   pub met : Option ℕ
   pub planned : IsPlanned (task_of course.asked course.store) graph plan steps
+  pub run : IsRun tells course.own (task_of course.asked course.store) steps course.entry now
   pub cut : IsCutOff tells course.behaviour course.format course.own course.asked course.store steps met course.entry now
   pub in_hand : (i : ℕ) → met ≡ Some i → IsInHand (task_of course.asked course.store) steps i
 
 -- no edge has more outputs
 abbrev pub AreEnough : Graph → ℕ → Type 0
 AreEnough graph count = (e : ℕ) → e < length graph.manifest.lines → length ((links_of graph).outputs e) ≤ count
+
+-- as many flags as an edge may have outputs, and each is set
+pub record AreSet (graph : Graph) (all : List Bool) : Type 0 where
+  pub enough : AreEnough graph (length all)
+  pub set : (k : ℕ) → k < length all → flags.has all k ≡ true
+
+-- ---- the end of a command
+
+-- What the end of the command of an edge changes beside its plan's steps: all its outputs count as changed, and what was seen of
+-- them is forgotten.
+pub record HasEnded (graph : Graph) (e : ℕ) (old new : State) : Type 0 where
+  pub changed : (p : ℕ) → has_number ((links_of graph).outputs e) p ≡ true → flags.has new.plan.changed.items p ≡ true
+  pub unchanged : (p : ℕ) → has_number ((links_of graph).outputs e) p ≡ false → flags.has new.plan.changed.items p ≡ flags.has old.plan.changed.items p
+  pub forgotten : (p : ℕ) → has_number ((links_of graph).outputs e) p ≡ true → look_at new.looks.seen.items p ≡ Unasked
+  pub seen : (p : ℕ) → has_number ((links_of graph).outputs e) p ≡ false → look_at new.looks.seen.items p ≡ look_at old.looks.seen.items p
+  pub fits : length new.looks.seen.items ≡ length old.looks.seen.items
+  pub records : new.records ≡ old.records
+  pub starts : new.starts.items ≡ old.starts.items
+  pub set : new.set ≡ old.set
+
+-- the failed edges, when the command of one more has ended
+abbrev pub failed_after : List ℕ → ℕ → Bool → List ℕ
+failed_after failed e true = failed
+failed_after failed e false = failed ++ e ∷ []
 
 -- ---- the work that is left
 

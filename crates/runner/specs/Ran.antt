@@ -2,11 +2,10 @@
 use Rattle.std.specs.Prelude.{◌≡◌, ◌<◌, ℕ, suc, Bool, List, map, length, All, Option, Some, None, Result, Ok, Err}
 use Rattle.model.specs.World.{World}
 use Rattle.model.specs.Graph.{edge_at, first_output}
-use Rattle.model.specs.Schedule.{Task, Step, well_in, failed_in}
+use Rattle.model.specs.Schedule.{Step, well_in, failed_in}
 use Rattle.model.specs.SingleBuild.{Answer, task_of}
 use Rattle.model.specs.SingleBuild as answer
 use Rattle.build_theory.specs.Run.{IsRun}
-use Rattle.build_theory.specs.Seen.{IsSeen}
 use Rattle.links.specs.declared.graph.Graph.{Graph}
 use Rattle.links.specs.Told.{declared_by}
 use Rattle.log_theory.specs.Ledger.{IsCutOff}
@@ -20,7 +19,7 @@ use Rattle.runner.specs.Course.{Course}
 use Rattle.runner.specs.Cut.{fault_of}
 use Rattle.runner.specs.Going.{IsInHand}
 
--- a run that was not cut off went on until nothing was left to do; a fault has its cause
+-- a run that was not cut off went on until nothing was left to do
 abbrev pub EndsRun : Bool → Course → List Step → Option ℕ → World → Result Summary Cut → Type 0
 EndsRun tells course steps met new (Ok (Well started)) =
     (met ≡ None) × IsRun tells course.own (task_of course.asked course.store) steps course.entry new
@@ -28,7 +27,7 @@ EndsRun tells course steps met new (Ok (Well started)) =
 EndsRun tells course steps met new (Ok (Failed edges)) =
     (met ≡ None) × IsRun tells course.own (task_of course.asked course.store) steps course.entry new
     × IsNextOf (task_of course.asked course.store) steps (Over ending.Failed) × (map suc edges.items ≡ failed_in steps)
-EndsRun tells course steps met new (Err cut) = IsSeen course.entry new (fault_of cut)
+EndsRun tells course steps met new (Err cut) = Unit {0}
 
 -- What a run has done at its end: its steps, its verdicts, and what its logs tell, as the theory of builds with logs asks for them;
 -- how that ended; and which edge met the fault, if the start or the taking in of one did.

@@ -1,5 +1,5 @@
 -- An edge in hand, on its way to its start, and behind its end.
-use Rattle.std.specs.Prelude.{◌≡◌, ◌++◌, ◌∷◌, [], ℕ, suc, Bool, true, false, if◌then◌else◌, Option, Some, None, List}
+use Rattle.std.specs.Prelude.{◌≡◌, ◌++◌, ◌∷◌, [], ℕ, Bool, true, if◌then◌else◌, Option, Some, None, List}
 use Rattle.model.specs.World.{World}
 use Rattle.model.specs.Schedule.{Step as Done, Started, Ended, IsLawfulStep}
 use Rattle.model.specs.SingleBuild.{task_of}

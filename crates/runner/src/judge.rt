@@ -1,20 +1,20 @@
 //! Judging an edge.
 
-ghost use Rattle.std.specs.Prelude.{◌≡◌, ◌<◌, ℕ, suc, None, false, OnOk, OnErr};
+ghost use Rattle.std.specs.Prelude.{◌≡◌, ◌<◌, ℕ, suc, Bool, None, false, is_some, get_or, OnOk, OnErr};
 ghost use Rattle.model.specs.Calls.{OnlyLooks, HasCause};
 ghost use Rattle.model.specs.Schedule.{Judged, IsLawfulStep};
 ghost use Rattle.model.specs.SingleBuild.{task_of};
 ghost use Rattle.plan.specs.declared.step.Step.TheVariants as step;
-ghost use Rattle.plan.specs.Planned.{IsOffered};
+ghost use Rattle.plan.specs.Planned.{IsOffered, is_stale};
 ghost use Rattle.runner.specs.Course.{Course, Suits, IsOn};
 ghost use Rattle.runner.specs.Going.{IsGoing, work_left};
-ghost use Rattle.verdict.specs.Judged.{verdict_of};
 
 use crate::setting::Setting;
 use crate::state::State;
 use model::{Reason, SiteFault};
 use paths::EdgeId;
 use plan::Verdict;
+use records::log_stays;
 use site::Site;
 use verdict::reason;
 
@@ -32,9 +32,10 @@ pub fn judge<S: Site>(
     ensures cause { HasCause (S.world site.old) (S.world site.new) result }
     ensures nearer { OnOk result (work_left state.new.plan.standings.items < work_left state.old.plan.standings.items) }
     ensures enough { state.new.set ≡ state.old.set }
-    ensures on { OnOk result ((course : Course) → Suits course setting.tick.now setting.graph.now → (on : IsOn S.tells course setting.graph.now None state.old (S.world site.old)) → ((stale : Bool) → IsLawfulStep (task_of course.asked course.store) on.steps (Judged (suc edge) stale)) → IsOn S.tells course setting.graph.now None state.new (S.world site.new)) }
+    ensures on { OnOk result ((course : Course) → Suits course setting.entry.tick.now setting.entry.graph.now → (on : IsOn S.tells course setting.entry.graph.now None state.old (S.world site.old)) → ((stale : Bool) → IsLawfulStep (task_of course.asked course.store) on.steps (Judged (suc edge) stale)) → IsOn S.tells course setting.entry.graph.now None state.new (S.world site.new)) }
     ensures plan { OnErr result (state.new.plan ≡ state.old.plan) }
 {
+    log_stays();
     let plan = &state.plan;
     let reason = reason(
         setting.alloc,

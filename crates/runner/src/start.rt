@@ -25,6 +25,7 @@ use links::Graph;
 use model::{Act, SiteFault};
 use paths::{Action, EdgeId};
 use plan::Plan;
+use records::log_stays;
 use site::Site;
 
 /// Starts the command of an edge: makes the folders that it writes into, shows what is shown at a start, says in the log that it
@@ -44,9 +45,10 @@ pub fn start_edge<S: Site>(
     ensures starts { StartsUnrefused (S.world site.old) (S.world site.new) }
     ensures nearer { OnOk result (work_left state.new.plan.standings.items < work_left state.old.plan.standings.items) }
     ensures set { state.new.set ≡ state.old.set }
-    ensures on { OnOk result ((course : Course) → Suits course setting.tick.now setting.graph.now → (on : IsOn S.tells course setting.graph.now None state.old (S.world site.old)) → IsLawfulStep (task_of course.asked course.store) on.steps (Started (suc edge)) → IsOn S.tells course setting.graph.now None state.new (S.world site.new)) }
-    ensures cut { OnErr result ((course : Course) → Suits course setting.tick.now setting.graph.now → (on : IsOn S.tells course setting.graph.now None state.old (S.world site.old)) → IsLawfulStep (task_of course.asked course.store) on.steps (Started (suc edge)) → IsCut S.tells course setting.graph.now state.new.plan (S.world site.new)) }
+    ensures on { OnOk result ((course : Course) → Suits course setting.entry.tick.now setting.entry.graph.now → (on : IsOn S.tells course setting.entry.graph.now None state.old (S.world site.old)) → IsLawfulStep (task_of course.asked course.store) on.steps (Started (suc edge)) → IsOn S.tells course setting.entry.graph.now None state.new (S.world site.new)) }
+    ensures cut { OnErr result ((course : Course) → Suits course setting.entry.tick.now setting.entry.graph.now → (on : IsOn S.tells course setting.entry.graph.now None state.old (S.world site.old)) → IsLawfulStep (task_of course.asked course.store) on.steps (Started (suc edge)) → IsCut S.tells course setting.entry.graph.now state.new.plan (S.world site.new)) }
 {
+    log_stays();
     make_folders(site, setting, edge)?;
     state
         .display
@@ -84,9 +86,10 @@ fn launch<S: Site>(
     ensures starts { StartsUnrefused (S.world site.old) (S.world site.new) }
     ensures nearer { OnOk result (work_left state.new.plan.standings.items < work_left state.old.plan.standings.items) }
     ensures set { state.new.set ≡ state.old.set }
-    ensures on { OnOk result ((course : Course) → Suits course setting.tick.now setting.graph.now → IsBegun S.tells course setting.graph.now (suc edge) state.old (S.world site.old) → IsOn S.tells course setting.graph.now None state.new (S.world site.new)) }
-    ensures cut { OnErr result ((course : Course) → Suits course setting.tick.now setting.graph.now → IsBegun S.tells course setting.graph.now (suc edge) state.old (S.world site.old) → IsCut S.tells course setting.graph.now state.new.plan (S.world site.new)) }
+    ensures on { OnOk result ((course : Course) → Suits course setting.entry.tick.now setting.entry.graph.now → IsBegun S.tells course setting.entry.graph.now (suc edge) state.old (S.world site.old) → IsOn S.tells course setting.entry.graph.now None state.new (S.world site.new)) }
+    ensures cut { OnErr result ((course : Course) → Suits course setting.entry.tick.now setting.entry.graph.now → IsBegun S.tells course setting.entry.graph.now (suc edge) state.old (S.world site.old) → IsCut S.tells course setting.entry.graph.now state.new.plan (S.world site.new)) }
 {
+    log_stays();
     let act = act(setting.graph, edge);
     write_response(site, act)?;
     let stamp = site.tick(setting.tick)?;

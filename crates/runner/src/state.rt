@@ -3,7 +3,7 @@
 ghost use Rattle.std.specs.Prelude.{◌≡◌, ◌≤◌, ℕ, IfOk, [], None, false, true, length, vec_len};
 ghost use Rattle.std.proofs.Math.ListN.{replicate};
 ghost use Rattle.model.specs.Schedule.{Task};
-ghost use Rattle.runner.specs.Going.{AreEnough};
+ghost use Rattle.runner.specs.Going.{AreEnough, AreSet};
 
 use display::Display;
 use links::Graph;
@@ -45,11 +45,11 @@ impl<'a> State<'a> {
         ensures plan { IfOk result (λ state. state.plan ≡ plan) }
         ensures looks { IfOk result (λ state. state.looks ≡ looks) }
         ensures records { IfOk result (λ state. state.records ≡ records) }
-        ensures display { IfOk result (λ state. state.display ≡ display) }
+        ensures display { IfOk result (λ state. state.display ≡ display.entry) }
         ensures due { IfOk result (λ state. state.due ≡ due) }
         ensures starts { IfOk result (λ state. vec_len state.starts ≡ length graph.now.manifest.lines) }
         ensures failed { IfOk result (λ state. state.failed.items ≡ []) }
-        ensures enough { IfOk result (λ state. AreEnough graph.now (vec_len state.set)) }
+        ensures enough { IfOk result (λ state. AreSet graph.now state.set.items) }
     {
         Ok(State {
             plan,

@@ -7,7 +7,7 @@ ghost use Rattle.model.specs.SingleBuild.{task_of};
 ghost use Rattle.plan.specs.declared.step.Step.TheVariants as step;
 ghost use Rattle.plan.specs.Planned.{IsNextOf};
 ghost use Rattle.runner.specs.Course.{Course, Suits, IsOn};
-ghost use Rattle.runner.specs.Going.{IsGoing, IsOver, IsCut, AreEnough, work_left};
+ghost use Rattle.runner.specs.Going.{IsGoing, IsOver, IsCut, AreSet, work_left};
 ghost use Rattle.runner.specs.Cutting.{Cuts, IsOfWait};
 
 use crate::cut::Cut;
@@ -27,12 +27,12 @@ pub fn go_on<S: Site>(
 ) -> Result<Option<End>, Cut>
     requires running { (S.world site.old).stopped ≡ false }
     requires going { IsGoing S.tells setting.tick.now setting.graph.now state.old (S.world site.old) }
-    requires enough { AreEnough setting.graph.now (vec_len state.old.set) }
+    requires enough { AreSet setting.graph.now state.old.set.items }
     ensures cuts { Cuts (S.world site.old) (S.world site.new) result }
     ensures nearer { IfOk result (λ end. MatchOption end (work_left state.new.plan.standings.items < work_left state.old.plan.standings.items) (λ end. Unit {0})) }
     ensures set { state.new.set ≡ state.old.set }
-    ensures on { IfOk result (λ end. (course : Course) → Suits course setting.tick.now setting.graph.now → IsOn S.tells course setting.graph.now None state.old (S.world site.old) → MatchOption end (IsOn S.tells course setting.graph.now None state.new (S.world site.new)) (λ end. IsOver S.tells course setting.graph.now state.new end (S.world site.new))) }
-    ensures cut { OnErr result ((course : Course) → Suits course setting.tick.now setting.graph.now → IsOn S.tells course setting.graph.now None state.old (S.world site.old) → IsCut S.tells course setting.graph.now state.new.plan (S.world site.new)) }
+    ensures on { IfOk result (λ end. (course : Course) → Suits course setting.entry.tick.now setting.entry.graph.now → IsOn S.tells course setting.entry.graph.now None state.old (S.world site.old) → MatchOption end (IsOn S.tells course setting.entry.graph.now None state.new (S.world site.new)) (λ end. IsOver S.tells course setting.entry.graph.now state.new end (S.world site.new))) }
+    ensures cut { OnErr result ((course : Course) → Suits course setting.entry.tick.now setting.entry.graph.now → IsOn S.tells course setting.entry.graph.now None state.old (S.world site.old) → IsCut S.tells course setting.entry.graph.now state.new.plan (S.world site.new)) }
 {
     match state.plan.next() {
         Step::Judge(edge) => {

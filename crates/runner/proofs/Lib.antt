@@ -1,0 +1,17 @@
+pub mod Quiet
+pub mod Keeping
+pub mod Places
+pub mod Launching
+pub mod Results
+pub mod Work
+pub mod Cutting
+pub mod Settled
+pub mod Launched
+pub mod Judging
+pub mod Begins
+pub mod Counting
+pub mod Running
+pub mod Ends
+pub mod Finishing
+pub mod Noting
+pub mod Recording
