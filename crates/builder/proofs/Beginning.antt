@@ -1,17 +1,16 @@
 -- The beginning of a run: from what was read and seen before it.
-use Rattle.std.proofs.Common.{◌≡◌, ◌≢◌, ℕ, suc, Bool, true, false, IsTrue, List, [], ◌∷◌, ◌++◌, Option, Some, None, Result, Err, map, length, vec_len, arith, refl, sym, ◌∙◌, ap, subst}
+use Rattle.std.proofs.Common.{◌≡◌, ◌≢◌, ℕ, suc, Bool, false, IsTrue, List, [], Option, Some, None, Err, map, length, vec_len, arith, refl, sym, ◌∙◌, ap, subst}
 use Rattle.std.proofs.lemmas.Bool.{false≢true}
 use Rattle.std.proofs.lemmas.List.{append-nil}
 use Rattle.model.specs.declared.event.Moment.{Moment}
 use Rattle.model.specs.declared.fault.SiteFault.TheVariants.{Memory}
 use Rattle.model.specs.declared.graph.BuildGraph.{BuildGraph}
-use Rattle.model.specs.declared.graph.Edge.{Edge}
 use Rattle.model.specs.declared.record.Record.{Record}
 use Rattle.model.specs.World.{World, IsIdle}
 use Rattle.model.specs.Graph.{edge_at, outputs, IsCommand, IsMadeOnce}
 use Rattle.model.specs.Outcome.{Behaviour}
 use Rattle.model.specs.Premises.{FilesAreKept}
-use Rattle.model.specs.Records.{OwnFiles, Store, IsOwnIn, file_in, build_log_name, deps_log_name, tick_name, recorded_inputs}
+use Rattle.model.specs.Records.{OwnFiles, Store, IsOwnIn, file_in, build_log_name, tick_name}
 use Rattle.model.specs.SingleBuild.{Asked, task_of}
 use Rattle.build_theory.specs.Seen.{Looked}
 use Rattle.build_log.specs.Laws.{Reads}
@@ -27,7 +26,6 @@ use Rattle.looks.specs.declared.table.Look.{Look}
 use Rattle.looks.specs.declared.table.Looks.{Looks}
 use Rattle.looks.specs.Seen.{AreSeen, AreSeenOf}
 use Rattle.records.specs.declared.records.Records.{Records}
-use Rattle.records.specs.Held.{Held}
 use Rattle.records.specs.Known.{IsOf}
 use Rattle.records.specs.Laws.{AreOfEntry}
 use Rattle.records.specs.Logging.{IsLogging}
@@ -88,15 +86,15 @@ pub may_run_anywhere : (tells : Bool) (B : Behaviour) (reader : List ℕ → Opt
     → MayRun tells graph request cone records looks (course_of B reader (any_own request.folder) (asked_of (declared_by graph) request.folder request.limits request.targets) now) now
 may_run_anywhere tells B reader graph request cone records looks now rs reads idle runs listed path told =
     may_run tells B reader (any_own request.folder) graph request cone records looks now now rs (own_in request.folder) idle (looked_nothing tells now runs) listed (
-      record {
-        path = path;
-        apart = logs_apart request.folder;
-        reads = reads;
-        commands = λ job is. absurd (false≢true (sym (idle job) ∙ is));
-        grows = λ tell. ([], sym (append-nil now.history));
-        held = λ tell kept. absurd (none_kept request.folder (declared_by graph).edges now.history now.history kept);
-        logged = λ tell kept. absurd (none_kept request.folder (declared_by graph).edges now.history now.history kept);
-      }
+    record {
+      path = path;
+      apart = logs_apart request.folder;
+      reads = reads;
+      commands = λ job is. absurd (false≢true (sym (idle job) ∙ is));
+      grows = λ tell. ([], sym (append-nil now.history));
+      held = λ tell kept. absurd (none_kept request.folder (declared_by graph).edges now.history now.history kept);
+      logged = λ tell kept. absurd (none_kept request.folder (declared_by graph).edges now.history now.history kept);
+    }
     ) told
     (λ tell kept. absurd (none_kept request.folder (declared_by graph).edges now.history now.history kept))
     (λ tell kept. absurd (none_kept request.folder (declared_by graph).edges now.history now.history kept))

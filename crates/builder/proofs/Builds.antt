@@ -1,5 +1,5 @@
 -- What one build has come to, in the words of its contract.
-use Rattle.std.proofs.Common.{◌≡◌, ◌≢◌, ◌⊎◌, inl, inr, ℕ, zero, suc, ◌<◌, Bool, true, false, bytes_eq, ◌∷◌, IsTrue, List, [], ◌++◌, Option, Some, None, map, length, Result, Ok, Err, Vec, Global, refl, sym, ◌∙◌, ap, subst, arith}
+use Rattle.std.proofs.Common.{◌≡◌, ◌⊎◌, inl, inr, ℕ, zero, suc, ◌<◌, Bool, true, false, bytes_eq, ◌∷◌, IsTrue, List, [], ◌++◌, Option, Some, None, map, length, Result, Ok, Err, Vec, Global, refl, sym, ◌∙◌, ap, subst, arith}
 use Rattle.std.proofs.lemmas.List.{append-nil}
 use Rattle.model.specs.declared.graph.BuildGraph.{BuildGraph}
 use Rattle.model.specs.declared.event.Event.{Event}
@@ -19,7 +19,7 @@ use Rattle.model.specs.declared.record.DepsRecord.{DepsRecord}
 use Rattle.model.specs.Records.{OwnFiles, Store, LogFormat, store_in, read_log, recorded_inputs, IsOwnIn, file_in, build_log_name, deps_log_name}
 use Rattle.model.specs.History.{IsHeadline}
 use Rattle.model.specs.Kept.{KeepsLogs}
-use Rattle.model.specs.Schedule.{Task, Step as Done, Judged, IsLawful, IsSettled, AreEventsOf, AreFinishes, clean_in, started_in, well_in, failed_in, running_in, done_in}
+use Rattle.model.specs.Schedule.{Step as Done, Judged, IsLawful, IsSettled, AreEventsOf, AreFinishes, started_in, well_in, failed_in, running_in, done_in}
 use Rattle.model.specs.SingleBuild as answer
 use Rattle.model.specs.SingleBuild.{Asked, Answer, is_fault, IsSuccess, InCone, IsScheduled, IsShownCycle, IsInOrder, WasInOrder, IsAsked, HasEnded, IsAnswer, MetFault, PassesNoFault, SingleBuild, task_of}
 use Rattle.std.proofs.lemmas.Bool.{false≢true, or_left}

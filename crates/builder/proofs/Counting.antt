@@ -33,7 +33,7 @@ counted_next links flags k count low was b is = sym (
     ∙ (count_push links 0 (take k flags) (get_or flags k false)
     ∙ (ap (λ (n : ℕ). count_from links 0 (take k flags) + one (get_or flags k false && not (links.phony n))) place
     ∙ (ap (λ (c : Bool). count_from links 0 (take k flags) + one c) is ∙ ap (λ (n : ℕ). n + one b) (sym was))))
-)
+    )
   where
     place : 0 + length (take k flags) ≡ k
     place = let few = length-take-le k flags (omega (arith, low)) in omega (arith, few)

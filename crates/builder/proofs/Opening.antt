@@ -1,13 +1,12 @@
 -- What was read of the build log, and what it is known for afterwards.
-use Rattle.std.proofs.Common.{◌≡◌, ℕ, Bool, IsTrue, List, [], ◌++◌, Option, None, sym, ◌∙◌, subst}
-use Rattle.model.specs.declared.event.Moment.{Moment}
+use Rattle.std.proofs.Common.{◌≡◌, ℕ, Bool, IsTrue, List, [], Option, None, sym, ◌∙◌, subst}
 use Rattle.model.specs.declared.record.Record.{Record}
 use Rattle.model.specs.World.{World, file_at, content_of, IsIdle}
 use Rattle.model.specs.Calls.{OnlyLooks, Sees}
 use Rattle.model.specs.Outcome.{Behaviour}
 use Rattle.model.specs.Premises.{FilesAreKept}
 use Rattle.model.specs.Records.{OwnFiles, IsOwnIn, file_in, build_log_name}
-use Rattle.build_theory.specs.Seen.{IsSeen, Looked}
+use Rattle.build_theory.specs.Seen.{Looked}
 use Rattle.build_theory.proofs.Calls.{seen_since}
 use Rattle.build_log.specs.Laws.{Reads}
 use Rattle.build_log.specs.Record.{forms}

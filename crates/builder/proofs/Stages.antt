@@ -1,5 +1,5 @@
 -- From what stages give to what a build has come to.
-use Rattle.std.proofs.Common.{◌≡◌, inr, ℕ, zero, suc, Bool, IsTrue, List, [], ◌++◌, map, None, Result, Ok, Err, refl, sym, ◌∙◌, ap, subst, replicate}
+use Rattle.std.proofs.Common.{◌≡◌, inr, ℕ, zero, suc, Bool, IsTrue, List, ◌++◌, map, None, Result, Ok, Err, refl, sym, ◌∙◌, ap, subst, replicate}
 use Rattle.std.specs.Result.{IsErrAnd}
 use Rattle.std.proofs.lemmas.Bool.{false≢true}
 use Rattle.model.specs.declared.act.Act.{Act}

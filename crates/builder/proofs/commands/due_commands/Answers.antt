@@ -1,6 +1,5 @@
-use Rattle.std.proofs.Common.{◌≡◌, ℕ, ◌+◌, ◌≤◌, take, arith}
+use Rattle.std.proofs.Common.{arith}
 use Rattle.links.specs.Links.{links_of}
-use Rattle.builder.specs.Commands.{count_due_commands}
 use Rattle.builder.proofs.Counting.{counts, counts_no_alias, counts_nothing}
 use Rattle.builder.proofs.commands.due_commands.Goals as goal
 use Rattle.builder.proofs.commands.due_commands.Goals.{then-is_due+then-not-is_phony, else-is_due, else-is_due-via-then-is_due+else-not-is_phony, else-is_due-via-else-is_due}

@@ -13,7 +13,7 @@ use Rattle.builder.specs.declared.report.Report.{Report}
 use Rattle.builder.specs.Build.{asked_of, build_logs, Builds}
 use Rattle.builder.specs.Reports.{report_in, run_answer, SaysNoCone, LacksSource}
 use Rattle.builder.proofs.Beginning.{may_run_anywhere}
-use Rattle.builder.proofs.Builds.{store_of, course_of, no_deps, any_own, builds_memory, builds_fault, builds_uncut, builds_lacking, builds_run, passes_after, run_grows, looked_nothing, looked_more, idle_after, stays_at_entry}
+use Rattle.builder.proofs.Builds.{store_of, course_of, no_deps, any_own, builds_memory, builds_fault, builds_uncut, builds_lacking, builds_run, passes_after, run_grows, looked_more, idle_after, stays_at_entry}
 use Rattle.builder.proofs.Opening.{cause_since, known_at_entry, may_run_here}
 use Rattle.builder.proofs.Stages.{told_by}
 use Rattle.builder.proofs.one_build.build_graph.Goals as goal
@@ -83,13 +83,12 @@ run_cone-requires-clause-ready g c =
     let B : Behaviour = record { outcome = g.S.Site.outcome; depfile = λ text. None; dyndep = λ text. None } in
     let reader = c.has_reader.ensures.0 in
     let read = g.S.Texts.world c.read.new.site in
-    let mid = g.S.Texts.world c.check_sources.new.site in
-    (
+    let mid = g.S.Texts.world c.check_sources.new.site in (
       course_of B reader (any_own asked.folder) (asked_of (declared_by graph) asked.folder asked.limits asked.targets) mid,
       may_run_anywhere tells B reader graph asked c.in_ok-cone.cone c.in_ok-records.records c.in_ok-known.known.looks mid c.in_ok-records.ensures.read.1 c.has_reader.ensures.1
-      (idle_after tells read mid c.check_sources.ensures.looks (idle_after tells (g.S.Texts.world c.args.site.now) read c.read.ensures.looks c.requires.idle))
-      c.in_ok-known.ensures.passed.goes_on (c.in_ok-cone.ensures.cone (store_of reader (any_own asked.folder) mid) (no_deps reader (any_own asked.folder) mid))
-      (c.in_ok-records.ensures.path ∙ (c.in_ok-path.ensures ∙ ap (λ folder. file_in folder build_log_name) c.as_str.ensures)) c.in_ok-records.ensures.read.3,
+          (idle_after tells read mid c.check_sources.ensures.looks (idle_after tells (g.S.Texts.world c.args.site.now) read c.read.ensures.looks c.requires.idle))
+          c.in_ok-known.ensures.passed.goes_on (c.in_ok-cone.ensures.cone (store_of reader (any_own asked.folder) mid) (no_deps reader (any_own asked.folder) mid))
+          (c.in_ok-records.ensures.path ∙ (c.in_ok-path.ensures ∙ ap (λ folder. file_in folder build_log_name) c.as_str.ensures)) c.in_ok-records.ensures.read.3,
     )
 
 pub returns : goal.returns

@@ -3,7 +3,7 @@ use Rattle.model.specs.SingleBuild.{task_of}
 use Rattle.links.specs.Told.{declared_by, recorded_by}
 use Rattle.builder.specs.Build.{asked_of}
 use Rattle.builder.proofs.Slices.{if_ok_and}
-use Rattle.builder.proofs.Telling.{recorded_none, same_nothing}
+use Rattle.builder.proofs.Telling.{same_nothing}
 use Rattle.builder.proofs.one_build.plan_of.Goals as goal
 
 pub returns : goal.returns

@@ -1,4 +1,4 @@
-use Rattle.std.proofs.Common.{inl, inr, Err, Ok, refl, sym, ◌∙◌, ap, subst}
+use Rattle.std.proofs.Common.{inl, inr, Err, Ok, sym, ◌∙◌, ap, subst}
 use Rattle.model.specs.declared.fault.SiteFault.TheVariants.{Memory}
 use Rattle.model.specs.Records.{file_in, tick_name}
 use Rattle.runner.specs.declared.cut.Cut.TheVariants.{Other}
@@ -39,7 +39,7 @@ run_plan-requires-clause-going g c =
       course = course;
       suits = (suits g.S.Texts.tells c.args.graph.now c.args.asked.now c.args.cone.now c.args.records c.args.known.looks course (g.S.Texts.world c.args.site.now) may c.requires.formed c.requires.taken c.requires.once c.requires.unrecorded _ (c.as_str-2.ensures.value ∙ (c.in_ok-tick.ensures ∙ ap (λ folder. file_in folder tick_name) c.as_str.ensures)));
       on = (begins g.S.Texts.tells c.args.graph.now c.args.asked.now c.args.cone.now c.args.records c.args.known.looks course (g.S.Texts.world c.args.site.now) may c.in_ok-state.state (subst (IsPlanFor c.args.graph.now c.args.cone.now c.args.asked.now.limits) (sym {A = Plan} c.in_ok-state.ensures.plan) c.in_ok-plan.ensures)
-    c.in_ok-state.ensures.looks c.in_ok-state.ensures.records c.in_ok-state.ensures.failed c.in_ok-state.ensures.starts c.requires.fits);
+          c.in_ok-state.ensures.looks c.in_ok-state.ensures.records c.in_ok-state.ensures.failed c.in_ok-state.ensures.starts c.requires.fits);
     }
 
 pub run_plan-requires-clause-enough : goal.run_plan-requires-clause-enough
@@ -51,7 +51,7 @@ returns-in_err-summary-clause-ran g c course may = record {
   ran = c.in_err-summary.ensures.ran course
       (suits g.S.Texts.tells c.args.graph.now c.args.asked.now c.args.cone.now c.args.records c.args.known.looks course (g.S.Texts.world c.args.site.now) may c.requires.formed c.requires.taken c.requires.once c.requires.unrecorded _ (c.as_str-2.ensures.value ∙ (c.in_ok-tick.ensures ∙ ap (λ folder. file_in folder tick_name) c.as_str.ensures)))
       (begins g.S.Texts.tells c.args.graph.now c.args.asked.now c.args.cone.now c.args.records c.args.known.looks course (g.S.Texts.world c.args.site.now) may c.in_ok-state.state (subst (IsPlanFor c.args.graph.now c.args.cone.now c.args.asked.now.limits) (sym {A = Plan} c.in_ok-state.ensures.plan) c.in_ok-plan.ensures)
-    c.in_ok-state.ensures.looks c.in_ok-state.ensures.records c.in_ok-state.ensures.failed c.in_ok-state.ensures.starts c.requires.fits);
+      c.in_ok-state.ensures.looks c.in_ok-state.ensures.records c.in_ok-state.ensures.failed c.in_ok-state.ensures.starts c.requires.fits);
   says = inr (told_by _ c.from_residual-in_err-summary.result c.from_residual-in_err-summary.ensures.1);
 }
 
@@ -61,7 +61,7 @@ returns-in_err-report-clause-ran g c course may = record {
   ran = c.in_ok-summary.ensures.ran course
       (suits g.S.Texts.tells c.args.graph.now c.args.asked.now c.args.cone.now c.args.records c.args.known.looks course (g.S.Texts.world c.args.site.now) may c.requires.formed c.requires.taken c.requires.once c.requires.unrecorded _ (c.as_str-2.ensures.value ∙ (c.in_ok-tick.ensures ∙ ap (λ folder. file_in folder tick_name) c.as_str.ensures)))
       (begins g.S.Texts.tells c.args.graph.now c.args.asked.now c.args.cone.now c.args.records c.args.known.looks course (g.S.Texts.world c.args.site.now) may c.in_ok-state.state (subst (IsPlanFor c.args.graph.now c.args.cone.now c.args.asked.now.limits) (sym {A = Plan} c.in_ok-state.ensures.plan) c.in_ok-plan.ensures)
-    c.in_ok-state.ensures.looks c.in_ok-state.ensures.records c.in_ok-state.ensures.failed c.in_ok-state.ensures.starts c.requires.fits);
+      c.in_ok-state.ensures.looks c.in_ok-state.ensures.records c.in_ok-state.ensures.failed c.in_ok-state.ensures.starts c.requires.fits);
   says = inl (told_by _ c.from_residual-in_err-report.result c.from_residual-in_err-report.ensures.1);
 }
 
@@ -71,7 +71,7 @@ returns-clause-ran g c course may = record {
   ran = c.in_ok-summary.ensures.ran course
       (suits g.S.Texts.tells c.args.graph.now c.args.asked.now c.args.cone.now c.args.records c.args.known.looks course (g.S.Texts.world c.args.site.now) may c.requires.formed c.requires.taken c.requires.once c.requires.unrecorded _ (c.as_str-2.ensures.value ∙ (c.in_ok-tick.ensures ∙ ap (λ folder. file_in folder tick_name) c.as_str.ensures)))
       (begins g.S.Texts.tells c.args.graph.now c.args.asked.now c.args.cone.now c.args.records c.args.known.looks course (g.S.Texts.world c.args.site.now) may c.in_ok-state.state (subst (IsPlanFor c.args.graph.now c.args.cone.now c.args.asked.now.limits) (sym {A = Plan} c.in_ok-state.ensures.plan) c.in_ok-plan.ensures)
-    c.in_ok-state.ensures.looks c.in_ok-state.ensures.records c.in_ok-state.ensures.failed c.in_ok-state.ensures.starts c.requires.fits);
+      c.in_ok-state.ensures.looks c.in_ok-state.ensures.records c.in_ok-state.ensures.failed c.in_ok-state.ensures.starts c.requires.fits);
   says = inr c.in_ok-report.ensures;
 }
 
