@@ -1,5 +1,5 @@
 -- How many commands there are.
-use Rattle.std.specs.Prelude.{ℕ, zero, suc, Bool, true, false, List, [], ◌∷◌, ◌&&◌, not, if◌then◌else◌}
+use Rattle.std.specs.Prelude.{ℕ, zero, suc, Bool, List, [], ◌∷◌, ◌&&◌, not, if◌then◌else◌}
 use Rattle.links.specs.Links.{Links}
 
 -- how many of the edges from this one on have a flag that is set, and a command

@@ -1,18 +1,18 @@
 -- What the stages of a build report.
-use Rattle.std.specs.Prelude.{◌≡◌, ◌⊎◌, ◌<◌, ℕ, suc, Bool, true, false, IsTrue, List, [], length, map, Option, Some, None, Result, Ok, Err}
+use Rattle.std.specs.Prelude.{◌≡◌, ◌⊎◌, ◌<◌, ℕ, suc, Bool, false, IsTrue, List, [], length, map, Option, Some, None, Result, Ok, Err}
 use Rattle.model.specs.declared.event.Moment.{Moment}
 use Rattle.model.specs.declared.fault.SiteFault.{SiteFault}
 use Rattle.model.specs.declared.fault.SiteFault.TheVariants.{Memory}
 use Rattle.model.specs.declared.graph.Edge.{Edge}
-use Rattle.model.specs.World.{World, IsIdle}
+use Rattle.model.specs.World.{World, view_of, IsIdle}
 use Rattle.model.specs.Calls.{HasCause}
 use Rattle.model.specs.Graph.{edge_at, first_output, targets_of}
 use Rattle.model.specs.OutOfDate.{IsFirstMissing, IsMissingInput, NothingIsMissing}
 use Rattle.model.specs.Premises.{FilesAreKept}
-use Rattle.model.specs.Records.{OwnFiles, Store, IsOwnIn}
+use Rattle.model.specs.Records.{Store, IsOwnIn, store_in}
 use Rattle.model.specs.SingleBuild as answer
 use Rattle.model.specs.SingleBuild.{Asked, Answer, task_of}
-use Rattle.build_theory.specs.Seen.{Looked, Unrefused}
+use Rattle.build_theory.specs.Seen.{IsSeen, Looked, Unrefused}
 use Rattle.paths.specs.declared.manifest.Manifest.{Manifest}
 use Rattle.paths.specs.Told.{text_at, texts_at, graph_of}
 use Rattle.links.specs.declared.cone.Cone.{Cone}
@@ -155,13 +155,14 @@ pub record IsPlanFor (graph : Graph) (cone : Cone) (limits : Limits) (plan : Pla
 
 -- A run of what was asked for may begin on this course: no command ran at its entry, since which there was only looked; the records
 -- that were read are those of the entry, and what was seen of files is so.
-pub record MayRun (tells : Bool) (graph : Graph) (asked : Request) (cone : Cone) (records : Records) (looks : Looks) (course : Course) (now : World) : Type 0 where
-  pub asked : course.asked ≡ asked_of (declared_by graph) asked.folder asked.limits asked.targets
-  pub owned : IsOwnIn course.own asked.folder
+pub record MayRun (tells : Bool) (graph : Graph) (request : Request) (cone : Cone) (records : Records) (looks : Looks) (course : Course) (now : World) : Type 0 where
+  pub asked : course.asked ≡ asked_of (declared_by graph) request.folder request.limits request.targets
+  pub owned : IsOwnIn course.own request.folder
+  pub found : course.store ≡ store_in course.format course.own (view_of course.entry.history)
   pub no_deps : HasNoDeps course.store
   pub idle : IsIdle course.entry.events
   pub looked : Looked tells course.entry now
-  pub cone : IsConeIn graph course.store asked.targets cone
+  pub listed : IsConeIn graph course.store request.targets cone
   pub logging : IsLogging tells course.behaviour course.format course.own (edges_of course) [] None course.store course.entry now records.file
   pub known : List Record
   pub told : IsOf known graph.manifest.paths records
@@ -178,6 +179,13 @@ SaysEnd graph (SomeFailed edges) report = report ≡ Failed (map (first_output_o
 abbrev pub SaysResult : Graph → Result Summary Cut → Report → Type 0
 SaysResult graph (Ok summary) report = SaysEnd graph summary report
 SaysResult graph (Err cut) report = report ≡ Fault (fault_of cut)
+
+-- a fault that is told has its cause
+abbrev pub ShowsCause : World → World → Report → Type 0
+ShowsCause old new (Success started) = Unit {0}
+ShowsCause old new (Failed outputs) = Unit {0}
+ShowsCause old new (Refused refusal) = Unit {0}
+ShowsCause old new (Fault fault) = IsSeen old new fault
 
 -- commands were run, and so it is told, or there was no memory to tell it
 pub record SaysRun (tells : Bool) (course : Course) (graph : Graph) (new : World) (report : Report) : Type 0 where

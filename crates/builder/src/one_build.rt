@@ -1,17 +1,16 @@
 //! One build.
 
-ghost use Rattle.std.specs.Prelude.{◌≡◌, ◌<◌, ◌×◌, All, IfOk, IfErr, false, vec_len, length};
+ghost use Rattle.std.specs.Prelude.{◌≡◌, ◌<◌, All, IfOk, IfErr, false, vec_len, length};
 ghost use Rattle.model.specs.World.{IsIdle};
 ghost use Rattle.model.specs.Graph.{IsMadeOnce};
 ghost use Rattle.model.specs.SingleBuild.{PassesNoFault};
 ghost use Rattle.links.specs.Told.{declared_by};
-ghost use Rattle.dues.specs.Stores.{IsAnyCone};
 ghost use Rattle.manifest.specs.Answer.{IsGraph};
 ghost use Rattle.paths.specs.Told.{text_at};
 ghost use Rattle.runner.specs.Course.{Course};
 ghost use Rattle.runner.specs.Ran.{AreEdgesOf};
 ghost use Rattle.builder.specs.Build.{limits_of, BuildsFor, IsBuild};
-ghost use Rattle.builder.specs.Reports.{report_in, IsUnrecorded, IsConeUnrecorded, SaysNoCone, ShowsFault, IsPlanFor, MayRun, SaysEnd, SaysRun, run_answer};
+ghost use Rattle.builder.specs.Reports.{report_in, IsUnrecorded, IsConeUnrecorded, SaysNoCone, ShowsFault, IsPlanFor, MayRun, SaysEnd, SaysRun, ShowsCause, run_answer};
 ghost use Rattle.builder.specs.Taken.{IsTaken};
 
 use crate::asked::{Asked, Limits};
@@ -21,11 +20,12 @@ use crate::own_files::{LOG, TICK, own_path};
 use crate::report::{Options, Refusal, Report};
 use crate::sources::{Known, check_sources};
 use crate::taken::check_taken;
+use build_log::{Log, has_reader};
 use display::Display;
 use links::{Cone, ConeFault, Graph};
 use manifest::reads_longer;
 use plan::{Plan, task_of};
-use records::Records;
+use records::{Records, log_begins};
 use runner::{Setting, State, Summary, run_plan};
 use site::Site;
 use std::alloc::{AllocError, Global};
@@ -64,6 +64,7 @@ fn try_build<S: Site>(
     check_taken(alloc, &manifest)?;
     let graph = Graph::build(alloc, manifest)?;
     reads_longer();
+    has_reader::<Log>();
     build_graph(alloc, site, &graph, &asked, options)
 }
 
@@ -83,6 +84,8 @@ fn build_graph<S: Site>(
     requires unrecorded { IsUnrecorded graph.now }
     ensures { BuildsFor S.tells (declared_by graph.now) asked.now (S.world site.old) (S.world site.new) (report_in result) }
 {
+    log_begins();
+    has_reader::<Log>();
     let path = own_path(alloc, asked.folder.as_str(), LOG)?;
     let records = Records::read(alloc, site, graph, path)?;
     let cone = cone_of(alloc, graph, asked)?;
@@ -152,8 +155,10 @@ fn run_cone<S: Site>(
     requires unrecorded { IsUnrecorded graph.now }
     requires marks { vec_len cone.now.marks ≡ length graph.now.manifest.lines }
     requires due { vec_len known.due ≡ length graph.now.manifest.lines }
+    requires fits { length known.looks.seen.items ≡ length graph.now.manifest.paths }
     requires ready { (course : Course) × MayRun S.tells graph.now asked.now cone.now records known.looks course (S.world site.old) }
     ensures ran { (course : Course) → MayRun S.tells graph.now asked.now cone.now records known.looks course (S.world site.old) → SaysRun S.tells course graph.now (S.world site.new) (report_in result) }
+    ensures cause { ShowsCause (S.world site.old) (S.world site.new) (report_in result) }
     ensures faults { PassesNoFault (S.world site.old) (S.world site.new) (run_answer (report_in result)) }
 {
     let Known { looks, due } = known;

@@ -44,6 +44,7 @@ pub fn check_sources<S: Site>(
     ensures looks { OnlyLooks S.tells (S.world site.old) (S.world site.new) }
     ensures passed { OnOk result (Unrefused (S.world site.old) (S.world site.new)) }
     ensures seen { IfOk result (λ known. IsSeenAtEntry S.tells graph.now (S.world site.old) (S.world site.new) known.looks) }
+    ensures fits { IfOk result (λ known. length known.looks.seen.items ≡ length graph.now.manifest.paths) }
     ensures due { IfOk result (λ known. vec_len known.due ≡ length graph.now.manifest.lines) }
     ensures sources { OnOk result (HasSources S.tells graph.now records.now cone.now (S.world site.old) (S.world site.new)) }
     ensures lacking { IfErr result (LacksSource S.tells graph.now records.now cone.now (S.world site.old) (S.world site.new)) }

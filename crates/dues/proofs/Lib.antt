@@ -3,4 +3,4 @@ pub mod Stays
 pub mod AliasDues
 pub mod CommandDues
 pub mod DueEdges
-pub mod Sources
+pub mod Lacking

@@ -41,9 +41,9 @@ IfPresent (Missing lack) So = Unit {0}
 IfPresent (Present due) So = So due.items
 
 -- a flag for each edge of the graph, which says whether the edge is in the cone and due
-pub record HasDue (tells : Bool) (graph : Graph) (records : Records) (cone : Cone) (old new : World) (before : Looks) (due : List Bool) : Type 0 where
-  pub fits : length due ≡ length graph.manifest.lines
-  pub due : IfKnown tells graph records old new before (λ store files. (targets : List (List ℕ)) → IsConeIn graph store targets cone → AreDue (declared_by graph).edges store files cone.order.items due)
+pub record HasDue (tells : Bool) (graph : Graph) (records : Records) (cone : Cone) (old new : World) (before : Looks) (flags : List Bool) : Type 0 where
+  pub fits : length flags ≡ length graph.manifest.lines
+  pub due : IfKnown tells graph records old new before (λ store files. (targets : List (List ℕ)) → IsConeIn graph store targets cone → AreDue (declared_by graph).edges store files cone.order.items flags)
 
 -- the edge, if one is named, is one of so many
 abbrev pub IsEdgeBelow : ℕ → Option ℕ → Type 0

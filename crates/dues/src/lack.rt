@@ -36,8 +36,8 @@ pub enum Found {
 }
 
 /// The first requested path that is missing, else the first missing input of the lowest due edge of the cone, in the order
-/// of its lists; where none is missing, which edges are due. Which commands are due the records of the build log say, with the files and what due edges make; none has a
-/// depfile.
+/// of its lists; where none is missing, which edges are due. Which commands are due the records of the build log say, with the
+/// files and what due edges make; none has a depfile.
 ///
 /// What was seen of a path is not asked for again. Of a command that reads what a due edge makes only inputs are asked for,
 /// and it takes time for its regular and recorded inputs alone; any other command is judged by `verdict::reason`, which walks

@@ -8,7 +8,7 @@ use Rattle.build_theory.proofs.Calls.{unrefused_call, unrefused_then}
 use Rattle.links.specs.Told.{declared_by}
 use Rattle.dues.specs.Dues.{AreDue, AreMakersKnown}
 use Rattle.dues.proofs.DueEdges.{makers_known, due_one_more}
-use Rattle.dues.proofs.Sources.{listed_edge}
+use Rattle.dues.proofs.Lacking.{listed_edge}
 use Rattle.dues.proofs.Stays.{looked_then, parts}
 use Rattle.dues.proofs.due.due_edges.Goals as goal
 

@@ -4,7 +4,7 @@ use Rattle.model.specs.OutOfDate.{IsMissing, NoneIsMissing, IsFirstMissing}
 use Rattle.build_theory.proofs.Calls.{unrefused_call, unrefused_then}
 use Rattle.paths.specs.Told.{text_at, texts_at}
 use Rattle.links.specs.Told.{declared_by}
-use Rattle.dues.proofs.Sources.{none_more, first_here}
+use Rattle.dues.proofs.Lacking.{none_more, first_here}
 use Rattle.dues.proofs.Stays.{looked_then, parts}
 use Rattle.dues.proofs.lack.first_missing.Goals as goal
 

@@ -2,7 +2,7 @@ use Rattle.std.proofs.Common.{ℕ, sym, subst}
 use Rattle.build_theory.proofs.Calls.{unrefused_call, unrefused_then}
 use Rattle.links.specs.Told.{declared_by}
 use Rattle.dues.specs.Lacks.{NoneBelow, IsFirstFor}
-use Rattle.dues.proofs.Sources.{one_edge, first_edge}
+use Rattle.dues.proofs.Lacking.{one_edge, first_edge}
 use Rattle.dues.proofs.Stays.{looked_then, parts}
 use Rattle.dues.proofs.lack.lack_of_due.Goals as goal
 

@@ -3,7 +3,7 @@ use Rattle.links.specs.Links.{links_of}
 use Rattle.dues.specs.Dues.{due_at}
 use Rattle.dues.specs.Lacks.{IsFirstIn}
 use Rattle.dues.proofs.Slices.{within_by, if_ok_then}
-use Rattle.dues.proofs.Sources.{first_for}
+use Rattle.dues.proofs.Lacking.{first_for}
 use Rattle.dues.proofs.lack.missing_of_edge.Goals as goal
 
 pub first_missing-requires-clause-within : goal.first_missing-requires-clause-within
