@@ -238,8 +238,8 @@ start cat v s
 end cat o a
 end cat n s
 start cat q a
-end cat v s
 end cat q a
+end cat v s
 success 4
 start cat o a
 end cat o a
