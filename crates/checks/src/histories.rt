@@ -142,7 +142,7 @@ fn name_trouble(site: &mut Sim<Toy>, random: &mut Random) -> Result<(), AllocErr
         return Ok(());
     }
     let call = CALLS.get(random.below(CALLS.len())).copied().unwrap_or(Call::Append);
-    let number = random.below(8) as u64;
+    let number = random.below(5) as u64 + 1;
     if random.one_in(2) {
         return site.fail(call, number);
     }
@@ -307,7 +307,7 @@ fn turn(
     graph: &'static str,
     counts: &mut Counts,
 ) -> Result<&'static str, Fail> {
-    match random.below(12) {
+    match random.below(10) {
         0 | 1 | 2 => edit(alloc, site, random)?,
         3 => {
             let graph = graph_at(random.below(GRAPHS.len()));
