@@ -22,9 +22,7 @@ pub const GRAPHS: [&str; 10] = [
 /// Whether a graph is never done: a phony edge without inputs makes its users due each time, and a command that leaves its
 /// output alone leaves it older than its input.
 pub fn is_never_done(graph: &str) -> bool {
-    graph
-        .split('\n')
-        .any(|line| field(line, 4).starts_with("keep") || line.starts_with("f/"))
+    graph.split('\n').any(|line| field(line, 4).starts_with("keep") || line.starts_with("f/"))
 }
 
 /// The field of a line with this place.
@@ -77,9 +75,9 @@ fn push_rule(alloc: Global, text: &mut String, line: &str, rule: &str) -> Result
     let response = field(line, 5);
     text.push_str(format!(in alloc; "rule {rule}\n  command = {command}\n")?.as_str())?;
     if !response.is_empty() {
-        text.push_str(
-            format!(in alloc; "  rspfile = {rule}.rsp\n  rspfile_content = {response}\n")?.as_str(),
-        )?;
+        text.push_str(format!(in alloc;
+            "  rspfile = {rule}.rsp\n  rspfile_content = {response}\n"
+        )?.as_str())?;
     }
     Ok(())
 }
@@ -87,9 +85,9 @@ fn push_rule(alloc: Global, text: &mut String, line: &str, rule: &str) -> Result
 fn push_build(alloc: Global, text: &mut String, line: &str, rule: &str) -> Result<(), AllocError> {
     let (made, explicit) = (outputs(line), field(line, 1));
     let (implicit, order_only) = (field(line, 2), field(line, 3));
-    text.push_str(
-        format!(in alloc; "build {made}: {rule} {explicit} | {implicit} || {order_only}\n")?.as_str(),
-    )
+    text.push_str(format!(in alloc;
+        "build {made}: {rule} {explicit} | {implicit} || {order_only}\n"
+    )?.as_str())
 }
 
 /// The graph as plain data.
@@ -167,8 +165,6 @@ fn widen(graph: &str, cone: &mut Vec<bool>) {
 
 /// Whether an edge of the cone needs what this line makes.
 fn is_needed(graph: &str, cone: &[bool], line: &str) -> bool {
-    graph
-        .split('\n')
-        .zip(cone)
-        .any(|(user, is_in)| *is_in && outputs(line).split(' ').any(|path| needs(user, path)))
+    graph.split('\n').zip(cone).any(|(user, is_in)| *is_in
+        && outputs(line).split(' ').any(|path| needs(user, path)))
 }

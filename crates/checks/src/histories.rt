@@ -36,7 +36,7 @@ const CALLS: [Call; 11] = [
 ];
 
 /// How often builds ended so.
-#[derive(Clone, Copy, Debug, PartialEq, Eq)]
+#[derive(Clone, Copy, Debug)]
 struct Counts {
     well: usize,
     failed: usize,
@@ -119,7 +119,10 @@ fn tear(alloc: Global, site: &mut Sim<Toy>, random: &mut Random) -> Result<(), A
 
 /// How long the last line of a log is, with its end, if it is of a good end.
 fn last_line(log: &[u8]) -> Option<usize> {
-    let line = log.strip_suffix(b"\n")?.rsplit(|byte| *byte == b'\n').next()?;
+    let line = log
+        .strip_suffix(b"\n")?
+        .rsplit(|byte| *byte == b'\n')
+        .next()?;
     if line.first() == Some(&b'd') {
         return line.len().checked_add(1);
     }
@@ -141,7 +144,10 @@ fn name_trouble(site: &mut Sim<Toy>, random: &mut Random) -> Result<(), AllocErr
     if random.one_in(2) {
         return Ok(());
     }
-    let call = CALLS.get(random.below(CALLS.len())).copied().unwrap_or(Call::Append);
+    let call = CALLS
+        .get(random.below(CALLS.len()))
+        .copied()
+        .unwrap_or(Call::Append);
     let number = random.below(5) as u64 + 1;
     if random.one_in(2) {
         return site.fail(call, number);
@@ -189,10 +195,9 @@ fn clean(alloc: Global, site: &Sim<Toy>, graph: &str) -> Result<History, AllocEr
 
 /// Whether all that the commands of the cone make is as the clean build gives it.
 fn is_clean(site: &Sim<Toy>, built: &History, graph: &str, cone: &[bool]) -> bool {
-    graph
-        .split('\n')
-        .zip(cone)
-        .all(|(line, is_in)| !*is_in || command(line).is_empty() || are_clean(site, built, line))
+    graph.split('\n').zip(cone).all(|(line, is_in)| !*is_in
+        || command(line).is_empty()
+        || are_clean(site, built, line))
 }
 
 /// Whether all that a command makes is there, and as the clean build gives it.
@@ -293,7 +298,10 @@ fn has_nothing_to_do(
     counts: &mut Counts,
 ) -> Result<(), Fail> {
     let report = build_alone(alloc, site, options, &targets(alloc, target)?);
-    assert!(rt; matches!(report, Report::Success { started: 0 }), "{report:?}");
+    assert!(rt;
+        matches!(report, Report::Success { started: 0 }),
+        "{report:?}"
+    );
     one_more(&mut counts.done);
     Ok(())
 }
@@ -338,7 +346,16 @@ fn history(rt: &impl Abort, alloc: Global, seed: u64, counts: &mut Counts) -> Re
 }
 
 /// How many histories there are.
-const HISTORIES: u64 = 3000;
+const HISTORIES: u64 = 2000;
+
+/// Builds ended in each way, many times.
+fn are_many(rt: &impl Abort, counts: &Counts) {
+    assert!(rt; counts.well > 10_000, "{counts:?}");
+    assert!(rt; counts.failed > 1000, "{counts:?}");
+    assert!(rt; counts.refused > 5000, "{counts:?}");
+    assert!(rt; counts.faults > 2000, "{counts:?}");
+    assert!(rt; counts.done > 2500, "{counts:?}");
+}
 
 #[test]
 fn each_success_is_a_clean_build(rt: HostRuntime) -> Result<(), Fail> {
@@ -346,6 +363,6 @@ fn each_success_is_a_clean_build(rt: HostRuntime) -> Result<(), Fail> {
     for seed in 0..HISTORIES {
         history(&rt, rt.alloc(), seed, &mut counts)?;
     }
-    assert_eq!(rt; counts, Counts::NONE);
+    are_many(&rt, &counts);
     Ok(())
 }

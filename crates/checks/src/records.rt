@@ -19,20 +19,23 @@ write a y
 build";
 
 /// Two edges, built once and again.
-const TWICE: &str = "write build.ninja rule cat^  command = cat $out $in^build b: cat a^build c: cat b a^
+const TWICE: &str =
+    "write build.ninja rule cat^  command = cat $out $in^build b: cat a^build c: cat b a^
 write a x
 build
 build";
 
 /// A source that is written with what it holds.
-const WRITTEN: &str = "write build.ninja rule cat^  command = cat $out $in^build b: cat a^build c: cat b a^
+const WRITTEN: &str =
+    "write build.ninja rule cat^  command = cat $out $in^build b: cat a^build c: cat b a^
 write a x
 build
 write a x
 build";
 
 /// A command that fails meanwhile.
-const FAILED: &str = "write build.ninja rule cat^  command = cat $out $in^build b: cat a^build c: cat b a^
+const FAILED: &str =
+    "write build.ninja rule cat^  command = cat $out $in^build b: cat a^build c: cat b a^
 write a x
 build
 write build.ninja rule cat^  command = cat $out $in^rule fail^  command = fail $out $in^build b: fail a^build c: cat b a^
@@ -51,7 +54,8 @@ write a y
 build";
 
 /// A response file with another content, and then a command that fails with it.
-const ANSWERED: &str = "write build.ninja rule r^  command = args $out^  rspfile = $out.rsp^  rspfile_content = $in 1^build o: r a^
+const ANSWERED: &str =
+    "write build.ninja rule r^  command = args $out^  rspfile = $out.rsp^  rspfile_content = $in 1^build o: r a^
 write a x
 build
 write build.ninja rule r^  command = args $out^  rspfile = $out.rsp^  rspfile_content = $in 2^build o: r a^
@@ -281,7 +285,10 @@ fn starts_nothing(
     options: &Options,
 ) {
     let report = build_alone(alloc, site, options, &[]);
-    assert!(rt; matches!(report, Report::Success { started: 0 }), "{place:?}");
+    assert!(rt;
+        matches!(report, Report::Success { started: 0 }),
+        "{place:?}"
+    );
 }
 
 /// With something going wrong in its builds, the history ends as it is expected, and behind a success nothing is left to do.
@@ -368,15 +375,17 @@ fn sweep_bytes(
 }
 
 /// In each manner, each call in turn is refused, or the site stops in it.
-fn sweep_manners(
-    rt: &impl Abort,
-    alloc: Global,
-    moves: &str,
-    outputs: &str,
-) -> Result<(), Fail> {
+fn sweep_manners(rt: &impl Abort, alloc: Global, moves: &str, outputs: &str) -> Result<(), Fail> {
     for manner in MANNERS {
         let refused = sweep(rt, alloc, moves, outputs, Trouble::Refused, manner)?;
-        let stopped = sweep(rt, alloc, moves, outputs, Trouble::Stop { bytes: 0 }, manner)?;
+        let stopped = sweep(
+            rt,
+            alloc,
+            moves,
+            outputs,
+            Trouble::Stop { bytes: 0 },
+            manner,
+        )?;
         assert!(rt; refused > 10 && stopped > 10, "{manner:?}");
         sweep_bytes(rt, alloc, moves, outputs, manner)?;
     }

@@ -153,11 +153,7 @@ fn wants_an_order_only_input(rt: HostRuntime) -> Result<(), Fail> {
 
 #[test]
 fn builds_what_is_always_due(rt: HostRuntime) -> Result<(), Fail> {
-    let folder = folder_of(
-        &rt,
-        "force",
-        "build force: phony\nbuild o: cp a | force\n",
-    )?;
+    let folder = folder_of(&rt, "force", "build force: phony\nbuild o: cp a | force\n")?;
     for _ in 0..3 {
         runs(&rt, &folder, "[1/1] cat a > o\n")?;
     }
@@ -200,12 +196,7 @@ fn writes_response_files(rt: HostRuntime) -> Result<(), Fail> {
 }
 
 /// A build file with a response file of these flags.
-fn answers(
-    rt: &HostRuntime,
-    folder: &Folder<'_>,
-    command: &str,
-    flags: &str,
-) -> Result<(), Fail> {
+fn answers(rt: &HostRuntime, folder: &Folder<'_>, command: &str, flags: &str) -> Result<(), Fail> {
     let (edge, rule) = ANSWER.split_once('\n').unwrap_or((ANSWER, ""));
     let build = format!(in rt.alloc(); "flags = {flags}\n{rule}{command}{edge}\n")?;
     folder.write("build.ninja", build.as_str())?;
