@@ -148,7 +148,7 @@ fn name_trouble(site: &mut Sim<Toy>, random: &mut Random) -> Result<(), AllocErr
         .get(random.below(CALLS.len()))
         .copied()
         .unwrap_or(Call::Append);
-    let number = random.below(5) as u64 + 1;
+    let number = (random.below(5) as u64).saturating_add(1);
     if random.one_in(2) {
         return site.fail(call, number);
     }
@@ -232,6 +232,11 @@ fn lacks_source(site: &Sim<Toy>, graph: &str, cone: &[bool]) -> bool {
         })
 }
 
+/// A number below the bound.
+fn small(random: &mut Random, bound: usize) -> u32 {
+    u32::try_from(random.below(bound)).unwrap_or(0)
+}
+
 /// A build, in which something may go wrong, ends as it has to.
 fn build_one(
     rt: &impl Abort,
@@ -241,7 +246,7 @@ fn build_one(
     graph: &str,
     counts: &mut Counts,
 ) -> Result<(), Fail> {
-    let options = options(alloc, random.below(4) as u32, random.below(3) as u32)?;
+    let options = options(alloc, small(random, 4), small(random, 3))?;
     let target = target_of(graph, random);
     name_trouble(site, random)?;
     let events = site.events().len();
@@ -346,15 +351,15 @@ fn history(rt: &impl Abort, alloc: Global, seed: u64, counts: &mut Counts) -> Re
 }
 
 /// How many histories there are.
-const HISTORIES: u64 = 2000;
+const HISTORIES: u64 = 5000;
 
 /// Builds ended in each way, many times.
 fn are_many(rt: &impl Abort, counts: &Counts) {
-    assert!(rt; counts.well > 10_000, "{counts:?}");
-    assert!(rt; counts.failed > 1000, "{counts:?}");
-    assert!(rt; counts.refused > 5000, "{counts:?}");
-    assert!(rt; counts.faults > 2000, "{counts:?}");
-    assert!(rt; counts.done > 2500, "{counts:?}");
+    assert!(rt; counts.well > 25_000, "{counts:?}");
+    assert!(rt; counts.failed > 2500, "{counts:?}");
+    assert!(rt; counts.refused > 12_000, "{counts:?}");
+    assert!(rt; counts.faults > 5000, "{counts:?}");
+    assert!(rt; counts.done > 7000, "{counts:?}");
 }
 
 #[test]
