@@ -6,6 +6,16 @@ mod builds;
 #[cfg(test)]
 mod clean_builds;
 #[cfg(test)]
+mod graphs;
+#[cfg(test)]
+mod histories;
+#[cfg(test)]
 mod large_builds;
+#[cfg(test)]
+mod moves;
+#[cfg(test)]
+mod random;
+#[cfg(test)]
+mod records;
 #[cfg(test)]
 mod refused_calls;

@@ -2,6 +2,7 @@
 
 mod builds;
 mod folder;
+mod records;
 mod refusals;
 mod shown;
 mod waiting;

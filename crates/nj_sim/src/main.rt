@@ -10,6 +10,8 @@ mod language;
 mod lines;
 mod print;
 #[cfg(test)]
+mod records;
+#[cfg(test)]
 mod refusals;
 #[cfg(test)]
 mod rows;
