@@ -12,10 +12,10 @@ mod histories;
 #[cfg(test)]
 mod large_builds;
 #[cfg(test)]
+mod logs;
+#[cfg(test)]
 mod moves;
 #[cfg(test)]
 mod random;
-#[cfg(test)]
-mod records;
 #[cfg(test)]
 mod refused_calls;

@@ -2,7 +2,7 @@
 
 mod builds;
 mod folder;
-mod records;
+mod logs;
 mod refusals;
 mod shown;
 mod waiting;

@@ -8,9 +8,9 @@ mod idle;
 mod language;
 #[cfg(test)]
 mod lines;
-mod print;
 #[cfg(test)]
-mod records;
+mod logs;
+mod print;
 #[cfg(test)]
 mod refusals;
 #[cfg(test)]

@@ -1,7 +1,7 @@
 use crate::fault::ScriptFault;
 use crate::language::{BUILD_FILE, SCOPES};
 use crate::lines::LINES;
-use crate::records::{DONE, RECORDS};
+use crate::logs::{DONE, RECORDS};
 use crate::refusals::{FAULTS, GRAPHS};
 use crate::rows::{COMMANDS, PHONY, RULES, TARGETS, VALIDATIONS};
 use crate::run::script;
