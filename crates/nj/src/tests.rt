@@ -2,7 +2,6 @@
 
 mod builds;
 mod folder;
-mod logs;
 mod refusals;
 mod shown;
 mod waiting;
