@@ -28,5 +28,5 @@ pub use log::Log;
 pub use number::number_of;
 pub use outputs::{are_distinct, split_counted, split_outputs};
 pub use read::parse;
-pub use record::{begun_line, done_line};
+pub use record::{begun_line, done_line, made_line};
 pub use tail::Tail;

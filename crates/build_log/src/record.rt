@@ -104,10 +104,24 @@ pub fn done_line(text: &mut Vec<u8>, outputs: &[&str], done: &Done) -> Result<()
     requires once { AreDistinct (map (λ output. output.now) outputs.now) }
     ensures { OnOk result (IsAppended (forms Two) (Record.Done (map (λ output. output.now) outputs.now) done.now.start done.now.act) text.old.items text.new.items) }
 {
+    made_line(text, outputs, done.start, &done.act)
+}
+
+/// The same, for a command of this act that was started under the stamp `start`.
+pub fn made_line(
+    text: &mut Vec<u8>,
+    outputs: &[&str],
+    start: u64,
+    act: &Act,
+) -> Result<(), AllocError>
+    requires some { 0 < length outputs.now }
+    requires once { AreDistinct (map (λ output. output.now) outputs.now) }
+    ensures { OnOk result (IsAppended (forms Two) (Record.Done (map (λ output. output.now) outputs.now) start act.now) text.old.items text.new.items) }
+{
     push_text(text, "d")?;
     push_list(text, outputs)?;
-    push_number(text, done.start)?;
-    push_act(text, &done.act)?;
+    push_number(text, start)?;
+    push_act(text, act)?;
     end_line(text)
 }
 

@@ -14,20 +14,21 @@ use Rattle.model.specs.Outcome.{Behaviour}
 use Rattle.model.specs.OutOfDate.{NothingIsMissing}
 use Rattle.model.specs.Phases.{IsPointAfter, WasNothingMissing, WasNothingMissingIn}
 use Rattle.model.specs.Premises.{FilesAreKept, NothingIsEdited}
-use Rattle.model.specs.Records.{OwnFiles, store_in, read_log, recorded_inputs, IsOwnIn, file_in, build_log_name, deps_log_name}
-use Rattle.model.specs.Schedule.{Task, Step as Done, Judged, IsLawful, IsSettled, AreEventsOf, AreFinishes, clean_in, started_in, well_in, failed_in, running_in, done_in}
+use Rattle.model.specs.declared.record.Record.{Record}
+use Rattle.model.specs.declared.record.DepsRecord.{DepsRecord}
+use Rattle.model.specs.Records.{OwnFiles, Store, LogFormat, store_in, read_log, recorded_inputs, IsOwnIn, file_in, build_log_name, deps_log_name}
+use Rattle.model.specs.History.{IsHeadline}
+use Rattle.model.specs.Kept.{KeepsLogs}
+use Rattle.model.specs.Schedule.{Step as Done, Judged, IsLawful, IsSettled, AreEventsOf, AreFinishes, started_in, well_in, failed_in, running_in, done_in}
 use Rattle.model.specs.SingleBuild as answer
-use Rattle.model.specs.SingleBuild.{Asked, Answer, is_fault, IsSuccess, InCone, IsScheduled, IsShownCycle, IsInOrder, WasInOrder, IsAsked, HasEnded, IsAnswer, PassesNoFault, SingleBuild}
+use Rattle.model.specs.SingleBuild.{Asked, Answer, is_fault, IsSuccess, InCone, IsScheduled, IsShownCycle, IsInOrder, WasInOrder, IsAsked, HasEnded, IsAnswer, MetFault, PassesNoFault, SingleBuild, task_of}
 use Rattle.std.proofs.lemmas.Bool.{false≢true, or_left}
-use Rattle.build_theory.specs.Order.{no_records}
 use Rattle.build_theory.proofs.Lists.{has-left, has-right, bytes_same}
-use Rattle.build_theory.specs.Run.{IsRun, IsRunOrRest}
-use Rattle.build_theory.proofs.Builds.{has_ended, clean_at_success, frame_of_run, judged_of_nothing}
+use Rattle.build_theory.specs.Run.{IsRun}
+use Rattle.build_theory.proofs.Builds.{has_ended}
 use Rattle.build_theory.proofs.Counts.{started_length, ended_length}
 use Rattle.build_theory.proofs.Loads.{one_phase, none_is_due}
 use Rattle.build_theory.proofs.Looks.{looks_nothing, looks_then, frame_of_looks, edits_before, looks_keep}
-use Rattle.build_theory.proofs.Ready.{ready_of_none}
-use Rattle.build_theory.proofs.Stated.{loads_come_first}
 use Rattle.build_theory.proofs.Turns.{settled_at_end}
 use Rattle.build_theory.specs.Seen.{IsSeen, Unrefused, Looked}
 use Rattle.build_theory.proofs.Calls.{seen_of, cause_then, unrefused_none, unrefused_then}
@@ -47,31 +48,40 @@ use Rattle.runner.specs.declared.cut.Cut.{Cut}
 use Rattle.runner.specs.declared.summary.Summary.{Summary}
 use Rattle.runner.specs.declared.summary.Summary.TheVariants.{Well, Failed as SomeFailed}
 use Rattle.runner.specs.Cut.{fault_of}
+use Rattle.runner.specs.Course.{Course}
 use Rattle.runner.specs.Ran.{HasRun}
+use Rattle.records.specs.declared.records.Records.{Records}
+use Rattle.dues.specs.Stores.{IsStoreOf, IsConeIn}
+use Rattle.links.specs.declared.cone.Cone.{Cone}
+use Rattle.log_theory.specs.Ledger.{IsCutOff}
+use Rattle.log_theory.specs.Builds.{IsRunOf}
+use Rattle.log_theory.proofs.Builds.{headline_of_run, logs_of_run}
+use Rattle.log_theory.proofs.Ledger.{carried_entry, carried_looks, cut_off, run_of, judged_of, frame_of, met_by_step}
+use Rattle.log_theory.proofs.Over.{no_logs_are_faithful}
+use Rattle.log_theory.proofs.Stated.{clean_with_loads}
 use Rattle.builder.specs.declared.asked.Limits.{Limits}
 use Rattle.builder.specs.declared.report.Missing.{Missing}
 use Rattle.builder.specs.declared.report.Refusal.{Refusal}
 use Rattle.builder.specs.declared.report.Refusal.TheVariants as refusal
 use Rattle.builder.specs.declared.report.Report.{Report}
 use Rattle.builder.specs.declared.report.Report.TheVariants.{Success, Failed, Refused, Fault}
-use Rattle.builder.specs.Build.{no_logs, asked_of, task_for, missing_answer, Says, Builds}
-use Rattle.builder.specs.Reports.{first_output_of, ungraphed, ShowsFault, SaysNotTaken, SaysNoCone, IsMissingFor, SaysFault, SaysMissing, SaysResult, SaysRun, run_answer}
+use Rattle.builder.specs.Build.{build_logs, asked_of, missing_answer, Says, Builds}
+use Rattle.builder.specs.Reports.{first_output_of, ungraphed, ShowsFault, HasNoDeps, SaysNotTaken, SaysNoCone, IsMissingFor, LacksSource, ShowsCause, SaysResult, SaysRun, run_answer}
 use Rattle.builder.specs.Taken.{IsTaken}
-use Rattle.builder.proofs.Formed.{have_outputs, no_depfile, no_response, no_dyndep, names_no_other}
+use Rattle.builder.proofs.Formed.{no_dyndep, names_no_other}
 use Rattle.builder.proofs.Slices.{suc_has, map_suc}
 
-nothing_told : (own : OwnFiles) (files : View) → no_records ≡ store_in no_logs own files
-nothing_told own files = by_logs (files own.build_log) (files own.deps_log)
-  where
-    none_read : {A : Type 0} (held : Option (List ℕ)) → read_log {A = A} (λ text. None) held ≡ []
-    none_read None = refl
-    none_read (Some content) = refl
+-- what the logs told at the entry
+abbrev pub store_of : (List ℕ → Option (List Record)) → OwnFiles → World → Store
+store_of reader own entry = store_in (build_logs reader) own (view_of entry.history)
 
-    by_logs : (build deps : Option (List ℕ)) → no_records ≡ record { records = read_log no_logs.records build; deps = read_log no_logs.deps deps }
-    by_logs None None = refl
-    by_logs None (Some d) = refl
-    by_logs (Some b) None = refl
-    by_logs (Some b) (Some d) = refl
+-- no deps log is read
+pub no_deps : (reader : List ℕ → Option (List Record)) (own : OwnFiles) (entry : World) → HasNoDeps (store_of reader own entry)
+no_deps reader own entry = by_log (view_of entry.history own.deps_log)
+  where
+    by_log : (held : Option (List ℕ)) → read_log {A = DepsRecord} (λ text. None) held ≡ []
+    by_log None = refl
+    by_log (Some content) = refl
 
 none_before : (before after : List Done) (step : Done) → [] ≡ before ++ step ∷ after → ⊥
 none_before [] after step is = cc
@@ -132,8 +142,32 @@ passes_after tells entry old new answer looked passes = record {
 abbrev pub none_loaded : View
 none_loaded file = None
 
-module _ (tells : Bool) (B : Behaviour) (own : OwnFiles) (graph : BuildGraph) (folder : List ℕ) (limits : Limits) (given targets : List (List ℕ)) (entry now : World) (idle : IsIdle entry.events) where
-  abbrev nothing_scheduled : OnlyLooks tells entry now → (answer : Answer) → IsScheduled B none_loaded (asked_of graph folder limits targets) no_records [] entry now answer
+-- a build, of which the headline holds, and which keeps its logs
+pub record Built (tells : Bool) (B : Behaviour) (format : LogFormat) (own : OwnFiles) (asked : Asked) (entry now : World) (answer : Answer) : Type 0 where
+  pub build : SingleBuild tells B format own asked entry now answer
+  pub headline : IsHeadline tells B format own asked entry now answer build
+  pub logs : KeepsLogs tells B format own asked entry now answer build
+
+built_by : (tells : Bool) (B : Behaviour) (format : LogFormat) (own : OwnFiles) (asked : Asked) (entry now : World) (answer : Answer) (build : SingleBuild tells B format own asked entry now answer)
+    → IsRunOf tells B format own asked build.store build.steps build.met entry now → Built tells B format own asked entry now answer
+built_by tells B format own asked entry now answer build of_run = record {
+  build = build;
+  headline = headline_of_run tells B format own asked entry now answer build build.met of_run;
+  logs = logs_of_run tells B format own asked entry now answer build of_run;
+}
+
+-- what a run of a build is of
+abbrev pub course_of : Behaviour → (List ℕ → Option (List Record)) → OwnFiles → Asked → World → Course
+course_of B reader own asked entry = record { behaviour = B; format = build_logs reader; own = own; asked = asked; store = store_of reader own entry; entry = entry }
+
+module _ (tells : Bool) (B : Behaviour) (reader : List ℕ → Option (List Record)) (own : OwnFiles) (graph : BuildGraph) (folder : List ℕ) (limits : Limits) (given targets : List (List ℕ)) (entry now : World) (idle : IsIdle entry.events) where
+  abbrev pub BuiltAs : Answer → Type 0
+  BuiltAs answer = Built tells B (build_logs reader) own (asked_of graph folder limits targets) entry now answer
+
+  abbrev pub BuildsAs : Report → Type 0
+  BuildsAs report = Builds tells B (build_logs reader) own graph folder limits given targets entry now report
+
+  abbrev nothing_scheduled : OnlyLooks tells entry now → (answer : Answer) → IsScheduled B none_loaded (asked_of graph folder limits targets) (store_of reader own entry) [] entry now answer
   nothing_scheduled looks answer = record {
     lawful = record { earlier = []; last = []; taken_in = []; whole = refl; begins = refl; phases = tt; lawful = record { lawful = tt; unloaded = tt }; rest = tt; cause = inl refl };
     first = [];
@@ -146,11 +180,12 @@ module _ (tells : Bool) (B : Behaviour) (own : OwnFiles) (graph : BuildGraph) (f
   }
 
   -- a build that has only looked
-  built_looking : OnlyLooks tells entry now → (answer : Answer) → (IsSuccess answer → ⊥) → PassesNoFault entry now answer
-      → IsAnswer tells B own none_loaded (asked_of graph folder limits targets) no_records [] [] [] entry now answer → SingleBuild tells B no_logs own (asked_of graph folder limits targets) entry now answer
-  built_looking looks answer failed passes is = record {
-    store = no_records;
-    logs = λ tell edits. nothing_told own (view_of entry.history);
+  abbrev looking : OnlyLooks tells entry now → (answer : Answer) → (IsSuccess answer → ⊥) → PassesNoFault entry now answer
+      → IsAnswer tells B own none_loaded (asked_of graph folder limits targets) (store_of reader own entry) [] [] [] entry now answer
+      → SingleBuild tells B (build_logs reader) own (asked_of graph folder limits targets) entry now answer
+  looking looks answer failed passes is = record {
+    store = store_of reader own entry;
+    logs = λ tell edits. refl;
     texts = none_loaded;
     held = λ tell kept file content loaded. absurd (nothing_held content loaded);
     steps = [];
@@ -170,99 +205,120 @@ module _ (tells : Bool) (B : Behaviour) (own : OwnFiles) (graph : BuildGraph) (f
     from_nothing = λ tell success. absurd (failed success);
   }
 
-  built_fault : {T : Type 0} → OnlyLooks tells entry now → (fault : SiteFault) → HasCause {T = T} entry now (Err fault) → SingleBuild tells B no_logs own (asked_of graph folder limits targets) entry now (answer.Fault fault)
+  -- its run has no step
+  looked_run : OnlyLooks tells entry now → IsRunOf tells B (build_logs reader) own (asked_of graph folder limits targets) (store_of reader own entry) [] None entry now
+  looked_run looks =
+      let format = build_logs reader in
+      let asked = asked_of graph folder limits targets in
+      let store = store_of reader own entry in
+      run_of tells B format own asked store entry [] None now
+      (cut_off tells B format own asked store entry [] None now
+      (carried_looks tells B format own asked store entry [] None entry now looks (carried_entry tells B format own asked store entry refl idle)))
+      (inr looks)
+
+  built_looking : OnlyLooks tells entry now → (answer : Answer) → (IsSuccess answer → ⊥) → PassesNoFault entry now answer
+      → IsAnswer tells B own none_loaded (asked_of graph folder limits targets) (store_of reader own entry) [] [] [] entry now answer → BuiltAs answer
+  built_looking looks answer failed passes is =
+      built_by tells B (build_logs reader) own (asked_of graph folder limits targets) entry now answer (looking looks answer failed passes is) (looked_run looks)
+
+  built_fault : {T : Type 0} → OnlyLooks tells entry now → (fault : SiteFault) → HasCause {T = T} entry now (Err fault) → BuiltAs (answer.Fault fault)
   built_fault looks Device cause = built_looking looks (answer.Fault Device) (λ h. h) (passes_fault tells entry now looks Device cause) (seen_of entry now (Err Device) cause)
   built_fault looks Stopped cause = built_looking looks (answer.Fault Stopped) (λ h. h) (passes_fault tells entry now looks Stopped cause) (seen_of entry now (Err Stopped) cause)
   built_fault looks Memory cause = built_looking looks (answer.Fault Memory) (λ h. h) (passes_fault tells entry now looks Memory cause) tt
 
-  built_memory : Looked tells entry now → SingleBuild tells B no_logs own (asked_of graph folder limits targets) entry now (answer.Fault Memory)
+  built_memory : Looked tells entry now → BuiltAs (answer.Fault Memory)
   built_memory looked = built_looking looked.looks (answer.Fault Memory) (λ h. h) (passes_looking tells entry now looked (answer.Fault Memory)) tt
 
   -- a refusal
-  built_refusal : Looked tells entry now → (answer : Answer) → (IsSuccess answer → ⊥) → IsAnswer tells B own none_loaded (asked_of graph folder limits targets) no_records [] [] [] entry now answer
-      → SingleBuild tells B no_logs own (asked_of graph folder limits targets) entry now answer
+  built_refusal : Looked tells entry now → (answer : Answer) → (IsSuccess answer → ⊥)
+      → IsAnswer tells B own none_loaded (asked_of graph folder limits targets) (store_of reader own entry) [] [] [] entry now answer → BuiltAs answer
   built_refusal looked answer failed is = built_looking looked.looks answer failed (passes_looking tells entry now looked answer) is
 
   -- ---- something is not taken yet
 
-  pub builds_not_taken : Looked tells entry now → (report : Report) → SaysNotTaken graph.edges report → Builds tells B own graph folder limits given targets entry now report
+  pub builds_not_taken : Looked tells entry now → (report : Report) → SaysNotTaken graph.edges report → BuildsAs report
   builds_not_taken looked report not_taken = by_report not_taken.says
     where
-      by_report : (report ≡ Refused (refusal.NotTaken not_taken.path)) ⊎ (report ≡ Fault Memory) → Builds tells B own graph folder limits given targets entry now report
-      by_report (inl is) = record {
-        taken = inr record { path = not_taken.path; first = not_taken.first; says = inl is; looks = looked.looks };
-        answer = answer.Refused;
-        said = subst (λ (r : Report). Says graph.edges given targets r answer.Refused) (sym {A = Report} is) (refl, not_taken.first);
-        build = built_refusal looked answer.Refused (λ h. h) ((λ none. looked.looks), inl refl);
-      }
-      by_report (inr is) = record {
-        taken = inr record { path = not_taken.path; first = not_taken.first; says = inr is; looks = looked.looks };
-        answer = answer.Fault Memory;
-        said = subst (λ (r : Report). Says graph.edges given targets r (answer.Fault Memory)) (sym {A = Report} is) refl;
-        build = built_memory looked;
-      }
+      by_report : (report ≡ Refused (refusal.NotTaken not_taken.path)) ⊎ (report ≡ Fault Memory) → BuildsAs report
+      by_report (inl is) =
+          let built = built_refusal looked answer.Refused (λ h. h) ((λ none. looked.looks), inl refl) in
+          record {
+            taken = inr record { path = not_taken.path; first = not_taken.first; says = inl is; looks = looked.looks };
+            answer = answer.Refused;
+            said = subst (λ (r : Report). Says graph.edges given targets r answer.Refused) (sym {A = Report} is) (refl, not_taken.first);
+            build = built.build;
+            headline = built.headline;
+            logs = built.logs;
+          }
+      by_report (inr is) =
+          let built = built_memory looked in
+          record {
+            taken = inr record { path = not_taken.path; first = not_taken.first; says = inr is; looks = looked.looks };
+            answer = answer.Fault Memory;
+            said = subst (λ (r : Report). Says graph.edges given targets r (answer.Fault Memory)) (sym {A = Report} is) refl;
+            build = built.build;
+            headline = built.headline;
+            logs = built.logs;
+          }
 
   module _ (formed : IsGraph graph) (taken : IsTaken graph.edges) where
+    -- all is taken, and the report gives the answer
+    builds_as : (report : Report) (said : Answer) → Says graph.edges given targets report said → BuiltAs said → BuildsAs report
+    builds_as report said says built = record { taken = inl taken; answer = said; said = says; build = built.build; headline = built.headline; logs = built.logs }
+
     -- ---- refusals and faults before the first judgement
 
-    pub builds_fault : {T : Type 0} → OnlyLooks tells entry now → (fault : SiteFault) → HasCause {T = T} entry now (Err fault) → Builds tells B own graph folder limits given targets entry now (Fault fault)
-    builds_fault looks fault cause = record { taken = inl taken; answer = answer.Fault fault; said = refl; build = built_fault looks fault cause }
+    pub builds_fault : {T : Type 0} → OnlyLooks tells entry now → (fault : SiteFault) → HasCause {T = T} entry now (Err fault) → BuildsAs (Fault fault)
+    builds_fault looks fault cause = builds_as (Fault fault) (answer.Fault fault) refl (built_fault looks fault cause)
 
-    builds_memory : Looked tells entry now → Builds tells B own graph folder limits given targets entry now (Fault Memory)
-    builds_memory looked = record { taken = inl taken; answer = answer.Fault Memory; said = refl; build = built_memory looked }
+    pub builds_memory : Looked tells entry now → BuildsAs (Fault Memory)
+    builds_memory looked = builds_as (Fault Memory) (answer.Fault Memory) refl (built_memory looked)
 
-    pub builds_ungraphed : Looked tells entry now → (fault : GraphFault) → IsFaultOf graph.edges fault → Builds tells B own graph folder limits given targets entry now (ungraphed fault)
+    pub builds_ungraphed : Looked tells entry now → (fault : GraphFault) → IsFaultOf graph.edges fault → BuildsAs (ungraphed fault)
     builds_ungraphed looked graph_fault.Memory is = builds_memory looked
-    builds_ungraphed looked (graph_fault.MadeTwice path) is = record {
-      taken = inl taken;
-      answer = answer.MadeTwice path;
-      said = refl;
-      build = built_refusal looked (answer.MadeTwice path) (λ h. h) ((λ none. looked.looks), (asked_of graph folder limits targets, inl (refl, refl), is.0));
-    }
+    builds_ungraphed looked (graph_fault.MadeTwice path) is =
+        builds_as (Refused (refusal.MadeTwice path)) (answer.MadeTwice path) refl
+        (built_refusal looked (answer.MadeTwice path) (λ h. h) ((λ none. looked.looks), (asked_of graph folder limits targets, inl (refl, refl), is.0)))
     builds_ungraphed looked (graph_fault.NoDyndepInput path) is =
-        record { taken = inl taken; answer = answer.NoDyndepInput path; said = refl; build = built_refusal looked (answer.NoDyndepInput path) (λ h. h) ((λ none. looked.looks), refl, is.0) }
+        builds_as (Refused (refusal.NoDyndepInput path)) (answer.NoDyndepInput path) refl (built_refusal looked (answer.NoDyndepInput path) (λ h. h) ((λ none. looked.looks), refl, is.0))
 
-    pub builds_unknown : Looked tells entry now → (place : ℕ) → IsFirstUnknown graph.edges targets place → Builds tells B own graph folder limits given targets entry now (Refused (refusal.UnknownTarget (text_at given place)))
-    builds_unknown looked place first = record {
-      taken = inl taken;
-      answer = answer.Unknown (text_at targets place);
-      said = (text_at targets place, refl, record { place = place; first = first; text_is = refl; path_is = refl });
-      build = built_refusal looked (answer.Unknown (text_at targets place)) (λ h. h) ((λ none. looked.looks), refl, path_has targets place first.within, first.unknown);
-    }
+    pub builds_unknown : Looked tells entry now → (place : ℕ) → IsFirstUnknown graph.edges targets place → BuildsAs (Refused (refusal.UnknownTarget (text_at given place)))
+    builds_unknown looked place first =
+        builds_as (Refused (refusal.UnknownTarget (text_at given place))) (answer.Unknown (text_at targets place))
+        (text_at targets place, refl, record { place = place; first = first; text_is = refl; path_is = refl })
+        (built_refusal looked (answer.Unknown (text_at targets place)) (λ h. h) ((λ none. looked.looks), refl, path_has targets place first.within, first.unknown))
 
-    pub builds_cycle : Looked tells entry now → (paths : List (List ℕ)) → answer.AllNamed (asked_of graph folder limits targets) → IsShownCycle (asked_of graph folder limits targets) no_records paths
-        → Builds tells B own graph folder limits given targets entry now (Refused (refusal.Cycle paths))
-    builds_cycle looked paths named cycle = record {
-      taken = inl taken;
-      answer = answer.Cyclic paths;
-      said = refl;
-      build = built_refusal looked (answer.Cyclic paths) (λ h. h) ((λ none. looked.looks), named, (asked_of graph folder limits targets, inl (refl, refl), cycle));
-    }
+    pub builds_cycle : Looked tells entry now → (paths : List (List ℕ)) → answer.AllNamed (asked_of graph folder limits targets) → IsShownCycle (asked_of graph folder limits targets) (store_of reader own entry) paths
+        → BuildsAs (Refused (refusal.Cycle paths))
+    builds_cycle looked paths named cycle =
+        builds_as (Refused (refusal.Cycle paths)) (answer.Cyclic paths) refl
+        (built_refusal looked (answer.Cyclic paths) (λ h. h) ((λ none. looked.looks), named, (asked_of graph folder limits targets, inl (refl, refl), cycle)))
 
-    of_memory : Looked tells entry now → (report : Report) → report ≡ Fault Memory → Builds tells B own graph folder limits given targets entry now report
-    of_memory looked report is = subst (λ (r : Report). Builds tells B own graph folder limits given targets entry now r) (sym {A = Report} is) (builds_memory looked)
+    of_memory : Looked tells entry now → (report : Report) → report ≡ Fault Memory → BuildsAs report
+    of_memory looked report is = subst (λ (r : Report). BuildsAs r) (sym {A = Report} is) (builds_memory looked)
 
-    of_refusal : Looked tells entry now → (paths : List (List ℕ)) (fault : ConeFault) → IsNoCone (asked_of graph folder limits targets) no_records paths fault → (refused : Refusal) → ShowsFault paths given fault refused
-        → Builds tells B own graph folder limits given targets entry now (Refused refused)
+    of_refusal : Looked tells entry now → (paths : List (List ℕ)) (fault : ConeFault) → IsNoCone (asked_of graph folder limits targets) (store_of reader own entry) paths fault → (refused : Refusal) → ShowsFault paths given fault refused
+        → BuildsAs (Refused refused)
     of_refusal looked paths cone_fault.Memory none refused shows = absurd shows
     of_refusal looked paths (cone_fault.Unknown place) none refused shows =
-        subst (λ (r : Refusal). Builds tells B own graph folder limits given targets entry now (Refused r)) (sym {A = Refusal} shows) (builds_unknown looked place none)
+        subst (λ (r : Refusal). BuildsAs (Refused r)) (sym {A = Refusal} shows) (builds_unknown looked place none)
     of_refusal looked paths (cone_fault.Cycle numbers) none refused shows =
-        subst (λ (r : Refusal). Builds tells B own graph folder limits given targets entry now (Refused r)) (sym {A = Refusal} shows) (builds_cycle looked (texts_at paths numbers) none.0 none.1)
+        subst (λ (r : Refusal). BuildsAs (Refused r)) (sym {A = Refusal} shows) (builds_cycle looked (texts_at paths numbers) none.0 none.1)
 
-    pub builds_uncut : Looked tells entry now → (numbers : Graph) → graph ≡ declared_by numbers → (report : Report) → SaysNoCone numbers given targets report → Builds tells B own graph folder limits given targets entry now report
+    pub builds_uncut : Looked tells entry now → (numbers : Graph) → graph ≡ declared_by numbers → (report : Report) → SaysNoCone numbers given targets report → BuildsAs report
     builds_uncut looked numbers same report (inl is) = of_memory looked report is
     builds_uncut looked numbers same report (inr (refused, is, cause)) =
-        subst (λ (r : Report). Builds tells B own graph folder limits given targets entry now r) (sym {A = Report} is)
-        (of_refusal looked numbers.manifest.paths cause.fault (cause.is (asked_of graph folder limits targets) refl same refl) refused cause.shows)
+        subst (λ (r : Report). BuildsAs r) (sym {A = Report} is)
+        (of_refusal looked numbers.manifest.paths cause.fault (cause.is (asked_of graph folder limits targets) (store_of reader own entry) refl same refl (no_deps reader own entry)) refused cause.shows)
 
     -- ---- a build that has run commands
 
     -- no edge names a dyndep file, so the schedule has one phase
-    abbrev scheduled : (steps : List Done) → IsLawful (task_for graph limits targets) steps → (answer : Answer) (first later : List Event) → now.events ≡ entry.events ++ (first ++ later)
-        → AreEventsOf graph.edges steps first → AreFinishes (entry.events ++ first) later → (is_fault answer ≡ false → later ≡ []) → IsScheduled B none_loaded (asked_of graph folder limits targets) no_records steps entry now answer
+    abbrev scheduled : (steps : List Done) → IsLawful (task_of (asked_of graph folder limits targets) (store_of reader own entry)) steps → (answer : Answer) (first later : List Event) → now.events ≡ entry.events ++ (first ++ later)
+        → AreEventsOf graph.edges steps first → AreFinishes (entry.events ++ first) later → (is_fault answer ≡ false → later ≡ [])
+        → IsScheduled B none_loaded (asked_of graph folder limits targets) (store_of reader own entry) steps entry now answer
     scheduled steps lawful answer first later grows of_steps finishes whole = record {
-      lawful = one_phase B.dyndep none_loaded graph.edges (task_for graph limits targets) no_records steps refl (no_dyndep graph.edges taken) lawful;
+      lawful = one_phase B.dyndep none_loaded graph.edges (task_of (asked_of graph folder limits targets) (store_of reader own entry)) (store_of reader own entry) steps refl (no_dyndep graph.edges taken) lawful;
       first = first;
       later = later;
       grows = grows;
@@ -272,40 +328,54 @@ module _ (tells : Bool) (B : Behaviour) (own : OwnFiles) (graph : BuildGraph) (f
       went_on = λ on. refl;
     }
 
-    built_running : (steps : List Done) (lawful : IsLawful (task_for graph limits targets) steps) (rest : IsRunOrRest tells own (task_for graph limits targets) steps entry now) → clean_in steps ≡ [] → IsMadeOnce graph.edges
-        → (answer : Answer) (first later : List Event) → now.events ≡ entry.events ++ (first ++ later) → AreEventsOf graph.edges steps first → AreFinishes (entry.events ++ first) later → (is_fault answer ≡ false → later ≡ [])
-        → IsAnswer tells B own none_loaded (asked_of graph folder limits targets) no_records [] steps steps entry now answer
-        → (IsSuccess answer → (i : ℕ) → InCone (asked_of graph folder limits targets) no_records i → IsSettled graph.edges (done_in steps) i)
-        → WasInOrder tells own (asked_of graph folder limits targets) no_records [] steps entry now → PassesNoFault entry now answer → (is_fault answer ≡ false → IsIdle now.events)
-        → SingleBuild tells B no_logs own (asked_of graph folder limits targets) entry now answer
-    built_running steps lawful rest stale once answer first later grows of_steps finishes whole is settled ordered passes ended = record {
-      store = no_records;
-      logs = λ tell edits. nothing_told own (view_of entry.history);
-      texts = none_loaded;
-      held = λ tell kept file content loaded. absurd (nothing_held content loaded);
-      steps = steps;
-      schedule = scheduled steps lawful answer first later grows of_steps finishes whole;
-      met = None;
-      met_fault = λ i is. absurd (none_met i is);
-      judged = λ tell kept apart known. judged_of_nothing tells own (asked_of graph folder limits targets) steps entry now idle rest lawful B tell stale (have_outputs graph formed) (λ i h. no_depfile graph.edges taken i);
-      answers = is;
-      in_order = inr ordered;
-      faults = passes;
-      idle = ended;
-      frame = λ tell. frame_of_run tells own (asked_of graph folder limits targets) no_records steps entry now tell idle rest once
-          (ready_of_none tells own (task_for graph limits targets) steps entry now rest tell (λ i h. (no_depfile graph.edges taken i, no_response graph.edges taken i)));
-      from_nothing = λ tell success nothing premises. clean_at_success tells own (asked_of graph folder limits targets) no_records steps entry now tell idle rest once stale B
-          (loads_come_first B none_loaded (asked_of graph folder limits targets) no_records steps entry.history now.history
-          (one_phase B.dyndep none_loaded graph.edges (task_for graph limits targets) no_records steps refl (no_dyndep graph.edges taken) lawful) once once (names_no_other graph.edges taken) premises.files.dyndep).2
-          (settled success) premises;
-    }
+    module _ (steps : List Done) (met : Option ℕ) (cut : IsCutOff tells B (build_logs reader) own (asked_of graph folder limits targets) (store_of reader own entry) steps met entry now) (once : IsMadeOnce graph.edges) where
+      abbrev running : (answer : Answer) → ((i : ℕ) → met ≡ Some i → MetFault (task_of (asked_of graph folder limits targets) (store_of reader own entry)) steps entry now answer i)
+          → (first later : List Event) → now.events ≡ entry.events ++ (first ++ later) → AreEventsOf graph.edges steps first → AreFinishes (entry.events ++ first) later → (is_fault answer ≡ false → later ≡ [])
+          → IsAnswer tells B own none_loaded (asked_of graph folder limits targets) (store_of reader own entry) [] steps steps entry now answer
+          → (IsSuccess answer → (i : ℕ) → InCone (asked_of graph folder limits targets) (store_of reader own entry) i → IsSettled graph.edges (done_in steps) i)
+          → WasInOrder tells own (asked_of graph folder limits targets) (store_of reader own entry) [] steps entry now → PassesNoFault entry now answer → (is_fault answer ≡ false → IsIdle now.events)
+          → SingleBuild tells B (build_logs reader) own (asked_of graph folder limits targets) entry now answer
+      running answer met_fault first later grows of_steps finishes whole is settled ordered passes ended = record {
+        store = store_of reader own entry;
+        logs = λ tell edits. refl;
+        texts = none_loaded;
+        held = λ tell kept file content loaded. absurd (nothing_held content loaded);
+        steps = steps;
+        schedule = scheduled steps cut.lawful answer first later grows of_steps finishes whole;
+        met = met;
+        met_fault = met_fault;
+        judged = λ tell kept apart known. judged_of tells B (build_logs reader) own (asked_of graph folder limits targets) (store_of reader own entry) entry steps met now cut once tell kept apart;
+        answers = is;
+        in_order = inr ordered;
+        faults = passes;
+        idle = ended;
+        frame = λ tell. frame_of tells B (build_logs reader) own (asked_of graph folder limits targets) (store_of reader own entry) entry steps met now cut once tell;
+        from_nothing = λ tell success nothing premises.
+            clean_with_loads tells B (build_logs reader) own none_loaded (asked_of graph folder limits targets) (store_of reader own entry) steps met entry now tell idle cut.run
+            (one_phase B.dyndep none_loaded graph.edges (task_of (asked_of graph folder limits targets) (store_of reader own entry)) (store_of reader own entry) steps refl (no_dyndep graph.edges taken) cut.lawful)
+            once once (names_no_other graph.edges taken) refl (no_logs_are_faithful B (build_logs reader) own graph.edges entry nothing.build_log nothing.deps_log)
+            (judged_of tells B (build_logs reader) own (asked_of graph folder limits targets) (store_of reader own entry) entry steps met now cut once tell premises.files.kept premises.files.recorded_apart)
+            (settled success) premises;
+      }
 
-    module _ (order : List ℕ) (marks : List Mark) (listed : IsConeOf graph.edges (recorded_inputs no_records graph.edges) (targets_of graph targets) order marks)
-        (named : answer.AllNamed (asked_of graph folder limits targets)) (acyclic : answer.HasNoCycle (asked_of graph folder limits targets) no_records) where
+      built_running : (answer : Answer) → ((i : ℕ) → met ≡ Some i → MetFault (task_of (asked_of graph folder limits targets) (store_of reader own entry)) steps entry now answer i)
+          → (first later : List Event) → now.events ≡ entry.events ++ (first ++ later) → AreEventsOf graph.edges steps first → AreFinishes (entry.events ++ first) later → (is_fault answer ≡ false → later ≡ [])
+          → IsAnswer tells B own none_loaded (asked_of graph folder limits targets) (store_of reader own entry) [] steps steps entry now answer
+          → (IsSuccess answer → (i : ℕ) → InCone (asked_of graph folder limits targets) (store_of reader own entry) i → IsSettled graph.edges (done_in steps) i)
+          → WasInOrder tells own (asked_of graph folder limits targets) (store_of reader own entry) [] steps entry now → PassesNoFault entry now answer → (is_fault answer ≡ false → IsIdle now.events)
+          → BuiltAs answer
+      built_running answer met_fault first later grows of_steps finishes whole is settled ordered passes ended =
+          built_by tells B (build_logs reader) own (asked_of graph folder limits targets) entry now answer
+          (running answer met_fault first later grows of_steps finishes whole is settled ordered passes ended)
+          (run_of tells B (build_logs reader) own (asked_of graph folder limits targets) (store_of reader own entry) entry steps met now cut (inl once))
+
+    module _ (order : List ℕ) (marks : List Mark) (listed : IsConeOf graph.edges (recorded_inputs (store_of reader own entry) graph.edges) (targets_of graph targets) order marks)
+        (named : answer.AllNamed (asked_of graph folder limits targets)) (acyclic : answer.HasNoCycle (asked_of graph folder limits targets) (store_of reader own entry)) where
       -- a source is missing
-      pub builds_missing : Looked tells entry now → (missing : Missing) → (IsTrue tells → NothingIsEdited entry.history now.history → IsMissingFor graph.edges (targets_of graph targets) entry.history missing.path missing.needed_by)
-          → Builds tells B own graph folder limits given targets entry now (Refused (refusal.Missing missing))
-      builds_missing looked missing found = record { taken = inl taken; answer = missing_answer missing.path missing.needed_by; said = refl; build = by_needed missing.needed_by found }
+      pub builds_missing : Looked tells entry now → (missing : Missing)
+          → (IsTrue tells → FilesAreKept own graph.edges entry.history now.history → IsMissingFor graph.edges (store_of reader own entry) (targets_of graph targets) entry.history missing.path missing.needed_by)
+          → BuildsAs (Refused (refusal.Missing missing))
+      builds_missing looked missing found = builds_as (Refused (refusal.Missing missing)) (missing_answer missing.path missing.needed_by) refl (by_needed missing.needed_by found)
         where
           -- the entry, before the first start
           at_entry : IsTrue tells → IsPointAfter [] entry.history now.history entry.history
@@ -313,34 +383,36 @@ module _ (tells : Bool) (B : Behaviour) (own : OwnFiles) (graph : BuildGraph) (f
               let call = looked.looks.history tell in
               record { so_far = []; later = call.more; is = sym (append-nil entry.history); grows = call.grows; happened = refl; entry = λ none. refl }
 
-          at_once : IsAsked (task_for graph limits targets) [] []
-          at_once = record { at_once = refl; loaded = λ file due source. none_is_due (task_for graph limits targets) [] (no_dyndep graph.edges taken) file due }
+          at_once : IsAsked (task_of (asked_of graph folder limits targets) (store_of reader own entry)) [] []
+          at_once = record { at_once = refl; loaded = λ file due source. none_is_due (task_of (asked_of graph folder limits targets) (store_of reader own entry)) [] (no_dyndep graph.edges taken) file due }
 
-          by_needed : (needed : Option (List ℕ)) → (IsTrue tells → NothingIsEdited entry.history now.history → IsMissingFor graph.edges (targets_of graph targets) entry.history missing.path needed)
-              → SingleBuild tells B no_logs own (asked_of graph folder limits targets) entry now (missing_answer missing.path needed)
+          by_needed : (needed : Option (List ℕ))
+              → (IsTrue tells → FilesAreKept own graph.edges entry.history now.history → IsMissingFor graph.edges (store_of reader own entry) (targets_of graph targets) entry.history missing.path needed)
+              → BuiltAs (missing_answer missing.path needed)
           by_needed None so =
-              built_refusal looked (answer.MissingTarget missing.path) (λ h. h) ((λ none. looked.looks), named, acyclic, at_once, λ tell kept. (entry.history, at_entry tell, so tell kept.edits))
+              built_refusal looked (answer.MissingTarget missing.path) (λ h. h) ((λ none. looked.looks), named, acyclic, at_once, λ tell kept. (entry.history, at_entry tell, so tell kept))
           by_needed (Some output) so =
               built_refusal looked (answer.MissingInput missing.path output) (λ h. h) (
                 (λ none. looked.looks),
                 named,
                 acyclic,
                 at_once,
-                λ tell kept. let here = so tell kept.edits in (here.0, here.1, (entry.history, at_entry tell, here.2)),
+                λ tell kept. let here = so tell kept in (here.0, here.1, (entry.history, at_entry tell, here.2)),
               )
 
-      module _ (once : IsMadeOnce graph.edges) (sources : IsTrue tells → FilesAreKept own graph.edges entry.history now.history → NothingIsMissing graph.edges no_records [] entry.history (targets_of graph targets)) where
-        in_order : IsInOrder tells own (asked_of graph folder limits targets) no_records [] entry now
+      module _ (once : IsMadeOnce graph.edges)
+          (sources : IsTrue tells → FilesAreKept own graph.edges entry.history now.history → NothingIsMissing graph.edges (store_of reader own entry) [] entry.history (targets_of graph targets)) where
+        in_order : IsInOrder tells own (asked_of graph folder limits targets) (store_of reader own entry) [] entry now
         in_order = record {
           made_once = once;
           dyndep = names_no_other graph.edges taken;
           named = named;
           no_cycle = acyclic;
-          sources = λ tell kept none at point. subst (λ (files : List Moment). NothingIsMissing graph.edges no_records [] files (targets_of graph targets)) (sym {A = List Moment} (point.entry refl)) (sources tell kept);
+          sources = λ tell kept none at point. subst (λ (files : List Moment). NothingIsMissing graph.edges (store_of reader own entry) [] files (targets_of graph targets)) (sym {A = List Moment} (point.entry refl)) (sources tell kept);
         }
 
         -- whatever steps were taken then
-        was_in_order : (steps : List Done) → WasInOrder tells own (asked_of graph folder limits targets) no_records [] steps entry now
+        was_in_order : (steps : List Done) → WasInOrder tells own (asked_of graph folder limits targets) (store_of reader own entry) [] steps entry now
         was_in_order steps = record {
           made_once = once;
           dyndep = names_no_other graph.edges taken;
@@ -349,100 +421,104 @@ module _ (tells : Bool) (B : Behaviour) (own : OwnFiles) (graph : BuildGraph) (f
           sources = λ tell kept. by_steps steps (in_order.sources tell kept);
         }
           where
-            by_steps : (steps : List Done) → WasNothingMissing (task_for graph limits targets) no_records entry.history now.history [] [] → WasNothingMissingIn (task_for graph limits targets) no_records entry.history now.history [] [] steps
+            by_steps : (steps : List Done) → WasNothingMissing (task_of (asked_of graph folder limits targets) (store_of reader own entry)) (store_of reader own entry) entry.history now.history [] []
+                → WasNothingMissingIn (task_of (asked_of graph folder limits targets) (store_of reader own entry)) (store_of reader own entry) entry.history now.history [] [] steps
             by_steps [] none = tt
             by_steps (step ∷ steps) none = none
 
-        in_cone : (i : ℕ) (n : ℕ) → suc n ≡ i → InCone (asked_of graph folder limits targets) no_records (suc n) → InCone (asked_of graph folder limits targets) no_records i
-        in_cone i n is h = subst (λ (k : ℕ). InCone (asked_of graph folder limits targets) no_records k) is h
+        in_cone : (i : ℕ) (n : ℕ) → suc n ≡ i → InCone (asked_of graph folder limits targets) (store_of reader own entry) (suc n) → InCone (asked_of graph folder limits targets) (store_of reader own entry) i
+        in_cone i n is h = subst (λ (k : ℕ). InCone (asked_of graph folder limits targets) (store_of reader own entry) k) is h
 
-        all_settled : (steps : List Done) → HasEnded (asked_of graph folder limits targets) no_records steps now → running_in steps ≡ [] → failed_in steps ≡ []
-            → (i : ℕ) → InCone (asked_of graph folder limits targets) no_records i → IsSettled graph.edges (done_in steps) i
+        all_settled : (steps : List Done) → HasEnded (asked_of graph folder limits targets) (store_of reader own entry) steps now → running_in steps ≡ [] → failed_in steps ≡ []
+            → (i : ℕ) → InCone (asked_of graph folder limits targets) (store_of reader own entry) i → IsSettled graph.edges (done_in steps) i
         all_settled steps ended none fine i within =
-            settled_at_end (task_for graph limits targets) steps ended.judged ended.started none fine (map suc order) listed.ordered
+            settled_at_end (task_of (asked_of graph folder limits targets) (store_of reader own entry)) steps ended.judged ended.started none fine (map suc order) listed.ordered
             (λ k within. let place = suc_has order k within in in_cone k place.0 place.1 (listed.within place.0 place.2))
             i (listed.all i within)
 
-        all_well : (steps : List Done) → IsRun tells own (task_for graph limits targets) steps entry now → running_in steps ≡ [] → failed_in steps ≡ [] → length (started_in steps) ≡ length (well_in steps)
+        all_well : (steps : List Done) → IsRun tells own (task_of (asked_of graph folder limits targets) (store_of reader own entry)) steps entry now → running_in steps ≡ [] → failed_in steps ≡ [] → length (started_in steps) ≡ length (well_in steps)
         all_well steps run none fine =
-            let a = started_length (task_for graph limits targets) steps run.lawful in
+            let a = started_length (task_of (asked_of graph folder limits targets) (store_of reader own entry)) steps run.lawful in
             let b = ended_length steps in
             let c = ap length none in
             let d = ap length fine in
             omega (arith, a, b, c, d)
 
-        ended_so : (steps : List Done) → (run : IsRun tells own (task_for graph limits targets) steps entry now) → now.events ≡ entry.events ++ (run.events ++ [])
+        ended_so : (steps : List Done) → (run : IsRun tells own (task_of (asked_of graph folder limits targets) (store_of reader own entry)) steps entry now) → now.events ≡ entry.events ++ (run.events ++ [])
         ended_so steps run = run.grows ∙ ap (λ (l : List Event). entry.events ++ l) (sym (append-nil run.events))
 
-        module _ (numbers : Graph) (same : (declared_by numbers).edges ≡ graph.edges) (report : Report) (passes : PassesNoFault entry now (run_answer report)) where
+        module _ (numbers : Graph) (same : (declared_by numbers).edges ≡ graph.edges) (report : Report) (cause : ShowsCause entry now report) (passes : PassesNoFault entry now (run_answer report)) where
           passes_as : (told : Report) → report ≡ told → PassesNoFault entry now (run_answer told)
           passes_as told is = subst (λ (r : Report). PassesNoFault entry now (run_answer r)) is passes
 
-          tells_as : (told : Report) → report ≡ told → Builds tells B own graph folder limits given targets entry now told → Builds tells B own graph folder limits given targets entry now report
-          tells_as told is builds = subst (λ (r : Report). Builds tells B own graph folder limits given targets entry now r) (sym {A = Report} is) builds
+          tells_as : (told : Report) → report ≡ told → BuildsAs told → BuildsAs report
+          tells_as told is builds = subst (λ (r : Report). BuildsAs r) (sym {A = Report} is) builds
 
-          by_fault : (result : Result Summary Cut) → HasRun tells own (task_for graph limits targets) entry now result → (fault : SiteFault) → report ≡ Fault fault → IsSeen entry now fault → Builds tells B own graph folder limits given targets entry now report
-          by_fault result ran fault is seen = tells_as (Fault fault) is (of_seen fault (passes_as (Fault fault) is) seen)
+          by_fault : (result : Result Summary Cut) → HasRun tells (course_of B reader own (asked_of graph folder limits targets) entry) now result → (fault : SiteFault) → report ≡ Fault fault → BuildsAs report
+          by_fault result ran fault is = tells_as (Fault fault) is (of_seen fault (passes_as (Fault fault) is) (subst (λ (r : Report). ShowsCause entry now r) is cause))
             where
-              of_fault : (fault : SiteFault) → IsAnswer tells B own none_loaded (asked_of graph folder limits targets) no_records [] ran.steps ran.steps entry now (answer.Fault fault) → PassesNoFault entry now (answer.Fault fault)
-                  → Builds tells B own graph folder limits given targets entry now (Fault fault)
-              of_fault fault is passes = record {
-                taken = inl taken;
-                answer = answer.Fault fault;
-                said = refl;
-                build = built_running ran.steps ran.lawful ran.rest ran.stale once (answer.Fault fault) ran.rest.first ran.rest.later ran.rest.grows ran.rest.of_steps ran.rest.finishes (λ fine. absurd (false≢true (sym fine))) is
-                    (λ success. absurd success) (was_in_order ran.steps) passes (λ fine. absurd (false≢true (sym fine)));
-              }
+              met_so : (fault : SiteFault) (i : ℕ) → ran.met ≡ Some i → MetFault (task_of (asked_of graph folder limits targets) (store_of reader own entry)) ran.steps entry now (answer.Fault fault) i
+              met_so fault i met =
+                  let hand = ran.in_hand i met in
+                  record {
+                    fault = refl;
+                    under_way = hand.under_way;
+                    stale = hand.stale;
+                    taken_in = met_by_step tells B (build_logs reader) own (asked_of graph folder limits targets) (store_of reader own entry) entry ran.steps ran.met now ran.cut i hand.taken_in;
+                  }
 
-              of_seen : (fault : SiteFault) → PassesNoFault entry now (answer.Fault fault) → IsSeen entry now fault → Builds tells B own graph folder limits given targets entry now (Fault fault)
+              of_fault : (fault : SiteFault) → IsAnswer tells B own none_loaded (asked_of graph folder limits targets) (store_of reader own entry) [] ran.steps ran.steps entry now (answer.Fault fault) → PassesNoFault entry now (answer.Fault fault)
+                  → BuildsAs (Fault fault)
+              of_fault fault is passes = builds_as (Fault fault) (answer.Fault fault) refl
+                  (built_running ran.steps ran.met ran.cut once (answer.Fault fault) (met_so fault) ran.cut.run.first ran.cut.run.later ran.cut.run.grows ran.cut.run.of_steps ran.cut.run.finishes (λ fine. absurd (false≢true (sym fine))) is
+                  (λ success. absurd success) (was_in_order ran.steps) passes (λ fine. absurd (false≢true (sym fine))))
+
+              of_seen : (fault : SiteFault) → PassesNoFault entry now (answer.Fault fault) → IsSeen entry now fault → BuildsAs (Fault fault)
               of_seen Device passes seen = of_fault Device seen passes
               of_seen Stopped passes seen = of_fault Stopped seen passes
               of_seen Memory passes seen = of_fault Memory tt passes
 
-          ended_well : (started : ℕ) → HasRun tells own (task_for graph limits targets) entry now (Ok (Well started)) → report ≡ Success started → Builds tells B own graph folder limits given targets entry now report
-          ended_well started ran is =
-              let run = ran.ends.0 in
-              let over = ran.ends.1 in
-              let ended = has_ended tells own (asked_of graph folder limits targets) no_records ran.steps entry now idle run over.2 over.0 over.1 (none_is_due (task_for graph limits targets) ran.steps (no_dyndep graph.edges taken)) in
-              let settled = all_settled ran.steps ended over.2 over.3 in
-              tells_as (Success started) is record {
-                taken = inl taken;
-                answer = answer.Success started;
-                said = refl;
-                build = built_running ran.steps ran.lawful ran.rest ran.stale once (answer.Success started) run.events [] (ended_so ran.steps run) run.of_steps tt (λ fine. refl)
-                    (in_order, ended, settled, over.3, all_well ran.steps run over.2 over.3 ∙ sym ran.ends.2) (λ success. settled) (was_in_order ran.steps) (passes_as (Success started) is) (λ fine. ended.idle);
-              }
+          none_met_in : (met : Option ℕ) (said : Answer) (steps : List Done) → met ≡ None → (i : ℕ) → met ≡ Some i → MetFault (task_of (asked_of graph folder limits targets) (store_of reader own entry)) steps entry now said i
+          none_met_in met said steps none i is = absurd (none_met i (sym none ∙ is))
 
-          ended_badly : (edges : Vec ℕ Global) → HasRun tells own (task_for graph limits targets) entry now (Ok (SomeFailed edges)) → report ≡ Failed (map (first_output_of numbers.manifest) edges.items)
-              → Builds tells B own graph folder limits given targets entry now report
+          ended_well : (started : ℕ) → HasRun tells (course_of B reader own (asked_of graph folder limits targets) entry) now (Ok (Well started)) → report ≡ Success started → BuildsAs report
+          ended_well started ran is =
+              let run = ran.ends.1 in
+              let over = ran.ends.2 in
+              let ended = has_ended tells own (asked_of graph folder limits targets) (store_of reader own entry) ran.steps entry now idle run over.2 over.0 over.1
+              (none_is_due (task_of (asked_of graph folder limits targets) (store_of reader own entry)) ran.steps (no_dyndep graph.edges taken)) in
+              let settled = all_settled ran.steps ended over.2 over.3 in
+              tells_as (Success started) is (builds_as (Success started) (answer.Success started) refl
+              (built_running ran.steps ran.met ran.cut once (answer.Success started) (none_met_in ran.met (answer.Success started) ran.steps ran.ends.0) run.events [] (ended_so ran.steps run) run.of_steps tt (λ fine. refl)
+              (in_order, ended, settled, over.3, all_well ran.steps run over.2 over.3 ∙ sym ran.ends.3) (λ success. settled) (was_in_order ran.steps) (passes_as (Success started) is) (λ fine. ended.idle)))
+
+          ended_badly : (edges : Vec ℕ Global) → HasRun tells (course_of B reader own (asked_of graph folder limits targets) entry) now (Ok (SomeFailed edges)) → report ≡ Failed (map (first_output_of numbers.manifest) edges.items)
+              → BuildsAs report
           ended_badly edges ran is =
-              let run = ran.ends.0 in
-              let over = ran.ends.1 in
+              let run = ran.ends.1 in
+              let over = ran.ends.2 in
               let outputs = map (first_output_of numbers.manifest) edges.items in
               let told : map (λ i. first_output (edge_at graph.edges i)) (failed_in ran.steps) ≡ outputs =
-              ap (λ (l : List ℕ). map (λ i. first_output (edge_at graph.edges i)) l) (sym ran.ends.2)
+              ap (λ (l : List ℕ). map (λ i. first_output (edge_at graph.edges i)) l) (sym ran.ends.3)
               ∙ (ap (λ (es : List Edge). map (λ i. first_output (edge_at es i)) (map suc edges.items)) (sym same) ∙ sym (map_suc (λ i. first_output (edge_at (declared_by numbers).edges i)) edges.items)) in
-              let ended = has_ended tells own (asked_of graph folder limits targets) no_records ran.steps entry now idle run over.2 over.0 over.1 (none_is_due (task_for graph limits targets) ran.steps (no_dyndep graph.edges taken)) in
-              tells_as (Failed outputs) is record {
-                taken = inl taken;
-                answer = answer.Failed outputs;
-                said = refl;
-                build = built_running ran.steps ran.lawful ran.rest ran.stale once (answer.Failed outputs) run.events [] (ended_so ran.steps run) run.of_steps tt (λ fine. refl)
-                    (in_order, ended, told, over.3) (λ success. absurd success) (was_in_order ran.steps) (passes_as (Failed outputs) is) (λ fine. ended.idle);
-              }
+              let ended = has_ended tells own (asked_of graph folder limits targets) (store_of reader own entry) ran.steps entry now idle run over.2 over.0 over.1
+              (none_is_due (task_of (asked_of graph folder limits targets) (store_of reader own entry)) ran.steps (no_dyndep graph.edges taken)) in
+              tells_as (Failed outputs) is (builds_as (Failed outputs) (answer.Failed outputs) refl
+              (built_running ran.steps ran.met ran.cut once (answer.Failed outputs) (none_met_in ran.met (answer.Failed outputs) ran.steps ran.ends.0) run.events [] (ended_so ran.steps run) run.of_steps tt (λ fine. refl)
+              (in_order, ended, told, over.3) (λ success. absurd success) (was_in_order ran.steps) (passes_as (Failed outputs) is) (λ fine. ended.idle)))
 
-          by_result : (result : Result Summary Cut) → HasRun tells own (task_for graph limits targets) entry now result → (report ≡ Fault Memory) ⊎ SaysResult numbers result report → Builds tells B own graph folder limits given targets entry now report
-          by_result result ran (inl is) = by_fault result ran Memory is tt
+          by_result : (result : Result Summary Cut) → HasRun tells (course_of B reader own (asked_of graph folder limits targets) entry) now result → (report ≡ Fault Memory) ⊎ SaysResult numbers result report → BuildsAs report
+          by_result result ran (inl is) = by_fault result ran Memory is
           by_result (Ok (Well started)) ran (inr is) = ended_well started ran is
           by_result (Ok (SomeFailed edges)) ran (inr is) = ended_badly edges ran is
-          by_result (Err cut) ran (inr is) = by_fault (Err cut) ran (fault_of cut) is ran.ends
+          by_result (Err cut) ran (inr is) = by_fault (Err cut) ran (fault_of cut) is
 
-          pub builds_run : SaysRun tells own (task_for graph limits targets) numbers entry now report → Builds tells B own graph folder limits given targets entry now report
+          pub builds_run : SaysRun tells (course_of B reader own (asked_of graph folder limits targets) entry) numbers now report → BuildsAs report
           builds_run says = by_result says.result says.ran says.says
 
--- what a run that only looked first has added to the history
-pub run_grows : (tells : Bool) (own : OwnFiles) (task : Task) (entry now : World) (result : Result Summary Cut) → HasRun tells own task entry now result → IsTrue tells → (later : List Moment) × (now.history ≡ entry.history ++ later)
-run_grows tells own task entry now result ran tell = let told = ran.rest.history tell in (told.more, told.grows)
+-- what a run has added to the history
+pub run_grows : (tells : Bool) (course : Course) (numbers : Graph) (now : World) (report : Report) → SaysRun tells course numbers now report → IsTrue tells → (later : List Moment) × (now.history ≡ course.entry.history ++ later)
+run_grows tells course numbers now report says tell = let told = says.ran.cut.run.history tell in (told.more, told.grows)
 
 -- ---- calls that only looked
 
@@ -466,26 +542,31 @@ stays_at_entry tells entry old new exit later idle looked looks grows tell edits
     edits_new : NothingIsEdited entry.history new.history
     edits_new = edits_before entry.history new.history exit later grows edits
 
--- the program's own files may be any others beside those that lie in the folder
+-- The program's own files may be any others beside those that lie in the folder: so that no files are kept, whatever was written.
 abbrev pub any_own : List ℕ → OwnFiles
-any_own folder = record { build_log = file_in folder build_log_name; deps_log = file_in folder deps_log_name; files = λ p. true; set = λ p. true }
+any_own folder = record { build_log = file_in folder build_log_name; deps_log = file_in folder deps_log_name; files = λ p. true; set = λ p. false }
 
 pub own_in : (folder : List ℕ) → IsOwnIn (any_own folder) folder
 own_in folder = record { build_log = refl; deps_log = refl; is_log = refl; is_deps = refl; tick = refl; new_log = refl; new_deps = refl; outputs = λ digits are. refl }
 
-pub builds_grow : (tells : Bool) (B : Behaviour) (own : OwnFiles) (graph : BuildGraph) (folder : List ℕ) (limits : Limits) (given targets : List (List ℕ)) (old new : World) (report : Report)
-    → Builds tells B own graph folder limits given targets old new report → IsTrue tells → (later : List Moment) × (new.history ≡ old.history ++ later)
-builds_grow tells B own graph folder limits given targets old new report builds tell = let frame = builds.build.frame tell in (frame.more, frame.grows)
+pub none_kept : (folder : List ℕ) (edges : List Edge) (old new : List Moment) → FilesAreKept (any_own folder) edges old new → ⊥
+none_kept folder edges old new kept = false≢true (kept.own_files.within [] refl)
 
--- a source is missing, or that was not to be seen
-pub builds_lacking : (tells : Bool) (B : Behaviour) (own : OwnFiles) (graph : BuildGraph) (folder : List ℕ) (limits : Limits) (given targets : List (List ℕ)) (entry old now : World) → IsIdle entry.events
-    → IsGraph graph → IsTaken graph.edges → (order : List ℕ) (marks : List Mark) → IsConeOf graph.edges (recorded_inputs no_records graph.edges) (targets_of graph targets) order marks
-    → answer.AllNamed (asked_of graph folder limits targets) → answer.HasNoCycle (asked_of graph folder limits targets) no_records → Looked tells entry old → OnlyLooks tells old now
-    → (report : Report) → SaysFault old now report ⊎ SaysMissing tells graph.edges (targets_of graph targets) old now report → Builds tells B own graph folder limits given targets entry now report
-builds_lacking tells B own graph folder limits given targets entry old now idle formed taken order marks listed named acyclic looked looks report (inl so) =
-    subst (λ (r : Report). Builds tells B own graph folder limits given targets entry now r) (sym {A = Report} so.says)
-    (builds_fault tells B own graph folder limits given targets entry now idle formed taken (looks_then tells entry old now looked.looks looks) so.fault (cause_then entry old now (Err so.fault) looked.unrefused so.cause))
-builds_lacking tells B own graph folder limits given targets entry old now idle formed taken order marks listed named acyclic looked looks report (inr so) =
-    subst (λ (r : Report). Builds tells B own graph folder limits given targets entry now r) (sym {A = Report} so.says)
-    (builds_missing tells B own graph folder limits given targets entry now idle formed taken order marks listed named acyclic (looked_more tells entry old now looked looks so.unrefused) so.missing
-    (λ tell edits. so.is tell entry.history (stays_at_entry tells entry old now now.history [] idle looked looks (sym (append-nil now.history)) tell edits)))
+pub builds_grow : (tells : Bool) (B : Behaviour) (reader : List ℕ → Option (List Record)) (own : OwnFiles) (graph : BuildGraph) (folder : List ℕ) (limits : Limits) (given targets : List (List ℕ)) (old new : World) (report : Report)
+    → Builds tells B (build_logs reader) own graph folder limits given targets old new report → IsTrue tells → (later : List Moment) × (new.history ≡ old.history ++ later)
+builds_grow tells B reader own graph folder limits given targets old new report builds tell = let frame = builds.build.frame tell in (frame.more, frame.grows)
+
+-- a source is missing by the store of the entry, or that was not to be seen
+pub builds_lacking : (tells : Bool) (B : Behaviour) (reader : List ℕ → Option (List Record)) (own : OwnFiles) (graph : Graph) (folder : List ℕ) (limits : Limits) (given targets : List (List ℕ)) (entry old now : World) → IsIdle entry.events
+    → IsGraph (declared_by graph) → IsTaken (declared_by graph).edges → (records : Records) (cone : Cone) → IsConeIn graph (store_of reader own entry) targets cone
+    → (IsTrue tells → FilesAreKept own (declared_by graph).edges entry.history now.history → IsStoreOf graph records (store_of reader own entry))
+    → Looked tells entry old → OnlyLooks tells old now → (report : Report) → LacksSource tells graph records cone old now report
+    → Builds tells B (build_logs reader) own (declared_by graph) folder limits given targets entry now report
+builds_lacking tells B reader own graph folder limits given targets entry old now idle formed taken records cone listed known looked looks report (inl so) =
+    subst (λ (r : Report). Builds tells B (build_logs reader) own (declared_by graph) folder limits given targets entry now r) (sym {A = Report} so.says)
+    (builds_fault tells B reader own (declared_by graph) folder limits given targets entry now idle formed taken (looks_then tells entry old now looked.looks looks) so.fault (cause_then entry old now (Err so.fault) looked.unrefused so.cause))
+builds_lacking tells B reader own graph folder limits given targets entry old now idle formed taken records cone listed known looked looks report (inr so) =
+    subst (λ (r : Report). Builds tells B (build_logs reader) own (declared_by graph) folder limits given targets entry now r) (sym {A = Report} so.says)
+    (builds_missing tells B reader own (declared_by graph) folder limits given targets entry now idle formed taken cone.order.items cone.marks.items listed.listed listed.named listed.acyclic (looked_more tells entry old now looked looks so.unrefused) so.missing
+    (λ tell kept. so.is targets (store_of reader own entry) (known tell kept) listed tell entry.history
+    (stays_at_entry tells entry old now now.history [] idle looked looks (sym (append-nil now.history)) tell kept.edits)))

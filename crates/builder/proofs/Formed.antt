@@ -3,11 +3,10 @@ use Rattle.std.proofs.Common.{◌≡◌, ◌≢◌, ℕ, false, List, [], Some, 
 use Rattle.std.proofs.lemmas.Bool.{false≢true}
 use Rattle.model.specs.declared.graph.Edge.{Edge}
 use Rattle.model.specs.declared.graph.BuildGraph.{BuildGraph}
-use Rattle.model.specs.Graph.{edge_at, no_edge, outputs}
+use Rattle.model.specs.Graph.{edge_at, no_edge, outputs, IsCommand}
 use Rattle.model.specs.SingleBuild.{NamesOther}
 use Rattle.build_theory.proofs.Lists.{all_weaker}
 use Rattle.build_theory.proofs.Makers.{each_edge}
-use Rattle.looks.specs.Lacks.{HaveOutputs}
 use Rattle.builder.specs.Taken.{IsTakenEdge, IsTaken}
 use Rattle.manifest.specs.Answer.{IsWellFormed, IsGraph}
 
@@ -15,7 +14,7 @@ module _ (graph : BuildGraph) (formed : IsGraph graph) where
   of_each : (P : Edge → Type 0) → P no_edge → ((e : Edge) → IsWellFormed e → P e) → (i : ℕ) → P (edge_at graph.edges i)
   of_each P none each = each_edge P graph.edges none (all_weaker IsWellFormed P each graph.edges formed)
 
-  pub have_outputs : HaveOutputs graph.edges
+  pub have_outputs : (i : ℕ) → IsCommand graph.edges i → outputs (edge_at graph.edges i) ≢ []
   have_outputs = of_each (λ e. e.phony ≡ false → outputs e ≢ []) (λ h. absurd (false≢true (sym h))) (λ e well command. well.made)
 
 module _ (edges : List Edge) (taken : IsTaken edges) where
@@ -25,8 +24,8 @@ module _ (edges : List Edge) (taken : IsTaken edges) where
   pub no_depfile : (i : ℕ) → (edge_at edges i).act.depfile ≡ []
   no_depfile = of_taken (λ e. e.act.depfile ≡ []) refl (λ e is. is.depfile)
 
-  pub no_response : (i : ℕ) → (edge_at edges i).act.response_path ≡ []
-  no_response = of_taken (λ e. e.act.response_path ≡ []) refl (λ e is. is.response_path)
+  pub no_restat : (i : ℕ) → (edge_at edges i).restat ≡ false
+  no_restat = of_taken (λ e. e.restat ≡ false) refl (λ e is. is.restat)
 
   pub no_dyndep : (i : ℕ) → (edge_at edges i).dyndep ≡ None
   no_dyndep = of_taken (λ e. e.dyndep ≡ None) refl (λ e is. is.dyndep)

@@ -1,6 +1,9 @@
+pub mod Beginning
 pub mod Builds
+pub mod Counting
 pub mod Folders
 pub mod Formed
+pub mod Opening
 pub mod Slices
 pub mod Stages
 pub mod Telling

@@ -16,6 +16,10 @@ pub if_ok_then : {T E : Type 0} {P Q : T → Type 0} (r : Result T E) → IfOk r
 if_ok_then (Ok x) p f = f x p
 if_ok_then (Err e) p f = tt
 
+pub if_ok_and : {T E : Type 0} {P Q R : T → Type 0} (r : Result T E) → IfOk r P → IfOk r Q → ((x : T) → P x → Q x → R x) → IfOk r R
+if_ok_and (Ok x) p q f = f x p q
+if_ok_and (Err e) p q f = tt
+
 pub if_err_then : {T E : Type 0} {P Q : E → Type 0} (r : Result T E) → IfErr r P → ((e : E) → P e → Q e) → IfErr r Q
 if_err_then (Ok x) p f = tt
 if_err_then (Err e) p f = f e p

@@ -1,13 +1,13 @@
 -- How a manifest in numbers is told in texts.
-use Rattle.std.proofs.Common.{◌≡◌, ℕ, zero, suc, ◌<◌, ◌≤◌, ◌+◌, List, [], ◌∷◌, ◌++◌, map, length, take, drop, get_or, slice_get, Option, Some, None, refl, sym, ◌∙◌, ap, subst, arith}
+use Rattle.std.proofs.Common.{◌≡◌, ℕ, zero, suc, ◌<◌, ◌≤◌, ◌+◌, cond, Bool, true, false, is_some, List, [], ◌∷◌, ◌++◌, map, length, take, drop, get_or, slice_get, Option, Some, None, refl, sym, ◌∙◌, ap, subst, arith}
+use Rattle.std.specs.List.{list_all}
 use Rattle.std.specs.Option.{option_map}
 use Rattle.std.proofs.lemmas.List.{map-append, take_more, take_all}
 use Rattle.model.specs.declared.event.Moment.{Moment}
 use Rattle.model.specs.declared.graph.Edge.{Edge}
 use Rattle.model.specs.Graph.{edge_at, first_output, no_edge, outputs, has}
-use Rattle.model.specs.Records.{recorded_inputs}
-use Rattle.build_theory.specs.Order.{no_records}
-use Rattle.build_theory.proofs.Nothing.{recorded_nothing}
+use Rattle.model.specs.declared.record.DepsRecord.{DepsRecord}
+use Rattle.model.specs.Records.{Store, recorded_of, recorded_inputs, all_paths_in, is_known, in_force, deps_in_force}
 use Rattle.paths.specs.declared.line.Line.{Line}
 use Rattle.paths.specs.declared.manifest.Action.{Action}
 use Rattle.paths.specs.declared.manifest.Action.TheVariants.{Alias, Command}
@@ -16,8 +16,8 @@ use Rattle.paths.specs.Commands.{no_action}
 use Rattle.paths.specs.Lists.{line_at, line_outputs}
 use Rattle.paths.specs.Told.{text_at, texts_at, edge_of, edges_of, graph_of}
 use Rattle.links.specs.Told.{AreSameInputs}
-use Rattle.looks.specs.Lacks.{IsLackedBy}
-use Rattle.builder.specs.Reports.{IsMissingFor, IsNotTakenAt, first_output_of}
+use Rattle.dues.specs.Lacks.{IsLackedBy}
+use Rattle.builder.specs.Reports.{HasNoDeps, IsMissingFor, IsNotTakenAt, first_output_of}
 use Rattle.builder.specs.Taken.{IsTakenEdge, IsTaken}
 use Rattle.builder.proofs.Slices.{split_at, all_one_more}
 
@@ -110,15 +110,32 @@ module _ (manifest : Manifest) where
 
 -- ---- nothing recorded
 
-pub same_nothing : (edges : List Edge) (others : ℕ → List (List ℕ)) → ((i : ℕ) → others i ≡ []) → AreSameInputs (recorded_inputs no_records edges) others
-same_nothing edges others none i p = ap (λ (l : List (List ℕ)). has l p) (recorded_nothing edges i ∙ sym (none i))
+no_paths : (os : List (List ℕ)) → all_paths_in [] os ≡ []
+no_paths [] = refl
+no_paths (o ∷ os) = no_paths os
+
+-- where no deps record is known, no edge has recorded inputs in use
+pub recorded_none : (store : Store) (edges : List Edge) (i : ℕ) → HasNoDeps store → recorded_inputs store edges i ≡ []
+recorded_none store edges i none = by_test (edge_at edges i).phony (is_some (edge_at edges i).dyndep)
+  where
+    known : (t : Bool) (os : List (List ℕ)) → cond t (all_paths_in store.deps os) [] ≡ []
+    known true os = ap (λ (l : List DepsRecord). all_paths_in l os) none ∙ no_paths os
+    known false os = refl
+
+    by_test : (t u : Bool) → cond t [] (cond u [] (recorded_of store (edge_at edges i))) ≡ []
+    by_test true u = refl
+    by_test false true = refl
+    by_test false false = known (list_all (λ o. is_known (edge_at edges i).act (in_force store.records o) (deps_in_force store.deps o)) (outputs (edge_at edges i))) (outputs (edge_at edges i))
+
+pub same_nothing : (store : Store) (edges : List Edge) (others : ℕ → List (List ℕ)) → HasNoDeps store → ((i : ℕ) → others i ≡ []) → AreSameInputs (recorded_inputs store edges) others
+same_nothing store edges others no_deps none i p = ap (λ (l : List (List ℕ)). has l p) (recorded_none store edges i no_deps ∙ sym (none i))
 
 -- ---- what is missing
 
-pub missing_told : (edges : List Edge) (requested : List (List ℕ)) (files : List Moment) (text path : List ℕ) (needed : Option ℕ) (needed_by : Option (List ℕ)) → path ≡ text
-    → needed_by ≡ option_map (λ e. first_output (edge_at edges (suc e))) needed → IsLackedBy edges requested files text needed → IsMissingFor edges requested files path needed_by
-missing_told edges requested files text path needed needed_by same by lacked = subst (λ (p : List ℕ). IsMissingFor edges requested files p needed_by) (sym same) (by_needed needed by lacked)
+pub missing_told : (edges : List Edge) (store : Store) (requested : List (List ℕ)) (files : List Moment) (text path : List ℕ) (needed : Option ℕ) (needed_by : Option (List ℕ)) → path ≡ text
+    → needed_by ≡ option_map (λ e. first_output (edge_at edges (suc e))) needed → IsLackedBy edges store requested files text needed → IsMissingFor edges store requested files path needed_by
+missing_told edges store requested files text path needed needed_by same by lacked = subst (λ (p : List ℕ). IsMissingFor edges store requested files p needed_by) (sym same) (by_needed needed by lacked)
   where
-    by_needed : (needed : Option ℕ) → needed_by ≡ option_map (λ e. first_output (edge_at edges (suc e))) needed → IsLackedBy edges requested files text needed → IsMissingFor edges requested files text needed_by
-    by_needed None is lacked = subst (λ (n : Option (List ℕ)). IsMissingFor edges requested files text n) (sym is) lacked
-    by_needed (Some e) is lacked = subst (λ (n : Option (List ℕ)). IsMissingFor edges requested files text n) (sym is) (suc e, refl, lacked)
+    by_needed : (needed : Option ℕ) → needed_by ≡ option_map (λ e. first_output (edge_at edges (suc e))) needed → IsLackedBy edges store requested files text needed → IsMissingFor edges store requested files text needed_by
+    by_needed None is lacked = subst (λ (n : Option (List ℕ)). IsMissingFor edges store requested files text n) (sym is) lacked
+    by_needed (Some e) is lacked = subst (λ (n : Option (List ℕ)). IsMissingFor edges store requested files text n) (sym is) (suc e, refl, lacked)

@@ -1,5 +1,5 @@
 -- What `build` promises: what it read, and the build of the graph that it read.
-use Rattle.std.specs.Prelude.{◌≡◌, ◌⊎◌, ℕ, Bool, IsTrue, List, [], Option, Some, None, Ok, Err, OnOk}
+use Rattle.std.specs.Prelude.{◌≡◌, ◌⊎◌, ℕ, Bool, IsTrue, List, Option, Some, None, Ok, Err, OnOk}
 use Rattle.model.specs.declared.act.Act.{Act}
 use Rattle.model.specs.declared.fault.SiteFault.TheVariants.{Memory}
 use Rattle.model.specs.declared.graph.BuildGraph.{BuildGraph}
@@ -9,14 +9,17 @@ use Rattle.model.specs.World.{World, View, IsIdle}
 use Rattle.model.specs.Graph.{Addition}
 use Rattle.model.specs.Calls.{OnlyLooks, HasCause}
 use Rattle.model.specs.Outcome.{Behaviour}
+use Rattle.model.specs.declared.record.Record.{Record}
 use Rattle.model.specs.Records.{LogFormat, OwnFiles, IsOwnIn}
-use Rattle.model.specs.Schedule.{Task}
-use Rattle.model.specs.SingleBuild.{Asked, Answer, SingleBuild, task_of}
+use Rattle.model.specs.History.{IsHeadline}
+use Rattle.model.specs.Kept.{KeepsLogs}
+use Rattle.build_log.specs.Laws.{Reads}
+use Rattle.build_log.specs.Record.{forms}
+use Rattle.model.specs.SingleBuild.{Asked, Answer, SingleBuild}
 use Rattle.model.specs.SingleBuild as answer
 use Rattle.manifest.specs.Answer.{ReadsFile, site_part}
 use Rattle.manifest.specs.declared.fault.ReadError.{ReadError}
 use Rattle.manifest.specs.declared.fault.ReadError.TheVariants as read
-use Rattle.build_theory.specs.Order.{no_records}
 use Rattle.builder.specs.declared.report.Refusal.TheVariants.{File, MadeTwice, NoDyndepInput, NotTaken, UnknownTarget, Cycle, Missing}
 use Rattle.builder.specs.declared.report.Report.{Report}
 use Rattle.builder.specs.declared.report.Options.{Options}
@@ -30,9 +33,9 @@ use Rattle.builder.specs.Taken.{IsTaken, IsFirstNotTaken}
 use Rattle.links.specs.Targets.{IsFirstUnknown}
 use Rattle.manifest.specs.Answer.{IsGraph}
 
--- no logs are read yet
-abbrev pub no_logs : LogFormat
-no_logs = record { records = λ text. None; deps = λ text. None }
+-- build logs are read so, and no deps log is read yet
+abbrev pub build_logs : (List ℕ → Option (List Record)) → LogFormat
+build_logs reader = record { records = reader; deps = λ text. None }
 
 -- the limits of these options
 abbrev pub limits_of : Options → Limits
@@ -41,10 +44,6 @@ limits_of options = record { jobs = options.jobs; keep = options.keep }
 -- these canonical targets are built within these limits; own files lie in this folder
 abbrev pub asked_of : BuildGraph → List ℕ → Limits → List (List ℕ) → Asked
 asked_of graph folder limits targets = record { graph = graph; declared = graph.edges; targets = targets; folder = folder; jobs = limits.jobs; keep = limits.keep }
-
--- what is to be built, wherever own files lie
-abbrev pub task_for : BuildGraph → Limits → List (List ℕ) → Task
-task_for graph limits targets = task_of (asked_of graph [] limits targets) no_records
 
 abbrev pub missing_answer : List ℕ → Option (List ℕ) → Answer
 missing_answer path None = answer.MissingTarget path
@@ -78,19 +77,21 @@ pub record IsNotTaken (tells : Bool) (edges : List Edge) (old new : World) (repo
   pub says : (report ≡ Refused (NotTaken path)) ⊎ (report ≡ Fault Memory)
   pub looks : OnlyLooks tells old new
 
--- the graph was built, and the report says how
-pub record Builds (tells : Bool) (B : Behaviour) (own : OwnFiles) (graph : BuildGraph) (folder : List ℕ) (limits : Limits) (given targets : List (List ℕ)) (old new : World) (report : Report) : Type 0 where
+-- The graph was built, and the report says how; the build is as the headline says, and keeps its logs.
+pub record Builds (tells : Bool) (B : Behaviour) (format : LogFormat) (own : OwnFiles) (graph : BuildGraph) (folder : List ℕ) (limits : Limits) (given targets : List (List ℕ)) (old new : World) (report : Report) : Type 0 where
   pub taken : IsTaken graph.edges ⊎ IsNotTaken tells graph.edges old new report
   pub answer : Answer
   pub said : Says graph.edges given targets report answer
-  pub build : SingleBuild tells B no_logs own (asked_of graph folder limits targets) old new answer
+  pub build : SingleBuild tells B format own (asked_of graph folder limits targets) old new answer
+  pub headline : IsHeadline tells B format own (asked_of graph folder limits targets) old new answer build
+  pub logs : KeepsLogs tells B format own (asked_of graph folder limits targets) old new answer build
 
--- what was asked for was built from an entry on, since which there was only looked, for any own files of the program that lie in
--- this folder
+-- what was asked for was built from an entry on, since which there was only looked: for any own files of the program that lie in
+-- this folder, and for each function that reads build logs as they are defined
 abbrev pub BuildsFor : Bool → BuildGraph → Request → World → World → Report → Type 0
 BuildsFor tells graph asked old new report =
-    (B : Behaviour) (own : OwnFiles) (entry : World) → IsOwnIn own asked.folder → IsIdle entry.events → Looked tells entry old
-    → Builds tells B own graph asked.folder asked.limits asked.given.now asked.targets entry new report
+    (B : Behaviour) (reader : List ℕ → Option (List Record)) (own : OwnFiles) (entry : World) → Reads forms reader → IsOwnIn own asked.folder → IsIdle entry.events → Looked tells entry old
+    → Builds tells B (build_logs reader) own graph asked.folder asked.limits asked.given.now asked.targets entry new report
 
 -- the report of a build whose files were not read
 abbrev pub unread : ReadError → Report
@@ -108,7 +109,8 @@ pub record IsUnread (tells : Bool) (name : List ℕ) (old new : World) (report :
   pub file : IsTrue tells → OnOk (site_part {T = BuildGraph} (Err error)) (ReadsFile name old.history new.history (Err error))
 
 -- The file of this name was read, and the graph that it declares was built: for any own files of the program that lie in the
--- folder which `builddir` names, and whatever depfiles and dyndep files say, as no edge has one.
+-- folder which `builddir` names, for each function that reads build logs as they are defined, and whatever depfiles and dyndep
+-- files say, as no edge has one.
 pub record IsBuilt (tells : Bool) (outcome : Act → View → Outcome) (name : List ℕ) (limits : Limits) (given : List (List ℕ)) (old new : World) (report : Report) : Type 0 where
   pub graph : BuildGraph
   pub formed : IsGraph graph
@@ -118,8 +120,8 @@ pub record IsBuilt (tells : Bool) (outcome : Act → View → Outcome) (name : L
   pub canonical : AreTargets given targets
   pub folder : List ℕ
   pub in_folder : IsFolder graph.builddir folder
-  pub builds : (own : OwnFiles) (depfile : List ℕ → Option (List (List ℕ))) (dyndep : List ℕ → Option (List Addition)) → IsOwnIn own folder
-      → Builds tells (record { outcome = outcome; depfile = depfile; dyndep = dyndep }) own graph folder limits given targets old new report
+  pub builds : (own : OwnFiles) (reader : List ℕ → Option (List Record)) (depfile : List ℕ → Option (List (List ℕ))) (dyndep : List ℕ → Option (List Addition)) → Reads forms reader → IsOwnIn own folder
+      → Builds tells (record { outcome = outcome; depfile = depfile; dyndep = dyndep }) (build_logs reader) own graph folder limits given targets old new report
 
 abbrev pub IsBuild : Bool → (Act → View → Outcome) → List ℕ → Limits → List (List ℕ) → World → World → Report → Type 0
 IsBuild tells outcome name limits given old new report = IsUnread tells name old new report ⊎ IsBuilt tells outcome name limits given old new report

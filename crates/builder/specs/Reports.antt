@@ -1,19 +1,18 @@
 -- What the stages of a build report.
-use Rattle.std.specs.Prelude.{◌≡◌, ◌⊎◌, ◌<◌, ℕ, suc, Bool, List, [], length, map, Option, Some, None, Result, Ok, Err}
+use Rattle.std.specs.Prelude.{◌≡◌, ◌⊎◌, ◌<◌, ℕ, suc, Bool, false, IsTrue, List, [], length, map, Option, Some, None, Result, Ok, Err}
 use Rattle.model.specs.declared.event.Moment.{Moment}
 use Rattle.model.specs.declared.fault.SiteFault.{SiteFault}
 use Rattle.model.specs.declared.fault.SiteFault.TheVariants.{Memory}
 use Rattle.model.specs.declared.graph.Edge.{Edge}
-use Rattle.model.specs.World.{World, IsIdle}
+use Rattle.model.specs.World.{World, view_of, IsIdle}
 use Rattle.model.specs.Calls.{HasCause}
 use Rattle.model.specs.Graph.{edge_at, first_output, targets_of}
 use Rattle.model.specs.OutOfDate.{IsFirstMissing, IsMissingInput, NothingIsMissing}
-use Rattle.model.specs.Records.{OwnFiles, IsOwnIn}
-use Rattle.model.specs.Schedule.{Task}
+use Rattle.model.specs.Premises.{FilesAreKept}
+use Rattle.model.specs.Records.{Store, IsOwnIn, store_in}
 use Rattle.model.specs.SingleBuild as answer
-use Rattle.model.specs.SingleBuild.{Asked, Answer}
-use Rattle.build_theory.specs.Order.{no_records}
-use Rattle.build_theory.specs.Seen.{Looked, Unrefused}
+use Rattle.model.specs.SingleBuild.{Asked, Answer, task_of}
+use Rattle.build_theory.specs.Seen.{IsSeen, Looked, Unrefused}
 use Rattle.paths.specs.declared.manifest.Manifest.{Manifest}
 use Rattle.paths.specs.Told.{text_at, texts_at, graph_of}
 use Rattle.links.specs.declared.cone.Cone.{Cone}
@@ -24,13 +23,20 @@ use Rattle.links.specs.declared.fault.GraphFault.{GraphFault}
 use Rattle.links.specs.declared.fault.GraphFault.TheVariants as graph
 use Rattle.links.specs.Targets.{IsNoCone}
 use Rattle.links.specs.Told.{declared_by, recorded_by}
-use Rattle.looks.specs.Lacks.{IsConeUnrecorded}
-use Rattle.looks.specs.Seen.{IfStays}
+use Rattle.dues.specs.Stores.{IsStoreOf, IsConeIn}
+use Rattle.looks.specs.declared.table.Looks.{Looks}
+use Rattle.looks.specs.Seen.{IfStays, AreSeen, AreSeenOf}
+use Rattle.records.specs.declared.records.Records.{Records}
+use Rattle.records.specs.Known.{IsOf}
+use Rattle.records.specs.Logging.{IsLogging}
+use Rattle.model.specs.declared.record.Record.{Record}
 use Rattle.plan.specs.declared.plan.Plan.{Plan}
 use Rattle.plan.specs.Planned.{IsPlanned}
+use Rattle.lowest.specs.Flags.{has}
 use Rattle.runner.specs.declared.cut.Cut.{Cut}
 use Rattle.runner.specs.declared.summary.Summary.{Summary}
 use Rattle.runner.specs.declared.summary.Summary.TheVariants.{Well, Failed as SomeFailed}
+use Rattle.runner.specs.Course.{Course, edges_of, is_quiet}
 use Rattle.runner.specs.Cut.{fault_of}
 use Rattle.runner.specs.Ran.{HasRun}
 use Rattle.builder.specs.declared.asked.Asked.{Asked as Request}
@@ -40,7 +46,7 @@ use Rattle.builder.specs.declared.report.Refusal.{Refusal}
 use Rattle.builder.specs.declared.report.Refusal.TheVariants.{MadeTwice, NoDyndepInput, NotTaken, UnknownTarget, Cycle, Missing}
 use Rattle.builder.specs.declared.report.Report.{Report}
 use Rattle.builder.specs.declared.report.Report.TheVariants.{Success, Failed, Refused, Fault}
-use Rattle.builder.specs.Build.{task_for}
+use Rattle.builder.specs.Build.{asked_of}
 use Rattle.builder.specs.Taken.{IsFirstNotTaken}
 
 -- a stage that ends the build gives its report as an error
@@ -83,12 +89,20 @@ ShowsFault paths given cone.Memory refusal = ⊥
 ShowsFault paths given (cone.Unknown place) refusal = refusal ≡ UnknownTarget (text_at given place)
 ShowsFault paths given (cone.Cycle numbers) refusal = refusal ≡ Cycle (texts_at paths numbers)
 
--- these canonical targets have no cone where no output has a record, and the refusal shows why
+-- no deps record is known
+abbrev pub HasNoDeps : Store → Type 0
+HasNoDeps store = store.deps ≡ []
+
+-- these canonical targets have no cone where no deps record is known, and the refusal shows why
 pub record IsConeRefused (graph : Graph) (given targets : List (List ℕ)) (refusal : Refusal) : Type 0 where
   pub fault : ConeFault
   pub shows : ShowsFault graph.manifest.paths given fault refusal
-  pub is : (asked : Asked) → asked.declared ≡ asked.graph.edges → asked.graph ≡ declared_by graph → asked.targets ≡ targets
-      → IsNoCone asked no_records graph.manifest.paths fault
+  pub is : (asked : Asked) (store : Store) → asked.declared ≡ asked.graph.edges → asked.graph ≡ declared_by graph → asked.targets ≡ targets → HasNoDeps store
+      → IsNoCone asked store graph.manifest.paths fault
+
+-- this is the cone of these targets where no deps record is known
+abbrev pub IsConeUnrecorded : Graph → List (List ℕ) → Cone → Type 0
+IsConeUnrecorded graph targets cone = (store : Store) → HasNoDeps store → IsConeIn graph store targets cone
 
 -- so it is told, or there was no memory
 abbrev pub SaysNoCone : Graph → List (List ℕ) → List (List ℕ) → Report → Type 0
@@ -98,10 +112,10 @@ SaysNoCone graph given targets report =
 -- ---- missing sources
 
 -- why the path is named: it is one of those that are requested, or an input of the edge with this first output
-abbrev pub IsMissingFor : List Edge → List (List ℕ) → List Moment → List ℕ → Option (List ℕ) → Type 0
-IsMissingFor edges requested files path None = IsFirstMissing edges files requested path
-IsMissingFor edges requested files path (Some output) =
-    (i : ℕ) × (output ≡ first_output (edge_at edges i)) × IsMissingInput edges no_records [] files requested i path
+abbrev pub IsMissingFor : List Edge → Store → List (List ℕ) → List Moment → List ℕ → Option (List ℕ) → Type 0
+IsMissingFor edges store requested files path None = IsFirstMissing edges files requested path
+IsMissingFor edges store requested files path (Some output) =
+    (i : ℕ) × (output ≡ first_output (edge_at edges i)) × IsMissingInput edges store [] files requested i path
 
 -- a call was refused, or there was no memory
 pub record SaysFault (old new : World) (report : Report) : Type 0 where
@@ -109,31 +123,52 @@ pub record SaysFault (old new : World) (report : Report) : Type 0 where
   pub says : report ≡ Fault fault
   pub cause : HasCause {T = Unit {0}} old new (Err fault)
 
--- a source is missing, and no call was refused
-pub record SaysMissing (tells : Bool) (edges : List Edge) (requested : List (List ℕ)) (old new : World) (report : Report) : Type 0 where
+-- a source of this cone is missing, by each store whose records were read, and no call was refused
+pub record SaysMissing (tells : Bool) (graph : Graph) (records : Records) (cone : Cone) (old new : World) (report : Report) : Type 0 where
   pub missing : Lacking
   pub says : report ≡ Refused (Missing missing)
   pub unrefused : Unrefused old new
-  pub is : IfStays tells old new (λ files. IsMissingFor edges requested files missing.path missing.needed_by)
+  pub is : (targets : List (List ℕ)) (store : Store) → IsStoreOf graph records store → IsConeIn graph store targets cone
+      → IfStays tells old new (λ files. IsMissingFor (declared_by graph).edges store (targets_of (declared_by graph) targets) files missing.path missing.needed_by)
 
--- no source of this cone is missing
-abbrev pub HasSources : Bool → Graph → Cone → World → World → Type 0
-HasSources tells graph cone old new =
-    (targets : List (List ℕ)) → IsConeUnrecorded graph targets cone
-    → IfStays tells old new (λ files. NothingIsMissing (declared_by graph).edges no_records [] files (targets_of (declared_by graph) targets))
+-- no source of this cone is missing, by each store whose records were read
+abbrev pub HasSources : Bool → Graph → Records → Cone → World → World → Type 0
+HasSources tells graph records cone old new =
+    (targets : List (List ℕ)) (store : Store) → IsStoreOf graph records store → IsConeIn graph store targets cone
+    → IfStays tells old new (λ files. NothingIsMissing (declared_by graph).edges store [] files (targets_of (declared_by graph) targets))
 
 -- a source of this cone is missing, or that was not to be seen
-abbrev pub LacksSource : Bool → Graph → Cone → World → World → Report → Type 0
-LacksSource tells graph cone old new report =
-    (targets : List (List ℕ)) → IsConeUnrecorded graph targets cone
-    → SaysFault old new report ⊎ SaysMissing tells (declared_by graph).edges (targets_of (declared_by graph) targets) old new report
+abbrev pub LacksSource : Bool → Graph → Records → Cone → World → World → Report → Type 0
+LacksSource tells graph records cone old new report = SaysFault old new report ⊎ SaysMissing tells graph records cone old new report
+
+-- all that was seen is so of the files, where they stayed the same
+abbrev pub IsSeenAtEntry : Bool → Graph → World → World → Looks → Type 0
+IsSeenAtEntry tells graph old new looks = IfStays tells old new (λ files. AreSeen graph.manifest.paths files looks.seen.items)
 
 -- ---- the run
 
--- in the plan of this cone nothing is judged yet
-abbrev pub IsPlanFor : Graph → Cone → Limits → Plan → Type 0
-IsPlanFor graph cone limits plan =
-    (targets : List (List ℕ)) → IsConeUnrecorded graph targets cone → IsPlanned (task_for (declared_by graph) limits targets) graph plan []
+-- in the plan of this cone nothing is judged yet, and nothing was made anew
+pub record IsPlanFor (graph : Graph) (cone : Cone) (limits : Limits) (plan : Plan) : Type 0 where
+  pub flags : (p : ℕ) → has plan.changed.items p ≡ false
+  pub planned : (folder : List ℕ) (targets : List (List ℕ)) (store : Store) → HasNoDeps store → IsConeIn graph store targets cone
+      → IsPlanned (task_of (asked_of (declared_by graph) folder limits targets) store) graph plan []
+
+-- A run of what was asked for may begin on this course: no command ran at its entry, since which there was only looked; the records
+-- that were read are those of the entry, and what was seen of files is so.
+pub record MayRun (tells : Bool) (graph : Graph) (request : Request) (cone : Cone) (records : Records) (looks : Looks) (course : Course) (now : World) : Type 0 where
+  pub asked : course.asked ≡ asked_of (declared_by graph) request.folder request.limits request.targets
+  pub owned : IsOwnIn course.own request.folder
+  pub found : course.store ≡ store_in course.format course.own (view_of course.entry.history)
+  pub no_deps : HasNoDeps course.store
+  pub idle : IsIdle course.entry.events
+  pub looked : Looked tells course.entry now
+  pub listed : IsConeIn graph course.store request.targets cone
+  pub logging : IsLogging tells course.behaviour course.format course.own (edges_of course) [] None course.store course.entry now records.file
+  pub known : List Record
+  pub told : IsOf known graph.manifest.paths records
+  pub same : IsTrue tells → FilesAreKept course.own (edges_of course) course.entry.history now.history → course.store.records ≡ known
+  pub seen : IsTrue tells → FilesAreKept course.own (edges_of course) course.entry.history now.history
+      → AreSeenOf (is_quiet course.own (edges_of course) []) graph.manifest.paths now.history looks.seen.items
 
 -- the report of a run that was not cut off
 abbrev pub SaysEnd : Graph → Summary → Report → Type 0
@@ -145,17 +180,18 @@ abbrev pub SaysResult : Graph → Result Summary Cut → Report → Type 0
 SaysResult graph (Ok summary) report = SaysEnd graph summary report
 SaysResult graph (Err cut) report = report ≡ Fault (fault_of cut)
 
--- commands were run, and so it is told, or there was no memory to tell it
-pub record SaysRun (tells : Bool) (own : OwnFiles) (task : Task) (graph : Graph) (old new : World) (report : Report) : Type 0 where
-  pub result : Result Summary Cut
-  pub ran : HasRun tells own task old new result
-  pub says : (report ≡ Fault Memory) ⊎ SaysResult graph result report
+-- a fault that is told has its cause
+abbrev pub ShowsCause : World → World → Report → Type 0
+ShowsCause old new (Success started) = Unit {0}
+ShowsCause old new (Failed outputs) = Unit {0}
+ShowsCause old new (Refused refusal) = Unit {0}
+ShowsCause old new (Fault fault) = IsSeen old new fault
 
--- what was asked for was run from an entry on, since which there was only looked
-abbrev pub RunsFor : Bool → Graph → Request → World → World → Report → Type 0
-RunsFor tells graph asked old new report =
-    (own : OwnFiles) (entry : World) → IsOwnIn own asked.folder → IsIdle entry.events → Looked tells entry old
-    → SaysRun tells own (task_for (declared_by graph) asked.limits asked.targets) graph entry new report
+-- commands were run, and so it is told, or there was no memory to tell it
+pub record SaysRun (tells : Bool) (course : Course) (graph : Graph) (new : World) (report : Report) : Type 0 where
+  pub result : Result Summary Cut
+  pub ran : HasRun tells course new result
+  pub says : (report ≡ Fault Memory) ⊎ SaysResult graph result report
 
 -- what a run answers
 abbrev pub run_answer : Report → Answer

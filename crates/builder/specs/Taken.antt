@@ -1,4 +1,4 @@
--- Which graphs are taken so far: those without response files, depfiles, `restat` and dyndep files.
+-- Which graphs are taken so far: those without depfiles, `restat` and dyndep files.
 use Rattle.std.specs.Prelude.{◌≡◌, ℕ, false, List, [], ◌∷◌, ◌++◌, None}
 use Rattle.std.specs.List.{AllByRecursion}
 use Rattle.model.specs.declared.graph.Edge.{Edge}
@@ -7,7 +7,6 @@ use Rattle.model.specs.Graph.{first_output}
 -- the edge has nothing that is not taken yet
 pub record IsTakenEdge (edge : Edge) : Type 0 where
   pub depfile : edge.act.depfile ≡ []
-  pub response_path : edge.act.response_path ≡ []
   pub dyndep : edge.dyndep ≡ None
   pub restat : edge.restat ≡ false
 

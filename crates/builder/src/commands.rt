@@ -1,20 +1,19 @@
-//! How many commands a build has.
+//! How many commands are to be started.
 
-ghost use Rattle.std.specs.Prelude.{◌≡◌, ◌<◌, All, length};
+ghost use Rattle.std.specs.Prelude.{◌≡◌, length};
 ghost use Rattle.links.specs.Links.{links_of};
-ghost use Rattle.builder.specs.Commands.{count_commands};
+ghost use Rattle.builder.specs.Commands.{count_due_commands};
 
 use links::Graph;
-use paths::EdgeId;
 
-/// How many of these edges have a command.
-pub fn commands_among(graph: &Graph, edges: &[EdgeId]) -> usize
-    requires { All (λ e. e < length graph.now.manifest.lines) edges.now }
-    ensures { result ≡ count_commands (links_of graph.now) edges.now }
+/// How many of the edges that are due have a command.
+pub fn due_commands(graph: &Graph, due: &[bool]) -> usize
+    requires { length due.now ≡ length graph.now.manifest.lines }
+    ensures { result ≡ count_due_commands (links_of graph.now) due.now }
 {
     let mut count = 0;
-    for edge in edges {
-        if !graph.is_phony(*edge) {
+    for (place, is_due) in due.iter().enumerate() {
+        if *is_due && !graph.is_phony(graph.manifest.edge(place)) {
             count += 1;
         }
     }

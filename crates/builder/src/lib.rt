@@ -5,10 +5,10 @@ mod asked;
 mod commands;
 mod names;
 mod one_build;
+mod own_files;
 mod report;
 mod sources;
 mod taken;
-mod tick;
 
 pub use one_build::build;
 pub use report::{Missing, Options, Refusal, Report};

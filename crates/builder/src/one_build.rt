@@ -5,35 +5,40 @@ ghost use Rattle.model.specs.World.{IsIdle};
 ghost use Rattle.model.specs.Graph.{IsMadeOnce};
 ghost use Rattle.model.specs.SingleBuild.{PassesNoFault};
 ghost use Rattle.links.specs.Told.{declared_by};
-ghost use Rattle.looks.specs.Lacks.{IsConeUnrecorded};
 ghost use Rattle.manifest.specs.Answer.{IsGraph};
 ghost use Rattle.paths.specs.Told.{text_at};
+ghost use Rattle.runner.specs.Course.{Course};
 ghost use Rattle.runner.specs.Ran.{AreEdgesOf};
 ghost use Rattle.builder.specs.Build.{limits_of, BuildsFor, IsBuild};
-ghost use Rattle.builder.specs.Reports.{report_in, IsUnrecorded, SaysNoCone, ShowsFault, IsPlanFor, SaysEnd, RunsFor, run_answer};
+ghost use Rattle.builder.specs.Reports.{report_in, IsUnrecorded, IsConeUnrecorded, SaysNoCone, ShowsFault, IsPlanFor, MayRun, SaysEnd, SaysRun, ShowsCause, run_answer};
 ghost use Rattle.builder.specs.Taken.{IsTaken};
 
 use crate::asked::{Asked, Limits};
-use crate::commands::commands_among;
+use crate::commands::due_commands;
 use crate::names::{first_outputs, path_texts};
+use crate::own_files::{LOG, TICK, own_path};
 use crate::report::{Options, Refusal, Report};
-use crate::sources::check_sources;
+use crate::sources::{Known, check_sources};
 use crate::taken::check_taken;
-use crate::tick::tick_path;
+use build_log::{Log, has_reader};
 use display::Display;
 use links::{Cone, ConeFault, Graph};
 use manifest::reads_longer;
 use plan::{Plan, task_of};
-use runner::{Summary, run_plan};
+use records::{Records, log_begins};
+use runner::{Setting, State, Summary, run_plan};
 use site::Site;
 use std::alloc::{AllocError, Global};
 use text::Text;
 
 /// Builds the targets, or the default ones where none is given (manual: "Default target statements").
 ///
+/// What the build log in the folder of `builddir` (manual: "Top-level variables") tells is believed: a command whose outputs are in
+/// order by their records is not started. Each start and each good end is put behind the log; one that is damaged tells nothing.
+///
 /// A refusal has started and written nothing. `NotTaken` goes before every other refusal of the graph. Where a call was
 /// refused, a fault is answered, and nothing was started after it; where the site has stopped, that is the fault. The file
-/// that gets new stamps lies in the folder of `builddir` (manual: "Top-level variables").
+/// that gets new stamps lies beside the log.
 pub fn build<S: Site>(alloc: Global, site: &mut S, options: &Options, targets: &[Text]) -> Report
     requires { IsIdle (S.world site.old).events }
     ensures { IsBuild S.tells S.outcome options.now.file (limits_of options.now) targets.now (S.world site.old) (S.world site.new) result }
@@ -59,6 +64,7 @@ fn try_build<S: Site>(
     check_taken(alloc, &manifest)?;
     let graph = Graph::build(alloc, manifest)?;
     reads_longer();
+    has_reader::<Log>();
     build_graph(alloc, site, &graph, &asked, options)
 }
 
@@ -78,9 +84,13 @@ fn build_graph<S: Site>(
     requires unrecorded { IsUnrecorded graph.now }
     ensures { BuildsFor S.tells (declared_by graph.now) asked.now (S.world site.old) (S.world site.new) (report_in result) }
 {
+    log_begins();
+    has_reader::<Log>();
+    let path = own_path(alloc, asked.folder.as_str(), LOG)?;
+    let records = Records::read(alloc, site, graph, path)?;
     let cone = cone_of(alloc, graph, asked)?;
-    check_sources(alloc, site, graph, &cone)?;
-    run_cone(alloc, site, graph, &cone, asked, options)
+    let known = check_sources(alloc, site, graph, &cone, &records)?;
+    run_cone(alloc, site, graph, &cone, asked, options, records, known)
 }
 
 /// The cone of what was asked for.
@@ -134,21 +144,35 @@ fn run_cone<S: Site>(
     cone: &Cone,
     asked: &Asked<'_>,
     options: &Options,
+    records: Records,
+    known: Known,
 ) -> Result<Report, Report>
     requires idle { IsIdle (S.world site.old).events }
     requires running { (S.world site.old).stopped ≡ false }
+    requires formed { IsGraph (declared_by graph.now) }
+    requires taken { IsTaken (declared_by graph.now).edges }
+    requires once { IsMadeOnce (declared_by graph.now).edges }
     requires unrecorded { IsUnrecorded graph.now }
     requires marks { vec_len cone.now.marks ≡ length graph.now.manifest.lines }
-    requires within { All (λ e. e < length graph.now.manifest.lines) cone.now.order.items }
-    requires cone { IsConeUnrecorded graph.now asked.now.targets cone.now }
-    ensures ran { RunsFor S.tells graph.now asked.now (S.world site.old) (S.world site.new) (report_in result) }
+    requires due { vec_len known.due ≡ length graph.now.manifest.lines }
+    requires fits { length known.looks.seen.items ≡ length graph.now.manifest.paths }
+    requires ready { (course : Course) × MayRun S.tells graph.now asked.now cone.now records known.looks course (S.world site.old) }
+    ensures ran { (course : Course) → MayRun S.tells graph.now asked.now cone.now records known.looks course (S.world site.old) → SaysRun S.tells course graph.now (S.world site.new) (report_in result) }
+    ensures cause { ShowsCause (S.world site.old) (S.world site.new) (report_in result) }
     ensures faults { PassesNoFault (S.world site.old) (S.world site.new) (run_answer (report_in result)) }
 {
-    let tick = tick_path(alloc, asked.folder.as_str())?;
-    let mut plan = plan_of(alloc, graph, cone, asked.limits)?;
-    let unstarted = commands_among(graph, &cone.order);
-    let mut display = Display::new(alloc, &options.pattern, options.verbose, unstarted);
-    let summary = run_plan(alloc, site, graph, tick.as_str(), &mut plan, &mut display)?;
+    let Known { looks, due } = known;
+    let tick = own_path(alloc, asked.folder.as_str(), TICK)?;
+    let plan = plan_of(alloc, graph, cone, asked.limits)?;
+    let unstarted = due_commands(graph, &due);
+    let display = Display::new(alloc, &options.pattern, options.verbose, unstarted);
+    let state = State::new(alloc, graph, plan, looks, records, display, due)?;
+    let setting = Setting {
+        alloc,
+        graph,
+        tick: tick.as_str(),
+    };
+    let summary = run_plan(site, setting, state)?;
     Ok(report(alloc, graph, summary)?)
 }
 

@@ -1,22 +1,34 @@
 //! Missing sources.
 
-ghost use Rattle.std.specs.Prelude.{◌≡◌, ℕ, List, false, length, IfOk, IfErr, OnOk};
+ghost use Rattle.std.specs.Prelude.{◌≡◌, ◌<◌, false, length, vec_len, IfOk, IfErr, OnOk};
 ghost use Rattle.std.specs.Option.{option_map};
-ghost use Rattle.model.specs.Calls.{OnlyLooks, HasCause};
+ghost use Rattle.model.specs.Calls.{OnlyLooks};
 ghost use Rattle.build_theory.specs.Seen.{Unrefused};
 ghost use Rattle.links.specs.Told.{declared_by};
 ghost use Rattle.paths.specs.Told.{text_at};
-ghost use Rattle.looks.specs.Lacks.{HaveOutputs, IsConeUnrecorded, IsEdgeBelow, IsLackOf};
-ghost use Rattle.builder.specs.Reports.{first_output_of, HasSources, LacksSource};
+ghost use Rattle.dues.specs.Lacks.{IsEdgeBelow, IsLackOf};
+ghost use Rattle.dues.specs.Stores.{IsAnyCone};
+ghost use Rattle.builder.specs.Reports.{first_output_of, HasSources, IsSeenAtEntry, LacksSource};
+ghost use Rattle.builder.specs.Taken.{IsTaken};
 
 use crate::names::{first_output, path_text};
 use crate::report::{Missing, Refusal, Report};
+use dues::{Found, Lack, sources};
 use links::{Cone, Graph};
-use looks::{Lack, Looks, first_lack};
+use looks::Looks;
 use paths::EdgeId;
+use records::Records;
 use site::Site;
 use std::alloc::{AllocError, Global};
 use text::Path;
+
+/// What is known of a cone before anything runs: what was seen of files, and for each edge of the graph whether it is in the cone
+/// and due.
+#[derive(Drop)]
+pub struct Known {
+    pub looks: Looks,
+    pub due: Vec<bool>,
+}
 
 /// Refuses a cone of which a source is missing. It only looks.
 pub fn check_sources<S: Site>(
@@ -24,19 +36,25 @@ pub fn check_sources<S: Site>(
     site: &mut S,
     graph: &Graph,
     cone: &Cone,
-) -> Result<(), Report>
+    records: &Records,
+) -> Result<Known, Report>
     requires running { (S.world site.old).stopped ≡ false }
-    requires cone { (targets : List (List ℕ)) × IsConeUnrecorded graph.now targets cone.now }
-    requires outputs { HaveOutputs (declared_by graph.now).edges }
+    requires cone { IsAnyCone graph.now cone.now }
+    requires taken { IsTaken (declared_by graph.now).edges }
     ensures looks { OnlyLooks S.tells (S.world site.old) (S.world site.new) }
     ensures passed { OnOk result (Unrefused (S.world site.old) (S.world site.new)) }
-    ensures sources { OnOk result (HasSources S.tells graph.now cone.now (S.world site.old) (S.world site.new)) }
-    ensures lacking { IfErr result (LacksSource S.tells graph.now cone.now (S.world site.old) (S.world site.new)) }
+    ensures seen { IfOk result (λ known. IsSeenAtEntry S.tells graph.now (S.world site.old) (S.world site.new) known.looks) }
+    ensures fits { IfOk result (λ known. length known.looks.seen.items ≡ length graph.now.manifest.paths) }
+    ensures due { IfOk result (λ known. vec_len known.due ≡ length graph.now.manifest.lines) }
+    ensures sources { OnOk result (HasSources S.tells graph.now records.now cone.now (S.world site.old) (S.world site.new)) }
+    ensures lacking { IfErr result (LacksSource S.tells graph.now records.now cone.now (S.world site.old) (S.world site.new)) }
 {
     let mut looks = Looks::new(alloc, graph)?;
-    match first_lack(alloc, site, graph, cone, &mut looks)? {
-        Some(lack) => Err(Report::Refused(Refusal::Missing(missing(alloc, graph, lack)?))),
-        None => Ok(()),
+    match sources(alloc, site, graph, cone, &mut looks, records)? {
+        Found::Missing(lack) => Err(Report::Refused(Refusal::Missing(missing(
+            alloc, graph, lack,
+        )?))),
+        Found::Present(due) => Ok(Known { looks, due }),
     }
 }
 

@@ -22,7 +22,7 @@ pub fn check_taken(alloc: Global, manifest: &Manifest) -> Result<(), Report>
     }
 }
 
-/// The lowest edge that has something which is not taken yet: a response file, a depfile, `restat` or a dyndep file.
+/// The lowest edge that has something which is not taken yet: a depfile, `restat` or a dyndep file.
 fn first_not_taken(manifest: &Manifest) -> Option<EdgeId>
     ensures { MatchOption result (IsTaken (graph_of manifest.now).edges) (IsNotTakenAt manifest.now) }
 {
@@ -41,10 +41,7 @@ fn is_taken(action: &Action) -> bool
     match action {
         Action::Alias => true,
         Action::Command(command) => {
-            command.act.depfile.is_empty()
-                && command.act.response_path.is_empty()
-                && command.dyndep.is_none()
-                && !command.restat
+            command.act.depfile.is_empty() && command.dyndep.is_none() && !command.restat
         }
     }
 }

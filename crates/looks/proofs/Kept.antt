@@ -1,20 +1,14 @@
 -- Paths that keep their files through calls that only look.
-use Rattle.std.proofs.Common.{◌≡◌, ℕ, suc, zero, Bool, true, false, IsTrue, List, [], ◌∷◌, ◌++◌, Option, ◌⊎◌, inl, inr, length, get_or, refl, sym, ◌∙◌, ap, subst, append_assoc, slice_set, ◌<◌}
-use Rattle.std.proofs.lemmas.Bool.{false≢true}
+use Rattle.std.proofs.Common.{◌≡◌, ℕ, Bool, true, List, [], ◌++◌, Option, inl, inr, length, sym, ◌∙◌, ap, subst, append_assoc, slice_set, ◌<◌}
 use Rattle.std.proofs.lemmas.List.{append-nil, get_or-set_same, get_or-set_other}
 use Rattle.model.specs.declared.event.Moment.{Moment}
-use Rattle.model.specs.World.{World, File, file_at, stamp_of}
-use Rattle.model.specs.Calls.{OnlyLooks, Sees}
-use Rattle.build_theory.proofs.Lists.{same_rest}
+use Rattle.model.specs.World.{File, file_at, stamp_of}
+use Rattle.model.specs.Calls.{Sees}
 use Rattle.paths.specs.Told.{text_at}
 use Rattle.looks.specs.declared.table.Look.{Look}
 use Rattle.looks.specs.declared.table.Look.TheVariants.{Unasked}
-use Rattle.looks.specs.Seen.{look_at, look_of, is_asked, StaysAt, AreSeen, AreKept, AreSeenOf, IsStampIn}
+use Rattle.looks.specs.Seen.{look_at, look_of, is_asked, AreKept, AreSeenOf, IsStampIn}
 use Rattle.looks.proofs.Slices.{same_or_other}
-
-nothing_left : (xs ys : List Moment) → xs ++ ys ≡ [] → xs ≡ []
-nothing_left [] ys is = refl
-nothing_left (x ∷ xs) ys is = cc
 
 -- ---- one call after another
 
@@ -55,17 +49,3 @@ seen_more set paths files seen p stamp lt are is_stamp q = elim (same_or_other p
 pub stamp_kept : (set : List ℕ → Bool) (path : List ℕ) (stamp : Option ℕ) (old new : List Moment) → Sees (λ history. stamp_of (file_at history path)) stamp old new → AreKept set old new → IsStampIn path stamp set new
 stamp_kept set path stamp old new sees kept is =
     sees.is ∙ ap stamp_of (kept path is sees.earlier sees.later sees.grows ∙ sym (file_kept set old new (sees.earlier ++ sees.later) sees.grows kept path is))
-
--- ---- where all files stay
-
-pub all_kept : (files : List Moment) (old new : World) → StaysAt files old new → AreKept (λ p. true) old.history new.history
-all_kept files old new stays p is earlier later grows = ap (λ (l : List Moment). file_at l p) (ap (λ (l : List Moment). old.history ++ l) none ∙ append-nil old.history)
-  where
-    none : earlier ≡ []
-    none = nothing_left earlier later (same_rest old.history (earlier ++ later) [] (sym grows ∙ (stays.after ∙ (sym stays.before ∙ sym (append-nil old.history)))))
-
-pub seen_of_all : (paths : List (List ℕ)) (files history : List Moment) (seen : List Look) → history ≡ files → AreSeen paths files seen → AreSeenOf (λ p. true) paths history seen
-seen_of_all paths files history seen same are p asked is = are p asked ∙ ap (λ (h : List Moment). look_of (stamp_of (file_at h (text_at paths p)))) (sym same)
-
-pub all_seen : (paths : List (List ℕ)) (files history : List Moment) (seen : List Look) → history ≡ files → AreSeenOf (λ p. true) paths history seen → AreSeen paths files seen
-all_seen paths files history seen same are p asked = are p asked refl ∙ ap (λ (h : List Moment). look_of (stamp_of (file_at h (text_at paths p)))) same

@@ -1,5 +1,3 @@
-pub mod Stays
 pub mod Slices
 pub mod Kept
-pub mod DueEdges
-pub mod Sources
+pub mod Stays

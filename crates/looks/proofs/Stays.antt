@@ -1,101 +1,20 @@
--- What calls tell of the files, where these were the same before and after.
-use Rattle.std.proofs.Common.{◌≡◌, ℕ, ◌+◌, ◌<◌, ◌||◌, Bool, true, false, IsTrue, List, [], ◌∷◌, ◌++◌, Option, Some, None, get_or, length, take, refl, sym, ◌∙◌, ap, append_assoc}
-use Rattle.std.specs.List.{list_any}
-use Rattle.std.specs.Option.{is_none}
-use Rattle.std.proofs.lemmas.List.{append-nil}
-use Rattle.std.proofs.lemmas.List.Folds.{list_any_at, list_any_more}
-use Rattle.model.specs.declared.event.Moment.{Moment}
-use Rattle.model.specs.World.{World, File, file_at, stamp_of}
-use Rattle.model.specs.Calls.{OnlyLooks}
-use Rattle.build_theory.proofs.Calls.{looks_none, looks_then}
-use Rattle.build_theory.proofs.Lists.{same_rest}
+-- What calls leave one after another.
+use Rattle.std.proofs.Common.{Bool, ◌∙◌}
+use Rattle.model.specs.World.{World}
+use Rattle.build_theory.proofs.Calls.{looks_then}
 use Rattle.links.specs.declared.graph.Graph.{Graph}
 use Rattle.looks.specs.declared.table.Looks.{Looks}
-use Rattle.looks.specs.Seen.{StaysAt, AreSeen, IfKept, IsStampIn}
-use Rattle.looks.specs.Looking.{HasLooked, IfSeen}
-use Rattle.looks.proofs.Kept.{kept_before, kept_after, all_kept, seen_of_all, all_seen}
+use Rattle.looks.specs.Looking.{HasLooked}
+use Rattle.looks.proofs.Kept.{kept_before, kept_after}
 
-nothing_left : (xs ys : List Moment) → xs ++ ys ≡ [] → xs ≡ []
-nothing_left [] ys is = refl
-nothing_left (x ∷ xs) ys is = cc
-
--- what stays through two calls stays through each
-pub stays_parts : (tells : Bool) (files : List Moment) (a b c : World) → OnlyLooks tells a b → OnlyLooks tells b c → IsTrue tells → StaysAt files a c → StaysAt files a b × StaysAt files b c
-stays_parts tells files a b c first second told stays = (record { before = stays.before; after = middle }, record { before = middle; after = stays.after })
-  where
-    one : List Moment
-    one = (first.history told).more
-
-    two : List Moment
-    two = (second.history told).more
-
-    whole : a.history ++ (one ++ two) ≡ a.history ++ []
-    whole = sym (append_assoc a.history one two) ∙ (ap (λ (l : List Moment). l ++ two) (sym (first.history told).grows) ∙ (sym (second.history told).grows ∙ (stays.after ∙ (sym stays.before ∙ sym (append-nil a.history)))))
-
-    none : one ≡ []
-    none = nothing_left one two (same_rest a.history (one ++ two) [] whole)
-
-    middle : b.history ≡ files
-    middle = (first.history told).grows ∙ (ap (λ (l : List Moment). a.history ++ l) none ∙ (append-nil a.history ∙ stays.before))
-
-pub no_stamp : (file : Option File) → is_none (stamp_of file) ≡ is_none file
-no_stamp None = refl
-no_stamp (Some file) = refl
-
--- where all files stayed, a stamp is absent where its file is
-pub absent_where_all_stay : (tells : Bool) (graph : Graph) (a b : World) (looks : Looks) (path : List ℕ) (stamp : Option ℕ) → IfKept tells graph.manifest.paths a b looks.seen.items (IsStampIn path stamp)
-    → IfSeen tells graph a b looks (λ files. is_none stamp ≡ is_none (file_at files path))
-absent_where_all_stay tells graph a b looks path stamp so told files stays seen =
-    ap is_none (so told (λ p. true) (all_kept files a b stays) (seen_of_all graph.manifest.paths files a.history looks.seen.items stays.before seen) refl)
-    ∙ (no_stamp (file_at b.history path) ∙ ap (λ (h : List Moment). is_none (file_at h path)) stays.after)
-
--- ---- several calls
-
-pub looked_none : (tells : Bool) (graph : Graph) (w : World) (looks : Looks) → HasLooked tells graph w w looks looks
-looked_none tells graph w looks = record { looks = looks_none tells w; fits = refl; seen = λ told set kept seen. seen }
-
--- where all files stayed, all that was seen is so
-pub seen_where_all_stay : {tells : Bool} {graph : Graph} {a b : World} {first_looks second_looks : Looks} → HasLooked tells graph a b first_looks second_looks
-    → IfSeen tells graph a b first_looks (λ files. AreSeen graph.manifest.paths files second_looks.seen.items)
-seen_where_all_stay {tells} {graph} {a} {b} {first_looks} {second_looks} first told files stays seen =
-    all_seen graph.manifest.paths files b.history second_looks.seen.items stays.after
-    (first.seen told (λ p. true) (all_kept files a b stays) (seen_of_all graph.manifest.paths files a.history first_looks.seen.items stays.before seen))
-
-module _ (tells : Bool) (graph : Graph) (a b c : World) (first_looks second_looks third_looks : Looks) (first : HasLooked tells graph a b first_looks second_looks) where
-  -- what was seen in the first of two calls is so in the second
-  pub parts : OnlyLooks tells b c → IsTrue tells → (files : List Moment) → StaysAt files a c → AreSeen graph.manifest.paths files first_looks.seen.items
-      → StaysAt files a b × StaysAt files b c × AreSeen graph.manifest.paths files second_looks.seen.items
-  parts second told files stays seen =
-      let both = stays_parts tells files a b c first.looks second told stays in
-      (both.0, both.1, seen_where_all_stay first told files both.0 seen)
-
-  pub looked_then : HasLooked tells graph b c second_looks third_looks → HasLooked tells graph a c first_looks third_looks
-  looked_then second = record {
-    looks = looks_then tells a b c first.looks second.looks;
-    fits = second.fits ∙ first.fits;
-    seen = λ told set kept seen.
-        let one = first.looks.history told in
-        let two = second.looks.history told in
-        second.seen told set (kept_after set a.history b.history c.history one.more two.more one.grows two.grows kept)
-        (first.seen told set (kept_before set a.history b.history c.history one.more two.more one.grows two.grows kept) seen);
-  }
-
-  -- ---- a test of each element, by a call
-
-  module _ {X : Type 0} (second : OnlyLooks tells b c) (test : List Moment → X → Bool) (xs : List X) (k : ℕ) (d : X) (within : k < length xs)
-      (so_far : IfSeen tells graph a b first_looks (λ files. list_any (test files) (take k xs) ≡ false)) (is : Bool) (now : IfSeen tells graph b c second_looks (λ files. is ≡ test files (get_or xs k d)))
-    where
-      pub passed_by : is ≡ false → IfSeen tells graph a c first_looks (λ files. list_any (test files) (take (k + 1) xs) ≡ false)
-      passed_by not_so told files stays seen =
-          let between = parts second told files stays seen in
-          list_any_more (test files) xs k d within
-          ∙ (ap (λ (b : Bool). b || test files (get_or xs k d)) (so_far told files between.0 seen) ∙ (sym (now told files between.1 between.2) ∙ not_so))
-
-      pub found_one : is ≡ true → IfSeen tells graph a c first_looks (λ files. true ≡ list_any (test files) xs)
-      found_one so told files stays seen =
-          let between = parts second told files stays seen in
-          sym (list_any_at (test files) xs k d within (sym (now told files between.1 between.2) ∙ so))
-
-pub none_found : {X : Type 0} (tells : Bool) (graph : Graph) (a b : World) (looks : Looks) (test : List Moment → X → Bool) (xs : List X) (k : ℕ) → IfSeen tells graph a b looks (λ files. list_any (test files) (take k xs) ≡ false) → take k xs ≡ xs
-    → IfSeen tells graph a b looks (λ files. false ≡ list_any (test files) xs)
-none_found tells graph a b looks test xs k none all told files stays seen = sym (none told files stays seen) ∙ ap (list_any (test files)) all
+pub looked_then : (tells : Bool) (graph : Graph) (a b c : World) (first_looks second_looks third_looks : Looks) → HasLooked tells graph a b first_looks second_looks
+    → HasLooked tells graph b c second_looks third_looks → HasLooked tells graph a c first_looks third_looks
+looked_then tells graph a b c first_looks second_looks third_looks first second = record {
+  looks = looks_then tells a b c first.looks second.looks;
+  fits = second.fits ∙ first.fits;
+  seen = λ told set kept seen.
+      let one = first.looks.history told in
+      let two = second.looks.history told in
+      second.seen told set (kept_after set a.history b.history c.history one.more two.more one.grows two.grows kept)
+      (first.seen told set (kept_before set a.history b.history c.history one.more two.more one.grows two.grows kept) seen);
+}

@@ -1,4 +1,2 @@
 pub mod Seen
-pub mod Lacks
 pub mod Looking
-pub mod Dues

@@ -1,11 +1,8 @@
-//! What is there of each path, and which source is missing.
+//! What is there of each path.
 #![tactic(auto)]
 
-mod due;
-mod lack;
 mod laws;
 mod table;
 
-pub use lack::{Lack, first_lack};
 pub use laws::looks_follow;
 pub use table::{Look, Looks};

@@ -145,11 +145,9 @@ build
         "start cat more source
 end cat more source
 success 1
-start cat more source
 start cat b a
-end cat more source
 end cat b a
-success 2
+success 1
 ",
     ),
     // The block of a build statement goes before the file, is expanded in the file alone, and is seen by the paths.

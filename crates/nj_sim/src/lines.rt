@@ -13,6 +13,7 @@ pub const LINES: [(&str, &str); 5] = [
 write a x
 lines
 build c
+write a x
 build
 ",
         "[1/2] cat b a
@@ -33,6 +34,7 @@ write a x
 -j 2
 lines
 build
+write a x
 finish last
 build
 ",
@@ -74,7 +76,8 @@ fail b a
 failed b
 ",
     ),
-    // Where a line cannot be shown nothing is started after it, and what was shown before stands.
+    // Where a line cannot be shown nothing is started after it, and what was shown before stands. The command of that line is
+    // recorded by then.
     (
         "|build b: cat a
 |build c: cat b a
@@ -82,21 +85,23 @@ write a x
 fault show 1
 build
 build
+write a x
 stop show 2
 lines
 build
+build
+write a x
 build
 ",
         "start cat b a
 end cat b a
 fault N60
-start cat b a
-end cat b a
 start cat c b a
 end cat c b a
-success 2
+success 1
 [1/2] cat b a
 stopped
+success 0
 [1/2] cat b a
 [2/2] cat c b a
 success 2

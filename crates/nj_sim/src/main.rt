@@ -8,6 +8,8 @@ mod idle;
 mod language;
 #[cfg(test)]
 mod lines;
+#[cfg(test)]
+mod logs;
 mod print;
 #[cfg(test)]
 mod refusals;

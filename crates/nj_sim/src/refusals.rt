@@ -168,7 +168,7 @@ pub const FAULTS: [(&str, &str); 40] = [
 ];
 
 /// What a graph may not have, and what is not taken yet, behind `rows::RULES`.
-pub const GRAPHS: [(&str, &str); 13] = [
+pub const GRAPHS: [(&str, &str); 12] = [
     // The first output that repeats one, of the lowest edge that has such an output.
     (
         "|build b c: cat a
@@ -221,13 +221,6 @@ o absent
     ),
     (
         "|build o: scan a
-write a x
-build
-",
-        "refused N70: 'o' is not taken yet\n",
-    ),
-    (
-        "|build o: args a
 write a x
 build
 ",

@@ -85,14 +85,12 @@ stopped
 start cat b a
 end cat b a
 stopped
-start cat b a
-end cat b a
 start cat c b a
 end cat c b a
-success 2
+success 1
 ",
     ),
-    // A call that fails has done nothing, and the next build is as from a fresh site.
+    // A call that fails has done nothing, and the next build runs what the one before has not recorded.
     (
         "|build b: cat a
 |build c: cat b a
@@ -101,6 +99,7 @@ fault start 1
 build
 show b
 build
+write a x
 fault start 2
 build
 show c
@@ -133,11 +132,9 @@ end cat b a
 start cat c b a
 fault N60
 c=xx
-start cat b a
-end cat b a
 start cat c b a
 end cat c b a
-success 2
+success 1
 ",
     ),
     (
@@ -183,6 +180,7 @@ build z
 stop read 1
 fault read 2
 build
+write a x
 build
 ",
         "start cat b a
@@ -199,17 +197,17 @@ end cat c b a
 success 2
 ",
     ),
-    // Calls that no build makes, and numbers that no call has.
+    // Calls that this build does not make, and numbers that no call has.
     (
         "|build b: cat a
 write a x
-fault append 1
-fault replace 1
+fault append 3
+fault replace 2
 fault write 1
 fault remove 1
-stop append 1 7
-stop append 002
-stop replace 1
+stop append 3 7
+stop append 004
+stop replace 2
 stop write 1
 stop remove 1
 fault start 0
@@ -290,6 +288,7 @@ early
 build
 show c
 delete b
+delete c
 late
 build
 ",
@@ -313,6 +312,7 @@ write a x
 -j 2
 gate 2
 build
+write a x
 -j 1
 gate 2
 build
@@ -337,7 +337,9 @@ show b
 build
 gate 2
 build z
+write a x
 build
+write a x
 gate 1
 build
 ",

@@ -1,6 +1,7 @@
 use crate::fault::ScriptFault;
 use crate::language::{BUILD_FILE, SCOPES};
 use crate::lines::LINES;
+use crate::logs::{DONE, RECORDS};
 use crate::refusals::{FAULTS, GRAPHS};
 use crate::rows::{COMMANDS, PHONY, RULES, TARGETS, VALIDATIONS};
 use crate::run::script;
@@ -130,6 +131,102 @@ fn graphs_are_built(rt: HostRuntime) -> Result<(), Fail> {
 #[test]
 fn builds_meet_faults_and_stops(rt: HostRuntime) -> Result<(), Fail> {
     check(&rt, rt.alloc(), RULES, &STOPS)
+}
+
+#[test]
+fn builds_keep_their_log(rt: HostRuntime) -> Result<(), Fail> {
+    check(&rt, rt.alloc(), RULES, &RECORDS)
+}
+
+const TWO_EDGES: &str = "|build b: cat a
+|build c: cat b a
+write a x
+-j 1
+";
+
+const BOTH_RUN: &str = "start cat b a
+end cat b a
+stopped
+start cat b a
+end cat b a
+start cat c b a
+end cat c b a
+success 2
+";
+
+const ONE_RUNS: &str = "start cat b a
+end cat b a
+stopped
+start cat c b a
+end cat c b a
+success 1
+";
+
+/// The site stops when so many bytes of a record are put down: only where all are, the command counts as run.
+#[test]
+fn a_part_of_a_record_is_none(rt: HostRuntime) -> Result<(), Fail> {
+    for bytes in 0..=DONE.len() {
+        let row = format!(in rt.alloc(); "{TWO_EDGES}stop append 2 {bytes}\nbuild\nbuild\n")?;
+        let expected = if bytes < DONE.len() {
+            BOTH_RUN
+        } else {
+            ONE_RUNS
+        };
+        check(&rt, rt.alloc(), RULES, &[(row.as_str(), expected)])?;
+    }
+    Ok(())
+}
+
+/// How many lines of a file the script prints that it shows last.
+fn lines_shown(alloc: Global, row: &str) -> Result<usize, Fail> {
+    let mut printed = Vec::new(alloc);
+    let mut reader = RULES.as_bytes().chain(row.as_bytes());
+    script(alloc, &mut reader, &mut printed)?;
+    let text = str::from_utf8(&printed)?;
+    Ok(text.matches("\\n").count())
+}
+
+/// The log has so many lines behind this script.
+fn has_lines(rt: &impl Abort, alloc: Global, row: &str, lines: usize) -> Result<(), Fail> {
+    let shown = format!(in alloc; "{row}show .nj_log\n")?;
+    assert_eq!(rt; lines_shown(alloc, shown.as_str())?, lines, "{row}");
+    Ok(())
+}
+
+/// How often an edge is built, and how many edges are.
+const MANY: usize = 50;
+
+/// A log in which more than half of the records are of no use any more is made anew, once it has a hundred.
+#[test]
+fn a_log_of_one_edge_is_made_anew(rt: HostRuntime) -> Result<(), Fail> {
+    let mut row = String::from_str(rt.alloc(), "|build b: cat a\n")?;
+    for _ in 0..MANY {
+        row.push_str("write a x\nbuild\n")?;
+    }
+    has_lines(&rt, rt.alloc(), row.as_str(), 101)?;
+    row.push_str("write a x\nbuild\n")?;
+    has_lines(&rt, rt.alloc(), row.as_str(), 4)?;
+    row.push_str("build\n")?;
+    has_lines(&rt, rt.alloc(), row.as_str(), 4)
+}
+
+#[test]
+fn a_log_of_many_edges_is_made_anew(rt: HostRuntime) -> Result<(), Fail> {
+    let mut row = String::new(rt.alloc());
+    for number in 0..MANY {
+        row.push_str(format!(in rt.alloc(); "|build o{number}: cat a{number}\n")?.as_str())?;
+    }
+    for number in 0..MANY {
+        row.push_str(format!(in rt.alloc(); "write a{number} x\n")?.as_str())?;
+    }
+    row.push_str("build\n")?;
+    has_lines(&rt, rt.alloc(), row.as_str(), 101)?;
+    row.push_str("write a7 y\nbuild\n")?;
+    has_lines(&rt, rt.alloc(), row.as_str(), 103)?;
+    row.push_str("write a9 y\nbuild\n")?;
+    has_lines(&rt, rt.alloc(), row.as_str(), 53)?;
+    row.push_str("build\n")?;
+    has_lines(&rt, rt.alloc(), row.as_str(), 53)
 }
 
 #[test]

@@ -1,6 +1,6 @@
 -- How many commands run.
-use Rattle.std.proofs.Common.{◌≡◌, ◌⊎◌, inl, inr, ℕ, zero, suc, ◌+◌, ◌-◌, ◌<◌, ◌≤◌, ◌==◌, ◌&&◌, ◌||◌, not, cond, filter, Bool, true, false, List, [], ◌∷◌, ◌++◌, length, refl, sym, ◌∙◌, ap, subst, arith}
-use Rattle.std.proofs.lemmas.Bool.{false≢true, true≢false, eq-eqb, eqb-true, or_left, cases_Bool}
+use Rattle.std.proofs.Common.{◌≡◌, ℕ, suc, ◌+◌, ◌-◌, ◌<◌, ◌≤◌, ◌==◌, ◌&&◌, ◌||◌, not, cond, filter, Bool, true, false, List, [], ◌∷◌, ◌++◌, length, refl, sym, ◌∙◌, ap, subst, arith}
+use Rattle.std.proofs.lemmas.Bool.{false≢true, true≢false, eq-eqb, eqb-true, or_left}
 use Rattle.model.specs.declared.event.Event.{Event}
 use Rattle.model.specs.declared.event.Event.TheVariants.{Finish}
 use Rattle.model.specs.World.{World, runs, IsIdle}
@@ -10,15 +10,13 @@ use Rattle.model.specs.Records.{OwnFiles}
 use Rattle.model.specs.declared.graph.Edge.{Edge}
 use Rattle.model.specs.Schedule.{Task, Step as Done, Judged, Started, Ended, started_in, ended_in, running_in}
 use Rattle.build_theory.specs.Order.{IsOrderlyFrom}
+use Rattle.build_theory.specs.Run.{IsRun}
 use Rattle.build_theory.proofs.Lists.{has_number-filter, has_number-one}
 use Rattle.build_theory.proofs.Events.{runs_push}
 use Rattle.build_theory.proofs.Orderly.{orderly_of, started_before}
 use Rattle.build_theory.proofs.Steps.{in_right, started-append}
 use Rattle.build_theory.proofs.Runs.{running_now}
-use Rattle.links.specs.declared.graph.Graph.{Graph}
-use Rattle.links.specs.Held.{times, StandOnce}
-use Rattle.plan.specs.declared.plan.Plan.{Plan}
-use Rattle.runner.specs.Going.{IsOn}
+use Rattle.links.specs.Held.{times}
 use Rattle.runner.specs.Cutting.{SoManyRun}
 
 -- ---- numbers that stand once
@@ -85,15 +83,14 @@ started_apart edges before (Started i ∷ steps) orderly n =
     ∙ started_before edges (before ++ Started i ∷ []) steps i orderly.1 (in_right started_in started-append before (Started i ∷ []) i (has_number-one i))))
 
 -- so many commands run as by the steps
-pub many_by_steps : (tells : Bool) (own : OwnFiles) (task : Task) (graph : Graph) (plan : Plan) (failed : List ℕ) (entry now : World) (count : ℕ) → IsIdle entry.events → (on : IsOn tells own task graph plan failed entry now)
-    → count ≡ length (running_in on.steps) → SoManyRun count now.events
-many_by_steps tells own task graph plan failed entry now count idle on is = record {
-  jobs = running_in on.steps;
+pub many_by_steps : (tells : Bool) (own : OwnFiles) (task : Task) (steps : List Done) (entry now : World) (count : ℕ) → IsIdle entry.events → IsRun tells own task steps entry now → count ≡ length (running_in steps) → SoManyRun count now.events
+many_by_steps tells own task steps entry now count idle run is = record {
+  jobs = running_in steps;
   once = λ n.
-      let a = times_filter (λ i. not (has_number (ended_in on.steps) i)) (started_in on.steps) n in
-      let b = started_apart task.graph.edges [] on.steps (orderly_of task on.steps on.run.lawful) n in
+      let a = times_filter (λ i. not (has_number (ended_in steps) i)) (started_in steps) n in
+      let b = started_apart task.graph.edges [] steps (orderly_of task steps run.lawful) n in
       omega (arith, a, b);
-  all = λ job. running_now tells own task entry on.steps now idle on.run job;
+  all = λ job. running_now tells own task entry steps now idle run job;
   many = is;
 }
 

@@ -1,6 +1,5 @@
 -- Each turn leaves fewer steps.
-use Rattle.std.proofs.Common.{◌≡◌, ◌⊎◌, inl, inr, ◌≢◌, ℕ, zero, suc, ◌+◌, ◌<◌, Bool, true, false, List, [], ◌∷◌, length, get_or, refl, sym, ◌∙◌, ap, subst, arith}
-use Rattle.std.specs.List.{sum_by}
+use Rattle.std.proofs.Common.{◌≡◌, inl, inr, ◌≢◌, ℕ, zero, suc, ◌<◌, Bool, true, false, List, [], ◌∷◌, length, refl, sym, ◌∙◌, ap, arith}
 use Rattle.std.proofs.Math.ListN.{set}
 use Rattle.std.proofs.lemmas.List.Sums.{sum_by-cons, sum_by-set}
 use Rattle.std.proofs.lemmas.Bool.{false≢true, and_parts}
@@ -9,7 +8,9 @@ use Rattle.plan.specs.declared.step.Standing.{Standing}
 use Rattle.plan.specs.declared.step.Standing.TheVariants.{Outside, Unjudged, Clean, OutOfDate, Running, Well, Failed, Alias, Known}
 use Rattle.plan.specs.Standing.{standing_at, is_unjudged, is_out_of_date}
 use Rattle.plan.specs.declared.step.Step.TheVariants.{Judge, Start}
-use Rattle.plan.specs.Plan.{IsSettling, standing_after}
+use Rattle.plan.specs.declared.step.Verdict.{Verdict}
+use Rattle.plan.specs.declared.step.Verdict.TheVariants as verdict
+use Rattle.plan.specs.Plan.{IsSettling, standing_by, standing_after}
 use Rattle.plan.specs.Planned.{IsOffered}
 use Rattle.runner.specs.Going.{steps_left, work_left}
 
@@ -82,10 +83,13 @@ out_of_date_left Alias is = absurd (false≢true is)
 out_of_date_left Known is = absurd (false≢true is)
 
 -- each step that the plan is told
-pub judged_less : (plan : Plan) (new : List Standing) (e : ℕ) → IsOffered plan (Judge e) → IsSettling plan.standings.items new e OutOfDate → work_left new < work_left plan.standings.items
-judged_less plan new e offered settling =
-    let was = unjudged_left (standing_at plan.standings.items e) (and_parts _ _ (sym (plan.sets.ready e) ∙ offered)).0 in
-    less_settling plan.standings.items new e OutOfDate settling (omega (arith, was))
+pub judged_less : (plan : Plan) (new : List Standing) (e : ℕ) (told : Verdict) → IsOffered plan (Judge e) → IsSettling plan.standings.items new e (standing_by told) → work_left new < work_left plan.standings.items
+judged_less plan new e told offered settling =
+    less_settling plan.standings.items new e (standing_by told) settling (omega (arith, unjudged_left (standing_at plan.standings.items e) (and_parts _ _ (sym (plan.sets.ready e) ∙ offered)).0, few told))
+  where
+    few : (v : Verdict) → steps_left (standing_by v) < 3
+    few verdict.Clean = omega arith
+    few verdict.OutOfDate = omega arith
 
 pub started_less : (plan : Plan) (e : ℕ) → IsOffered plan (Start e) → work_left (set plan.standings.items e Running) < work_left plan.standings.items
 started_less plan e offered =

@@ -1,55 +1,81 @@
--- Where a run stands, by its steps.
-use Rattle.std.specs.Prelude.{◌≡◌, ℕ, suc, ◌<◌, ◌≤◌, Bool, true, false, List, [], ◌∷◌, ◌++◌, map, length}
+-- A run that goes on, that has ended, or that a fault cuts off.
+use Rattle.std.specs.Prelude.{◌≡◌, ◌⊎◌, ℕ, ◌≤◌, ◌<◌, Bool, true, false, List, [], ◌∷◌, ◌++◌, length, Option, Some, None}
 use Rattle.std.specs.List.{sum_by}
-use Rattle.model.specs.World.{World, IsIdle}
-use Rattle.model.specs.Records.{OwnFiles}
-use Rattle.model.specs.Schedule.{Task, Step as Done, clean_in, failed_in}
+use Rattle.model.specs.World.{World}
+use Rattle.model.specs.Graph.{has_number}
+use Rattle.model.specs.Schedule.{Task, Step as Done, Ended, MayStart, NoneMayBeJudged, out_of_date_in, started_in, ended_in}
+use Rattle.model.specs.SingleBuild.{task_of}
 use Rattle.build_theory.specs.Run.{IsRun}
+use Rattle.lowest.specs.Flags as flags
 use Rattle.links.specs.declared.graph.Graph.{Graph}
 use Rattle.links.specs.Links.{links_of}
-use Rattle.plan.specs.declared.plan.Plan.{Plan}
+use Rattle.log_theory.specs.Ledger.{IsCutOff}
+use Rattle.looks.specs.declared.table.Look.TheVariants.{Unasked}
+use Rattle.looks.specs.Seen.{look_at}
 use Rattle.plan.specs.declared.step.End.{End}
 use Rattle.plan.specs.declared.step.Standing.{Standing}
 use Rattle.plan.specs.declared.step.Standing.TheVariants.{Outside, Unjudged, Clean, OutOfDate, Running, Well, Failed, Alias, Known}
 use Rattle.plan.specs.declared.step.Step.TheVariants.{Ended as Over}
+use Rattle.plan.specs.declared.plan.Plan.{Plan}
 use Rattle.plan.specs.Planned.{IsPlanned, IsNextOf}
-use Rattle.runner.specs.Ran.{Suits}
+use Rattle.runner.specs.Course.{Course, Suits, IsOn}
+use Rattle.runner.specs.declared.state.State.{State}
 
--- The plan is of these steps, so is all that the site did since the entry, nothing was judged clean, and the failed edges are
--- noted.
-pub record IsOn (tells : Bool) (own : OwnFiles) (task : Task) (graph : Graph) (plan : Plan) (failed : List ℕ) (entry now : World) : Type 0 where
-  pub steps : List Done
-  pub planned : IsPlanned task graph plan steps
-  pub run : IsRun tells own task steps entry now
-  pub stale : clean_in steps ≡ []
-  pub noted : map suc failed ≡ failed_in steps
-
--- so it is since an entry at which no command ran
-pub record IsGoing (tells : Bool) (tick : List ℕ) (graph : Graph) (plan : Plan) (failed : List ℕ) (now : World) : Type 0 where
-  pub own : OwnFiles
-  pub task : Task
-  pub entry : World
-  pub suits : Suits own task tick graph
-  pub idle : IsIdle entry.events
-  pub on : IsOn tells own task graph plan failed entry now
+-- such a run goes on, of some course
+pub record IsGoing (tells : Bool) (tick : List ℕ) (graph : Graph) (state : State) (now : World) : Type 0 where
+  pub course : Course
+  pub suits : Suits course tick graph
+  pub on : IsOn tells course graph None state now
 
 -- nothing is left to do
-pub record IsOver (tells : Bool) (own : OwnFiles) (task : Task) (graph : Graph) (plan : Plan) (failed : List ℕ) (end : End) (entry now : World) : Type 0 where
-  pub on : IsOn tells own task graph plan failed entry now
-  pub over : IsNextOf task on.steps (Over end)
+pub record IsOver (tells : Bool) (course : Course) (graph : Graph) (state : State) (end : End) (now : World) : Type 0 where
+  pub on : IsOn tells course graph None state now
+  pub over : IsNextOf (task_of course.asked course.store) on.steps (Over end)
 
--- where a fault has left a run: perhaps with an edge that could not be noted
-abbrev pub IsCut : Bool → OwnFiles → Task → Graph → Plan → World → World → Type 0
-IsCut tells own task graph plan entry now = (failed : List ℕ) × IsOn tells own task graph plan failed entry now
+-- The edge is next to start, or its command was taken in by the last of the steps.
+pub record IsInHand (task : Task) (steps : List Done) (i : ℕ) : Type 0 where
+  pub under_way : ((before : List Done) × (well : Bool) × (steps ≡ before ++ Ended i well ∷ [])) ⊎ (NoneMayBeJudged task steps × MayStart task steps i)
+  pub stale : has_number (out_of_date_in steps) i ≡ true
+  pub taken_in : (has_number (started_in steps) i ≡ false) ⊎ (has_number (ended_in steps) i ≡ true)
+
+-- where a fault has left a run, with its plan: `met` is the edge whose start or taking in met it
+pub record IsCut (tells : Bool) (course : Course) (graph : Graph) (plan : Plan) (now : World) : Type 0 where
+  pub steps : List Done
+  pub met : Option ℕ
+  pub planned : IsPlanned (task_of course.asked course.store) graph plan steps
+  pub run : IsRun tells course.own (task_of course.asked course.store) steps course.entry now
+  pub cut : IsCutOff tells course.behaviour course.format course.own course.asked course.store steps met course.entry now
+  pub in_hand : (i : ℕ) → met ≡ Some i → IsInHand (task_of course.asked course.store) steps i
+
+-- no edge has more outputs
+abbrev pub AreEnough : Graph → ℕ → Type 0
+AreEnough graph count = (e : ℕ) → e < length graph.manifest.lines → length ((links_of graph).outputs e) ≤ count
+
+-- as many flags as an edge may have outputs, and each is set
+pub record AreSet (graph : Graph) (all : List Bool) : Type 0 where
+  pub enough : AreEnough graph (length all)
+  pub set : (k : ℕ) → k < length all → flags.has all k ≡ true
+
+-- ---- the end of a command
+
+-- What the end of the command of an edge changes beside its plan's steps: all its outputs count as changed, and what was seen of
+-- them is forgotten.
+pub record HasEnded (graph : Graph) (e : ℕ) (old new : State) : Type 0 where
+  pub changed : (p : ℕ) → has_number ((links_of graph).outputs e) p ≡ true → flags.has new.plan.changed.items p ≡ true
+  pub unchanged : (p : ℕ) → has_number ((links_of graph).outputs e) p ≡ false → flags.has new.plan.changed.items p ≡ flags.has old.plan.changed.items p
+  pub forgotten : (p : ℕ) → has_number ((links_of graph).outputs e) p ≡ true → look_at new.looks.seen.items p ≡ Unasked
+  pub seen : (p : ℕ) → has_number ((links_of graph).outputs e) p ≡ false → look_at new.looks.seen.items p ≡ look_at old.looks.seen.items p
+  pub fits : length new.looks.seen.items ≡ length old.looks.seen.items
+  pub records : new.records ≡ old.records
+  pub starts : new.starts.items ≡ old.starts.items
+  pub set : new.set ≡ old.set
 
 -- the failed edges, when the command of one more has ended
 abbrev pub failed_after : List ℕ → ℕ → Bool → List ℕ
 failed_after failed e true = failed
 failed_after failed e false = failed ++ e ∷ []
 
--- no edge has more outputs
-abbrev pub AreEnough : Graph → ℕ → Type 0
-AreEnough graph count = (e : ℕ) → e < length graph.manifest.lines → length ((links_of graph).outputs e) ≤ count
+-- ---- the work that is left
 
 -- how many steps of its own an edge may still make
 abbrev pub steps_left : Standing → ℕ

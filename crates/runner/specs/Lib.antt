@@ -1,4 +1,6 @@
 pub mod Cut
-pub mod Ran
+pub mod Course
 pub mod Going
+pub mod Starting
+pub mod Ran
 pub mod Cutting

@@ -1,14 +1,22 @@
-//! Runs the commands of a plan on a site.
+//! Runs the commands of a plan on a site, and keeps the log of what was started and what ended well.
 #![tactic(auto)]
 
 mod counts;
 mod cut;
+mod folders;
+mod judge;
+mod response;
 mod rest;
 mod run;
+mod setting;
 mod start;
+mod state;
 mod summary;
+mod taken;
 mod turn;
 
 pub use cut::Cut;
 pub use run::run_plan;
+pub use setting::Setting;
+pub use state::State;
 pub use summary::Summary;

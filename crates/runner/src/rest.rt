@@ -1,12 +1,12 @@
 //! Taking in what runs after a fault.
 
-ghost use Rattle.std.specs.Prelude.{◌≡◌, ◌⊎◌, ℕ, List, false, OnOk, OnErr};
+ghost use Rattle.std.specs.Prelude.{◌≡◌, ◌⊎◌, ℕ, List, Option, false, OnOk, OnErr};
 ghost use Rattle.model.specs.World.{World, IsIdle};
-ghost use Rattle.model.specs.Records.{OwnFiles};
-ghost use Rattle.model.specs.Schedule.{Task, Step as Done};
+ghost use Rattle.model.specs.Schedule.{Step as Done};
 ghost use Rattle.model.specs.Calls.{HasCause};
-ghost use Rattle.build_theory.specs.Run.{IsRunOrRest};
 ghost use Rattle.build_theory.specs.Seen.{IsSeen};
+ghost use Rattle.log_theory.specs.Ledger.{IsCutOff};
+ghost use Rattle.runner.specs.Course.{Course};
 ghost use Rattle.runner.specs.Cut.{fault_of, IsLeft};
 ghost use Rattle.runner.specs.Cutting.{IfWaiting, SomeRuns, SoManyRun, IsStoppedBy, TakesIn};
 
@@ -25,7 +25,7 @@ pub fn take_in_rest<S: Site>(site: &mut S, count: usize, cut: Cut) -> Cut
     ensures still { IfWaiting cut (S.world site.new ≡ S.world site.old) }
     ensures left { IsLeft (S.world site.new) result }
     ensures takes_in { TakesIn (S.world site.old) (S.world site.new) result }
-    ensures rest { (own : OwnFiles) (task : Task) (steps : List Done) (entry : World) → IsRunOrRest S.tells own task steps entry (S.world site.old) → IsRunOrRest S.tells own task steps entry (S.world site.new) }
+    ensures rest { (course : Course) (steps : List Done) (met : Option ℕ) → IsCutOff S.tells course.behaviour course.format course.own course.asked course.store steps met course.entry (S.world site.old) → IsCutOff S.tells course.behaviour course.format course.own course.asked course.store steps met course.entry (S.world site.new) }
 {
     if cut.is_final() {
         return cut;
@@ -45,7 +45,7 @@ fn take_in_all<S: Site>(site: &mut S, count: usize) -> Result<(), SiteFault>
     ensures at_start { (S.world site.new).failures_at_start ≡ (S.world site.old).failures_at_start }
     ensures runs { OnErr result (SomeRuns (S.world site.new)) }
     ensures idle { OnOk result (IsIdle (S.world site.new).events) }
-    ensures rest { (own : OwnFiles) (task : Task) (steps : List Done) (entry : World) → IsRunOrRest S.tells own task steps entry (S.world site.old) → IsRunOrRest S.tells own task steps entry (S.world site.new) }
+    ensures rest { (course : Course) (steps : List Done) (met : Option ℕ) → IsCutOff S.tells course.behaviour course.format course.own course.asked course.store steps met course.entry (S.world site.old) → IsCutOff S.tells course.behaviour course.format course.own course.asked course.store steps met course.entry (S.world site.new) }
 {
     let mut left = count;
     'rest: while left > 0 {

@@ -17,7 +17,7 @@ fn copies_a_file(rt: HostRuntime) -> Result<(), Fail> {
     assert_eq!(rt; folder.read("c")?.as_str(), "x");
     assert!(rt; folder.has(".nj_tick")?);
     assert!(rt; !folder.has(".nj_out.1")?);
-    folder.write("a", "y")?;
+    folder.write_later("a", "y")?;
     assert_eq!(rt; folder.run(&["b"])?.status, 0);
     assert_eq!(rt; folder.read("b")?.as_str(), "y");
     assert_eq!(rt; folder.read("c")?.as_str(), "x");
@@ -146,7 +146,9 @@ fn keeps_to_its_folder(rt: HostRuntime) -> Result<(), Fail> {
     assert_eq!(rt; folder.run(&[])?.status, 0);
     assert_eq!(rt; folder.read("b")?.as_str(), "out/logs/.nj_out.1\n");
     assert!(rt; folder.has("out/logs/.nj_tick")?);
+    assert!(rt; folder.has("out/logs/.nj_log")?);
     assert!(rt; !folder.has(".nj_tick")?);
+    assert!(rt; !folder.has(".nj_log")?);
     assert!(rt; !folder.has("out/logs/.nj_out.1")?);
     folder.close()?;
     Ok(())

@@ -1,6 +1,7 @@
 //! A folder in which the program is run.
 
 use crate::run::run;
+use std::os::unix::fs::MetadataExt;
 use std::{env, fs, io, process};
 
 /// A folder of a test's own.
@@ -9,6 +10,9 @@ pub struct Folder<'a> {
     rt: &'a HostRuntime,
     pub path: String,
 }
+
+/// How many files are written until the clock of files has gone on.
+const MANY_STAMPS: usize = 100_000;
 
 /// What a run came to.
 #[derive(Debug, PartialEq, Drop)]
@@ -39,6 +43,24 @@ impl<'a> Folder<'a> {
 
     pub fn write(&self, path: &str, content: &str) -> io::Result<()> {
         fs::write(self.rt, self.whole(path)?.as_str(), content)
+    }
+
+    /// Writes the file under a later stamp than any file has, also where the clock of files is coarse.
+    pub fn write_later(&self, path: &str, content: &str) -> io::Result<()> {
+        let before = self.stamp_now()?;
+        for _ in 0..MANY_STAMPS {
+            if self.stamp_now()? != before {
+                return self.write(path, content);
+            }
+        }
+        self.write(path, content)
+    }
+
+    /// The stamp of a file that is written now.
+    fn stamp_now(&self) -> io::Result<i64> {
+        self.write("stamp", "x")?;
+        let path = self.whole("stamp")?;
+        Ok(fs::metadata(self.rt, path.as_str())?.mtime_nsec())
     }
 
     pub fn make_dir(&self, path: &str) -> io::Result<()> {

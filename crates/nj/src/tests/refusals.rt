@@ -106,7 +106,7 @@ fn tells_what_is_closed(rt: HostRuntime) -> Result<(), Fail> {
         let ran = folder.run(&[])?;
         assert_eq!(rt; ran.status, 1);
         let want = format!(in rt.alloc();
-            "{SITE}nj: shut/.nj_tick: Permission denied (os error 13)\n"
+            "{SITE}nj: shut/.nj_log: Permission denied (os error 13)\n"
         )?;
         assert_eq!(rt; ran.err.as_str(), want.as_str());
         let ran = folder.run(&["-f", "closed"])?;

@@ -3,7 +3,8 @@
 use super::folder::Folder;
 use std::test::Fail;
 
-/// A line for each command, under the pattern that is set, with its description unless commands are asked for.
+/// A line for each command, under the pattern that is set, with its description unless commands are asked for. A command that
+/// does not make its output is started each time.
 #[test]
 fn shows_a_line_for_each_command(rt: HostRuntime) -> Result<(), Fail> {
     let folder = Folder::new(
@@ -15,11 +16,15 @@ fn shows_a_line_for_each_command(rt: HostRuntime) -> Result<(), Fail> {
     let ran = folder.run(&[])?;
     assert_eq!(rt; ran.out.as_str(), "[1/1] cat a > b\n");
     assert_eq!(rt; ran.status, 0);
+    let ran = folder.run(&[])?;
+    assert_eq!(rt; ran.out.as_str(), "nj: no work to do.\n");
+    assert_eq!(rt; ran.status, 0);
+    folder.write_later("a", "x")?;
     let ran = folder.run_under(Some("%p|%u "), &[])?;
     assert_eq!(rt; ran.out.as_str(), "100%|0 cat a > b\n");
     folder.write(
         "build.ninja",
-        "rule r\n  command = echo hello\n  description = greets\nbuild b: r\n",
+        "rule r\n  command = echo hello\n  description = greets\nbuild never: r\n",
     )?;
     let ran = folder.run(&[])?;
     assert_eq!(rt; ran.out.as_str(), "[1/1] greets\nhello\n");

@@ -1,64 +1,90 @@
-use Rattle.std.proofs.Common.{inl, inr, Err, Ok, refl, ◌∙◌, ap}
+use Rattle.std.proofs.Common.{inl, inr, Err, Ok, sym, ◌∙◌, ap, subst}
 use Rattle.model.specs.declared.fault.SiteFault.TheVariants.{Memory}
 use Rattle.model.specs.Records.{file_in, tick_name}
-use Rattle.links.specs.Told.{declared_by}
 use Rattle.runner.specs.declared.cut.Cut.TheVariants.{Other}
-use Rattle.builder.specs.Build.{task_for}
-use Rattle.builder.proofs.Builds.{any_own}
-use Rattle.builder.proofs.Stages.{told_by, ran_nothing}
+use Rattle.plan.specs.declared.plan.Plan.{Plan}
+use Rattle.builder.specs.declared.report.Report.{Report}
+use Rattle.builder.specs.Reports.{IsPlanFor, run_answer}
+use Rattle.model.specs.SingleBuild.{PassesNoFault}
+use Rattle.builder.proofs.Beginning.{ran_nothing, suits, begins}
+use Rattle.builder.proofs.Stages.{told_by, passes_untold, passes_told}
 use Rattle.builder.proofs.one_build.run_cone.Goals as goal
 
 pub returns-in_err-tick-clause-ran : goal.returns-in_err-tick-clause-ran
-returns-in_err-tick-clause-ran g c own entry owned idle looked = record {
+returns-in_err-tick-clause-ran g c course may = record {
   result = Err (Other Memory);
-  ran = ran_nothing g.S.Texts.tells own (task_for (declared_by c.args.graph.now) c.args.asked.now.limits c.args.asked.now.targets) entry (g.S.Texts.world c.args.site.now) looked.looks;
+  ran = ran_nothing g.S.Texts.tells c.args.graph.now c.args.asked.now c.args.cone.now c.args.records c.args.known.looks course (g.S.Texts.world c.args.site.now) may;
   says = inl (told_by _ c.from_residual.result c.from_residual.ensures.1);
 }
 
 pub returns-in_err-plan-clause-ran : goal.returns-in_err-plan-clause-ran
-returns-in_err-plan-clause-ran g c own entry owned idle looked = record {
+returns-in_err-plan-clause-ran g c course may = record {
   result = Err (Other Memory);
-  ran = ran_nothing g.S.Texts.tells own (task_for (declared_by c.args.graph.now) c.args.asked.now.limits c.args.asked.now.targets) entry (g.S.Texts.world c.args.site.now) looked.looks;
+  ran = ran_nothing g.S.Texts.tells c.args.graph.now c.args.asked.now c.args.cone.now c.args.records c.args.known.looks course (g.S.Texts.world c.args.site.now) may;
   says = inl (told_by _ c.from_residual-in_err-plan.result c.from_residual-in_err-plan.ensures.1);
 }
 
-pub run_plan-requires-clause-planned : goal.run_plan-requires-clause-planned
-run_plan-requires-clause-planned g c = (
-  any_own c.args.asked.now.folder,
-  task_for (declared_by c.args.graph.now) c.args.asked.now.limits c.args.asked.now.targets,
-  record { same = refl; owned = refl },
-  c.in_ok-plan.ensures c.args.asked.now.targets c.requires.cone,
-)
+pub returns-in_err-state-clause-ran : goal.returns-in_err-state-clause-ran
+returns-in_err-state-clause-ran g c course may = record {
+  result = Err (Other Memory);
+  ran = ran_nothing g.S.Texts.tells c.args.graph.now c.args.asked.now c.args.cone.now c.args.records c.args.known.looks course (g.S.Texts.world c.args.site.now) may;
+  says = inl (told_by _ c.from_residual-in_err-state.result c.from_residual-in_err-state.ensures.1);
+}
+
+pub run_plan-requires-clause-going : goal.run_plan-requires-clause-going
+run_plan-requires-clause-going g c =
+    let course = c.requires.ready.0 in
+    let may = c.requires.ready.1 in
+    record {
+      course = course;
+      suits = (suits g.S.Texts.tells c.args.graph.now c.args.asked.now c.args.cone.now c.args.records c.args.known.looks course (g.S.Texts.world c.args.site.now) may c.requires.formed c.requires.taken c.requires.once c.requires.unrecorded _ (c.as_str-2.ensures.value ∙ (c.in_ok-tick.ensures ∙ ap (λ folder. file_in folder tick_name) c.as_str.ensures)));
+      on = (begins g.S.Texts.tells c.args.graph.now c.args.asked.now c.args.cone.now c.args.records c.args.known.looks course (g.S.Texts.world c.args.site.now) may c.in_ok-state.state (subst (IsPlanFor c.args.graph.now c.args.cone.now c.args.asked.now.limits) (sym {A = Plan} c.in_ok-state.ensures.plan) c.in_ok-plan.ensures)
+          c.in_ok-state.ensures.looks c.in_ok-state.ensures.records c.in_ok-state.ensures.failed c.in_ok-state.ensures.starts c.requires.fits);
+    }
+
+pub run_plan-requires-clause-enough : goal.run_plan-requires-clause-enough
+run_plan-requires-clause-enough g c = c.in_ok-state.ensures.enough
 
 pub returns-in_err-summary-clause-ran : goal.returns-in_err-summary-clause-ran
-returns-in_err-summary-clause-ran g c own entry owned idle looked =
-    let targets = c.args.asked.now.targets in
-    record {
-      result = Err c.in_err-summary.field-0.0;
-      ran = c.in_err-summary.ensures.ran own (task_for (declared_by c.args.graph.now) c.args.asked.now.limits targets) entry
-          (record { same = refl; owned = ap own.files (c.as_str-2.ensures.value ∙ (c.in_ok-tick.ensures ∙ ap (λ folder. file_in folder tick_name) c.as_str.ensures)) ∙ owned.tick })
-          (c.in_ok-plan.ensures targets c.requires.cone) idle looked;
-      says = inr (told_by _ c.from_residual-in_err-summary.result c.from_residual-in_err-summary.ensures.1);
-    }
+returns-in_err-summary-clause-ran g c course may = record {
+  result = Err c.in_err-summary.field-0.0;
+  ran = c.in_err-summary.ensures.ran course
+      (suits g.S.Texts.tells c.args.graph.now c.args.asked.now c.args.cone.now c.args.records c.args.known.looks course (g.S.Texts.world c.args.site.now) may c.requires.formed c.requires.taken c.requires.once c.requires.unrecorded _ (c.as_str-2.ensures.value ∙ (c.in_ok-tick.ensures ∙ ap (λ folder. file_in folder tick_name) c.as_str.ensures)))
+      (begins g.S.Texts.tells c.args.graph.now c.args.asked.now c.args.cone.now c.args.records c.args.known.looks course (g.S.Texts.world c.args.site.now) may c.in_ok-state.state (subst (IsPlanFor c.args.graph.now c.args.cone.now c.args.asked.now.limits) (sym {A = Plan} c.in_ok-state.ensures.plan) c.in_ok-plan.ensures)
+      c.in_ok-state.ensures.looks c.in_ok-state.ensures.records c.in_ok-state.ensures.failed c.in_ok-state.ensures.starts c.requires.fits);
+  says = inr (told_by _ c.from_residual-in_err-summary.result c.from_residual-in_err-summary.ensures.1);
+}
 
 pub returns-in_err-report-clause-ran : goal.returns-in_err-report-clause-ran
-returns-in_err-report-clause-ran g c own entry owned idle looked =
-    let targets = c.args.asked.now.targets in
-    record {
-      result = Ok c.in_ok-summary.summary;
-      ran = c.in_ok-summary.ensures.ran own (task_for (declared_by c.args.graph.now) c.args.asked.now.limits targets) entry
-          (record { same = refl; owned = ap own.files (c.as_str-2.ensures.value ∙ (c.in_ok-tick.ensures ∙ ap (λ folder. file_in folder tick_name) c.as_str.ensures)) ∙ owned.tick })
-          (c.in_ok-plan.ensures targets c.requires.cone) idle looked;
-      says = inl (told_by _ c.from_residual-in_err-report.result c.from_residual-in_err-report.ensures.1);
-    }
+returns-in_err-report-clause-ran g c course may = record {
+  result = Ok c.in_ok-summary.summary;
+  ran = c.in_ok-summary.ensures.ran course
+      (suits g.S.Texts.tells c.args.graph.now c.args.asked.now c.args.cone.now c.args.records c.args.known.looks course (g.S.Texts.world c.args.site.now) may c.requires.formed c.requires.taken c.requires.once c.requires.unrecorded _ (c.as_str-2.ensures.value ∙ (c.in_ok-tick.ensures ∙ ap (λ folder. file_in folder tick_name) c.as_str.ensures)))
+      (begins g.S.Texts.tells c.args.graph.now c.args.asked.now c.args.cone.now c.args.records c.args.known.looks course (g.S.Texts.world c.args.site.now) may c.in_ok-state.state (subst (IsPlanFor c.args.graph.now c.args.cone.now c.args.asked.now.limits) (sym {A = Plan} c.in_ok-state.ensures.plan) c.in_ok-plan.ensures)
+      c.in_ok-state.ensures.looks c.in_ok-state.ensures.records c.in_ok-state.ensures.failed c.in_ok-state.ensures.starts c.requires.fits);
+  says = inl (told_by _ c.from_residual-in_err-report.result c.from_residual-in_err-report.ensures.1);
+}
 
 pub returns-clause-ran : goal.returns-clause-ran
-returns-clause-ran g c own entry owned idle looked =
-    let targets = c.args.asked.now.targets in
-    record {
-      result = Ok c.in_ok-summary.summary;
-      ran = c.in_ok-summary.ensures.ran own (task_for (declared_by c.args.graph.now) c.args.asked.now.limits targets) entry
-          (record { same = refl; owned = ap own.files (c.as_str-2.ensures.value ∙ (c.in_ok-tick.ensures ∙ ap (λ folder. file_in folder tick_name) c.as_str.ensures)) ∙ owned.tick })
-          (c.in_ok-plan.ensures targets c.requires.cone) idle looked;
-      says = inr c.in_ok-report.ensures;
-    }
+returns-clause-ran g c course may = record {
+  result = Ok c.in_ok-summary.summary;
+  ran = c.in_ok-summary.ensures.ran course
+      (suits g.S.Texts.tells c.args.graph.now c.args.asked.now c.args.cone.now c.args.records c.args.known.looks course (g.S.Texts.world c.args.site.now) may c.requires.formed c.requires.taken c.requires.once c.requires.unrecorded _ (c.as_str-2.ensures.value ∙ (c.in_ok-tick.ensures ∙ ap (λ folder. file_in folder tick_name) c.as_str.ensures)))
+      (begins g.S.Texts.tells c.args.graph.now c.args.asked.now c.args.cone.now c.args.records c.args.known.looks course (g.S.Texts.world c.args.site.now) may c.in_ok-state.state (subst (IsPlanFor c.args.graph.now c.args.cone.now c.args.asked.now.limits) (sym {A = Plan} c.in_ok-state.ensures.plan) c.in_ok-plan.ensures)
+      c.in_ok-state.ensures.looks c.in_ok-state.ensures.records c.in_ok-state.ensures.failed c.in_ok-state.ensures.starts c.requires.fits);
+  says = inr c.in_ok-report.ensures;
+}
+
+pub returns-in_err-summary-clause-faults : goal.returns-in_err-summary-clause-faults
+returns-in_err-summary-clause-faults g c =
+    subst (λ (r : Report). PassesNoFault (g.S.Texts.world c.args.site.now) (g.S.Texts.world c.run_plan.new.site) (run_answer r))
+    (sym {A = Report} (told_by _ c.from_residual-in_err-summary.result c.from_residual-in_err-summary.ensures.1)) c.in_err-summary.ensures.faults
+
+pub returns-in_err-report-clause-faults : goal.returns-in_err-report-clause-faults
+returns-in_err-report-clause-faults g c =
+    subst (λ (r : Report). PassesNoFault (g.S.Texts.world c.args.site.now) (g.S.Texts.world c.run_plan.new.site) (run_answer r))
+    (sym {A = Report} (told_by _ c.from_residual-in_err-report.result c.from_residual-in_err-report.ensures.1))
+    (passes_untold c.args.graph.now (g.S.Texts.world c.args.site.now) (g.S.Texts.world c.run_plan.new.site) c.in_ok-summary.summary c.in_ok-summary.ensures.faults)
+
+pub returns-clause-faults : goal.returns-clause-faults
+returns-clause-faults g c = passes_told c.args.graph.now (g.S.Texts.world c.args.site.now) (g.S.Texts.world c.run_plan.new.site) c.in_ok-summary.summary _ c.in_ok-report.ensures c.in_ok-summary.ensures.faults

@@ -1,9 +1,9 @@
 use Rattle.std.proofs.Common.{◌∙◌}
 use Rattle.build_theory.proofs.Calls.{unrefused_call, unrefused_then}
-use Rattle.build_theory.proofs.Runs.{rest_looks, rest_finishes}
+use Rattle.log_theory.proofs.Ledger.{cut_looks, cut_finishes}
 use Rattle.runner.proofs.Counting.{some_of_many, many_less}
 use Rattle.runner.proofs.Cutting.{some_still}
-use Rattle.runner.proofs.Progress.{on_err}
+use Rattle.runner.proofs.Results.{on_err}
 use Rattle.runner.proofs.rest.take_in_all.Goals as goal
 
 pub wait_any-requires : goal.wait_any-requires
@@ -15,14 +15,16 @@ returns-in_err-wait_any-clause-runs g c = on_err c.from_residual.result
     (some_of_many c.rest.left (g.S.Texts.world c.rest.site).events c.rest.invariant.many c.rest-test.true) c.in_err-wait_any.ensures.err)
 
 pub returns-in_err-wait_any-clause-rest : goal.returns-in_err-wait_any-clause-rest
-returns-in_err-wait_any-clause-rest g c own task steps entry rest =
-    rest_looks g.S.Texts.tells own task entry steps (g.S.Texts.world c.rest.site) (g.S.Texts.world c.wait_any.new.self) (c.rest.invariant.rest own task steps entry rest) c.in_err-wait_any.ensures.err
+returns-in_err-wait_any-clause-rest g c course steps met cut =
+    cut_looks g.S.Texts.tells course.behaviour course.format course.own course.asked course.store course.entry steps met (g.S.Texts.world c.rest.site) (g.S.Texts.world c.wait_any.new.self) c.in_err-wait_any.ensures.err
+    (c.rest.invariant.rest course steps met cut)
 
 pub rest-preserved : goal.rest-preserved
 rest-preserved g c = record {
   many = many_less g.S.Texts.tells c.rest.left (g.S.Texts.world c.rest.site) (g.S.Texts.world c.wait_any.new.self) c.in_ok-wait_any.field-0.job c.in_ok-wait_any.field-0.ok c.rest.invariant.many c.in_ok-wait_any.ensures.finishes;
   unrefused = unrefused_then (g.S.Texts.world c.args.site.now) (g.S.Texts.world c.rest.site) (g.S.Texts.world c.wait_any.new.self) c.rest.invariant.unrefused (unrefused_call (g.S.Texts.world c.rest.site) (g.S.Texts.world c.wait_any.new.self) _ c.in_ok-wait_any.ensures.cause);
   at_start = c.in_ok-wait_any.ensures.finishes.at_start ∙ c.rest.invariant.at_start;
-  rest = λ own task steps entry rest.
-      rest_finishes g.S.Texts.tells own task entry steps (g.S.Texts.world c.rest.site) (g.S.Texts.world c.wait_any.new.self) c.in_ok-wait_any.field-0.job c.in_ok-wait_any.field-0.ok (c.rest.invariant.rest own task steps entry rest) c.in_ok-wait_any.ensures.finishes;
+  rest = λ course steps met cut.
+      cut_finishes g.S.Texts.tells course.behaviour course.format course.own course.asked course.store course.entry steps met (g.S.Texts.world c.rest.site) (g.S.Texts.world c.wait_any.new.self) c.in_ok-wait_any.field-0.job c.in_ok-wait_any.field-0.ok c.in_ok-wait_any.ensures.finishes
+      (c.rest.invariant.rest course steps met cut);
 }

@@ -1,9 +1,8 @@
-use Rattle.std.proofs.Common.{◌≡◌, List}
-use Rattle.model.specs.World.{World}
-use Rattle.model.specs.Records.{OwnFiles}
-use Rattle.model.specs.Schedule.{Task, Step as Done}
-use Rattle.build_theory.specs.Run.{IsRunOrRest}
+use Rattle.std.proofs.Common.{◌≡◌, ℕ, List, Option}
+use Rattle.model.specs.Schedule.{Step as Done}
 use Rattle.build_theory.specs.Seen.{Unrefused}
+use Rattle.log_theory.specs.Ledger.{IsCutOff}
+use Rattle.runner.specs.Course.{Course}
 use Rattle.runner.specs.Cutting.{SoManyRun}
 use Rattle.runner.proofs.rest.take_in_all.Given as goal
 
@@ -12,7 +11,8 @@ invariant-rest g l = record {
   many : SoManyRun l.left (g.S.Texts.world l.site).events;
   unrefused : Unrefused (g.S.Texts.world l.fn.site) (g.S.Texts.world l.site);
   at_start : (g.S.Texts.world l.site).failures_at_start ≡ (g.S.Texts.world l.fn.site).failures_at_start;
-  rest : (own : OwnFiles) (task : Task) (steps : List Done) (entry : World) → IsRunOrRest g.S.Texts.tells own task steps entry (g.S.Texts.world l.fn.site) → IsRunOrRest g.S.Texts.tells own task steps entry (g.S.Texts.world l.site);
+  rest : (course : Course) (steps : List Done) (met : Option ℕ) → IsCutOff g.S.Texts.tells course.behaviour course.format course.own course.asked course.store steps met course.entry (g.S.Texts.world l.fn.site)
+      → IsCutOff g.S.Texts.tells course.behaviour course.format course.own course.asked course.store steps met course.entry (g.S.Texts.world l.site);
 }
 
 abbrev pub decreases-rest : goal.decreases-rest

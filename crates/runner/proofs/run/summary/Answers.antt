@@ -1,32 +1,23 @@
-use Rattle.std.proofs.Common.{subst}
-use Rattle.build_theory.proofs.Runs.{rest_begins}
+use Rattle.std.proofs.Common.{subst, sym, Ok}
+use Rattle.model.specs.SingleBuild.{task_of}
 use Rattle.plan.specs.declared.step.End.{End}
+use Rattle.plan.specs.declared.plan.Plan.{Plan}
+use Rattle.plan.specs.Planned.{IsPlanned}
+use Rattle.runner.specs.declared.summary.Summary.TheVariants.{Failed}
 use Rattle.runner.specs.Going.{IsOver}
-use Rattle.runner.proofs.Places.{noted_within}
+use Rattle.runner.specs.Ran.{HasRun, AreEdgesOf}
+use Rattle.runner.proofs.Ends.{ran_well, ran_failed}
 use Rattle.runner.proofs.run.summary.Goals as goal
 
 pub returns-in-Well : goal.returns-in-Well
-returns-in-Well c tells own task graph entry now ends =
-    let over = subst (λ (end : End). IsOver tells own task graph c.args.plan.now c.args.failed.items end entry now) c.in-Well.is ends in (
-      record {
-        steps = over.on.steps;
-        lawful = over.on.run.lawful;
-        rest = rest_begins tells own task entry over.on.steps now over.on.run;
-        stale = over.on.stale;
-        ends = (over.on.run, over.over, c.well.ensures.steps task graph over.on.steps over.on.planned over.on.run.lawful);
-      },
+returns-in-Well c tells course graph state now plan failed ends =
+    let over = subst (λ (end : End). IsOver tells course graph state end now) c.in-Well.is ends in (
+      ran_well tells course graph now state c.well.result over
+          (c.well.ensures.steps (task_of course.asked course.store) graph over.on.steps (subst (λ (p : Plan). IsPlanned (task_of course.asked course.store) graph p over.on.steps) (sym {A = Plan} plan) over.on.planned) over.on.carried.run.lawful),
       tt,
     )
 
 pub returns-in-Failed : goal.returns-in-Failed
-returns-in-Failed c tells own task graph entry now ends =
-    let over = subst (λ (end : End). IsOver tells own task graph c.args.plan.now c.args.failed.items end entry now) c.in-Failed.is ends in (
-      record {
-        steps = over.on.steps;
-        lawful = over.on.run.lawful;
-        rest = rest_begins tells own task entry over.on.steps now over.on.run;
-        stale = over.on.stale;
-        ends = (over.on.run, over.over, over.on.noted);
-      },
-      noted_within tells own task graph c.args.plan.now c.args.failed.items entry now over.on,
-    )
+returns-in-Failed c tells course graph state now plan failed ends =
+    let over = subst (λ (end : End). IsOver tells course graph state end now) c.in-Failed.is ends in
+    subst (λ f. HasRun tells course now (Ok (Failed f)) × AreEdgesOf graph (Failed f)) (sym failed) (ran_failed tells course graph now state over)

@@ -1,45 +1,67 @@
-use Rattle.std.proofs.Common.{inr}
+use Rattle.std.proofs.Common.{suc}
 use Rattle.build_theory.proofs.Calls.{looks_then}
-use Rattle.runner.proofs.Progress.{looks_thrice, on_looks, on_ticks, going_looks, going_ticks}
+use Rattle.runner.proofs.Results.{on_err, ok_then}
+use Rattle.runner.proofs.Launched.{err_then}
+use Rattle.runner.proofs.Begins.{declared_once, declared_some, next_command, cut_looking, cut_beginning, begun_now}
 use Rattle.runner.proofs.start.start_edge.Goals as goal
 
-pub returns-in_err-make_folder-clause-on : goal.returns-in_err-make_folder-clause-on
-returns-in_err-make_folder-clause-on g c own task failed entry suits on next =
-    on_looks g.S.Texts.tells own task c.args.graph.now failed entry c.args.plan.now (g.S.Texts.world c.args.site.now) (g.S.Texts.world c.make_folder.new.site) on c.make_folder.ensures.looks
+pub returns-in_err-make_folders-clause-cut : goal.returns-in_err-make_folders-clause-cut
+returns-in_err-make_folders-clause-cut g c =
+    on_err c.from_residual.result (λ course suits on next.
+    cut_looking g.S.Texts.tells course c.args.setting.graph.now c.args.setting.tick.now suits c.log_stays.ensures c.args.state.now (g.S.Texts.world c.args.site.now) c.args.edge on next
+    (g.S.Texts.world c.make_folders.new.site) c.make_folders.ensures.looks)
 
-pub returns-in_err-make_output_folders-clause-on : goal.returns-in_err-make_output_folders-clause-on
-returns-in_err-make_output_folders-clause-on g c own task failed entry suits on next =
-    on_looks g.S.Texts.tells own task c.args.graph.now failed entry c.args.plan.now (g.S.Texts.world c.args.site.now) (g.S.Texts.world c.make_output_folders.new.site) on
-    (looks_then g.S.Texts.tells (g.S.Texts.world c.args.site.now) (g.S.Texts.world c.make_folder.new.site) (g.S.Texts.world c.make_output_folders.new.site) c.make_folder.ensures.looks c.make_output_folders.ensures.looks)
+pub returns-in_err-start-clause-cut : goal.returns-in_err-start-clause-cut
+returns-in_err-start-clause-cut g c =
+    on_err c.from_residual-in_err-start.result (λ course suits on next.
+    cut_looking g.S.Texts.tells course c.args.setting.graph.now c.args.setting.tick.now suits c.log_stays.ensures c.args.state.now (g.S.Texts.world c.args.site.now) c.args.edge on next
+    (g.S.Texts.world c.start.new.site)
+    (looks_then g.S.Texts.tells (g.S.Texts.world c.args.site.now) (g.S.Texts.world c.make_folders.new.site) (g.S.Texts.world c.start.new.site) c.make_folders.ensures.looks c.start.ensures.looks))
 
-pub returns-in_err-start-clause-on : goal.returns-in_err-start-clause-on
-returns-in_err-start-clause-on g c own task failed entry suits on next =
-    on_looks g.S.Texts.tells own task c.args.graph.now failed entry c.args.plan.now (g.S.Texts.world c.args.site.now) (g.S.Texts.world c.start.new.site) on
-    (looks_thrice g.S.Texts.tells (g.S.Texts.world c.args.site.now) (g.S.Texts.world c.make_folder.new.site) (g.S.Texts.world c.make_output_folders.new.site) (g.S.Texts.world c.start.new.site) c.make_folder.ensures.looks c.make_output_folders.ensures.looks c.start.ensures.looks)
+pub begin-requires-clause-once : goal.begin-requires-clause-once
+begin-requires-clause-once g c =
+    let going = c.requires.going.0 in
+    declared_once g.S.Texts.tells going.course c.args.setting.graph.now c.args.setting.tick.now going.suits
 
-pub returns-in_err-tick-clause-on : goal.returns-in_err-tick-clause-on
-returns-in_err-tick-clause-on g c own task failed entry suits on next =
-    on_ticks g.S.Texts.tells own task c.args.graph.now failed entry c.args.plan.now (g.S.Texts.world c.start.new.site) (g.S.Texts.world c.tick.new.self) c.args.tick.now suits.owned
-    (on_looks g.S.Texts.tells own task c.args.graph.now failed entry c.args.plan.now (g.S.Texts.world c.args.site.now) (g.S.Texts.world c.start.new.site) on
-    (looks_thrice g.S.Texts.tells (g.S.Texts.world c.args.site.now) (g.S.Texts.world c.make_folder.new.site) (g.S.Texts.world c.make_output_folders.new.site) (g.S.Texts.world c.start.new.site) c.make_folder.ensures.looks c.make_output_folders.ensures.looks c.start.ensures.looks))
-    c.in_err-tick.ensures.err
+pub begin-requires-clause-some : goal.begin-requires-clause-some
+begin-requires-clause-some g c =
+    let going = c.requires.going.0 in
+    declared_some g.S.Texts.tells going.course c.args.setting.graph.now c.args.setting.tick.now going.suits (suc c.args.edge)
+    (next_command g.S.Texts.tells going.course c.args.setting.graph.now c.args.setting.tick.now going.suits c.log_stays.ensures c.args.state.now (g.S.Texts.world c.args.site.now) c.args.edge going.on c.requires.going.1)
 
-pub start_command-requires-clause-going : goal.start_command-requires-clause-going
-start_command-requires-clause-going g c = (
-  c.args.tick.now,
-  c.requires.going.0,
-  going_ticks g.S.Texts.tells c.args.tick.now c.args.graph.now c.args.plan.now c.requires.going.0 (g.S.Texts.world c.start.new.site) (g.S.Texts.world c.tick.new.self)
-      (going_looks g.S.Texts.tells c.args.tick.now c.args.graph.now c.args.plan.now c.requires.going.0 (g.S.Texts.world c.args.site.now) (g.S.Texts.world c.start.new.site) c.requires.going.1
-      (looks_thrice g.S.Texts.tells (g.S.Texts.world c.args.site.now) (g.S.Texts.world c.make_folder.new.site) (g.S.Texts.world c.make_output_folders.new.site) (g.S.Texts.world c.start.new.site) c.make_folder.ensures.looks c.make_output_folders.ensures.looks c.start.ensures.looks))
-      (inr (c.in_ok-tick.field-0, c.in_ok-tick.ensures.ticks)),
-  c.requires.going.2,
-)
+pub returns-in_err-begin-clause-cut : goal.returns-in_err-begin-clause-cut
+returns-in_err-begin-clause-cut g c =
+    on_err c.from_residual-in_err-begin.result (λ course suits on next.
+    cut_beginning g.S.Texts.tells course c.args.setting.graph.now c.args.setting.tick.now suits c.log_stays.ensures c.args.state.now (g.S.Texts.world c.args.site.now) c.args.edge on next
+    (g.S.Texts.world c.start.new.site) (g.S.Texts.world c.begin.new.site)
+    (looks_then g.S.Texts.tells (g.S.Texts.world c.args.site.now) (g.S.Texts.world c.make_folders.new.site) (g.S.Texts.world c.start.new.site) c.make_folders.ensures.looks c.start.ensures.looks)
+    c.begin.ensures.writes c.in_err-begin.ensures.err)
+
+pub launch-requires-clause-begun : goal.launch-requires-clause-begun
+launch-requires-clause-begun g c =
+    let going = c.requires.going.0 in (
+      going.course,
+      going.suits,
+      begun_now g.S.Texts.tells going.course c.args.setting.graph.now c.args.setting.tick.now going.suits c.log_stays.ensures c.args.state.now (g.S.Texts.world c.args.site.now) c.args.edge going.on c.requires.going.1
+          (g.S.Texts.world c.start.new.site) (g.S.Texts.world c.begin.new.site)
+          (looks_then g.S.Texts.tells (g.S.Texts.world c.args.site.now) (g.S.Texts.world c.make_folders.new.site) (g.S.Texts.world c.start.new.site) c.make_folders.ensures.looks c.start.ensures.looks)
+          c.begin.ensures.writes c.begin.new.self c.start.new.self c.begin.ensures.same c.begin.ensures.places c.in_ok-begin.ensures.ok,
+    )
 
 pub returns-clause-on : goal.returns-clause-on
-returns-clause-on g c own task failed entry suits on next =
-    c.start_command.ensures.on own task failed entry suits.same
-    (on_ticks g.S.Texts.tells own task c.args.graph.now failed entry c.args.plan.now (g.S.Texts.world c.start.new.site) (g.S.Texts.world c.tick.new.self) c.args.tick.now suits.owned
-    (on_looks g.S.Texts.tells own task c.args.graph.now failed entry c.args.plan.now (g.S.Texts.world c.args.site.now) (g.S.Texts.world c.start.new.site) on
-    (looks_thrice g.S.Texts.tells (g.S.Texts.world c.args.site.now) (g.S.Texts.world c.make_folder.new.site) (g.S.Texts.world c.make_output_folders.new.site) (g.S.Texts.world c.start.new.site) c.make_folder.ensures.looks c.make_output_folders.ensures.looks c.start.ensures.looks))
-    (inr (c.in_ok-tick.field-0, c.in_ok-tick.ensures.ticks)))
-    next
+returns-clause-on g c =
+    ok_then c.launch.result c.launch.ensures.on (λ so course suits on next.
+    so course suits
+    (begun_now g.S.Texts.tells course c.args.setting.graph.now c.args.setting.tick.now suits c.log_stays.ensures c.args.state.now (g.S.Texts.world c.args.site.now) c.args.edge on next
+    (g.S.Texts.world c.start.new.site) (g.S.Texts.world c.begin.new.site)
+    (looks_then g.S.Texts.tells (g.S.Texts.world c.args.site.now) (g.S.Texts.world c.make_folders.new.site) (g.S.Texts.world c.start.new.site) c.make_folders.ensures.looks c.start.ensures.looks)
+    c.begin.ensures.writes c.begin.new.self c.start.new.self c.begin.ensures.same c.begin.ensures.places c.in_ok-begin.ensures.ok))
+
+pub returns-clause-cut : goal.returns-clause-cut
+returns-clause-cut g c =
+    err_then c.launch.result c.launch.ensures.cut (λ so course suits on next.
+    so course suits
+    (begun_now g.S.Texts.tells course c.args.setting.graph.now c.args.setting.tick.now suits c.log_stays.ensures c.args.state.now (g.S.Texts.world c.args.site.now) c.args.edge on next
+    (g.S.Texts.world c.start.new.site) (g.S.Texts.world c.begin.new.site)
+    (looks_then g.S.Texts.tells (g.S.Texts.world c.args.site.now) (g.S.Texts.world c.make_folders.new.site) (g.S.Texts.world c.start.new.site) c.make_folders.ensures.looks c.start.ensures.looks)
+    c.begin.ensures.writes c.begin.new.self c.start.new.self c.begin.ensures.same c.begin.ensures.places c.in_ok-begin.ensures.ok))

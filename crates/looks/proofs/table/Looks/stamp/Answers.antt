@@ -1,7 +1,6 @@
-use Rattle.std.proofs.Common.{ℕ, List, Bool, Option, ◌≡◌, ◌<◌, length, sym, ◌∙◌, ap, subst, arith}
-use Rattle.paths.specs.Told.{text_at}
+use Rattle.std.proofs.Common.{ℕ, List, sym, subst, arith}
 use Rattle.looks.specs.declared.table.Look.{Look}
-use Rattle.looks.specs.Seen.{AreSeenOf, IsStampIn, look_of}
+use Rattle.looks.specs.Seen.{AreSeenOf, IsStampIn}
 use Rattle.std.specs.Prelude.{slice_set}
 use Rattle.looks.proofs.Kept.{seen_kept, seen_more, stamp_kept}
 use Rattle.looks.proofs.table.Looks.stamp.Goals as goal

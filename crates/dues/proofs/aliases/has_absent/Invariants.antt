@@ -1,0 +1,13 @@
+use Rattle.std.proofs.Common.{◌≡◌, false, take}
+use Rattle.std.specs.List.{list_any}
+use Rattle.build_theory.specs.Seen.{Unrefused}
+use Rattle.looks.specs.Looking.{HasLooked, IfSeen}
+use Rattle.dues.specs.Dues.{is_absent}
+use Rattle.dues.proofs.aliases.has_absent.Given as goal
+
+abbrev pub invariant-loop-path : goal.invariant-loop-path
+invariant-loop-path g l = record {
+  looked : HasLooked g.S.Texts.tells l.graph (g.S.Texts.world l.fn.site) (g.S.Texts.world l.site) l.fn.looks l.looks;
+  unrefused : Unrefused (g.S.Texts.world l.fn.site) (g.S.Texts.world l.site);
+  none : IfSeen g.S.Texts.tells l.graph (g.S.Texts.world l.fn.site) (g.S.Texts.world l.site) l.fn.looks (λ files. list_any (is_absent l.graph.manifest.paths files) (take l.path-index l.paths) ≡ false);
+}

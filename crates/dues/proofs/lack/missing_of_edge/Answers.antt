@@ -1,0 +1,19 @@
+use Rattle.std.proofs.Common.{◌≡◌, List, ℕ, true, length, subst, rules}
+use Rattle.links.specs.Links.{links_of}
+use Rattle.dues.specs.Dues.{due_at}
+use Rattle.dues.specs.Lacks.{IsFirstIn}
+use Rattle.dues.proofs.Slices.{within_by, if_ok_then}
+use Rattle.dues.proofs.Lacking.{first_for}
+use Rattle.dues.proofs.lack.missing_of_edge.Goals as goal
+
+pub first_missing-requires-clause-within : goal.first_missing-requires-clause-within
+first_missing-requires-clause-within g c =
+    let graph = c.args.graph.now in
+    within_by (length graph.manifest.paths) ((links_of graph).inputs c.args.edge) c.inputs.result.now c.inputs.ensures (c.lists_stand.ensures.inputs_within c.args.edge)
+
+pub returns-then-due-index-clause-first : goal.returns-then-due-index-clause-first
+returns-then-due-index-clause-first g c =
+    let marked : due_at c.args.due.now c.args.edge ≡ true = search rules in
+    if_ok_then c.first_missing.result c.first_missing.ensures.first (λ found seen told files stays before.
+    first_for c.args.graph.now c.args.due.now files c.lists_stand.ensures c.args.edge marked found
+    (subst (λ (l : List ℕ). IsFirstIn c.args.graph.now l files found) c.inputs.ensures (seen told files stays before)))

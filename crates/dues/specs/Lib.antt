@@ -1,0 +1,3 @@
+pub mod Stores
+pub mod Dues
+pub mod Lacks

@@ -1,0 +1,84 @@
+//! Commands that are due.
+
+ghost use Rattle.std.specs.Prelude.{◌≡◌, ◌||◌, ◌<◌, [], All, IfOk, length, false, suc};
+ghost use Rattle.std.specs.List.{list_any};
+ghost use Rattle.model.specs.Calls.{HasCause};
+ghost use Rattle.model.specs.Graph.{edge_at};
+ghost use Rattle.links.specs.Links.{links_of};
+ghost use Rattle.links.specs.Told.{declared_by};
+ghost use Rattle.looks.specs.Looking.{HasLooked};
+ghost use Rattle.dues.specs.Stores.{IfKnown};
+ghost use Rattle.dues.specs.Dues.{is_made_due, reads_due, IsDueEdge};
+
+use links::{Graph, lists_stand};
+use looks::Looks;
+use model::SiteFault;
+use paths::{EdgeId, PathId};
+use records::Records;
+use site::Site;
+use std::alloc::Global;
+use verdict::reason;
+
+/// Whether the command is due, where it is known which edges before it are: it reads what a due edge makes, or it is out of
+/// date. Where the first is so no file is looked at.
+pub fn is_command_due<S: Site>(
+    alloc: Global,
+    site: &mut S,
+    graph: &Graph,
+    looks: &mut Looks,
+    records: &Records,
+    due: &[bool],
+    edge: EdgeId,
+) -> Result<bool, SiteFault>
+    requires running { (S.world site.old).stopped ≡ false }
+    requires fits { length looks.old.seen.items ≡ length graph.now.manifest.paths }
+    requires within { edge < length graph.now.manifest.lines }
+    requires due { length due.now ≡ length graph.now.manifest.lines }
+    requires command { (links_of graph.now).phony edge ≡ false }
+    requires depfile { (edge_at (declared_by graph.now).edges (suc edge)).act.depfile ≡ [] }
+    ensures looked { HasLooked S.tells graph.now (S.world site.old) (S.world site.new) looks.old looks.new }
+    ensures cause { HasCause (S.world site.old) (S.world site.new) result }
+    ensures due { IfOk result (λ is. IfKnown S.tells graph.now records.now (S.world site.old) (S.world site.new) looks.old (λ store files. IsDueEdge graph.now store due.now edge files is)) }
+{
+    lists_stand(graph);
+    if reads_due(graph, due, edge) {
+        return Ok(true);
+    }
+    let found = reason(alloc, site, graph, looks, records, &[], edge)?;
+    Ok(found.is_some())
+}
+
+/// Whether a due edge makes one of its regular or recorded inputs. A phony edge among those that make them stands for what it
+/// reads: it is due where a due edge makes that, or where it is an absent source.
+fn reads_due(graph: &Graph, due: &[bool], edge: EdgeId) -> bool
+    requires within { edge < length graph.now.manifest.lines }
+    requires due { length due.now ≡ length graph.now.manifest.lines }
+    ensures { result ≡ reads_due (links_of graph.now) due.now edge }
+{
+    are_made_due(graph, due, graph.regular_inputs(edge))
+        || are_made_due(graph, due, graph.recorded_inputs(edge))
+}
+
+/// Whether a due edge makes one of these paths.
+fn are_made_due(graph: &Graph, due: &[bool], paths: &[PathId]) -> bool
+    requires due { length due.now ≡ length graph.now.manifest.lines }
+    ensures { result ≡ list_any (is_made_due (links_of graph.now) due.now) paths.now }
+{
+    for path in paths {
+        if is_made_due(graph, due, *path) {
+            return true;
+        }
+    }
+    false
+}
+
+/// Whether a due edge makes the path.
+fn is_made_due(graph: &Graph, due: &[bool], path: PathId) -> bool
+    requires due { length due.now ≡ length graph.now.manifest.lines }
+    ensures { result ≡ is_made_due (links_of graph.now) due.now path }
+{
+    match graph.maker(path) {
+        Some(edge) => due[edge.index()],
+        None => false,
+    }
+}

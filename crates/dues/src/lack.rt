@@ -1,0 +1,178 @@
+//! Which source is missing before the first judgement.
+
+ghost use Rattle.std.specs.Prelude.{◌≡◌, ◌<◌, false, length, All, IfOk, IfSome, List, ℕ};
+ghost use Rattle.model.specs.Calls.{OnlyLooks, HasCause};
+ghost use Rattle.model.specs.Graph.{targets_of};
+ghost use Rattle.links.specs.Told.{declared_by};
+ghost use Rattle.looks.specs.Seen.{AreSeen};
+ghost use Rattle.looks.specs.Looking.{HasLooked, IfSeen};
+ghost use Rattle.dues.specs.Stores.{HaveNoDepfiles, IfKnown, IsAnyCone, IsConeIn};
+ghost use Rattle.dues.specs.Lacks.{IsFound, lack_in, IfPresent, HasDue, IsLackOf, IsMissingAt, IsFirstIn, IsFirstFor, IsFoundOfDue};
+
+use crate::aliases::is_absent;
+use crate::due::due_edges;
+use links::{Cone, Graph, lists_stand};
+use looks::{Looks, looks_follow};
+use model::SiteFault;
+use paths::{EdgeId, PathId};
+use records::Records;
+use site::Site;
+use std::alloc::Global;
+
+/// A path that is absent and that no edge makes.
+#[derive(Clone, Copy, Debug, PartialEq, Eq)]
+pub struct Lack {
+    pub path: PathId,
+    /// The edge that needs it; none for a path that was requested.
+    pub needed_by: Option<EdgeId>,
+}
+
+/// What is found of the sources of a cone before anything runs.
+#[derive(Debug, Drop)]
+pub enum Found {
+    Missing(Lack),
+    /// None is missing. For each edge of the graph, whether it is in the cone and due.
+    Present(Vec<bool>),
+}
+
+/// The first requested path that is missing, else the first missing input of the lowest due edge of the cone, in the order
+/// of its lists; where none is missing, which edges are due. Which commands are due the records of the build log say, with the
+/// files and what due edges make; none has a depfile.
+///
+/// What was seen of a path is not asked for again. Of a command that reads what a due edge makes only inputs are asked for,
+/// and it takes time for its regular and recorded inputs alone; any other command is judged by `verdict::reason`, which walks
+/// what it reads through phony edges. Memory is taken for one flag for each edge of the graph, and for what `reason` takes.
+pub fn sources<S: Site>(
+    alloc: Global,
+    site: &mut S,
+    graph: &Graph,
+    cone: &Cone,
+    looks: &mut Looks,
+    records: &Records,
+) -> Result<Found, SiteFault>
+    requires running { (S.world site.old).stopped ≡ false }
+    requires fits { length looks.old.seen.items ≡ length graph.now.manifest.paths }
+    requires cone { IsAnyCone graph.now cone.now }
+    requires depfiles { HaveNoDepfiles (declared_by graph.now).edges }
+    ensures looks { OnlyLooks S.tells (S.world site.old) (S.world site.new) }
+    ensures cause { HasCause (S.world site.old) (S.world site.new) result }
+    ensures fits { length looks.new.seen.items ≡ length graph.now.manifest.paths }
+    ensures seen { IfSeen S.tells graph.now (S.world site.old) (S.world site.new) looks.old (λ files. AreSeen graph.now.manifest.paths files looks.new.seen.items) }
+    ensures found { IfOk result (λ found. IfKnown S.tells graph.now records.now (S.world site.old) (S.world site.new) looks.old (λ store files. (targets : List (List ℕ)) → IsConeIn graph.now store targets cone.now → IsFound graph.now store (targets_of (declared_by graph.now) targets) files (lack_in found))) }
+    ensures due { IfOk result (λ found. IfPresent found (λ due. HasDue S.tells graph.now records.now cone.now (S.world site.old) (S.world site.new) looks.old due)) }
+    ensures within { IfOk result (λ found. IfSome (lack_in found) (IsLackOf graph.now)) }
+{
+    looks_follow();
+    lists_stand(graph);
+    let targets = cone.targets.as_slice();
+    match first_missing(site, graph, looks, targets)? {
+        Some(path) => Ok(Found::Missing(Lack {
+            path,
+            needed_by: None,
+        })),
+        None => {
+            let due = due_edges(alloc, site, graph, cone, looks, records)?;
+            match lack_of_due(site, graph, looks, &due)? {
+                Some(lack) => Ok(Found::Missing(lack)),
+                None => Ok(Found::Present(due)),
+            }
+        }
+    }
+}
+
+/// The first missing input of the lowest due edge that has one.
+fn lack_of_due<S: Site>(
+    site: &mut S,
+    graph: &Graph,
+    looks: &mut Looks,
+    due: &[bool],
+) -> Result<Option<Lack>, SiteFault>
+    requires running { (S.world site.old).stopped ≡ false }
+    requires fits { length looks.old.seen.items ≡ length graph.now.manifest.paths }
+    requires due { length due.now ≡ length graph.now.manifest.lines }
+    ensures looked { HasLooked S.tells graph.now (S.world site.old) (S.world site.new) looks.old looks.new }
+    ensures cause { HasCause (S.world site.old) (S.world site.new) result }
+    ensures found { IfOk result (λ found. IfSeen S.tells graph.now (S.world site.old) (S.world site.new) looks.old (λ files. IsFoundOfDue graph.now due.now files found)) }
+    ensures within { IfOk result (λ found. IfSome found (IsLackOf graph.now)) }
+{
+    looks_follow();
+    for place in 0..graph.edges() {
+        let edge = graph.manifest.edge(place);
+        if let Some(path) = missing_of_edge(site, graph, looks, due, edge)? {
+            return Ok(Some(Lack {
+                path,
+                needed_by: Some(edge),
+            }));
+        }
+    }
+    Ok(None)
+}
+
+/// The first missing input of the edge, where it is due.
+fn missing_of_edge<S: Site>(
+    site: &mut S,
+    graph: &Graph,
+    looks: &mut Looks,
+    due: &[bool],
+    edge: EdgeId,
+) -> Result<Option<PathId>, SiteFault>
+    requires running { (S.world site.old).stopped ≡ false }
+    requires fits { length looks.old.seen.items ≡ length graph.now.manifest.paths }
+    requires within { edge < length graph.now.manifest.lines }
+    requires due { length due.now ≡ length graph.now.manifest.lines }
+    ensures looked { HasLooked S.tells graph.now (S.world site.old) (S.world site.new) looks.old looks.new }
+    ensures cause { HasCause (S.world site.old) (S.world site.new) result }
+    ensures first { IfOk result (λ found. IfSeen S.tells graph.now (S.world site.old) (S.world site.new) looks.old (λ files. IsFirstFor graph.now due.now edge files found)) }
+    ensures within { IfOk result (λ found. IfSome found (λ p. p < length graph.now.manifest.paths)) }
+{
+    lists_stand(graph);
+    if due[edge.index()] {
+        first_missing(site, graph, looks, graph.inputs(edge))
+    } else {
+        Ok(None)
+    }
+}
+
+/// The first of these paths that is missing.
+fn first_missing<S: Site>(
+    site: &mut S,
+    graph: &Graph,
+    looks: &mut Looks,
+    paths: &[PathId],
+) -> Result<Option<PathId>, SiteFault>
+    requires running { (S.world site.old).stopped ≡ false }
+    requires fits { length looks.old.seen.items ≡ length graph.now.manifest.paths }
+    requires within { All (λ p. p < length graph.now.manifest.paths) paths.now }
+    ensures looked { HasLooked S.tells graph.now (S.world site.old) (S.world site.new) looks.old looks.new }
+    ensures cause { HasCause (S.world site.old) (S.world site.new) result }
+    ensures first { IfOk result (λ found. IfSeen S.tells graph.now (S.world site.old) (S.world site.new) looks.old (λ files. IsFirstIn graph.now paths.now files found)) }
+    ensures within { IfOk result (λ found. IfSome found (λ p. p < length graph.now.manifest.paths)) }
+{
+    looks_follow();
+    for path in paths {
+        if is_missing(site, graph, looks, *path)? {
+            return Ok(Some(*path));
+        }
+    }
+    Ok(None)
+}
+
+/// Whether no edge makes the path and it is absent.
+fn is_missing<S: Site>(
+    site: &mut S,
+    graph: &Graph,
+    looks: &mut Looks,
+    path: PathId,
+) -> Result<bool, SiteFault>
+    requires running { (S.world site.old).stopped ≡ false }
+    requires fits { length looks.old.seen.items ≡ length graph.now.manifest.paths }
+    requires within { path < length graph.now.manifest.paths }
+    ensures looked { HasLooked S.tells graph.now (S.world site.old) (S.world site.new) looks.old looks.new }
+    ensures cause { HasCause (S.world site.old) (S.world site.new) result }
+    ensures missing { IfOk result (λ is. IfSeen S.tells graph.now (S.world site.old) (S.world site.new) looks.old (IsMissingAt graph.now path is)) }
+{
+    match graph.maker(path) {
+        Some(_) => Ok(false),
+        None => is_absent(site, graph, looks, path),
+    }
+}

@@ -1,0 +1,32 @@
+-- Which calls leave the log alone, for whoever carries it over them.
+use Rattle.std.proofs.Common.{◌≢◌, inl, inr, ℕ, Bool, IsTrue, List, sym}
+use Rattle.model.specs.declared.act.Act.{Act}
+use Rattle.model.specs.declared.graph.Edge.{Edge}
+use Rattle.model.specs.World.{World}
+use Rattle.model.specs.Calls.{OnlyLooks, Ticks, TicksOrNot, StartsOrNot}
+use Rattle.model.specs.Records.{OwnFiles}
+use Rattle.model.specs.Premises.{FilesAreKept}
+use Rattle.log_theory.specs.Writes.{WritesAt}
+use Rattle.log_theory.proofs.Writing.{looks_at, ticks_grew}
+use Rattle.records.specs.Laws.{LeavesTheLog}
+
+module _ (tells : Bool) (own : OwnFiles) (edges : List Edge) (first now new : World) where
+  module _ (path : List ℕ) (other : IsTrue tells → FilesAreKept own edges first.history new.history → path ≢ own.build_log) where
+    -- a write or a removal, failed or not, of another file (log_theory says which calls write at one path)
+    pub writes_leave : WritesAt tells path now new → LeavesTheLog tells own edges first now new
+    writes_leave writes = inl (record { events = writes.events; path = path; other = other; history = writes.history })
+
+    pub ticks_leave : (stamp : ℕ) → Ticks tells path stamp now new → LeavesTheLog tells own edges first now new
+    ticks_leave stamp ticks = inl (record { events = ticks.events; path = path; other = other; history = ticks_grew tells path stamp now new ticks })
+
+    pub ticks_or_not_leave : TicksOrNot tells path now new → LeavesTheLog tells own edges first now new
+    ticks_or_not_leave (inl looks) = writes_leave (looks_at tells path now new looks)
+    ticks_or_not_leave (inr (stamp, ticks)) = ticks_leave stamp ticks
+
+  module _ (apart : own.build_log ≢ own.deps_log) where
+    pub looks_leave : OnlyLooks tells now new → LeavesTheLog tells own edges first now new
+    looks_leave looks = writes_leave own.deps_log (λ tell kept same. apart (sym same)) (looks_at tells own.deps_log now new looks)
+
+    pub starts_or_not_leave : (i : ℕ) (act : Act) → StartsOrNot tells i act now new → LeavesTheLog tells own edges first now new
+    starts_or_not_leave i act (inl looks) = looks_leave looks
+    starts_or_not_leave i act (inr starts) = inr (inl (i, act, starts))

@@ -1,0 +1,10 @@
+pub mod Results
+pub mod Told
+pub mod Carrying
+pub mod Beginning
+pub mod Standing
+pub mod Places
+pub mod States
+pub mod Appending
+pub mod Replacing
+pub mod Leaving

@@ -1,0 +1,77 @@
+-- The numbers of the records in force, path by path.
+use Rattle.std.proofs.Common.{◌≡◌, inl, inr, ℕ, ◌+◌, ◌<◌, false, List, [], ◌∷◌, ◌++◌, Option, None, take, length, map, get_or, slice_get, unwrap_or, sym, ◌∙◌, ap, arith}
+use Rattle.std.specs.Option.{option_and_then}
+use Rattle.std.proofs.Math.Seq.{get_or-append_seam}
+use Rattle.std.proofs.lemmas.Option.{slice_get-get_or, unwrap_or-slice_get}
+use Rattle.std.proofs.lemmas.List.{get_or_append_left, length-append, map-append, take_more}
+use Rattle.std.proofs.lemmas.Bool.{cases_eq, false≢true}
+use Rattle.model.specs.declared.record.Record.{Record}
+use Rattle.model.specs.declared.graph.Edge.{Edge}
+use Rattle.model.specs.Graph.{outputs}
+use Rattle.model.specs.Records.{in_force}
+use Rattle.paths.specs.declared.line.Line.{Line}
+use Rattle.paths.specs.declared.manifest.Action.{Action}
+use Rattle.paths.specs.declared.manifest.Action.TheVariants.{Alias, Command}
+use Rattle.paths.specs.declared.manifest.Command.{Command as Commanded}
+use Rattle.paths.specs.Lists.{line_outputs}
+use Rattle.paths.specs.Told.{text_at, texts_at, edge_of}
+use Rattle.build_log.specs.Kept.{joined}
+use Rattle.build_log.specs.Log.{makings}
+
+joined_get : (places : List (Option ℕ)) (p : ℕ) → p < length places → joined (slice_get places p) ≡ get_or places p None
+joined_get places p low = ap joined (slice_get-get_or places p None low)
+
+-- so many paths have their numbers
+abbrev pub AreMadeBelow : ℕ → List Record → List (List ℕ) → List (Option ℕ) → Type 0
+AreMadeBelow count rs paths places = (p : ℕ) → p < count → option_and_then (slice_get (makings rs)) (joined (slice_get places p)) ≡ in_force rs (text_at paths p)
+
+pub longer : (old new : List (Option ℕ)) (place : ℕ) (one : Option ℕ) → length old ≡ place → new ≡ old ++ one ∷ [] → length new ≡ place + 1
+longer old new place one fits pushed = ap length pushed ∙ (length-append old (one ∷ []) ∙ ap (λ (n : ℕ). n + 1) fits)
+
+pub placed : (rs : List Record) (paths : List (List ℕ)) (old new : List (Option ℕ)) (place : ℕ) (one : Option ℕ) → length old ≡ place → new ≡ old ++ one ∷ []
+    → option_and_then (slice_get (makings rs)) one ≡ in_force rs (text_at paths place) → AreMadeBelow place rs paths old → AreMadeBelow (place + 1) rs paths new
+placed rs paths old new place one fits pushed is all p low = elim (cases_eq p place) [
+  | inl here ↦ ap (option_and_then (slice_get (makings rs))) (at_end p here) ∙ (is ∙ ap (λ (n : ℕ). in_force rs (text_at paths n)) (sym here))
+  | inr other ↦
+      let below : p < place = omega (arith, low, other) in
+      ap (option_and_then (slice_get (makings rs))) (before p below) ∙ all p below
+]
+  where
+    at_end : (p : ℕ) → p ≡ place → joined (slice_get new p) ≡ one
+    at_end p here =
+        joined_get new p (omega (arith, here, longer old new place one fits pushed))
+        ∙ (ap (λ (l : List (Option ℕ)). get_or l p None) pushed
+        ∙ (ap (λ (n : ℕ). get_or (old ++ one ∷ []) n None) (here ∙ sym fits) ∙ get_or-append_seam old one [] None))
+
+    before : (p : ℕ) → p < place → joined (slice_get new p) ≡ joined (slice_get old p)
+    before p below =
+        joined_get new p (omega (arith, below, longer old new place one fits pushed))
+        ∙ (ap (λ (l : List (Option ℕ)). get_or l p None) pushed
+        ∙ (get_or_append_left old (one ∷ []) None p (omega (arith, below, fits)) ∙ sym (joined_get old p (omega (arith, below, fits)))))
+
+-- ---- texts of numbers
+
+-- one more of what numbers stand for
+pub map_next : {B : Type 0} (f : ℕ → B) (numbers : List ℕ) (i number : ℕ) (before after : List B) (one : B) → i < length numbers → number ≡ get_or numbers i number
+    → before ≡ map f (take i numbers) → after ≡ before ++ one ∷ [] → one ≡ f number → after ≡ map f (take (i + 1) numbers)
+map_next f numbers i number before after one low is was pushed same =
+    pushed ∙ (ap (λ (l : List _). l ++ one ∷ []) was ∙ (ap (λ t. map f (take i numbers) ++ t ∷ []) same
+    ∙ (sym (map-append f (take i numbers) (number ∷ [])) ∙ ap (map f) (sym (take_more numbers i number low ∙ ap (λ (n : ℕ). take i numbers ++ n ∷ []) (sym is))))))
+
+pub no_text : (paths : List (List ℕ)) (p : ℕ) → slice_get paths p ≡ None → [] ≡ text_at paths p
+no_text paths p none = ap (λ (o : Option (List ℕ)). unwrap_or o []) (sym none) ∙ unwrap_or-slice_get paths p []
+
+-- ---- the edge of a line
+
+outputs_are : (paths : List (List ℕ)) (line : Line) (action : Action) → outputs (edge_of paths line action) ≡ texts_at paths (line_outputs line)
+outputs_are paths line Alias = sym (map-append (text_at paths) line.explicit_outputs line.implicit_outputs)
+outputs_are paths line (Command command) = sym (map-append (text_at paths) line.explicit_outputs line.implicit_outputs)
+
+pub edge_outputs : (paths : List (List ℕ)) (line : Line) (action : Action) (edge : Edge) → edge ≡ edge_of paths line action → texts_at paths (line_outputs line) ≡ outputs edge
+edge_outputs paths line action edge is = sym (ap outputs is ∙ outputs_are paths line action)
+
+pub no_alias : (paths : List (List ℕ)) (line : Line) (action : Action) (edge : Edge) → edge ≡ edge_of paths line action → action ≡ Alias → edge.phony ≡ false → ⊥
+no_alias paths line action edge is alias command = false≢true (sym command ∙ (ap (λ (e : Edge). e.phony) is ∙ ap (λ (a : Action). (edge_of paths line a).phony) alias))
+
+pub act_is : (paths : List (List ℕ)) (line : Line) (action : Action) (edge : Edge) (command : Commanded) → edge ≡ edge_of paths line action → action ≡ Command command → command.act ≡ edge.act
+act_is paths line action edge command is same = sym (ap (λ (e : Edge). e.act) is ∙ ap (λ (a : Action). (edge_of paths line a).act) same)

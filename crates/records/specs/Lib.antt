@@ -1,0 +1,4 @@
+pub mod Held
+pub mod Known
+pub mod Logging
+pub mod Laws

@@ -1,0 +1,88 @@
+-- An edge is taken in hand, and the log says that it is begun.
+use Rattle.std.proofs.Common.{◌≡◌, ◌≢◌, ℕ, suc, Bool, List, [], Some, None, inl, inr, sym, ap, subst}
+use Rattle.model.specs.declared.graph.BuildGraph.{BuildGraph}
+use Rattle.model.specs.declared.graph.Edge.{Edge}
+use Rattle.model.specs.World.{World}
+use Rattle.model.specs.Calls.{OnlyLooks}
+use Rattle.model.specs.Graph.{edge_at, outputs, IsCommand, IsMadeOnce}
+use Rattle.model.specs.Outcome.{Behaviour}
+use Rattle.model.specs.Records.{LogFormat, OwnFiles, Store}
+use Rattle.model.specs.Schedule.{Step as Done, Started, IsLawfulStep}
+use Rattle.model.specs.SingleBuild.{task_of}
+use Rattle.log_theory.specs.Writes.{WritesAt}
+use Rattle.display.specs.declared.display.Display.{Display}
+use Rattle.links.specs.declared.graph.Graph.{Graph}
+use Rattle.links.specs.Told.{declared_by}
+use Rattle.records.specs.declared.records.Records.{Records}
+use Rattle.records.specs.Held.{IsSameLog}
+use Rattle.records.specs.Logging.{IsLogging, IsLoggedStill, NoneInForce}
+use Rattle.records.specs.Laws.{LogStays}
+use Rattle.runner.specs.declared.state.State.{State}
+use Rattle.runner.specs.Course.{Course, Suits, edges_of, IsOn}
+use Rattle.runner.specs.Going.{IsCut}
+use Rattle.runner.specs.Starting.{IsBegun}
+use Rattle.runner.proofs.Keeping.{stale_is_command, looks_carried, on_looks, on_hand, on_log, log_carried, cut_free, cut_met}
+
+module _ (tells : Bool) (course : Course) (graph : Graph) (tick : List ℕ) (suits : Suits course tick graph) where
+  pub declared_once : IsMadeOnce (declared_by graph).edges
+  declared_once = subst (λ (b : BuildGraph). IsMadeOnce b.edges) suits.same suits.once
+
+  pub declared_some : (i : ℕ) → IsCommand (declared_by graph).edges i → outputs (edge_at (declared_by graph).edges i) ≢ []
+  declared_some = subst (λ (b : BuildGraph). (i : ℕ) → IsCommand b.edges i → outputs (edge_at b.edges i) ≢ []) suits.same suits.some
+
+  same_edges : edges_of course ≡ (declared_by graph).edges
+  same_edges = ap (λ (b : BuildGraph). b.edges) suits.same
+
+  module _ (stays : LogStays) (state : State) (now : World) (e : ℕ) (on : IsOn tells course graph None state now) (next : IsLawfulStep (task_of course.asked course.store) on.steps (Started (suc e))) where
+    -- it is a command of the graph
+    pub next_command : IsCommand (declared_by graph).edges (suc e)
+    next_command = subst (λ (b : BuildGraph). IsCommand b.edges (suc e)) suits.same (stale_is_command tells course graph on.steps None now on.carried (suc e) next.1.stale)
+
+    -- a fault before anything is written
+    pub cut_looking : (new : World) → OnlyLooks tells now new → IsCut tells course graph state.plan new
+    cut_looking new looks = cut_free tells course graph state.plan new on.steps on.planned (looks_carried tells course graph stays None state now new on looks)
+
+    module _ (mid new : World) (looks : OnlyLooks tells now mid) (writes : WritesAt tells state.records.file.path mid new) where
+      abbrev pub on_mid : IsOn tells course graph (Some (suc e)) state mid
+      on_mid = on_hand tells course graph state mid (suc e) (on_looks tells course graph stays None state now mid on looks)
+
+      -- the log over the edges that the graph declares
+      declared_logging : IsLogging tells course.behaviour course.format course.own (declared_by graph).edges on.steps (Some (suc e)) course.store course.entry mid state.records.file
+      declared_logging = subst (λ (edges : List Edge). IsLogging tells course.behaviour course.format course.own edges on.steps (Some (suc e)) course.store course.entry mid state.records.file) same_edges on_mid.logging
+
+      -- the record could not be put there
+      pub cut_beginning : ((B : Behaviour) (format : LogFormat) (own : OwnFiles) (steps : List Done) (entry : Store) (first : World)
+          → IsLogging tells B format own (declared_by graph).edges steps (Some (suc e)) entry first mid state.records.file → IsLoggedStill tells B format own (declared_by graph).edges steps (Some (suc e)) entry first new)
+          → IsCut tells course graph state.plan new
+      cut_beginning logged =
+          cut_met tells course graph state.plan new on.steps (suc e) (record { under_way = inr (next.0, next.1); stale = next.1.stale; taken_in = inl next.1.once }) on.planned
+          (log_carried tells course graph tick suits (Some (suc e)) (Some (suc e)) state mid new on_mid writes
+          (subst (λ (edges : List Edge). IsLoggedStill tells course.behaviour course.format course.own edges on.steps (Some (suc e)) course.store course.entry new) (sym same_edges)
+          (logged course.behaviour course.format course.own on.steps course.store course.entry declared_logging)))
+
+      -- it stands there
+      pub begun_now : (records : Records) (display : Display) → IsSameLog state.records.file records.file → records.places.items ≡ state.records.places.items
+          → ((B : Behaviour) (format : LogFormat) (own : OwnFiles) (steps : List Done) (entry : Store) (first : World)
+          → IsLogging tells B format own (declared_by graph).edges steps (Some (suc e)) entry first mid state.records.file
+          → IsLogging tells B format own (declared_by graph).edges steps (Some (suc e)) entry first new records.file × NoneInForce tells format own (declared_by graph).edges (suc e) first new)
+          → IsBegun tells course graph (suc e) (record { plan = state.plan; looks = state.looks; records = records; display = display; due = state.due; starts = state.starts; failed = state.failed; set = state.set }) new
+      begun_now records display same places begun =
+          let told = begun course.behaviour course.format course.own on.steps course.store course.entry declared_logging in
+          let logging = subst (λ (edges : List Edge). IsLogging tells course.behaviour course.format course.own edges on.steps (Some (suc e)) course.store course.entry new records.file) (sym same_edges) told.0 in
+          let after = on_log tells course graph tick suits (Some (suc e)) (Some (suc e)) state mid new on_mid writes records same places logging in
+          record {
+            on = record {
+              steps = on.steps;
+              planned = on.planned;
+              carried = after.carried;
+              logging = after.logging;
+              told = record { records = after.told.records; known = after.told.known; same = after.told.same };
+              seen = after.seen;
+              anew = after.anew;
+              started = after.started;
+              room = record { looks = on.room.looks; starts = on.room.starts };
+              noted = on.noted;
+            };
+            next = next;
+            begun = subst (λ (edges : List Edge). NoneInForce tells course.format course.own edges (suc e) course.entry new) (sym same_edges) told.1;
+          }

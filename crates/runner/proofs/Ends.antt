@@ -1,0 +1,59 @@
+-- What a run has done at its end.
+use Rattle.std.proofs.Common.{◌≡◌, ℕ, Bool, List, length, Option, None, Some, Ok, Err, refl, sym, subst}
+use Rattle.model.specs.World.{World}
+use Rattle.model.specs.Calls.{OnlyLooks}
+use Rattle.model.specs.Schedule.{Task, Step as Done, well_in}
+use Rattle.model.specs.SingleBuild.{task_of}
+use Rattle.log_theory.specs.Ledger.{IsCutOff}
+use Rattle.log_theory.proofs.Ledger.{cut_off, carried_looks}
+use Rattle.links.specs.declared.graph.Graph.{Graph}
+use Rattle.plan.specs.declared.plan.Plan.{Plan}
+use Rattle.plan.specs.declared.step.End.TheVariants as ending
+use Rattle.runner.specs.declared.cut.Cut.{Cut}
+use Rattle.runner.specs.declared.summary.Summary.TheVariants.{Well, Failed}
+use Rattle.runner.specs.declared.state.State.{State}
+use Rattle.runner.specs.Course.{Course, IsOn}
+use Rattle.runner.specs.Going.{IsOver, IsCut, IsInHand}
+use Rattle.runner.specs.Ran.{HasRun, AreEdgesOf}
+use Rattle.runner.proofs.Keeping.{cut_free}
+use Rattle.runner.proofs.Running.{noted_within}
+
+module _ (tells : Bool) (course : Course) (graph : Graph) (now : World) where
+  nothing : (task : Task) (steps : List Done) (i : ℕ) → None ≡ Some i → IsInHand task steps i
+  nothing task steps i is = cc
+
+  -- all went well
+  pub ran_well : (state : State) (started : ℕ) (over : IsOver tells course graph state ending.Well now) → started ≡ length (well_in over.on.steps) → HasRun tells course now (Ok (Well started))
+  ran_well state started over many = record {
+    steps = over.on.steps;
+    met = None;
+    cut = cut_off tells course.behaviour course.format course.own course.asked course.store course.entry over.on.steps None now over.on.carried;
+    in_hand = nothing (task_of course.asked course.store) over.on.steps;
+    ends = (refl, over.on.carried.run, over.over, many);
+  }
+
+  -- some commands failed
+  pub ran_failed : (state : State) → IsOver tells course graph state ending.Failed now → HasRun tells course now (Ok (Failed state.failed)) × AreEdgesOf graph (Failed state.failed)
+  ran_failed state over = (
+    record {
+      steps = over.on.steps;
+      met = None;
+      cut = cut_off tells course.behaviour course.format course.own course.asked course.store course.entry over.on.steps None now over.on.carried;
+      in_hand = nothing (task_of course.asked course.store) over.on.steps;
+      ends = (refl, over.on.carried.run, over.over, over.on.noted);
+    },
+    noted_within tells course graph None state now over.on,
+  )
+
+  -- a call that only looked met the fault
+  pub cut_looking : (state : State) (plan : Plan) (new : World) → plan ≡ state.plan → OnlyLooks tells now new → IsOn tells course graph None state now → IsCut tells course graph plan new
+  cut_looking state plan new same looks on =
+      subst (λ (p : Plan). IsCut tells course graph p new) (sym {A = Plan} same)
+      (cut_free tells course graph state.plan new on.steps on.planned (carried_looks tells course.behaviour course.format course.own course.asked course.store course.entry on.steps None now new looks on.carried))
+
+  -- a fault has cut it off, and since then commands were taken in
+  pub ran_cut : (plan : Plan) (last : World) (cut : Cut) → IsCut tells course graph plan now
+      → ((steps : List Done) (met : Option ℕ) → IsCutOff tells course.behaviour course.format course.own course.asked course.store steps met course.entry now
+      → IsCutOff tells course.behaviour course.format course.own course.asked course.store steps met course.entry last)
+      → HasRun tells course last (Err cut)
+  ran_cut plan last cut at rest = record { steps = at.steps; met = at.met; cut = rest at.steps at.met at.cut; in_hand = at.in_hand; ends = tt }

@@ -1,0 +1,153 @@
+-- An edge is judged, rightly by the files of now.
+use Rattle.std.proofs.Common.{◌≡◌, ℕ, suc, ◌<◌, ◌&&◌, not, Vec, Global, Bool, true, IsTrue, List, [], ◌∷◌, ◌++◌, length, Option, None, is_some, sym, ◌∙◌, ap, subst}
+use Rattle.std.proofs.lemmas.List.{append-nil}
+use Rattle.model.specs.declared.graph.BuildGraph.{BuildGraph}
+use Rattle.model.specs.declared.graph.Edge.{Edge}
+use Rattle.model.specs.declared.reason.Reason.{Reason}
+use Rattle.model.specs.declared.record.Record.{Record}
+use Rattle.model.specs.World.{World, file_at, stamp_of}
+use Rattle.model.specs.Calls.{OnlyLooks}
+use Rattle.model.specs.Graph.{has, has_number, edge_at, IsCommand}
+use Rattle.model.specs.Records.{recorded_inputs}
+use Rattle.model.specs.Judgement.{is_same_number}
+use Rattle.model.specs.OutOfDate.{input_facts, Counted, IsVerdict}
+use Rattle.model.specs.Schedule.{Step as Done, Judged, IsLawfulStep, MayBeJudged, started_in, ended_in, well_in, failed_in, running_in}
+use Rattle.model.specs.Premises.{FilesAreKept, RecordedApart}
+use Rattle.model.specs.SingleBuild.{task_of}
+use Rattle.build_theory.specs.Run.{IsRunOrRest}
+use Rattle.build_theory.proofs.Runs.{rest_begins}
+use Rattle.build_theory.proofs.Orderly.{IsKept, kept_orderly}
+use Rattle.build_theory.proofs.Steps.{running_is, started-append, ended-append, well-append, failed-append}
+use Rattle.log_theory.proofs.Ledger.{carried_judged}
+use Rattle.display.specs.declared.display.Display.{Display}
+use Rattle.lowest.specs.Flags as flags
+use Rattle.paths.specs.Told.{text_at}
+use Rattle.links.specs.declared.graph.Graph.{Graph}
+use Rattle.links.specs.Told.{declared_by, recorded_by}
+use Rattle.looks.specs.declared.table.Looks.{Looks}
+use Rattle.looks.specs.Looking.{HasLooked}
+use Rattle.looks.specs.Seen.{IfKept, AreSeenOf}
+use Rattle.plan.specs.declared.plan.Plan.{Plan}
+use Rattle.plan.specs.Planned.{TakesStep}
+use Rattle.records.specs.Laws.{LogStays}
+use Rattle.records.specs.Known.{IsOf}
+use Rattle.verdict.specs.Facts.{flag_at}
+use Rattle.verdict.specs.Judged.{IsAnswer, IsReasonBy, MayBeJudgedBy, AreUntouched, HasPathsOf}
+use Rattle.runner.specs.declared.state.State.{State}
+use Rattle.runner.specs.Course.{Course, Suits, edges_of, is_quiet, AreStarted, IsOn}
+use Rattle.runner.proofs.Quiet.{quiet_less}
+use Rattle.runner.proofs.Keeping.{Carried, looks_carried, looks_leave, looks_quiet, logging_over, told_over, started_more}
+use Rattle.runner.proofs.Launching.{anew_over}
+use Rattle.runner.proofs.Settled.{anew_is_made, counted_unfailed, paths_quiet, outputs_untouched}
+
+-- ---- steps
+
+-- a judgement starts and ends nothing
+pub running_judged : (steps : List Done) (i : ℕ) (b : Bool) (j : ℕ) → has_number (running_in (steps ++ Judged i b ∷ [])) j ≡ has_number (running_in steps) j
+running_judged steps i b j =
+    running_is (steps ++ Judged i b ∷ []) j
+    ∙ (ap (λ (l : List ℕ). has_number l j && not (has_number (ended_in (steps ++ Judged i b ∷ [])) j)) (started-append steps (Judged i b ∷ []) ∙ append-nil (started_in steps))
+    ∙ (ap (λ (l : List ℕ). has_number (started_in steps) j && not (has_number l j)) (ended-append steps (Judged i b ∷ []) ∙ append-nil (ended_in steps))
+    ∙ sym (running_is steps j)))
+
+pub well_judged : (steps : List Done) (i : ℕ) (b : Bool) → well_in (steps ++ Judged i b ∷ []) ≡ well_in steps
+well_judged steps i b = well-append steps (Judged i b ∷ []) ∙ append-nil (well_in steps)
+
+pub failed_judged : (steps : List Done) (i : ℕ) (b : Bool) → failed_in (steps ++ Judged i b ∷ []) ≡ failed_in steps
+failed_judged steps i b = failed-append steps (Judged i b ∷ []) ∙ append-nil (failed_in steps)
+
+module _ (tells : Bool) (course : Course) (graph : Graph) (stays : LogStays) (tick : List ℕ) (suits : Suits course tick graph) (state : State) (now new : World) (e : ℕ)
+    (on : IsOn tells course graph None state now) (next : (stale : Bool) → IsLawfulStep (task_of course.asked course.store) on.steps (Judged (suc e) stale)) (looks : OnlyLooks tells now new) where
+  abbrev pub edges : List Edge
+  edges = edges_of course
+
+  abbrev pub turn : MayBeJudged (task_of course.asked course.store) on.steps (suc e)
+  turn = (next true).0
+
+  same_edges : edges_of course ≡ (declared_by graph).edges
+  same_edges = ap (λ (b : BuildGraph). b.edges) suits.same
+
+  carried_new : Carried tells course graph on.steps None new
+  carried_new = looks_carried tells course graph stays None state now new on looks
+
+  rest : IsRunOrRest tells course.own (task_of course.asked course.store) on.steps course.entry new
+  rest = rest_begins tells course.own (task_of course.asked course.store) course.entry on.steps new carried_new.run
+
+  kept : IsKept edges on.steps
+  kept = kept_orderly edges on.steps rest.orderly
+
+  -- ---- it may be judged by what is known
+
+  module _ (tell : IsTrue tells) (files : FilesAreKept course.own (edges_of course) course.entry.history new.history) (apart : RecordedApart course.own (recorded_inputs course.store (edges_of course))) where
+    abbrev FlagsOver : List Edge → Type 0
+    FlagsOver es =
+        (p : ℕ) → p < length graph.manifest.paths → Counted es course.store new.history (suc e) (text_at graph.manifest.paths p)
+        → flag_at state.plan.changed.items p ≡ (input_facts es (well_in on.steps) course.entry.history new.history (text_at graph.manifest.paths p)).changed
+
+    flagged : FlagsOver (edges_of course)
+    flagged p lt counted =
+        on.anew p lt (counted_unfailed edges on.steps kept course.own files.own_files suits.once course.asked course.store (suc e) turn.once apart (λ q j h made. turn.ready q h j made) new.history (text_at graph.manifest.paths p) counted)
+        ∙ anew_is_made edges on.steps kept suits.once (λ j command. (suits.bare j command).1) (text_at graph.manifest.paths p)
+        (is_same_number (stamp_of (file_at course.entry.history (text_at graph.manifest.paths p))) (stamp_of (file_at new.history (text_at graph.manifest.paths p))))
+
+    pub may_be_judged : FilesAreKept course.own (edges_of course) course.entry.history now.history
+        → MayBeJudgedBy graph on.told.records state.plan.changed.items course.store (well_in on.steps) course.entry.history new.history (suc e) (is_quiet course.own (edges_of course) on.steps)
+    may_be_judged before = record {
+      records = on.told.same tell before;
+      recorded = subst (λ (es : List Edge). (p : List ℕ) → has (recorded_inputs course.store es (suc e)) p ≡ has (recorded_by graph (suc e)) p) same_edges (λ p. suits.recorded (suc e) p);
+      untouched = subst (λ (es : List Edge). AreUntouched es course.entry.history new.history (suc e)) same_edges
+          (outputs_untouched tells course.own (task_of course.asked course.store) on.steps course.entry new suits.idle rest tell files suits.once (suc e) turn.command turn.once);
+      flagged = subst (λ (es : List Edge). FlagsOver es) same_edges flagged;
+      paths = subst (λ (es : List Edge). HasPathsOf es course.store (suc e) (is_quiet course.own (edges_of course) on.steps)) same_edges
+          (paths_quiet edges on.steps kept course.own files.own_files suits.once course.asked course.store (suc e) turn.once apart (λ q j h made. turn.ready q h j made));
+    }
+
+  -- ---- the verdict
+
+  module _ (after : Looks) (reason : Option Reason) (stale : Bool) (told : stale ≡ is_some reason) (looked : HasLooked tells graph now new state.looks after)
+      (answer : (rs : List Record) → IsOf rs graph.manifest.paths state.records → IfKept tells graph.manifest.paths now new state.looks.seen.items (IsAnswer graph rs state.plan.changed.items e reason)) where
+    abbrev pub more : List Done
+    more = on.steps ++ Judged (suc e) stale ∷ []
+
+    right : IsTrue tells → FilesAreKept course.own (edges_of course) course.entry.history new.history → RecordedApart course.own (recorded_inputs course.store (edges_of course))
+        → IsVerdict (edges_of course) course.store (well_in on.steps) course.entry.history new.history (suc e) stale
+    right tell files apart =
+        let quiet = looks_quiet tells course graph stays None state now new on looks tell files in
+        let by = answer on.told.records on.told.known tell (is_quiet course.own (edges_of course) on.steps) quiet.1 (on.seen tell quiet.0) course.store (well_in on.steps) course.entry.history
+        (may_be_judged tell files apart quiet.0) in
+        let over = subst (λ (es : List Edge). IsReasonBy es course.store (well_in on.steps) course.entry.history new.history (suc e) reason) (sym same_edges) by in
+        record { read = over.read; counted = over.counted; verdict = told ∙ ap (λ (r : Option Reason). is_some r) over.is }
+
+    pub judged_carried : Carried tells course graph more None new
+    judged_carried = carried_judged tells course.behaviour course.format course.own course.asked course.store course.entry on.steps None new (suc e) stale (next stale) right carried_new
+
+    pub judged_seen : IsTrue tells → FilesAreKept course.own (edges_of course) course.entry.history new.history → AreSeenOf (is_quiet course.own (edges_of course) more) graph.manifest.paths new.history after.seen.items
+    judged_seen tell files p asked quiet_so =
+        let quiet = looks_quiet tells course graph stays None state now new on looks tell files in
+        looked.seen tell (is_quiet course.own (edges_of course) on.steps) quiet.1 (on.seen tell quiet.0) p asked
+        (quiet_less course.own (edges_of course) on.steps more (λ i runs. running_judged on.steps (suc e) stale i ∙ runs) (text_at graph.manifest.paths p) quiet_so)
+
+    pub judged_started : AreStarted course more state new
+    judged_started k runs = started_more (suc k) _ course.entry now new [] (looks.events ∙ sym (append-nil now.events)) (on.started k (sym (running_judged on.steps (suc e) stale (suc k)) ∙ runs))
+
+    pub judged_on : (plan : Plan) (display : Display) → TakesStep graph state.plan plan (Judged (suc e) stale) → plan.changed ≡ state.plan.changed
+        → IsOn tells course graph None (record { plan = plan; looks = after; records = state.records; display = display; due = state.due; starts = state.starts; failed = state.failed; set = state.set }) new
+    judged_on plan display takes flags_same =
+        let now_told = told_over tells course graph on.steps state now new (looks_quiet tells course graph stays None state now new on looks) on.told in
+        record {
+          steps = more;
+          planned = takes (task_of course.asked course.store) on.steps on.planned on.carried.run.lawful (next stale);
+          carried = judged_carried;
+          logging = logging_over tells course graph stays on.steps more None None now new state.records.file (looks_leave tells course graph stays None state now new on looks) judged_carried on.logging;
+          told = record { records = now_told.records; known = now_told.known; same = now_told.same };
+          seen = judged_seen;
+          anew = λ p lt unfailed. ap (λ (c : Vec Bool Global). flags.has c.items p) flags_same
+              ∙ anew_over tells course graph on.steps more state (well_judged on.steps (suc e) stale) (failed_judged on.steps (suc e) stale) on.anew p lt unfailed;
+          started = judged_started;
+          room = record { looks = looked.fits ∙ on.room.looks; starts = on.room.starts };
+          noted = on.noted ∙ sym (failed_judged on.steps (suc e) stale);
+        }
+
+-- the edge names no depfile
+pub judged_bare : (course : Course) (graph : Graph) (tick : List ℕ) → Suits course tick graph → (i : ℕ) → IsCommand (edges_of course) i → (edge_at (declared_by graph).edges i).act.depfile ≡ []
+judged_bare course graph tick suits i command = subst (λ (b : BuildGraph). (edge_at b.edges i).act.depfile ≡ []) suits.same (suits.bare i command).0

@@ -1,0 +1,275 @@
+-- What a run keeps goes on over the calls of its site: one lemma for each part, and one for each kind of call.
+use Rattle.std.proofs.Common.{◌≡◌, inl, ℕ, suc, Bool, true, IsTrue, List, [], ◌∷◌, ◌++◌, length, Option, Some, None, sym, ◌∙◌, ap, subst, append_assoc}
+use Rattle.std.proofs.lemmas.List.{append-nil}
+use Rattle.std.proofs.lemmas.Bool.{false≢true}
+use Rattle.model.specs.declared.event.Event.{Event}
+use Rattle.model.specs.declared.event.Event.TheVariants.{Start}
+use Rattle.model.specs.declared.event.Moment.{Moment}
+use Rattle.model.specs.World.{World, File, file_at, stamp_of, runs}
+use Rattle.model.specs.Calls.{OnlyLooks, Ticks}
+use Rattle.model.specs.Graph.{has_number, edge_at, IsCommand}
+use Rattle.model.specs.Schedule.{Step as Done, out_of_date_in}
+use Rattle.model.specs.SingleBuild.{task_of}
+use Rattle.model.specs.Kept.{StartedUnder}
+use Rattle.build_theory.specs.Run.{IsRunOrRest}
+use Rattle.build_theory.proofs.Lists.{same_some}
+use Rattle.build_theory.proofs.Runs.{rest_begins}
+use Rattle.build_log.specs.declared.done.Done.{Done as Line}
+use Rattle.build_log.specs.Kept.{Table}
+use Rattle.build_log.specs.Log.{Keeps}
+use Rattle.log_theory.specs.Writes.{WritesAt}
+use Rattle.log_theory.specs.Ledger.{IsCarried, IsCutOff}
+use Rattle.log_theory.proofs.Ledger.{command_of, running_of, stale_command, carried_looks, carried_ticks, carried_response, carried_log, carried_hand, cut_off}
+use Rattle.log_theory.proofs.Writing.{looks_at, ticks_grew}
+use Rattle.links.specs.declared.graph.Graph.{Graph}
+use Rattle.paths.specs.Told.{text_at}
+use Rattle.looks.specs.declared.table.Look.{Look}
+use Rattle.looks.specs.Seen.{look_of, AreKept, AreSeenOf}
+use Rattle.plan.specs.declared.plan.Plan.{Plan}
+use Rattle.plan.specs.Planned.{IsPlanned}
+use Rattle.records.specs.declared.records.Records.{Records}
+use Rattle.records.specs.Held.{Held, IsSameLog, AreMade}
+use Rattle.records.specs.Logging.{IsLogging, IsLoggedStill}
+use Rattle.records.specs.Laws.{LeavesTheLog, LogStays}
+use Rattle.runner.specs.declared.state.State.{State}
+use Rattle.runner.specs.Course.{Course, Suits, edges_of, is_quiet, IsSeenStill, AreTold, AreStarted, IsOn}
+use Rattle.runner.specs.Going.{IsInHand, IsCut}
+use Rattle.runner.proofs.Quiet.{KeepsQuiet, RunBy, quiet_own, quiet_response, quiet_looks}
+
+-- ---- the parts
+
+-- what was seen of paths that keep their files is so afterwards
+pub seen_kept : (set : List ℕ → Bool) (paths : List (List ℕ)) (seen : List Look) (old new more : List Moment) → new ≡ old ++ more → AreKept set old new → AreSeenOf set paths old seen → AreSeenOf set paths new seen
+seen_kept set paths seen old new more grows kept are p asked is =
+    are p asked is ∙ ap (λ (f : Option File). look_of (stamp_of f)) (sym same)
+  where
+    same : file_at new (text_at paths p) ≡ file_at old (text_at paths p)
+    same = ap (λ (l : List Moment). file_at l (text_at paths p)) grows ∙ kept (text_at paths p) is more [] (grows ∙ ap (λ (l : List Moment). old ++ l) (sym (append-nil more)))
+
+-- a start of this build stays one
+pub started_more : (i stamp : ℕ) (old now new : World) (more : List Event) → new.events ≡ now.events ++ more → StartedUnder i stamp old now → StartedUnder i stamp old new
+started_more i stamp old now new more grows started = record {
+  act = started.act;
+  before = started.before;
+  after = started.after ++ more;
+  splits = grows
+      ∙ (ap (λ (l : List Event). l ++ more) started.splits
+      ∙ (append_assoc old.events (started.before ++ Start i started.act stamp ∷ started.after) more
+      ∙ ap (λ (l : List Event). old.events ++ l) (append_assoc started.before (Start i started.act stamp ∷ started.after) more)));
+}
+
+module _ (tells : Bool) (course : Course) (graph : Graph) where
+  abbrev pub Carried : List Done → Option ℕ → World → Type 0
+  Carried steps hand now = IsCarried tells course.behaviour course.format course.own course.asked course.store steps hand course.entry now
+
+  abbrev pub Logging : List Done → Option ℕ → World → Held → Type 0
+  Logging steps hand now file = IsLogging tells course.behaviour course.format course.own (edges_of course) steps hand course.store course.entry now file
+
+  abbrev pub Quietly : List Done → World → World → Type 0
+  Quietly steps now new = KeepsQuiet tells course.own (edges_of course) steps course.entry now new
+
+  abbrev pub Leaves : World → World → Type 0
+  Leaves now new = LeavesTheLog tells course.own (edges_of course) course.entry now new
+
+  rest_of : (steps : List Done) (hand : Option ℕ) (now : World) → Carried steps hand now → IsRunOrRest tells course.own (task_of course.asked course.store) steps course.entry now
+  rest_of steps hand now carried = rest_begins tells course.own (task_of course.asked course.store) course.entry steps now carried.run
+
+  module _ (steps : List Done) (hand : Option ℕ) (now : World) (carried : Carried steps hand now) where
+    -- what runs are commands
+    pub commands_run : (job : ℕ) → runs job now.events ≡ true → IsCommand (edges_of course) job
+    commands_run = command_of tells course.behaviour course.format course.own course.asked course.store course.entry steps now carried.beside.idle (rest_of steps hand now carried)
+
+    pub run_by : RunBy (edges_of course) steps now
+    run_by job is = (
+      commands_run job is,
+      running_of tells course.behaviour course.format course.own course.asked course.store course.entry steps now carried.beside.idle (rest_of steps hand now carried) job is,
+    )
+
+    pub stale_is_command : (i : ℕ) → has_number (out_of_date_in steps) i ≡ true → IsCommand (edges_of course) i
+    stale_is_command = stale_command tells course.behaviour course.format course.own course.asked course.store course.entry steps now carried.beside.idle (rest_of steps hand now carried)
+
+    pub grown : IsTrue tells → (so_far : List Moment) × (now.history ≡ course.entry.history ++ so_far)
+    grown tell = let told = carried.run.history tell in (told.more, told.grows)
+
+  -- of the log, with another edge in hand
+  abbrev pub logging_with : (steps : List Done) (hand next : Option ℕ) (now : World) (file : Held) → Carried steps next now → Logging steps hand now file → Logging steps next now file
+  logging_with steps hand next now file carried logging = record {
+    path = logging.path;
+    apart = logging.apart;
+    reads = logging.reads;
+    commands = logging.commands;
+    grows = logging.grows;
+    held = logging.held;
+    logged = carried.beside.logged;
+  }
+
+  -- over a call that leaves the log
+  pub logging_over : LogStays → (steps many : List Done) (hand next : Option ℕ) (now new : World) (file : Held) → Leaves now new → Carried many next new → Logging steps hand now file → Logging many next new file
+  logging_over stays steps many hand next now new file leaves carried logging =
+      stays tells course.behaviour course.format course.own (edges_of course) steps many hand next course.store course.entry now new file leaves (commands_run many next new carried) carried.beside.logged logging
+
+  -- over a call that keeps quiet paths
+  pub told_over : (steps : List Done) (state : State) (now new : World) → Quietly steps now new → AreTold tells course graph state now → AreTold tells course graph state new
+  told_over steps state now new quiet told = record { records = told.records; known = told.known; same = λ tell kept. told.same tell (quiet tell kept).0 }
+
+  pub seen_over : (steps : List Done) (state : State) (now new : World) → Quietly steps now new → IsSeenStill tells course graph steps state now → IsSeenStill tells course graph steps state new
+  seen_over steps state now new quiet seen tell kept =
+      let call = quiet tell kept in
+      seen_kept (is_quiet course.own (edges_of course) steps) graph.manifest.paths state.looks.seen.items now.history new.history call.2.0 call.2.1 call.1 (seen tell call.0)
+
+  pub started_over : (steps : List Done) (state : State) (now new : World) → new.events ≡ now.events → AreStarted course steps state now → AreStarted course steps state new
+  started_over steps state now new same started e runs = started_more (suc e) _ course.entry now new [] (same ∙ sym (append-nil now.events)) (started e runs)
+
+  -- ---- calls that start and take in nothing, over which the state stays
+
+  module _ (stays : LogStays) (hand : Option ℕ) (state : State) (now new : World) (on : IsOn tells course graph hand state now) where
+    abbrev pub on_over : Carried on.steps hand new → Leaves now new → Quietly on.steps now new → new.events ≡ now.events → IsOn tells course graph hand state new
+    on_over carried leaves quiet events = record {
+      steps = on.steps;
+      planned = on.planned;
+      carried = carried;
+      logging = logging_over stays on.steps on.steps hand hand now new state.records.file leaves carried on.logging;
+      told = told_over on.steps state now new quiet on.told;
+      seen = seen_over on.steps state now new quiet on.seen;
+      anew = on.anew;
+      started = started_over on.steps state now new events on.started;
+      room = on.room;
+      noted = on.noted;
+    }
+
+    -- a call that only looks
+    pub looks_leave : OnlyLooks tells now new → Leaves now new
+    looks_leave looks = inl (record { events = looks.events; path = course.own.deps_log; other = λ tell kept same. on.logging.apart (sym same); history = (looks_at tells course.own.deps_log now new looks).history })
+
+    pub looks_quiet : OnlyLooks tells now new → Quietly on.steps now new
+    looks_quiet looks = quiet_looks tells course.own (edges_of course) on.steps course.entry now new (grown on.steps hand now on.carried) (run_by on.steps hand now on.carried) looks
+
+    pub looks_carried : OnlyLooks tells now new → Carried on.steps hand new
+    looks_carried looks = carried_looks tells course.behaviour course.format course.own course.asked course.store course.entry on.steps hand now new looks on.carried
+
+    abbrev pub on_looks : OnlyLooks tells now new → IsOn tells course graph hand state new
+    on_looks looks = on_over (looks_carried looks) (looks_leave looks) (looks_quiet looks) looks.events
+
+    -- a tick
+    module _ (tick : List ℕ) (suits : Suits course tick graph) where
+      pub ticks_carried : (stamp : ℕ) → Ticks tells tick stamp now new → Carried on.steps hand new
+      ticks_carried stamp ticks =
+          carried_ticks tells course.behaviour course.format course.own course.asked course.store course.entry on.steps hand now new tick suits.owned suits.no_build_log suits.no_deps_log stamp ticks on.carried
+
+      pub ticks_quiet : (stamp : ℕ) → Ticks tells tick stamp now new → Quietly on.steps now new
+      ticks_quiet stamp ticks =
+          quiet_own tells course.own (edges_of course) on.steps course.entry now new (grown on.steps hand now on.carried) (run_by on.steps hand now on.carried) tick suits.owned (ticks_grew tells tick stamp now new ticks)
+
+      pub ticks_leave : (stamp : ℕ) → Ticks tells tick stamp now new → Leaves now new
+      ticks_leave stamp ticks = inl (record { events = ticks.events; path = tick; other = λ tell kept. suits.no_build_log; history = ticks_grew tells tick stamp now new ticks })
+
+      abbrev pub on_ticks : (stamp : ℕ) → Ticks tells tick stamp now new → IsOn tells course graph hand state new
+      on_ticks stamp ticks = on_over (ticks_carried stamp ticks) (ticks_leave stamp ticks) (ticks_quiet stamp ticks) ticks.events
+
+    -- the response file of an edge that was judged out of date is written, or removed
+    module _ (i : ℕ) (stale : has_number (out_of_date_in on.steps) i ≡ true) (writes : WritesAt tells (edge_at (edges_of course) i).act.response_path now new) where
+      command : IsCommand (edges_of course) i
+      command = stale_is_command on.steps hand now on.carried i stale
+
+      pub response_carried : Carried on.steps hand new
+      response_carried = carried_response tells course.behaviour course.format course.own course.asked course.store course.entry on.steps hand now new i stale writes on.carried
+
+      pub response_quiet : Quietly on.steps now new
+      response_quiet = quiet_response tells course.own (edges_of course) on.steps course.entry now new (grown on.steps hand now on.carried) (run_by on.steps hand now on.carried) i command writes.history
+
+      pub response_leaves : Leaves now new
+      response_leaves = inl (record {
+        events = writes.events;
+        path = (edge_at (edges_of course) i).act.response_path;
+        other = λ tell kept same. false≢true (sym (kept.own_files.responses i command).1 ∙ (ap course.own.files same ∙ kept.own_files.build_log));
+        history = writes.history;
+      })
+
+      abbrev pub on_response : IsOn tells course graph hand state new
+      on_response = on_over response_carried response_leaves response_quiet writes.events
+
+  -- ---- an edge is taken in hand
+
+  pub hand_carried : (steps : List Done) (now : World) (i : ℕ) → Carried steps None now → Carried steps (Some i) now
+  hand_carried steps now i carried = carried_hand tells course.behaviour course.format course.own course.asked course.store course.entry steps now i carried
+
+  abbrev pub on_hand : (state : State) (now : World) (i : ℕ) → IsOn tells course graph None state now → IsOn tells course graph (Some i) state now
+  on_hand state now i on = record {
+    steps = on.steps;
+    planned = on.planned;
+    carried = hand_carried on.steps now i on.carried;
+    logging = logging_with on.steps None (Some i) now state.records.file (hand_carried on.steps now i on.carried) on.logging;
+    told = on.told;
+    seen = on.seen;
+    anew = on.anew;
+    started = on.started;
+    room = on.room;
+    noted = on.noted;
+  }
+
+  -- ---- a record is put behind the log
+
+  -- the state with other records
+  abbrev pub with_records : State → Records → State
+  with_records state records =
+      record { plan = state.plan; looks = state.looks; records = records; display = state.display; due = state.due; starts = state.starts; failed = state.failed; set = state.set }
+
+  pub told_by : (state : State) (now : World) (records : Records) → IsSameLog state.records.file records.file → records.places.items ≡ state.records.places.items
+      → AreTold tells course graph state now → AreTold tells course graph (with_records state records) now
+  told_by state now records same places told = record {
+    records = told.records;
+    known = record {
+      keeps = subst (λ (log : Table Line). Keeps told.records log) (sym same.log) told.known.keeps;
+      fits = ap length places ∙ told.known.fits;
+      made = subst (λ (l : List (Option ℕ)). AreMade told.records graph.manifest.paths l) (sym places) told.known.made;
+    };
+    same = told.same;
+  }
+
+  module _ (tick : List ℕ) (suits : Suits course tick graph) (hand next : Option ℕ) (state : State) (now new : World) (on : IsOn tells course graph hand state now) (writes : WritesAt tells state.records.file.path now new) where
+    pub log_writes : WritesAt tells course.own.build_log now new
+    log_writes = subst (λ (path : List ℕ). WritesAt tells path now new) on.logging.path writes
+
+    -- whether it stands there or not
+    pub log_carried : IsLoggedStill tells course.behaviour course.format course.own (edges_of course) on.steps next course.store course.entry new → Carried on.steps next new
+    log_carried logged =
+        carried_log tells course.behaviour course.format course.own course.asked course.store course.entry on.steps hand next now new course.own.build_log suits.log_owned log_writes (λ tell kept was. logged tell kept) on.carried
+
+    pub log_quiet : Quietly on.steps now new
+    log_quiet =
+        quiet_own tells course.own (edges_of course) on.steps course.entry now new (grown on.steps hand now on.carried) (run_by on.steps hand now on.carried) course.own.build_log suits.log_owned log_writes.history
+
+    abbrev pub on_log : (records : Records) → IsSameLog state.records.file records.file → records.places.items ≡ state.records.places.items → Logging on.steps next new records.file
+        → IsOn tells course graph next (with_records state records) new
+    on_log records same places logging = record {
+      steps = on.steps;
+      planned = on.planned;
+      carried = log_carried logging.logged;
+      logging = logging;
+      told = told_by state new records same places (told_over on.steps state now new log_quiet on.told);
+      seen = seen_over on.steps state now new log_quiet on.seen;
+      anew = on.anew;
+      started = started_over on.steps state now new log_writes.events on.started;
+      room = record { looks = on.room.looks; starts = on.room.starts };
+      noted = on.noted;
+    }
+
+  -- ---- where a fault cuts a run off
+
+  abbrev pub Cut : Plan → World → Type 0
+  Cut plan new = IsCut tells course graph plan new
+
+  cut_of : (steps : List Done) (hand : Option ℕ) (new : World) → Carried steps hand new → IsCutOff tells course.behaviour course.format course.own course.asked course.store steps hand course.entry new
+  cut_of steps hand new carried = cut_off tells course.behaviour course.format course.own course.asked course.store course.entry steps hand new carried
+
+  -- with no edge in hand
+  pub cut_free : (plan : Plan) (new : World) (steps : List Done) → IsPlanned (task_of course.asked course.store) graph plan steps → Carried steps None new → Cut plan new
+  cut_free plan new steps planned carried = record { steps = steps; met = None; planned = planned; run = carried.run; cut = cut_of steps None new carried; in_hand = λ i is. nothing i is }
+    where
+      nothing : (i : ℕ) → None ≡ Some i → IsInHand (task_of course.asked course.store) steps i
+      nothing i is = cc
+
+  -- with the edge in hand whose start or taking in met it
+  pub cut_met : (plan : Plan) (new : World) (steps : List Done) (i : ℕ) → IsInHand (task_of course.asked course.store) steps i → IsPlanned (task_of course.asked course.store) graph plan steps → Carried steps (Some i) new → Cut plan new
+  cut_met plan new steps i at planned carried =
+      record { steps = steps; met = Some i; planned = planned; run = carried.run; cut = cut_of steps (Some i) new carried; in_hand = λ k is. subst (λ (n : ℕ). IsInHand (task_of course.asked course.store) steps n) (same_some i k is) at }

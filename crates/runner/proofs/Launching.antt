@@ -1,0 +1,192 @@
+-- The command of an edge in hand is started.
+use Rattle.std.proofs.Common.{◌≡◌, ◌≢◌, ◌⊎◌, inl, inr, ℕ, suc, ◌&&◌, not, Vec, Global, Bool, true, false, IsTrue, List, [], ◌∷◌, ◌++◌, length, get_or, slice_set, Option, Some, None, refl, sym, ◌∙◌, ap, subst}
+use Rattle.std.proofs.lemmas.List.{append-nil, length-set, get_or-set_other}
+use Rattle.std.proofs.lemmas.Bool.{false≢true}
+use Rattle.model.specs.declared.act.Act.{Act}
+use Rattle.model.specs.declared.event.Event.TheVariants.{Start}
+use Rattle.model.specs.World.{World, IsRunning}
+use Rattle.model.specs.Calls.{Starts, Ticks, Writes}
+use Rattle.std.specs.List.{list_any}
+use Rattle.model.specs.Graph.{has, has_number, edge_at, outputs, IsCommand}
+use Rattle.model.specs.Premises.{OwnFilesApart}
+use Rattle.model.specs.Schedule.{Step as Done, Started, IsLawfulStep, started_in, ended_in, running_in, well_in, failed_in}
+use Rattle.model.specs.SingleBuild.{task_of}
+use Rattle.model.specs.Kept.{StartedUnder}
+use Rattle.build_theory.proofs.Steps.{running_is, running_parts, started-append, ended-append, well-append, failed-append, in_either}
+use Rattle.build_theory.proofs.Lists.{has_number-is}
+use Rattle.log_theory.specs.Writes.{GrewAt, WritesAt}
+use Rattle.log_theory.specs.Ledger.{HasNoRecord, IsReadyToStart}
+use Rattle.log_theory.proofs.Readying.{tick_given, holds_written, holds_over_own, no_record_apart}
+use Rattle.log_theory.proofs.Writing.{ticks_grew}
+use Rattle.log_theory.proofs.Ledger.{carried_starts, started_under}
+use Rattle.links.specs.declared.graph.Graph.{Graph}
+use Rattle.paths.specs.Told.{text_at}
+use Rattle.lowest.specs.Flags as flags
+use Rattle.plan.specs.declared.plan.Plan.{Plan}
+use Rattle.plan.specs.Planned.{IsPlanned, TakesStep}
+use Rattle.records.specs.Laws.{LogStays}
+use Rattle.runner.specs.declared.state.State.{State}
+use Rattle.runner.specs.Course.{Course, Suits, edges_of, AreAnew, AreStarted, IsSeenStill, IsOn}
+use Rattle.runner.proofs.Quiet.{RunBy, quiet_adds, quiet_less, running_started}
+use Rattle.runner.proofs.Keeping.{Carried, Quietly, run_by, grown, stale_is_command, response_carried, logging_over, told_over, seen_over, started_more}
+
+-- ---- steps
+
+-- a start ends nothing
+pub well_started : (steps : List Done) (i : ℕ) → well_in (steps ++ Started i ∷ []) ≡ well_in steps
+well_started steps i = well-append steps (Started i ∷ []) ∙ append-nil (well_in steps)
+
+pub failed_started : (steps : List Done) (i : ℕ) → failed_in (steps ++ Started i ∷ []) ≡ failed_in steps
+failed_started steps i = failed-append steps (Started i ∷ []) ∙ append-nil (failed_in steps)
+
+-- what runs after a start is that command, or ran before
+pub started_or_ran : (steps : List Done) (i j : ℕ) → has_number (running_in (steps ++ Started i ∷ [])) j ≡ true → (i ≡ j) ⊎ (has_number (running_in steps) j ≡ true)
+started_or_ran steps i j runs = elim (in_either started_in started-append steps (Started i ∷ []) j parts.0) [
+  | inl before ↦ inr (running_is steps j ∙ both (has_number (started_in steps) j) (has_number (ended_in steps) j) before (ap (λ (l : List ℕ). has_number l j) (sym (append-nil (ended_in steps)) ∙ sym (ended-append steps (Started i ∷ []))) ∙ parts.1))
+  | inr here ↦ inl (has_number-is i j here)
+]
+  where
+    parts : (has_number (started_in (steps ++ Started i ∷ [])) j ≡ true) × (has_number (ended_in (steps ++ Started i ∷ [])) j ≡ false)
+    parts = running_parts (steps ++ Started i ∷ []) j runs
+
+    both : (s e : Bool) → s ≡ true → e ≡ false → (s && not e) ≡ true
+    both true false started unended = refl
+    both true true started ended = absurd (false≢true (sym ended))
+    both false e none unended = absurd (false≢true none)
+
+module _ (tells : Bool) (course : Course) (graph : Graph) where
+  -- what was made anew is so after steps that end nothing
+  pub anew_over : (steps many : List Done) (state : State) → well_in many ≡ well_in steps → failed_in many ≡ failed_in steps → AreAnew course graph steps state → AreAnew course graph many state
+  anew_over steps many state well failed anew p lt unfailed =
+      anew p lt (λ j made. ap (λ (l : List ℕ). has_number l j) (sym failed) ∙ unfailed j made)
+      ∙ ap (λ (l : List ℕ). list_any (λ i. has (outputs (edge_at (edges_of course) i)) (text_at graph.manifest.paths p)) l) (sym well)
+
+  -- ---- the stamp of the start is noted
+
+  -- the state with other stamps, and with another plan
+  abbrev pub with_starts : State → Vec ℕ Global → State
+  with_starts state starts =
+      record { plan = state.plan; looks = state.looks; records = state.records; display = state.display; due = state.due; starts = starts; failed = state.failed; set = state.set }
+
+  abbrev pub with_plan : State → Plan → State
+  with_plan state plan =
+      record { plan = plan; looks = state.looks; records = state.records; display = state.display; due = state.due; starts = state.starts; failed = state.failed; set = state.set }
+
+  module _ (hand : Option ℕ) (state : State) (now : World) (e stamp : ℕ) (starts : Vec ℕ Global) (is : starts.items ≡ slice_set state.starts.items e stamp) (on : IsOn tells course graph hand state now) (unstarted : has_number (started_in on.steps) (suc e) ≡ false) where
+    pub stamped_started : AreStarted course on.steps (with_starts state starts) now
+    stamped_started k runs = subst (λ (n : ℕ). StartedUnder (suc k) n course.entry now) (sym same) (on.started k runs)
+      where
+        other : k ≢ e
+        other here = false≢true (sym unstarted ∙ (ap (λ (n : ℕ). has_number (started_in on.steps) (suc n)) (sym here) ∙ (running_parts on.steps (suc k) runs).0))
+
+        same : get_or starts.items k 0 ≡ get_or state.starts.items k 0
+        same = ap (λ (l : List ℕ). get_or l k 0) is ∙ get_or-set_other state.starts.items e k stamp 0 other
+
+    abbrev pub on_stamped : IsOn tells course graph hand (with_starts state starts) now
+    on_stamped = record {
+      steps = on.steps;
+      planned = on.planned;
+      carried = on.carried;
+      logging = on.logging;
+      told = record { records = on.told.records; known = on.told.known; same = on.told.same };
+      seen = on.seen;
+      anew = on.anew;
+      started = stamped_started;
+      room = record { looks = on.room.looks; starts = ap length is ∙ (length-set state.starts.items e stamp ∙ on.room.starts) };
+      noted = on.noted;
+    }
+
+  -- ---- the start
+
+  module _ (stays : LogStays) (state : State) (now new : World) (e : ℕ) (act : Act) (plan : Plan) (on : IsOn tells course graph (Some (suc e)) state now) (next : IsLawfulStep (task_of course.asked course.store) on.steps (Started (suc e)))
+      (is : act ≡ (edge_at (edges_of course) (suc e)).act) (ready : IsReadyToStart tells course.format course.own (edges_of course) (suc e) course.entry now) (starts : Starts tells (suc e) act now new) where
+    abbrev pub more : List Done
+    more = on.steps ++ Started (suc e) ∷ []
+
+    pub start_carried : Carried tells course graph more None new
+    start_carried = carried_starts tells course.behaviour course.format course.own course.asked course.store course.entry on.steps now new (suc e) act next is ready starts on.carried
+
+    pub start_quiet : Quietly tells course graph more now new
+    start_quiet = quiet_adds tells course.own (edges_of course) more course.entry now new (grown tells course graph on.steps (Some (suc e)) now on.carried) ran (run_by tells course graph more None new start_carried) (Start (suc e) act now.ticked) starts.history
+      where
+        ran : RunBy (edges_of course) more now
+        ran job runs =
+            let by = run_by tells course graph on.steps (Some (suc e)) now on.carried job runs in
+            (by.0, running_started on.steps (suc e) job by.1)
+
+    pub start_seen : IsSeenStill tells course graph more state new
+    start_seen = seen_over tells course graph more state now new start_quiet
+        (λ tell kept p asked quiet. on.seen tell kept p asked (quiet_less course.own (edges_of course) on.steps more (λ i. running_started on.steps (suc e) i) (text_at graph.manifest.paths p) quiet))
+
+    pub start_started : get_or state.starts.items e 0 ≡ now.ticked → AreStarted course more state new
+    start_started stamped k runs = elim (started_or_ran on.steps (suc e) (suc k) runs) [
+      | inl here ↦
+          let same : e ≡ k = cc in
+          subst (λ (n : ℕ). StartedUnder (suc n) (get_or state.starts.items n 0) course.entry new) same
+          (subst (λ (n : ℕ). StartedUnder (suc e) n course.entry new) (sym stamped) under)
+      | inr before ↦ started_more (suc k) (get_or state.starts.items k 0) course.entry now new (Start (suc e) act now.ticked ∷ []) starts.events (on.started k before)
+    ]
+      where
+        under : StartedUnder (suc e) now.ticked course.entry new
+        under = started_under tells course.behaviour course.format course.own course.asked course.store course.entry on.steps (Some (suc e)) now new (suc e) act starts on.carried
+
+    pub start_planned : TakesStep graph state.plan plan (Started (suc e)) → IsPlanned (task_of course.asked course.store) graph plan more
+    start_planned takes = takes (task_of course.asked course.store) on.steps on.planned on.carried.run.lawful next
+
+    abbrev pub on_starts : TakesStep graph state.plan plan (Started (suc e)) → plan.changed ≡ state.plan.changed → get_or state.starts.items e 0 ≡ now.ticked → IsOn tells course graph None (with_plan state plan) new
+    on_starts takes flags_same stamped = record {
+      steps = more;
+      planned = start_planned takes;
+      carried = start_carried;
+      logging = logging_over tells course graph stays on.steps more (Some (suc e)) None now new state.records.file (inr (inl (suc e, act, starts))) start_carried on.logging;
+      told =
+          let told = told_over tells course graph more state now new start_quiet on.told in
+          record { records = told.records; known = told.known; same = told.same };
+      seen = start_seen;
+      anew = λ p lt unfailed. ap (λ (c : Vec Bool Global). flags.has c.items p) flags_same ∙ anew_over on.steps more state (well_started on.steps (suc e)) (failed_started on.steps (suc e)) on.anew p lt unfailed;
+      started = start_started stamped;
+      room = record { looks = on.room.looks; starts = on.room.starts };
+      noted = on.noted ∙ sym (failed_started on.steps (suc e));
+    }
+
+  -- ---- all is made ready
+
+  -- its response file was written, and then a tick came
+  module _ (stays : LogStays) (tick : List ℕ) (suits : Suits course tick graph) (state : State) (now mid new : World) (i stamp : ℕ) (on : IsOn tells course graph (Some i) state now) (next : IsLawfulStep (task_of course.asked course.store) on.steps (Started i))
+      (begun : HasNoRecord tells course.format course.own (edges_of course) i course.entry now) (act : Act) (is : act ≡ (edge_at (edges_of course) i).act)
+      (at : WritesAt tells act.response_path now mid) (written : act.response_path ≢ [] → Writes tells act.response_path (Some act.response_content) now mid) (ticks : Ticks tells tick stamp mid new) where
+    abbrev pub response : List ℕ
+    response = (edge_at (edges_of course) i).act.response_path
+
+    pub response_at : WritesAt tells response now mid
+    response_at = subst (λ (a : Act). WritesAt tells a.response_path now mid) is at
+
+    response_written : response ≢ [] → Writes tells response (Some (edge_at (edges_of course) i).act.response_content) now mid
+    response_written = subst (λ (a : Act). a.response_path ≢ [] → Writes tells a.response_path (Some a.response_content) now mid) is written
+
+    carried_mid : Carried tells course graph on.steps (Some i) mid
+    carried_mid = response_carried tells course graph stays (Some i) state now mid on i next.1.stale response_at
+
+    command : IsCommand (edges_of course) i
+    command = stale_is_command tells course graph on.steps (Some i) now on.carried i next.1.stale
+
+    other : (log : List ℕ) → (files : OwnFilesApart course.own (edges_of course)) → course.own.files log ≡ true → response ≢ log
+    other log files mine same = false≢true (sym (files.responses i command).1 ∙ (ap course.own.files same ∙ mine))
+
+    tick_grew : IsTrue tells → GrewAt tick (IsRunning mid.events) mid.history new.history
+    tick_grew = ticks_grew tells tick stamp mid new ticks
+
+    pub ready_to_start : IsReadyToStart tells course.format course.own (edges_of course) i course.entry new
+    ready_to_start = record {
+      ticked = tick_given tells course.behaviour course.format course.own course.asked course.store course.entry on.steps (Some i) mid new carried_mid tick stamp ticks;
+      depfile = λ named. absurd (named (suits.bare i command).0);
+      response = λ named.
+          holds_over_own tells course.behaviour course.format course.own course.asked course.store course.entry on.steps (Some i) mid new carried_mid i next.1.stale next.1.once response
+          (record { named = named; is = inr refl }) (Some (edge_at (edges_of course) i).act.response_content) tick suits.owned tick_grew
+          (holds_written tells course.behaviour course.format course.own course.asked course.store course.entry on.steps (Some i) now mid on.carried i next.1.stale next.1.once response
+          (record { named = named; is = inr refl }) (Some (edge_at (edges_of course) i).act.response_content) (response_written named));
+      begun = no_record_apart tells course.behaviour course.format course.own course.asked course.store course.entry on.steps (Some i) mid new carried_mid i next.1.stale next.1.once tick
+          (λ files. (suits.no_build_log, suits.no_deps_log)) tick_grew
+          (no_record_apart tells course.behaviour course.format course.own course.asked course.store course.entry on.steps (Some i) now mid on.carried i next.1.stale next.1.once response
+          (λ files. (other course.own.build_log files.own_files files.own_files.build_log, other course.own.deps_log files.own_files files.own_files.deps_log)) response_at.history begun);
+    }

@@ -1,0 +1,132 @@
+-- What an edge reads whose turn to be judged has come: it is settled, and quiet.
+use Rattle.std.proofs.Common.{◌≡◌, ◌⊎◌, inl, inr, ℕ, ◌&&◌, not, Bool, true, false, IsTrue, List, Option, Some, None, refl, sym, ◌∙◌, ap, subst}
+use Rattle.std.proofs.lemmas.Bool.{false≢true, true≢false, cases_Bool, false_from_ne_true}
+use Rattle.model.specs.declared.event.Moment.{Moment}
+use Rattle.model.specs.declared.graph.Edge.{Edge}
+use Rattle.model.specs.World.{World, View, stamp_of, view_of, IsIdle}
+use Rattle.model.specs.Graph.{has, has_number, edge_at, maker, outputs, regular_inputs, inputs, IsCommand, IsMadeOnce}
+use Rattle.model.specs.Reading.{IsRead, Itself, Through, needs}
+use Rattle.model.specs.Records.{OwnFiles, Store, recorded_inputs}
+use Rattle.model.specs.OutOfDate.{is_made_anew, Counted}
+use Rattle.model.specs.Schedule.{Task, Step as Done, IsSettled, Done as ByItself, Alias, judged_in, clean_in, well_in, failed_in, running_in, done_in}
+use Rattle.model.specs.Premises.{FilesAreKept, OwnFilesApart, RecordedApart}
+use Rattle.model.specs.SingleBuild.{Asked}
+use Rattle.build_theory.specs.Run.{IsRunOrRest}
+use Rattle.build_theory.proofs.Lists.{has-left, has-right, has_number-cases, same_some, some_none}
+use Rattle.build_theory.proofs.Makers.{maker_has, maker_is}
+use Rattle.build_theory.proofs.Settled.{settled_command}
+use Rattle.build_theory.proofs.Steps.{running_parts}
+use Rattle.build_theory.proofs.Orderly.{IsKept, kept_orderly}
+use Rattle.build_theory.proofs.Exit.{unchanged, may_not}
+use Rattle.log_theory.proofs.Carried.{read_apart}
+use Rattle.verdict.specs.Judged.{everything, HasPathsOf, AreUntouched}
+use Rattle.runner.specs.Course.{is_quiet, is_anew}
+use Rattle.runner.proofs.Quiet.{quiet_from, any_number, number_of_any}
+
+-- ---- settled edges
+
+-- who makes what an edge reads is settled where who makes its inputs is
+pub settled_reads : (edges : List Edge) (view : View) (done : List ℕ) (i : ℕ) (p : List ℕ) → IsRead edges view i p
+    → ((q : List ℕ) (j : ℕ) → has (inputs (edge_at edges i)) q ≡ true → maker edges q ≡ Some j → IsSettled edges done j) → (j : ℕ) → maker edges p ≡ Some j → IsSettled edges done j
+settled_reads edges view done i p (Itself _ _ h counts) settled j made = settled p j (has-left (regular_inputs (edge_at edges i)) (edge_at edges i).order_only_inputs p h) made
+settled_reads edges view done i p (Through _ k q _ h alias below) settled j made =
+    settled_reads edges view done k p below (by_settled (settled q k (has-left (regular_inputs (edge_at edges i)) (edge_at edges i).order_only_inputs q h) alias.made)) j made
+  where
+    by_settled : IsSettled edges done k → (q : List ℕ) (j : ℕ) → has (inputs (edge_at edges k)) q ≡ true → maker edges q ≡ Some j → IsSettled edges done j
+    by_settled (ByItself _ command is) = absurd (true≢false (sym alias.phony ∙ command))
+    by_settled (Alias _ phony all) = all
+
+module _ (edges : List Edge) (steps : List Done) (kept : IsKept edges steps) where
+  -- a settled edge that is a command was judged clean, or ended well
+  settled_cases : (j : ℕ) → IsCommand edges j → IsSettled edges (done_in steps) j → (has_number (clean_in steps) j ≡ true) ⊎ (has_number (well_in steps) j ≡ true)
+  settled_cases j command settled = has_number-cases (clean_in steps) (well_in steps) j (settled_command edges (done_in steps) j command settled)
+
+  pub settled_unfailed : (j : ℕ) → IsSettled edges (done_in steps) j → has_number (failed_in steps) j ≡ false
+  settled_unfailed j settled = false_from_ne_true (has_number (failed_in steps) j) (λ failed.
+      let started = kept.started j (kept.ended j (kept.failed j failed)) in
+      elim (settled_cases j (kept.judged j (kept.out_of_date j started)) settled) [
+        | inl clean ↦ kept.apart j clean started
+        | inr well ↦ kept.well_or_failed j well failed
+      ])
+
+  pub settled_rests : (j : ℕ) → IsSettled edges (done_in steps) j → has_number (running_in steps) j ≡ true → ⊥
+  settled_rests j settled runs =
+      let parts = running_parts steps j runs in
+      let started = kept.started j parts.0 in
+      elim (settled_cases j (kept.judged j (kept.out_of_date j started)) settled) [
+        | inl clean ↦ kept.apart j clean started
+        | inr well ↦ false≢true (sym parts.1 ∙ kept.well j well)
+      ]
+
+  -- ---- what was made anew
+
+  module _ (once : IsMadeOnce edges) (plain : (j : ℕ) → IsCommand edges j → (edge_at edges j).restat ≡ false) (p : List ℕ) where
+    abbrev makes : ℕ → Bool
+    makes i = has (outputs (edge_at edges i)) p
+
+    anew_by : (m : Option ℕ) → maker edges p ≡ m → (same : Bool) → is_anew edges steps p ≡ is_made_anew edges (well_in steps) same m
+    anew_by None is same = false_from_ne_true (is_anew edges steps p) (λ some.
+        let j = number_of_any makes (well_in steps) some in
+        some_none j.0 (sym (maker_is edges p j.0 once j.2) ∙ is))
+    anew_by (Some j) is same = elim (cases_Bool (has_number (well_in steps) j)) [
+      | inl well ↦ any_number makes (well_in steps) j well (maker_has edges p j is) ∙ sym (by_flags (has_number (well_in steps) j) (edge_at edges j).restat well (plain j (kept.judged j (kept.out_of_date j (kept.started j (kept.ended j (kept.well j well)))))))
+      | inr none ↦ false_from_ne_true (is_anew edges steps p) (λ some.
+          let k = number_of_any makes (well_in steps) some in
+          false≢true (sym none ∙ subst (λ (n : ℕ). has_number (well_in steps) n ≡ true) (same_some k.0 j (sym (maker_is edges p k.0 once k.2) ∙ is)) k.1))
+          ∙ sym (ap (λ (b : Bool). b && not ((edge_at edges j).restat && same)) none)
+    ]
+      where
+        by_flags : (w r : Bool) → w ≡ true → r ≡ false → (w && not (r && same)) ≡ true
+        by_flags true false well none = refl
+        by_flags true true well none = absurd (true≢false none)
+        by_flags false r well none = absurd (false≢true well)
+
+    pub anew_is_made : (same : Bool) → is_anew edges steps p ≡ is_made_anew edges (well_in steps) same (maker edges p)
+    anew_is_made same = anew_by (maker edges p) refl same
+
+  -- ---- an edge whose turn has come
+
+  module _ (own : OwnFiles) (apart : OwnFilesApart own edges) (once : IsMadeOnce edges) where
+    -- a path outside the program's set, whose maker does not run
+    quiet_path : (p : List ℕ) → own.set p ≡ false → ((j : ℕ) → maker edges p ≡ Some j → has_number (running_in steps) j ≡ true → ⊥) → is_quiet own edges steps p ≡ true
+    quiet_path p outside rests = quiet_from own edges steps p (record {
+      foreign = false_from_ne_true (own.files p) (λ mine. false≢true (sym outside ∙ apart.within p mine));
+      private = λ i command named. elim named [
+        | inl is ↦ false≢true (sym outside ∙ (ap own.set is ∙ (apart.depfiles i command).0))
+        | inr is ↦ false≢true (sym outside ∙ (ap own.set is ∙ (apart.responses i command).0))
+      ];
+      rests = λ i runs made. rests i (maker_is edges p i once made) runs;
+    })
+
+    module _ (asked : Asked) (store : Store) (i : ℕ) (fresh : has_number (judged_in steps) i ≡ false) (recorded_apart : RecordedApart own (recorded_inputs store edges))
+        (ready : (p : List ℕ) (j : ℕ) → has (needs edges (recorded_inputs store edges) i) p ≡ true → maker edges p ≡ Some j → IsSettled edges (done_in steps) j) where
+      input_ready : (p : List ℕ) (j : ℕ) → has (inputs (edge_at edges i)) p ≡ true → maker edges p ≡ Some j → IsSettled edges (done_in steps) j
+      input_ready p j h made = ready p j (has-left (inputs (edge_at edges i)) (recorded_inputs store edges i) p h) made
+
+      recorded_ready : (p : List ℕ) (j : ℕ) → has (recorded_inputs store edges i) p ≡ true → maker edges p ≡ Some j → IsSettled edges (done_in steps) j
+      recorded_ready p j h made = ready p j (has-right (inputs (edge_at edges i)) (recorded_inputs store edges i) p h) made
+
+      -- who makes a path that counts has not failed
+      pub counted_unfailed : (files : List Moment) (p : List ℕ) → Counted edges store files i p → (j : ℕ) → maker edges p ≡ Some j → has_number (failed_in steps) j ≡ false
+      counted_unfailed files p (inl read) j made = settled_unfailed j (settled_reads edges (view_of files) (done_in steps) i p read input_ready j made)
+      counted_unfailed files p (inr recorded) j made = settled_unfailed j (recorded_ready p j recorded made)
+
+      pub paths_quiet : HasPathsOf edges store i (is_quiet own edges steps)
+      paths_quiet = record {
+        made = λ p h. quiet_path p (apart.outputs i p h) (λ j is runs.
+            let same = same_some j i (sym is ∙ maker_is edges p i once h) in
+            let judged = kept.out_of_date j (kept.started j (running_parts steps j runs).0) in
+            false≢true (sym fresh ∙ subst (λ (n : ℕ). has_number (judged_in steps) n ≡ true) same judged));
+        read = λ p read. quiet_path p (read_apart edges everything (λ q. own.set q ≡ false) apart.inputs i p read)
+            (λ j is runs. settled_rests j (settled_reads edges everything (done_in steps) i p read input_ready j is) runs);
+        recorded = λ p h. quiet_path p (recorded_apart i p h) (λ j is runs. settled_rests j (recorded_ready p j h is) runs);
+      }
+
+-- nobody has touched its outputs
+pub outputs_untouched : (tells : Bool) (own : OwnFiles) (task : Task) (steps : List Done) (old now : World) → IsIdle old.events → IsRunOrRest tells own task steps old now → IsTrue tells
+    → FilesAreKept own task.graph.edges old.history now.history → IsMadeOnce task.graph.edges → (i : ℕ) → IsCommand task.graph.edges i → has_number (judged_in steps) i ≡ false
+    → AreUntouched task.graph.edges old.history now.history i
+outputs_untouched tells own task steps old now idle rest tell files once i command fresh o h = ap stamp_of (elim (unchanged tells own task steps old now idle rest tell files o) [
+  | inl same ↦ same
+  | inr may ↦ absurd (may_not own task.graph.edges steps (kept_orderly task.graph.edges steps rest.orderly) files.own_files once i command fresh o (inl h) may)
+])

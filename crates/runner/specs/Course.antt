@@ -1,0 +1,115 @@
+-- What a run is of, and where a run that goes on stands.
+use Rattle.std.specs.Prelude.{◌≡◌, ◌≢◌, ◌<◌, ℕ, suc, ◌&&◌, not, Bool, true, false, IsTrue, List, [], ◌∷◌, map, length, Option, Some, get_or}
+use Rattle.std.specs.List.{list_any}
+use Rattle.model.specs.declared.graph.Edge.{Edge}
+use Rattle.model.specs.declared.record.Record.{Record}
+use Rattle.model.specs.World.{World, IsIdle}
+use Rattle.model.specs.Graph.{has, has_number, edge_at, maker, outputs, IsCommand, IsMadeOnce}
+use Rattle.model.specs.Outcome.{Behaviour}
+use Rattle.model.specs.Records.{Store, LogFormat, OwnFiles, recorded_inputs}
+use Rattle.model.specs.Schedule.{Step as Done, failed_in, running_in, well_in}
+use Rattle.model.specs.Premises.{FilesAreKept}
+use Rattle.model.specs.Kept.{StartedUnder}
+use Rattle.model.specs.SingleBuild.{Asked, task_of}
+use Rattle.paths.specs.Told.{text_at}
+use Rattle.links.specs.declared.graph.Graph.{Graph}
+use Rattle.links.specs.Told.{declared_by, recorded_by, AreSameInputs}
+use Rattle.lowest.specs.Flags as flags
+use Rattle.plan.specs.Planned.{IsPlanned}
+use Rattle.looks.specs.Seen.{AreSeenOf}
+use Rattle.records.specs.Known.{IsOf}
+use Rattle.records.specs.Logging.{IsLogging}
+use Rattle.log_theory.specs.Ledger.{IsCarried}
+use Rattle.runner.specs.declared.state.State.{State}
+
+-- What a run is of: what commands do, how its logs are read, which files are its own, what was asked, what the logs told at the
+-- entry, and the world of then. Nothing of it changes while the run goes on.
+pub record Course : Type 0 where
+  pub behaviour : Behaviour
+  pub format : LogFormat
+  pub own : OwnFiles
+  pub asked : Asked
+  pub store : Store
+  pub entry : World
+
+abbrev pub edges_of : Course → List Edge
+edges_of course = course.asked.graph.edges
+
+-- The graph declares what was asked, with the recorded inputs that are in use; each path is made once; a command has outputs, and
+-- names no depfile and no `restat`; the build log is a file of the program's own; ticks touch another such file, that is no log; no
+-- command ran at the entry.
+pub record Suits (course : Course) (tick : List ℕ) (graph : Graph) : Type 0 where
+  pub same : course.asked.graph ≡ declared_by graph
+  pub recorded : AreSameInputs (recorded_inputs course.store (edges_of course)) (recorded_by graph)
+  pub once : IsMadeOnce (edges_of course)
+  pub some : (i : ℕ) → IsCommand (edges_of course) i → outputs (edge_at (edges_of course) i) ≢ []
+  pub bare : (i : ℕ) → IsCommand (edges_of course) i → ((edge_at (edges_of course) i).act.depfile ≡ []) × ((edge_at (edges_of course) i).restat ≡ false)
+  pub log_owned : course.own.files course.own.build_log ≡ true
+  pub owned : course.own.files tick ≡ true
+  pub no_build_log : tick ≢ course.own.build_log
+  pub no_deps_log : tick ≢ course.own.deps_log
+  pub idle : IsIdle course.entry.events
+
+-- ---- what was seen
+
+-- the depfile or the response file of a command
+abbrev pub is_private : List Edge → List ℕ → Bool
+is_private edges p = list_any (λ edge. not edge.phony && has (edge.act.depfile ∷ edge.act.response_path ∷ []) p) edges
+
+-- an output of a command that runs
+abbrev pub is_under_way : List Edge → List Done → List ℕ → Bool
+is_under_way edges steps p = list_any (λ i. has (outputs (edge_at edges i)) p) (running_in steps)
+
+-- Nobody writes the path while these are the steps: it is no file of the program's own, none of an edge's, and no output of a
+-- command that runs.
+abbrev pub is_quiet : OwnFiles → List Edge → List Done → List ℕ → Bool
+is_quiet own edges steps p = not (own.files p) && (not (is_private edges p) && not (is_under_way edges steps p))
+
+-- what was seen of quiet paths is so of the files now, where files are kept
+abbrev pub IsSeenStill : Bool → Course → Graph → List Done → State → World → Type 0
+IsSeenStill tells course graph steps state now =
+    IsTrue tells → FilesAreKept course.own (edges_of course) course.entry.history now.history
+    → AreSeenOf (is_quiet course.own (edges_of course) steps) graph.manifest.paths now.history state.looks.seen.items
+
+-- ---- what was made anew
+
+-- a command of this run made the path, and ended well
+abbrev pub is_anew : List Edge → List Done → List ℕ → Bool
+is_anew edges steps p = list_any (λ i. has (outputs (edge_at edges i)) p) (well_in steps)
+
+-- the flag of each path whose maker did not fail says so
+abbrev pub AreAnew : Course → Graph → List Done → State → Type 0
+AreAnew course graph steps state =
+    (p : ℕ) → p < length graph.manifest.paths → ((j : ℕ) → maker (edges_of course) (text_at graph.manifest.paths p) ≡ Some j → has_number (failed_in steps) j ≡ false)
+    → flags.has state.plan.changed.items p ≡ is_anew (edges_of course) steps (text_at graph.manifest.paths p)
+
+-- ---- where a run stands
+
+-- the records in memory are those of the store at the entry, where files are kept
+pub record AreTold (tells : Bool) (course : Course) (graph : Graph) (state : State) (now : World) : Type 0 where
+  pub records : List Record
+  pub known : IsOf records graph.manifest.paths state.records
+  pub same : IsTrue tells → FilesAreKept course.own (edges_of course) course.entry.history now.history → course.store.records ≡ records
+
+-- each command that runs was started under the stamp that is noted for it
+abbrev pub AreStarted : Course → List Done → State → World → Type 0
+AreStarted course steps state now = (e : ℕ) → has_number (running_in steps) (suc e) ≡ true → StartedUnder (suc e) (get_or state.starts.items e 0) course.entry now
+
+-- the state has room for each path and each edge of the graph
+pub record HasRoom (graph : Graph) (state : State) : Type 0 where
+  pub looks : length state.looks.seen.items ≡ length graph.manifest.paths
+  pub starts : length state.starts.items ≡ length graph.manifest.lines
+
+-- What a run that goes on has kept since the entry. `hand` is the edge whose start or recording is under way, `failed` are those
+-- whose failure is noted.
+pub record IsOn (tells : Bool) (course : Course) (graph : Graph) (hand : Option ℕ) (state : State) (now : World) : Type 0 where
+  pub steps : List Done
+  pub planned : IsPlanned (task_of course.asked course.store) graph state.plan steps
+  pub carried : IsCarried tells course.behaviour course.format course.own course.asked course.store steps hand course.entry now
+  pub logging : IsLogging tells course.behaviour course.format course.own (edges_of course) steps hand course.store course.entry now state.records.file
+  pub told : AreTold tells course graph state now
+  pub seen : IsSeenStill tells course graph steps state now
+  pub anew : AreAnew course graph steps state
+  pub started : AreStarted course steps state now
+  pub room : HasRoom graph state
+  pub noted : map suc state.failed.items ≡ failed_in steps

@@ -1,0 +1,27 @@
+-- An edge in hand, on its way to its start, and behind its end.
+use Rattle.std.specs.Prelude.{◌≡◌, ◌++◌, ◌∷◌, [], ℕ, Bool, true, if◌then◌else◌, Option, Some, None, List}
+use Rattle.model.specs.World.{World}
+use Rattle.model.specs.Schedule.{Step as Done, Started, Ended, IsLawfulStep}
+use Rattle.model.specs.SingleBuild.{task_of}
+use Rattle.links.specs.declared.graph.Graph.{Graph}
+use Rattle.log_theory.specs.Ledger.{HasNoRecord}
+use Rattle.records.specs.Logging.{EndedWell}
+use Rattle.runner.specs.Course.{Course, edges_of, IsOn}
+use Rattle.runner.specs.declared.state.State.{State}
+
+-- the edge may be started, and none of its outputs has a record in force any more
+pub record IsBegun (tells : Bool) (course : Course) (graph : Graph) (i : ℕ) (state : State) (now : World) : Type 0 where
+  pub on : IsOn tells course graph (Some i) state now
+  pub next : IsLawfulStep (task_of course.asked course.store) on.steps (Started i)
+  pub begun : HasNoRecord tells course.format course.own (edges_of course) i course.entry now
+
+-- an edge whose command ended well is in hand until that is recorded
+abbrev pub in_hand_after : ℕ → Bool → Option ℕ
+in_hand_after i ok = if ok then Some i else None
+
+-- the command of the edge was taken in, by the last of the steps; where it ended well that may be recorded
+pub record IsTakenIn (tells : Bool) (course : Course) (graph : Graph) (i stamp : ℕ) (ok : Bool) (state : State) (now : World) : Type 0 where
+  pub on : IsOn tells course graph (in_hand_after i ok) state now
+  pub before : List Done
+  pub last : on.steps ≡ before ++ Ended i ok ∷ []
+  pub well : ok ≡ true → EndedWell tells course.behaviour (edges_of course) on.steps i stamp course.entry now

@@ -1,0 +1,72 @@
+//! Judging an edge.
+
+ghost use Rattle.std.specs.Prelude.{◌≡◌, ◌<◌, ℕ, suc, Bool, None, false, is_some, get_or, OnOk, OnErr};
+ghost use Rattle.model.specs.Calls.{OnlyLooks, HasCause};
+ghost use Rattle.model.specs.Schedule.{Judged, IsLawfulStep};
+ghost use Rattle.model.specs.SingleBuild.{task_of};
+ghost use Rattle.plan.specs.declared.step.Step.TheVariants as step;
+ghost use Rattle.plan.specs.Planned.{IsOffered, is_stale};
+ghost use Rattle.runner.specs.Course.{Course, Suits, IsOn};
+ghost use Rattle.runner.specs.Going.{IsGoing, work_left};
+
+use crate::setting::Setting;
+use crate::state::State;
+use model::{Reason, SiteFault};
+use paths::EdgeId;
+use plan::Verdict;
+use records::log_stays;
+use site::Site;
+use verdict::reason;
+
+/// Judges an edge by the files as they are now and by the records of the entry.
+pub fn judge<S: Site>(
+    site: &mut S,
+    setting: Setting<'_>,
+    state: &mut State<'_>,
+    edge: EdgeId,
+) -> Result<(), SiteFault>
+    requires running { (S.world site.old).stopped ≡ false }
+    requires going { (going : IsGoing S.tells setting.tick.now setting.graph.now state.old (S.world site.old)) × ((stale : Bool) → IsLawfulStep (task_of going.course.asked going.course.store) going.on.steps (Judged (suc edge) stale)) }
+    requires offered { IsOffered state.old.plan (step.Judge edge) }
+    ensures looks { OnlyLooks S.tells (S.world site.old) (S.world site.new) }
+    ensures cause { HasCause (S.world site.old) (S.world site.new) result }
+    ensures nearer { OnOk result (work_left state.new.plan.standings.items < work_left state.old.plan.standings.items) }
+    ensures enough { state.new.set ≡ state.old.set }
+    ensures on { OnOk result ((course : Course) → Suits course setting.entry.tick.now setting.entry.graph.now → (on : IsOn S.tells course setting.entry.graph.now None state.old (S.world site.old)) → ((stale : Bool) → IsLawfulStep (task_of course.asked course.store) on.steps (Judged (suc edge) stale)) → IsOn S.tells course setting.entry.graph.now None state.new (S.world site.new)) }
+    ensures plan { OnErr result (state.new.plan ≡ state.old.plan) }
+{
+    log_stays();
+    let plan = &state.plan;
+    let reason = reason(
+        setting.alloc,
+        site,
+        setting.graph,
+        &mut state.looks,
+        &state.records,
+        &plan.changed,
+        edge,
+    )?;
+    let verdict = verdict_of(reason);
+    state.plan.judged(setting.graph, edge, verdict);
+    state
+        .display
+        .judged(was_due(&state.due, edge), reason.is_some());
+    Ok(())
+}
+
+/// The verdict of the judgement that gave this.
+fn verdict_of(reason: Option<Reason>) -> Verdict
+    ensures { is_stale result ≡ is_some reason }
+{
+    match reason {
+        Some(_) => Verdict::OutOfDate,
+        None => Verdict::Clean,
+    }
+}
+
+/// Whether the edge was due before anything ran.
+fn was_due(due: &[bool], edge: EdgeId) -> bool
+    ensures { result ≡ get_or due.now edge false }
+{
+    due.get(edge.index()).copied().unwrap_or(false)
+}

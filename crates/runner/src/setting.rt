@@ -1,0 +1,13 @@
+//! What a run works on.
+
+use links::Graph;
+use std::alloc::Global;
+
+/// What a run works on, and does not change.
+#[derive(Clone, Copy)]
+pub struct Setting<'a> {
+    pub alloc: Global,
+    pub graph: &'a Graph,
+    /// The file that gets a new stamp before each start.
+    pub tick: &'a str,
+}

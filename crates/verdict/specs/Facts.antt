@@ -1,0 +1,72 @@
+-- What the judgement of an edge reads, by the numbers of paths.
+use Rattle.std.specs.Prelude.{◌≡◌, ◌||◌, not, ℕ, Bool, true, false, List, [], ◌∷◌, ◌++◌, if◌then◌else◌, map, get_or, Option, None, is_some}
+use Rattle.std.specs.List.{AllByRecursion, flat_map}
+use Rattle.model.specs.declared.act.Act.{Act}
+use Rattle.model.specs.declared.event.Moment.{Moment}
+use Rattle.model.specs.declared.record.Record.{Record}
+use Rattle.model.specs.World.{World, file_at, stamp_of}
+use Rattle.model.specs.Records.{in_force}
+use Rattle.model.specs.Judgement.{OutputFacts, InputFacts}
+use Rattle.paths.specs.Told.{text_at}
+use Rattle.links.specs.declared.graph.Graph.{Graph}
+use Rattle.links.specs.Links.{links_of}
+use Rattle.links.specs.Alias.{counts_if_present}
+use Rattle.links.specs.ReadingOf.{IsReadingOf}
+use Rattle.looks.specs.declared.table.Look.{Look}
+use Rattle.looks.specs.Seen.{IfKept}
+use Rattle.dirty.specs.declared.inputs.Inputs.{Inputs}
+use Rattle.dirty.specs.declared.outputs.Outputs.{Outputs}
+use Rattle.dirty.specs.Summaries.{AreOutputs, AreInputs}
+
+-- a path past the end of the list was not made anew
+abbrev pub flag_at : List Bool → ℕ → Bool
+flag_at flags p = get_or flags p false
+
+-- an output, as these records and files have it; no deps record is taken, since an edge without a depfile is judged by none
+abbrev pub output_at : List (List ℕ) → List Record → List Moment → ℕ → OutputFacts
+output_at paths rs files p = record { stamp = stamp_of (file_at files (text_at paths p)); made = in_force rs (text_at paths p); deps_start = None }
+
+-- the stamp of the file at the path of this number
+abbrev pub stamp_at : List (List ℕ) → List Moment → ℕ → Option ℕ
+stamp_at paths files p = stamp_of (file_at files (text_at paths p))
+
+-- the path of this stamp as an input, always or where it counts: its file is there, or no phony edge with inputs makes it
+abbrev pub one_input : Graph → List Bool → Bool → ℕ → Option ℕ → List InputFacts
+one_input graph flags always p stamp =
+    if always || (is_some stamp || not (counts_if_present (links_of graph) p)) then record { stamp = stamp; changed = flag_at flags p } ∷ [] else []
+
+-- these paths as inputs, as these files have them
+abbrev pub all_inputs : Graph → List Bool → Bool → List Moment → List ℕ → List InputFacts
+all_inputs graph flags always files numbers = flat_map (λ p. one_input graph flags always p (stamp_at graph.manifest.paths files p)) numbers
+
+-- the paths of these numbers are in the set
+abbrev pub AreIn : (List ℕ → Bool) → List (List ℕ) → List ℕ → Type 0
+AreIn set paths numbers = AllByRecursion (λ p. set (text_at paths p) ≡ true) numbers
+
+-- ---- what calls answer, for each set of paths that keep their files
+
+-- these outputs were taken in
+abbrev pub HasOutputs : Graph → Act → List Record → List ℕ → Outputs → (List ℕ → Bool) → List Moment → Type 0
+HasOutputs graph act rs numbers outputs set files =
+    AreIn set graph.manifest.paths numbers → AreOutputs act (map (output_at graph.manifest.paths rs files) numbers) outputs
+
+-- the path of this stamp was taken in, after others
+abbrev pub TakesOne : Graph → List Bool → Bool → ℕ → Option ℕ → Inputs → Inputs → Type 0
+TakesOne graph flags always p stamp old new = (inputs : List InputFacts) → AreInputs inputs old → AreInputs (inputs ++ one_input graph flags always p stamp) new
+
+-- these paths were taken in, after others
+abbrev pub TakesAll : Graph → List Bool → Bool → List ℕ → Inputs → Inputs → (List ℕ → Bool) → List Moment → Type 0
+TakesAll graph flags always numbers old new set files =
+    AreIn set graph.manifest.paths numbers → (inputs : List InputFacts) → AreInputs inputs old → AreInputs (inputs ++ all_inputs graph flags always files numbers) new
+
+-- these are all inputs of an edge that reads what these edges name
+abbrev pub HasInputs : Graph → List Bool → List ℕ → ℕ → Inputs → (List ℕ → Bool) → List Moment → Type 0
+HasInputs graph flags edges e inputs set files =
+    AreIn set graph.manifest.paths (flat_map (links_of graph).regular edges) → AreIn set graph.manifest.paths ((links_of graph).recorded e)
+    → AreInputs (all_inputs graph flags false files (flat_map (links_of graph).regular edges) ++ all_inputs graph flags true files ((links_of graph).recorded e)) inputs
+
+-- the inputs of the edge
+pub record AreInputsOf (graph : Graph) (tells : Bool) (flags : List Bool) (e : ℕ) (old new : World) (seen : List Look) (inputs : Inputs) : Type 0 where
+  pub edges : List ℕ
+  pub reading : IsReadingOf graph e edges
+  pub all : IfKept tells graph.manifest.paths old new seen (HasInputs graph flags edges e inputs)

@@ -1,0 +1,85 @@
+//! Why a command has to run.
+
+ghost use Rattle.std.specs.Prelude.{◌≡◌, ◌<◌, List, IfOk, [], false, suc, length};
+ghost use Rattle.model.specs.declared.record.Record.{Record};
+ghost use Rattle.model.specs.Calls.{HasCause};
+ghost use Rattle.model.specs.Graph.{edge_at};
+ghost use Rattle.paths.specs.Lists.{line_at};
+ghost use Rattle.paths.specs.Told.{edge_of};
+ghost use Rattle.links.specs.Told.{declared_by};
+ghost use Rattle.links.specs.Links.{links_of};
+ghost use Rattle.looks.specs.Looking.{HasLooked};
+ghost use Rattle.looks.specs.Seen.{IfKept};
+ghost use Rattle.records.specs.Known.{IsOf};
+ghost use Rattle.verdict.specs.Judged.{IsAnswer};
+
+use crate::inputs::inputs_of;
+use crate::outputs::outputs_of;
+use dirty::{Facts, judge};
+use links::{Graph, lists_stand, numbers_stand};
+use looks::{Looks, looks_follow};
+use model::{Reason, SiteFault};
+use paths::{Action, Command, EdgeId};
+use records::Records;
+use site::Site;
+use std::alloc::Global;
+
+/// Why the command of the edge has to run, if it has to: by its outputs and their records, by the paths that it reads, through
+/// phony edges too, and by its recorded inputs, as their files are now. `changed` says of each path whether this build made it
+/// anew; one past its end was not. The edge has no depfile.
+///
+/// What was seen of a path is not asked for again. The answer is right for each set of paths that has all these and whose
+/// files stay as they are during the call, whatever commands write elsewhere. It takes time for the outputs and inputs that
+/// are met, and memory only for the phony edges that are read through.
+pub fn reason<S: Site>(
+    alloc: Global,
+    site: &mut S,
+    graph: &Graph,
+    looks: &mut Looks,
+    records: &Records,
+    changed: &[bool],
+    edge: EdgeId,
+) -> Result<Option<Reason>, SiteFault>
+    requires running { (S.world site.old).stopped ≡ false }
+    requires fits { length looks.old.seen.items ≡ length graph.now.manifest.paths }
+    requires within { edge < length graph.now.manifest.lines }
+    requires command { (links_of graph.now).phony edge ≡ false }
+    requires depfile { (edge_at (declared_by graph.now).edges (suc edge)).act.depfile ≡ [] }
+    ensures looked { HasLooked S.tells graph.now (S.world site.old) (S.world site.new) looks.old looks.new }
+    ensures cause { HasCause (S.world site.old) (S.world site.new) result }
+    ensures reason { IfOk result (λ reason. (rs : List Record) → IsOf rs graph.now.manifest.paths records.now → IfKept S.tells graph.now.manifest.paths (S.world site.old) (S.world site.new) looks.old.seen.items (IsAnswer graph.now rs changed.now edge reason)) }
+{
+    looks_follow();
+    lists_stand(graph);
+    let command = command_of(graph, edge);
+    let outputs = outputs_of(
+        site,
+        graph,
+        looks,
+        records,
+        &command.act,
+        graph.outputs(edge),
+    )?;
+    let inputs = inputs_of(alloc, site, graph, looks, changed, edge)?;
+    Ok(judge(&Facts {
+        act: &command.act,
+        restat: command.restat,
+        deps: command.deps,
+        depfile: false,
+        outputs,
+        inputs,
+    }))
+}
+
+/// What the edge does.
+fn command_of(graph: &Graph, edge: EdgeId) -> &Command
+    requires within { edge < length graph.now.manifest.lines }
+    requires command { (links_of graph.now).phony edge ≡ false }
+    ensures { edge_at (declared_by graph.now).edges (suc edge) ≡ edge_of graph.now.manifest.paths (line_at graph.now.manifest.lines edge) (Action.Command result.now) }
+{
+    numbers_stand(graph);
+    match graph.manifest.action(edge) {
+        Action::Alias => unreachable!(),
+        Action::Command(command) => command,
+    }
+}

@@ -1,0 +1,49 @@
+//! The facts of an edge's outputs.
+
+ghost use Rattle.std.specs.Prelude.{◌≡◌, ◌<◌, ℕ, List, IfOk, true, false, length};
+ghost use Rattle.model.specs.declared.record.Record.{Record};
+ghost use Rattle.model.specs.Calls.{HasCause};
+ghost use Rattle.model.specs.Graph.{has_number};
+ghost use Rattle.looks.specs.Looking.{HasLooked};
+ghost use Rattle.looks.specs.Seen.{IfKept};
+ghost use Rattle.records.specs.Known.{IsOf};
+ghost use Rattle.verdict.specs.Facts.{HasOutputs};
+
+use crate::stamps::stamp_of;
+use dirty::{OutputFacts, Outputs};
+use links::Graph;
+use looks::{Looks, looks_follow};
+use model::{Act, SiteFault};
+use paths::PathId;
+use records::Records;
+use site::Site;
+
+/// The facts of these outputs of an edge that does this now.
+pub(crate) fn outputs_of<S: Site>(
+    site: &mut S,
+    graph: &Graph,
+    looks: &mut Looks,
+    records: &Records,
+    act: &Act,
+    paths: &[PathId],
+) -> Result<Outputs, SiteFault>
+    requires running { (S.world site.old).stopped ≡ false }
+    requires fits { length looks.old.seen.items ≡ length graph.now.manifest.paths }
+    requires within { (p : ℕ) → has_number paths.now p ≡ true → p < length graph.now.manifest.paths }
+    ensures looked { HasLooked S.tells graph.now (S.world site.old) (S.world site.new) looks.old looks.new }
+    ensures cause { HasCause (S.world site.old) (S.world site.new) result }
+    ensures outputs { IfOk result (λ outputs. (rs : List Record) → IsOf rs graph.now.manifest.paths records.now → IfKept S.tells graph.now.manifest.paths (S.world site.old) (S.world site.new) looks.old.seen.items (HasOutputs graph.now act.now rs paths.now outputs)) }
+{
+    looks_follow();
+    let mut outputs = Outputs::new();
+    for path in paths {
+        let stamp = stamp_of(site, graph, looks, *path)?;
+        let facts = OutputFacts {
+            stamp,
+            made: records.made(*path),
+            deps_start: None,
+        };
+        outputs.add(act, &facts);
+    }
+    Ok(outputs)
+}
