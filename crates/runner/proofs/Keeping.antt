@@ -186,7 +186,7 @@ module _ (tells : Bool) (course : Course) (graph : Graph) where
       pub ticks_leave : (stamp : ℕ) → Ticks tells tick stamp now new → Leaves now new
       ticks_leave stamp ticks = inl (record { events = ticks.events; path = tick; other = λ tell kept. suits.no_build_log; history = ticks_grew tells tick stamp now new ticks })
 
-      ticks_removed : (stamp : ℕ) → Ticks tells tick stamp now new → Removed
+      pub ticks_removed : (stamp : ℕ) → Ticks tells tick stamp now new → Removed
       ticks_removed stamp ticks =
           removed_own tells course.own (edges_of course) on.steps course.entry now new (grown on.steps hand now on.carried) rest hand on.removed tick suits.owned (ticks_grew tells tick stamp now new ticks)
 
@@ -212,9 +212,11 @@ module _ (tells : Bool) (course : Course) (graph : Graph) where
         history = writes.history;
       })
 
+      pub response_removed : hand ≡ Some i → Removed
+      response_removed held = removed_response tells course.own (edges_of course) on.steps course.entry now new (grown on.steps hand now on.carried) rest hand on.removed i held command writes.history
+
       abbrev pub on_response : hand ≡ Some i → IsOn tells course graph hand state new
-      on_response held = on_over response_carried response_leaves response_quiet writes.events
-          (removed_response tells course.own (edges_of course) on.steps course.entry now new (grown on.steps hand now on.carried) rest hand on.removed i held command writes.history)
+      on_response held = on_over response_carried response_leaves response_quiet writes.events (response_removed held)
 
   -- ---- an edge is taken in hand
 
@@ -260,7 +262,7 @@ module _ (tells : Bool) (course : Course) (graph : Graph) where
     log_writes = subst (λ (path : List ℕ). WritesAt tells path now new) on.logging.path writes
 
     -- response files are as they were
-    log_removed : AreRemoved tells course.own (edges_of course) on.steps hand course.entry new
+    pub log_removed : AreRemoved tells course.own (edges_of course) on.steps hand course.entry new
     log_removed =
         removed_own tells course.own (edges_of course) on.steps course.entry now new (grown on.steps hand now on.carried) (well_rest on.steps hand now on.carried) hand on.removed course.own.build_log suits.log_owned log_writes.history
 

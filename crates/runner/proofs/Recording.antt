@@ -121,7 +121,7 @@ module _ (tells : Bool) (course : Course) (tick : List ℕ) (graph : Graph) (sui
       pub removes_it : WritesAt tells (edge_at (edges_of course) (suc e)).act.response_path mid new
       removes_it = subst (λ (g : BuildGraph). WritesAt tells (edge_at g.edges (suc e)).act.response_path mid new) (sym suits.same) (subst (λ (p : List ℕ). WritesAt tells p mid new) path_is removes)
 
-      carried_then : Carried tells course graph taken.on.steps None mid
+      pub carried_then : Carried tells course graph taken.on.steps None mid
       carried_then = log_carried tells course graph tick suits (Some (suc e)) None state now mid taken.on writes logging_then.logged
 
       -- it is in hand until its response file is removed
@@ -132,10 +132,10 @@ module _ (tells : Bool) (course : Course) (tick : List ℕ) (graph : Graph) (sui
       abbrev held : IsOn tells course graph (Some (suc e)) (with_records tells course graph state records) new
       held = on_response tells course graph stays (Some (suc e)) (with_records tells course graph state records) mid new recorded (suc e) stale removes_it refl
 
-      carried_new : Carried tells course graph taken.on.steps None new
+      pub carried_new : Carried tells course graph taken.on.steps None new
       carried_new = carried_response tells course.behaviour course.format course.own course.asked course.store course.entry taken.on.steps None mid new (suc e) stale removes_it carried_then
 
-      writes_here : (path ≢ [] → Writes tells path None mid new) → (edge_at (edges_of course) (suc e)).act.response_path ≢ [] → Writes tells (edge_at (edges_of course) (suc e)).act.response_path None mid new
+      pub writes_here : (path ≢ [] → Writes tells path None mid new) → (edge_at (edges_of course) (suc e)).act.response_path ≢ [] → Writes tells (edge_at (edges_of course) (suc e)).act.response_path None mid new
       writes_here = subst (λ (p : List ℕ). (path ≢ [] → Writes tells path None mid new) → p ≢ [] → Writes tells p None mid new)
           (path_is ∙ ap (λ (g : BuildGraph). (edge_at g.edges (suc e)).act.response_path) (sym suits.same)) (λ w. w)
 

@@ -178,14 +178,15 @@ taken_by_removing tells edges job ok old mid last new finish events ends looks i
       earlier = ending ++ removed.earlier;
       stamp = removed.stamp;
       later = removed.later ++ shown.more;
-      grows = shown.grows
-          ∙ (ap (λ (l : List Moment). l ++ shown.more) (removed.grows ∙ ap (λ (l : List Moment). l ++ (removed.earlier ++ removal ∷ removed.later)) end.grows)
-          ∙ whole old.history ending removed.earlier removed.later shown.more removal);
+      grows = shown.grows ∙ whole old.history mid.history last.history ending removed.earlier removed.later shown.more removal end.grows removed.grows;
       others = all_append (IsByOthers (IsRunning new.events)) removed.later shown.more (subst (λ (l : List Event). AllByOthers (IsRunning l) removed.later) (sym looks.events) removed.others)
           (subst (λ (l : List Event). AllByOthers (IsRunning l) shown.more) (sym looks.events) shown.all);
     }
   where
-    whole : (a b c d e : List Moment) (m : Moment) → ((a ++ b) ++ (c ++ m ∷ d)) ++ e ≡ a ++ ((b ++ c) ++ m ∷ (d ++ e))
-    whole a b c d e m =
-        ap (λ (l : List Moment). l ++ e) (append_assoc a b (c ++ m ∷ d) ∙ ap (λ (l : List Moment). a ++ l) (sym (append_assoc b c (m ∷ d))))
-        ∙ (append_assoc a ((b ++ c) ++ m ∷ d) e ∙ ap (λ (l : List Moment). a ++ l) (append_assoc (b ++ c) (m ∷ d) e))
+    whole : (first mid last b c d e : List Moment) (m : Moment) → mid ≡ first ++ b → last ≡ mid ++ (c ++ m ∷ d) → last ++ e ≡ first ++ ((b ++ c) ++ m ∷ (d ++ e))
+    whole first mid last b c d e m was more =
+        ap (λ (l : List Moment). l ++ e) (grown was more) ∙ (append_assoc first ((b ++ c) ++ m ∷ d) e ∙ ap (λ (l : List Moment). first ++ l) (append_assoc (b ++ c) (m ∷ d) e))
+      where
+        grown : mid ≡ first ++ b → last ≡ mid ++ (c ++ m ∷ d) → last ≡ first ++ ((b ++ c) ++ m ∷ d)
+        grown was more =
+            more ∙ (ap (λ (l : List Moment). l ++ (c ++ m ∷ d)) was ∙ (append_assoc first b (c ++ m ∷ d) ∙ ap (λ (l : List Moment). first ++ l) (sym (append_assoc b c (m ∷ d)))))
