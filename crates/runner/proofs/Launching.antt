@@ -133,7 +133,7 @@ module _ (tells : Bool) (course : Course) (graph : Graph) where
         under : StartedUnder (suc e) now.ticked course.entry new
         under = started_under tells course.behaviour course.format course.own course.asked course.store course.entry on.steps (Some (suc e)) now new (suc e) act starts on.carried
 
-    start_removed : AreRemoved tells course.own (edges_of course) more None course.entry new
+    pub start_removed : AreRemoved tells course.own (edges_of course) more None course.entry new
     start_removed = removed_adds tells course.own (edges_of course) on.steps course.entry now new (grown tells course graph on.steps (Some (suc e)) now on.carried) (well_rest tells course graph on.steps (Some (suc e)) now on.carried)
         (Some (suc e)) on.removed more None (well_rest tells course graph more None new start_carried) before (Start (suc e) act now.ticked) starts.history
       where
@@ -141,9 +141,12 @@ module _ (tells : Bool) (course : Course) (graph : Graph) where
         kept = kept_lawful (task_of course.asked course.store) on.steps on.carried.run.lawful
 
         before : (i : ℕ) → has_number (well_in more) i ≡ true → (None ≡ Some i → ⊥) → (has_number (well_in on.steps) i ≡ true) × (Some (suc e) ≡ Some i → ⊥)
-        before i well free = (was, λ same.
-            let here : suc e ≡ i = cc in
-            false≢true (sym next.1.once ∙ (ap (λ (n : ℕ). has_number (started_in on.steps) n) here ∙ kept.ended i (kept.well i was))))
+        before i well free = (
+          was,
+          λ same.
+              let here : suc e ≡ i = cc in
+              false≢true (sym next.1.once ∙ (ap (λ (n : ℕ). has_number (started_in on.steps) n) here ∙ kept.ended i (kept.well i was))),
+        )
           where
             was : has_number (well_in on.steps) i ≡ true
             was = ap (λ (l : List ℕ). has_number l i) (sym (well_started on.steps (suc e))) ∙ well

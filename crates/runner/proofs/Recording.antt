@@ -25,7 +25,6 @@ use Rattle.runner.specs.Going.{IsCut, IsInHand}
 use Rattle.runner.specs.Starting.{IsTakenIn}
 use Rattle.runner.proofs.Keeping.{Carried, Logging, with_records, on_log, log_carried, logging_with, logging_over, hand_carried, grown, well_rest, response_leaves, on_response, cut_free, cut_met}
 use Rattle.runner.proofs.Removing.{removed_last}
-
 use Rattle.runner.proofs.Running.{cone_within}
 
 -- ---- the display shows something

@@ -1,5 +1,5 @@
 -- The response files of commands that ended well stay removed, and how the end of a command removes one.
-use Rattle.std.proofs.Common.{◌≡◌, ◌≢◌, ◌⊎◌, inl, inr, ℕ, suc, ◌==◌, Bool, true, false, IsTrue, List, [], ◌∷◌, ◌++◌, Option, Some, None, refl, sym, ◌∙◌, ap, subst, append_assoc}
+use Rattle.std.proofs.Common.{◌≡◌, ◌≢◌, inl, inr, ℕ, ◌==◌, Bool, true, IsTrue, List, [], ◌∷◌, ◌++◌, Option, Some, None, refl, sym, ◌∙◌, ap, subst, append_assoc}
 use Rattle.std.specs.List.{AllByRecursion}
 use Rattle.std.proofs.lemmas.Bool.{false≢true, cases_Bool, eqb-true, eq-eqb}
 use Rattle.model.specs.declared.act.Act.{Act}
@@ -22,7 +22,7 @@ use Rattle.build_theory.proofs.Starting.{IsPrivate, OthersRun, since, private_el
 use Rattle.log_theory.specs.Writes.{GrewAt, WritesAt}
 use Rattle.log_theory.specs.Ledger.{HoldsStill}
 use Rattle.log_theory.proofs.Writing.{at_elsewhere, looks_at}
-use Rattle.runner.specs.Removing.{IsRemovedLast, EndsByRemoving, AreRemoved}
+use Rattle.runner.specs.Removing.{EndsByRemoving, AreRemoved}
 
 -- ---- one path
 
@@ -178,14 +178,14 @@ taken_by_removing tells edges job ok old mid last new finish events ends looks i
       earlier = ending ++ removed.earlier;
       stamp = removed.stamp;
       later = removed.later ++ shown.more;
-      grows = shown.grows ∙ whole old.history mid.history last.history ending removed.earlier removed.later shown.more removal end.grows removed.grows;
+      grows = whole old.history mid.history last.history new.history ending removed.earlier removed.later shown.more removal end.grows removed.grows shown.grows;
       others = all_append (IsByOthers (IsRunning new.events)) removed.later shown.more (subst (λ (l : List Event). AllByOthers (IsRunning l) removed.later) (sym looks.events) removed.others)
           (subst (λ (l : List Event). AllByOthers (IsRunning l) shown.more) (sym looks.events) shown.all);
     }
   where
-    whole : (first mid last b c d e : List Moment) (m : Moment) → mid ≡ first ++ b → last ≡ mid ++ (c ++ m ∷ d) → last ++ e ≡ first ++ ((b ++ c) ++ m ∷ (d ++ e))
-    whole first mid last b c d e m was more =
-        ap (λ (l : List Moment). l ++ e) (grown was more) ∙ (append_assoc first ((b ++ c) ++ m ∷ d) e ∙ ap (λ (l : List Moment). first ++ l) (append_assoc (b ++ c) (m ∷ d) e))
+    whole : (first mid last exit b c d e : List Moment) (m : Moment) → mid ≡ first ++ b → last ≡ mid ++ (c ++ m ∷ d) → exit ≡ last ++ e → exit ≡ first ++ ((b ++ c) ++ m ∷ (d ++ e))
+    whole first mid last exit b c d e m was more rest =
+        rest ∙ (ap (λ (l : List Moment). l ++ e) (grown was more) ∙ (append_assoc first ((b ++ c) ++ m ∷ d) e ∙ ap (λ (l : List Moment). first ++ l) (append_assoc (b ++ c) (m ∷ d) e)))
       where
         grown : mid ≡ first ++ b → last ≡ mid ++ (c ++ m ∷ d) → last ≡ first ++ ((b ++ c) ++ m ∷ d)
         grown was more =
