@@ -119,6 +119,7 @@ module _ (tells : Bool) (graph : Graph) (request : Request) (cone : Cone) (recor
     cut = cut_off tells course.behaviour course.format course.own course.asked course.store course.entry [] None now carried;
     in_hand = λ i is. absurd (none_some i is);
     ends = tt;
+    removed = tt;
   }
 
   module _ (formed : IsGraph (declared_by graph)) (taken : IsTaken (declared_by graph).edges) (once : IsMadeOnce (declared_by graph).edges) (unrecorded : IsUnrecorded graph) where
@@ -154,6 +155,7 @@ module _ (tells : Bool) (graph : Graph) (request : Request) (cone : Cone) (recor
     seen = λ tell kept. subst (λ (l : Looks). AreSeenOf (is_quiet course.own (edges_of course) []) graph.manifest.paths now.history l.seen.items) (sym {A = Looks} looks_are) (may.seen tell kept);
     anew = λ p lt fine. plan.flags p;
     started = λ e runs. absurd (false≢true runs);
+    removed = λ i well. absurd (false≢true well);
     room = record { looks = ap (λ (l : Looks). length l.seen.items) looks_are ∙ fits; starts = omega (arith, starts, state.starts.ok.0) };
     noted = ap (map suc) none;
   }

@@ -50,6 +50,7 @@ use Rattle.runner.specs.declared.summary.Summary.TheVariants.{Well, Failed as So
 use Rattle.runner.specs.Cut.{fault_of}
 use Rattle.runner.specs.Course.{Course}
 use Rattle.runner.specs.Ran.{HasRun}
+use Rattle.runner.specs.Removing.{AreRemoved}
 use Rattle.records.specs.declared.records.Records.{Records}
 use Rattle.dues.specs.Stores.{IsStoreOf, IsConeIn}
 use Rattle.links.specs.declared.cone.Cone.{Cone}
@@ -65,7 +66,7 @@ use Rattle.builder.specs.declared.report.Refusal.{Refusal}
 use Rattle.builder.specs.declared.report.Refusal.TheVariants as refusal
 use Rattle.builder.specs.declared.report.Report.{Report}
 use Rattle.builder.specs.declared.report.Report.TheVariants.{Success, Failed, Refused, Fault}
-use Rattle.builder.specs.Build.{build_logs, asked_of, missing_answer, Says, Builds}
+use Rattle.builder.specs.Build.{build_logs, asked_of, missing_answer, Says, LeavesNoResponses, Builds}
 use Rattle.builder.specs.Reports.{first_output_of, ungraphed, ShowsFault, HasNoDeps, SaysNotTaken, SaysNoCone, IsMissingFor, LacksSource, ShowsCause, SaysResult, SaysRun, run_answer}
 use Rattle.builder.specs.Taken.{IsTaken}
 use Rattle.builder.proofs.Formed.{no_dyndep, names_no_other}
@@ -142,18 +143,20 @@ passes_after tells entry old new answer looked passes = record {
 abbrev pub none_loaded : View
 none_loaded file = None
 
--- a build, of which the headline holds, and which keeps its logs
+-- a build, of which the headline holds, and which keeps its logs and leaves no response files
 pub record Built (tells : Bool) (B : Behaviour) (format : LogFormat) (own : OwnFiles) (asked : Asked) (entry now : World) (answer : Answer) : Type 0 where
   pub build : SingleBuild tells B format own asked entry now answer
   pub headline : IsHeadline tells B format own asked entry now answer build
   pub logs : KeepsLogs tells B format own asked entry now answer build
+  pub responses : LeavesNoResponses build
 
 built_by : (tells : Bool) (B : Behaviour) (format : LogFormat) (own : OwnFiles) (asked : Asked) (entry now : World) (answer : Answer) (build : SingleBuild tells B format own asked entry now answer)
-    → IsRunOf tells B format own asked build.store build.steps build.met entry now → Built tells B format own asked entry now answer
-built_by tells B format own asked entry now answer build of_run = record {
+    → IsRunOf tells B format own asked build.store build.steps build.met entry now → LeavesNoResponses build → Built tells B format own asked entry now answer
+built_by tells B format own asked entry now answer build of_run responses = record {
   build = build;
   headline = headline_of_run tells B format own asked entry now answer build build.met of_run;
   logs = logs_of_run tells B format own asked entry now answer build of_run;
+  responses = responses;
 }
 
 -- what a run of a build is of
@@ -219,7 +222,7 @@ module _ (tells : Bool) (B : Behaviour) (reader : List ℕ → Option (List Reco
   built_looking : OnlyLooks tells entry now → (answer : Answer) → (IsSuccess answer → ⊥) → PassesNoFault entry now answer
       → IsAnswer tells B own none_loaded (asked_of graph folder limits targets) (store_of reader own entry) [] [] [] entry now answer → BuiltAs answer
   built_looking looks answer failed passes is =
-      built_by tells B (build_logs reader) own (asked_of graph folder limits targets) entry now answer (looking looks answer failed passes is) (looked_run looks)
+      built_by tells B (build_logs reader) own (asked_of graph folder limits targets) entry now answer (looking looks answer failed passes is) (looked_run looks) (λ fine i well. absurd (false≢true well))
 
   built_fault : {T : Type 0} → OnlyLooks tells entry now → (fault : SiteFault) → HasCause {T = T} entry now (Err fault) → BuiltAs (answer.Fault fault)
   built_fault looks Device cause = built_looking looks (answer.Fault Device) (λ h. h) (passes_fault tells entry now looks Device cause) (seen_of entry now (Err Device) cause)
@@ -249,6 +252,7 @@ module _ (tells : Bool) (B : Behaviour) (reader : List ℕ → Option (List Reco
             build = built.build;
             headline = built.headline;
             logs = built.logs;
+            responses = built.responses;
           }
       by_report (inr is) =
           let built = built_memory looked in
@@ -259,12 +263,13 @@ module _ (tells : Bool) (B : Behaviour) (reader : List ℕ → Option (List Reco
             build = built.build;
             headline = built.headline;
             logs = built.logs;
+            responses = built.responses;
           }
 
   module _ (formed : IsGraph graph) (taken : IsTaken graph.edges) where
     -- all is taken, and the report gives the answer
     builds_as : (report : Report) (said : Answer) → Says graph.edges given targets report said → BuiltAs said → BuildsAs report
-    builds_as report said says built = record { taken = inl taken; answer = said; said = says; build = built.build; headline = built.headline; logs = built.logs }
+    builds_as report said says built = record { taken = inl taken; answer = said; said = says; build = built.build; headline = built.headline; logs = built.logs; responses = built.responses }
 
     -- ---- refusals and faults before the first judgement
 
@@ -363,11 +368,11 @@ module _ (tells : Bool) (B : Behaviour) (reader : List ℕ → Option (List Reco
           → IsAnswer tells B own none_loaded (asked_of graph folder limits targets) (store_of reader own entry) [] steps steps entry now answer
           → (IsSuccess answer → (i : ℕ) → InCone (asked_of graph folder limits targets) (store_of reader own entry) i → IsSettled graph.edges (done_in steps) i)
           → WasInOrder tells own (asked_of graph folder limits targets) (store_of reader own entry) [] steps entry now → PassesNoFault entry now answer → (is_fault answer ≡ false → IsIdle now.events)
-          → BuiltAs answer
-      built_running answer met_fault first later grows of_steps finishes whole is settled ordered passes ended =
+          → (is_fault answer ≡ false → AreRemoved tells own graph.edges steps None entry now) → BuiltAs answer
+      built_running answer met_fault first later grows of_steps finishes whole is settled ordered passes ended removed =
           built_by tells B (build_logs reader) own (asked_of graph folder limits targets) entry now answer
           (running answer met_fault first later grows of_steps finishes whole is settled ordered passes ended)
-          (run_of tells B (build_logs reader) own (asked_of graph folder limits targets) (store_of reader own entry) entry steps met now cut (inl once))
+          (run_of tells B (build_logs reader) own (asked_of graph folder limits targets) (store_of reader own entry) entry steps met now cut (inl once)) removed
 
     module _ (order : List ℕ) (marks : List Mark) (listed : IsConeOf graph.edges (recorded_inputs (store_of reader own entry) graph.edges) (targets_of graph targets) order marks)
         (named : answer.AllNamed (asked_of graph folder limits targets)) (acyclic : answer.HasNoCycle (asked_of graph folder limits targets) (store_of reader own entry)) where
@@ -471,7 +476,7 @@ module _ (tells : Bool) (B : Behaviour) (reader : List ℕ → Option (List Reco
                   → BuildsAs (Fault fault)
               of_fault fault is passes = builds_as (Fault fault) (answer.Fault fault) refl
                   (built_running ran.steps ran.met ran.cut once (answer.Fault fault) (met_so fault) ran.cut.run.first ran.cut.run.later ran.cut.run.grows ran.cut.run.of_steps ran.cut.run.finishes (λ fine. absurd (false≢true (sym fine))) is
-                  (λ success. absurd success) (was_in_order ran.steps) passes (λ fine. absurd (false≢true (sym fine))))
+                  (λ success. absurd success) (was_in_order ran.steps) passes (λ fine. absurd (false≢true (sym fine))) (λ fine. absurd (false≢true (sym fine))))
 
               of_seen : (fault : SiteFault) → PassesNoFault entry now (answer.Fault fault) → IsSeen entry now fault → BuildsAs (Fault fault)
               of_seen Device passes seen = of_fault Device seen passes
@@ -490,7 +495,7 @@ module _ (tells : Bool) (B : Behaviour) (reader : List ℕ → Option (List Reco
               let settled = all_settled ran.steps ended over.2 over.3 in
               tells_as (Success started) is (builds_as (Success started) (answer.Success started) refl
               (built_running ran.steps ran.met ran.cut once (answer.Success started) (none_met_in ran.met (answer.Success started) ran.steps ran.ends.0) run.events [] (ended_so ran.steps run) run.of_steps tt (λ fine. refl)
-              (in_order, ended, settled, over.3, all_well ran.steps run over.2 over.3 ∙ sym ran.ends.3) (λ success. settled) (was_in_order ran.steps) (passes_as (Success started) is) (λ fine. ended.idle)))
+              (in_order, ended, settled, over.3, all_well ran.steps run over.2 over.3 ∙ sym ran.ends.3) (λ success. settled) (was_in_order ran.steps) (passes_as (Success started) is) (λ fine. ended.idle) (λ fine. ran.removed)))
 
           ended_badly : (edges : Vec ℕ Global) → HasRun tells (course_of B reader own (asked_of graph folder limits targets) entry) now (Ok (SomeFailed edges)) → report ≡ Failed (map (first_output_of numbers.manifest) edges.items)
               → BuildsAs report
@@ -505,7 +510,7 @@ module _ (tells : Bool) (B : Behaviour) (reader : List ℕ → Option (List Reco
               (none_is_due (task_of (asked_of graph folder limits targets) (store_of reader own entry)) ran.steps (no_dyndep graph.edges taken)) in
               tells_as (Failed outputs) is (builds_as (Failed outputs) (answer.Failed outputs) refl
               (built_running ran.steps ran.met ran.cut once (answer.Failed outputs) (none_met_in ran.met (answer.Failed outputs) ran.steps ran.ends.0) run.events [] (ended_so ran.steps run) run.of_steps tt (λ fine. refl)
-              (in_order, ended, told, over.3) (λ success. absurd success) (was_in_order ran.steps) (passes_as (Failed outputs) is) (λ fine. ended.idle)))
+              (in_order, ended, told, over.3) (λ success. absurd success) (was_in_order ran.steps) (passes_as (Failed outputs) is) (λ fine. ended.idle) (λ fine. ran.removed)))
 
           by_result : (result : Result Summary Cut) → HasRun tells (course_of B reader own (asked_of graph folder limits targets) entry) now result → (report ≡ Fault Memory) ⊎ SaysResult numbers result report → BuildsAs report
           by_result result ran (inl is) = by_fault result ran Memory is

@@ -1,5 +1,5 @@
 -- What `build` promises: what it read, and the build of the graph that it read.
-use Rattle.std.specs.Prelude.{◌≡◌, ◌⊎◌, ℕ, Bool, IsTrue, List, Option, Some, None, Ok, Err, OnOk}
+use Rattle.std.specs.Prelude.{◌≡◌, ◌⊎◌, ℕ, Bool, false, IsTrue, List, Option, Some, None, Ok, Err, OnOk}
 use Rattle.model.specs.declared.act.Act.{Act}
 use Rattle.model.specs.declared.fault.SiteFault.TheVariants.{Memory}
 use Rattle.model.specs.declared.graph.BuildGraph.{BuildGraph}
@@ -15,7 +15,7 @@ use Rattle.model.specs.History.{IsHeadline}
 use Rattle.model.specs.Kept.{KeepsLogs}
 use Rattle.build_log.specs.Laws.{Reads}
 use Rattle.build_log.specs.Record.{forms}
-use Rattle.model.specs.SingleBuild.{Asked, Answer, SingleBuild}
+use Rattle.model.specs.SingleBuild.{Asked, Answer, is_fault, SingleBuild}
 use Rattle.model.specs.SingleBuild as answer
 use Rattle.manifest.specs.Answer.{ReadsFile, site_part}
 use Rattle.manifest.specs.declared.fault.ReadError.{ReadError}
@@ -31,6 +31,7 @@ use Rattle.builder.specs.Asked.{AreTargets, IsFolder}
 use Rattle.paths.specs.Told.{text_at}
 use Rattle.builder.specs.Taken.{IsTaken, IsFirstNotTaken}
 use Rattle.links.specs.Targets.{IsFirstUnknown}
+use Rattle.runner.specs.Removing.{AreRemoved}
 use Rattle.manifest.specs.Answer.{IsGraph}
 
 -- build logs are read so, and no deps log is read yet
@@ -77,7 +78,11 @@ pub record IsNotTaken (tells : Bool) (edges : List Edge) (old new : World) (repo
   pub says : (report ≡ Refused (NotTaken path)) ⊎ (report ≡ Fault Memory)
   pub looks : OnlyLooks tells old new
 
--- The graph was built, and the report says how; the build is as the headline says, and keeps its logs.
+-- a build that no fault has cut off leaves no response file of a command that ended well, where files are kept
+abbrev pub LeavesNoResponses : {tells : Bool} → {B : Behaviour} → {format : LogFormat} → {own : OwnFiles} → {asked : Asked} → {old new : World} → {said : Answer} → SingleBuild tells B format own asked old new said → Type 0
+LeavesNoResponses {tells} {B} {format} {own} {asked} {old} {new} {said} build = is_fault said ≡ false → AreRemoved tells own asked.graph.edges build.steps None old new
+
+-- The graph was built, and the report says how; the build is as the headline says, keeps its logs, and leaves no response files.
 pub record Builds (tells : Bool) (B : Behaviour) (format : LogFormat) (own : OwnFiles) (graph : BuildGraph) (folder : List ℕ) (limits : Limits) (given targets : List (List ℕ)) (old new : World) (report : Report) : Type 0 where
   pub taken : IsTaken graph.edges ⊎ IsNotTaken tells graph.edges old new report
   pub answer : Answer
@@ -85,6 +90,7 @@ pub record Builds (tells : Bool) (B : Behaviour) (format : LogFormat) (own : Own
   pub build : SingleBuild tells B format own (asked_of graph folder limits targets) old new answer
   pub headline : IsHeadline tells B format own (asked_of graph folder limits targets) old new answer build
   pub logs : KeepsLogs tells B format own (asked_of graph folder limits targets) old new answer build
+  pub responses : LeavesNoResponses build
 
 -- what was asked for was built from an entry on, since which there was only looked: for any own files of the program that lie in
 -- this folder, and for each function that reads build logs as they are defined

@@ -1,5 +1,5 @@
 -- An edge is taken in hand, and the log says that it is begun.
-use Rattle.std.proofs.Common.{◌≡◌, ◌≢◌, ℕ, suc, Bool, List, [], Some, None, inl, inr, sym, ap, subst}
+use Rattle.std.proofs.Common.{◌≡◌, ◌≢◌, ℕ, suc, Bool, List, [], Some, None, inl, inr, refl, sym, ap, subst}
 use Rattle.model.specs.declared.graph.BuildGraph.{BuildGraph}
 use Rattle.model.specs.declared.graph.Edge.{Edge}
 use Rattle.model.specs.World.{World}
@@ -69,7 +69,7 @@ module _ (tells : Bool) (course : Course) (graph : Graph) (tick : List ℕ) (sui
       begun_now records display same places begun =
           let told = begun course.behaviour course.format course.own on.steps course.store course.entry declared_logging in
           let logging = subst (λ (edges : List Edge). IsLogging tells course.behaviour course.format course.own edges on.steps (Some (suc e)) course.store course.entry new records.file) (sym same_edges) told.0 in
-          let after = on_log tells course graph tick suits (Some (suc e)) (Some (suc e)) state mid new on_mid writes records same places logging in
+          let after = on_log tells course graph tick suits (Some (suc e)) (Some (suc e)) state mid new on_mid writes records same places logging refl in
           record {
             on = record {
               steps = on.steps;
@@ -80,6 +80,7 @@ module _ (tells : Bool) (course : Course) (graph : Graph) (tick : List ℕ) (sui
               seen = after.seen;
               anew = after.anew;
               started = after.started;
+              removed = after.removed;
               room = record { looks = on.room.looks; starts = on.room.starts };
               noted = on.noted;
             };

@@ -30,6 +30,7 @@ module _ (tells : Bool) (course : Course) (graph : Graph) (now : World) where
     cut = cut_off tells course.behaviour course.format course.own course.asked course.store course.entry over.on.steps None now over.on.carried;
     in_hand = nothing (task_of course.asked course.store) over.on.steps;
     ends = (refl, over.on.carried.run, over.over, many);
+    removed = over.on.removed;
   }
 
   -- some commands failed
@@ -41,6 +42,7 @@ module _ (tells : Bool) (course : Course) (graph : Graph) (now : World) where
       cut = cut_off tells course.behaviour course.format course.own course.asked course.store course.entry over.on.steps None now over.on.carried;
       in_hand = nothing (task_of course.asked course.store) over.on.steps;
       ends = (refl, over.on.carried.run, over.over, over.on.noted);
+      removed = over.on.removed;
     },
     noted_within tells course graph None state now over.on,
   )
@@ -56,4 +58,4 @@ module _ (tells : Bool) (course : Course) (graph : Graph) (now : World) where
       → ((steps : List Done) (met : Option ℕ) → IsCutOff tells course.behaviour course.format course.own course.asked course.store steps met course.entry now
       → IsCutOff tells course.behaviour course.format course.own course.asked course.store steps met course.entry last)
       → HasRun tells course last (Err cut)
-  ran_cut plan last cut at rest = record { steps = at.steps; met = at.met; cut = rest at.steps at.met at.cut; in_hand = at.in_hand; ends = tt }
+  ran_cut plan last cut at rest = record { steps = at.steps; met = at.met; cut = rest at.steps at.met at.cut; in_hand = at.in_hand; ends = tt; removed = tt }

@@ -13,9 +13,9 @@ use Rattle.model.specs.Schedule.{Task, Step as Done, Ended, IsLawfulStep, starte
 use Rattle.model.specs.SingleBuild.{task_of}
 use Rattle.model.specs.Kept.{StartedUnder}
 use Rattle.build_theory.specs.Run.{IsRunOrRest}
-use Rattle.build_theory.proofs.Lists.{bytes_same, has_number-one, has_number-push_other}
+use Rattle.build_theory.proofs.Lists.{bytes_same, has_number-is, has_number-one, has_number-push_other}
 use Rattle.build_theory.proofs.Makers.{maker_is}
-use Rattle.build_theory.proofs.Steps.{running_is, running_parts, started-append, ended-append, well-append, failed-append, out_of_date-append, in_left, in_right}
+use Rattle.build_theory.proofs.Steps.{running_is, running_parts, started-append, ended-append, well-append, failed-append, out_of_date-append, in_left, in_right, in_either}
 use Rattle.build_theory.proofs.Calls.{looks_none}
 use Rattle.build_theory.proofs.Runs.{rest_begins, rest_finishes}
 use Rattle.log_theory.proofs.Ledger.{command_of, running_of, carried_well, carried_failed}
@@ -37,9 +37,11 @@ use Rattle.records.specs.Laws.{LogStays}
 use Rattle.runner.specs.declared.state.State.{State}
 use Rattle.runner.specs.Course.{Course, Suits, edges_of, is_quiet, is_anew, IsSeenStill, AreAnew, AreTold, AreStarted, HasRoom, IsOn}
 use Rattle.runner.specs.Going.{IsCut, IsInHand, HasEnded, failed_after}
+use Rattle.runner.specs.Removing.{AreRemoved}
 use Rattle.runner.specs.Starting.{in_hand_after, IsTakenIn}
 use Rattle.runner.proofs.Quiet.{RunBy, any_number, quiet_parts, quiet_from, quiet_adds}
-use Rattle.runner.proofs.Keeping.{Carried, Logging, Quietly, run_by, grown, logging_over, told_over, seen_over, started_more, cut_free, cut_met}
+use Rattle.runner.proofs.Removing.{removed_adds}
+use Rattle.runner.proofs.Keeping.{Carried, Logging, Quietly, run_by, grown, well_rest, logging_over, told_over, seen_over, started_more, cut_free, cut_met}
 use Rattle.runner.proofs.Running.{IsRunningEdge, running_edge}
 
 -- ---- steps
@@ -79,6 +81,14 @@ any_ended test steps i false none = ap (λ (l : List ℕ). list_any test l) (wel
 well_unless : (steps : List Done) (i : ℕ) (ok : Bool) → has_number (failed_in (steps ++ Ended i ok ∷ [])) i ≡ false → has_number (well_in (steps ++ Ended i ok ∷ [])) i ≡ true
 well_unless steps i true none = in_right well_in well-append steps (Ended i true ∷ []) i (has_number-one i)
 well_unless steps i false none = absurd (false≢true (sym none ∙ in_right failed_in failed-append steps (Ended i false ∷ []) i (has_number-one i)))
+
+-- one that is not in hand ended well before
+ended_before : (steps : List Done) (i j : ℕ) (ok : Bool) → has_number (well_in (steps ++ Ended i ok ∷ [])) j ≡ true → (in_hand_after i ok ≡ Some j → ⊥) → has_number (well_in steps) j ≡ true
+ended_before steps i j true well free = elim (in_either well_in well-append steps (Ended i true ∷ []) j well) [
+  | inl before ↦ before
+  | inr here ↦ absurd (free (ap (λ (n : ℕ). Some n) (has_number-is i j here)))
+]
+ended_before steps i j false well free = ap (λ (l : List ℕ). has_number l j) (sym (well-append steps (Ended i false ∷ []) ∙ append-nil (well_in steps))) ∙ well
 
 well_ended : (steps : List Done) (i : ℕ) (ok : Bool) → ok ≡ true → has_number (well_in (steps ++ Ended i ok ∷ [])) i ≡ true
 well_ended steps i true went = in_right well_in well-append steps (Ended i true ∷ []) i (has_number-one i)
@@ -184,6 +194,14 @@ module _ (tells : Bool) (course : Course) (tick : List ℕ) (graph : Graph) (sui
   end_quiet : Quietly tells course graph on.steps now mid
   end_quiet = quiet_adds tells course.own (edges_of course) on.steps course.entry now mid (grown tells course graph on.steps None now on.carried) (run_by tells course graph on.steps None now on.carried) by_after (Finish (suc e) ok) finish.history
 
+  -- its response file is removed when that is recorded
+  end_removed : AreRemoved tells course.own (edges_of course) more (in_hand_after (suc e) ok) course.entry mid
+  end_removed = removed_adds tells course.own (edges_of course) on.steps course.entry now mid (grown tells course graph on.steps None now on.carried) (well_rest tells course graph on.steps None now on.carried)
+      None on.removed more (in_hand_after (suc e) ok) (well_rest tells course graph more (in_hand_after (suc e) ok) mid end_carried) (λ i well free. (ended_before on.steps (suc e) i ok well free, nothing i)) (Finish (suc e) ok) finish.history
+    where
+      nothing : (i : ℕ) → None ≡ Some i → ⊥
+      nothing i is = cc
+
   module _ (stand : StandFor (declared_by graph).edges graph.manifest.paths (links_of graph)) (after : State) (ended : HasEnded graph e state after) where
     stand_here : StandFor (edges_of course) graph.manifest.paths (links_of graph)
     stand_here = subst (λ (g : BuildGraph). StandFor g.edges graph.manifest.paths (links_of graph)) (sym suits.same) stand
@@ -256,6 +274,7 @@ module _ (tells : Bool) (course : Course) (tick : List ℕ) (graph : Graph) (sui
         seen = end_seen;
         anew = end_anew;
         started = end_started;
+        removed = end_removed;
         room = end_room;
         noted = ap (map suc) noted ∙ noted_after state.failed.items on.steps e ok on.noted;
       }

@@ -36,7 +36,8 @@ use Rattle.verdict.specs.Judged.{IsAnswer, IsReasonBy, MayBeJudgedBy, AreUntouch
 use Rattle.runner.specs.declared.state.State.{State}
 use Rattle.runner.specs.Course.{Course, Suits, edges_of, is_quiet, AreStarted, IsOn}
 use Rattle.runner.proofs.Quiet.{quiet_less}
-use Rattle.runner.proofs.Keeping.{Carried, looks_carried, looks_leave, looks_quiet, logging_over, told_over, started_more}
+use Rattle.runner.proofs.Removing.{removed_steps}
+use Rattle.runner.proofs.Keeping.{Carried, looks_carried, looks_leave, looks_quiet, looks_removed, logging_over, told_over, started_more}
 use Rattle.runner.proofs.Launching.{anew_over}
 use Rattle.runner.proofs.Settled.{anew_is_made, counted_unfailed, paths_quiet, outputs_untouched}
 
@@ -144,6 +145,7 @@ module _ (tells : Bool) (course : Course) (graph : Graph) (stays : LogStays) (ti
           anew = λ p lt unfailed. ap (λ (c : Vec Bool Global). flags.has c.items p) flags_same
               ∙ anew_over tells course graph on.steps more state (well_judged on.steps (suc e) stale) (failed_judged on.steps (suc e) stale) on.anew p lt unfailed;
           started = judged_started;
+          removed = removed_steps tells course.own (edges_of course) on.steps more course.entry new None (well_judged on.steps (suc e) stale) (looks_removed tells course graph stays None state now new on looks);
           room = record { looks = looked.fits ∙ on.room.looks; starts = on.room.starts };
           noted = on.noted ∙ sym (failed_judged on.steps (suc e) stale);
         }

@@ -8,12 +8,13 @@ use Rattle.model.specs.declared.event.Moment.{Moment}
 use Rattle.model.specs.World.{World, File, file_at, stamp_of, runs}
 use Rattle.model.specs.Calls.{OnlyLooks, Ticks}
 use Rattle.model.specs.Graph.{has_number, edge_at, IsCommand}
-use Rattle.model.specs.Schedule.{Step as Done, out_of_date_in}
+use Rattle.model.specs.Schedule.{Step as Done, ended_in, out_of_date_in}
 use Rattle.model.specs.SingleBuild.{task_of}
 use Rattle.model.specs.Kept.{StartedUnder}
 use Rattle.build_theory.specs.Run.{IsRunOrRest}
 use Rattle.build_theory.proofs.Lists.{same_some}
 use Rattle.build_theory.proofs.Runs.{rest_begins}
+use Rattle.build_theory.proofs.Steps.{IsKept, kept_lawful, running_parts}
 use Rattle.build_log.specs.declared.done.Done.{Done as Line}
 use Rattle.build_log.specs.Kept.{Table}
 use Rattle.build_log.specs.Log.{Keeps}
@@ -33,8 +34,10 @@ use Rattle.records.specs.Logging.{IsLogging, IsLoggedStill}
 use Rattle.records.specs.Laws.{LeavesTheLog, LogStays}
 use Rattle.runner.specs.declared.state.State.{State}
 use Rattle.runner.specs.Course.{Course, Suits, edges_of, is_quiet, IsSeenStill, AreTold, AreStarted, IsOn}
+use Rattle.runner.specs.Removing.{AreRemoved}
 use Rattle.runner.specs.Going.{IsInHand, IsCut}
 use Rattle.runner.proofs.Quiet.{KeepsQuiet, RunBy, quiet_own, quiet_response, quiet_looks}
+use Rattle.runner.proofs.Removing.{WellRest, removed_looks, removed_own, removed_response, removed_hand}
 
 -- ---- the parts
 
@@ -88,6 +91,16 @@ module _ (tells : Bool) (course : Course) (graph : Graph) where
     pub stale_is_command : (i : ℕ) → has_number (out_of_date_in steps) i ≡ true → IsCommand (edges_of course) i
     stale_is_command = stale_command tells course.behaviour course.format course.own course.asked course.store course.entry steps now carried.beside.idle (rest_of steps hand now carried)
 
+    -- an edge that ended well is that of a command, which does not run
+    pub well_rest : WellRest (edges_of course) steps now
+    well_rest i well = (
+      stale_is_command i (kept.started i (kept.ended i (kept.well i well))),
+      λ job runs. ((run_by job runs).0, λ same. false≢true (sym (running_parts steps job (run_by job runs).1).1 ∙ (ap (λ (n : ℕ). has_number (ended_in steps) n) same ∙ kept.well i well))),
+    )
+      where
+        kept : IsKept (task_of course.asked course.store) steps
+        kept = kept_lawful (task_of course.asked course.store) steps carried.run.lawful
+
     pub grown : IsTrue tells → (so_far : List Moment) × (now.history ≡ course.entry.history ++ so_far)
     grown tell = let told = carried.run.history tell in (told.more, told.grows)
 
@@ -123,8 +136,14 @@ module _ (tells : Bool) (course : Course) (graph : Graph) where
   -- ---- calls that start and take in nothing, over which the state stays
 
   module _ (stays : LogStays) (hand : Option ℕ) (state : State) (now new : World) (on : IsOn tells course graph hand state now) where
-    abbrev pub on_over : Carried on.steps hand new → Leaves now new → Quietly on.steps now new → new.events ≡ now.events → IsOn tells course graph hand state new
-    on_over carried leaves quiet events = record {
+    abbrev pub Removed : Type 0
+    Removed = AreRemoved tells course.own (edges_of course) on.steps hand course.entry new
+
+    rest : WellRest (edges_of course) on.steps now
+    rest = well_rest on.steps hand now on.carried
+
+    abbrev pub on_over : Carried on.steps hand new → Leaves now new → Quietly on.steps now new → new.events ≡ now.events → Removed → IsOn tells course graph hand state new
+    on_over carried leaves quiet events removed = record {
       steps = on.steps;
       planned = on.planned;
       carried = carried;
@@ -133,6 +152,7 @@ module _ (tells : Bool) (course : Course) (graph : Graph) where
       seen = seen_over on.steps state now new quiet on.seen;
       anew = on.anew;
       started = started_over on.steps state now new events on.started;
+      removed = removed;
       room = on.room;
       noted = on.noted;
     }
@@ -147,8 +167,11 @@ module _ (tells : Bool) (course : Course) (graph : Graph) where
     pub looks_carried : OnlyLooks tells now new → Carried on.steps hand new
     looks_carried looks = carried_looks tells course.behaviour course.format course.own course.asked course.store course.entry on.steps hand now new looks on.carried
 
+    pub looks_removed : OnlyLooks tells now new → Removed
+    looks_removed looks = removed_looks tells course.own (edges_of course) on.steps course.entry now new (grown on.steps hand now on.carried) rest hand on.removed looks
+
     abbrev pub on_looks : OnlyLooks tells now new → IsOn tells course graph hand state new
-    on_looks looks = on_over (looks_carried looks) (looks_leave looks) (looks_quiet looks) looks.events
+    on_looks looks = on_over (looks_carried looks) (looks_leave looks) (looks_quiet looks) looks.events (looks_removed looks)
 
     -- a tick
     module _ (tick : List ℕ) (suits : Suits course tick graph) where
@@ -163,10 +186,14 @@ module _ (tells : Bool) (course : Course) (graph : Graph) where
       pub ticks_leave : (stamp : ℕ) → Ticks tells tick stamp now new → Leaves now new
       ticks_leave stamp ticks = inl (record { events = ticks.events; path = tick; other = λ tell kept. suits.no_build_log; history = ticks_grew tells tick stamp now new ticks })
 
-      abbrev pub on_ticks : (stamp : ℕ) → Ticks tells tick stamp now new → IsOn tells course graph hand state new
-      on_ticks stamp ticks = on_over (ticks_carried stamp ticks) (ticks_leave stamp ticks) (ticks_quiet stamp ticks) ticks.events
+      pub ticks_removed : (stamp : ℕ) → Ticks tells tick stamp now new → Removed
+      ticks_removed stamp ticks =
+          removed_own tells course.own (edges_of course) on.steps course.entry now new (grown on.steps hand now on.carried) rest hand on.removed tick suits.owned (ticks_grew tells tick stamp now new ticks)
 
-    -- the response file of an edge that was judged out of date is written, or removed
+      abbrev pub on_ticks : (stamp : ℕ) → Ticks tells tick stamp now new → IsOn tells course graph hand state new
+      on_ticks stamp ticks = on_over (ticks_carried stamp ticks) (ticks_leave stamp ticks) (ticks_quiet stamp ticks) ticks.events (ticks_removed stamp ticks)
+
+    -- the response file of the edge in hand, which was judged out of date, is written, or removed
     module _ (i : ℕ) (stale : has_number (out_of_date_in on.steps) i ≡ true) (writes : WritesAt tells (edge_at (edges_of course) i).act.response_path now new) where
       command : IsCommand (edges_of course) i
       command = stale_is_command on.steps hand now on.carried i stale
@@ -185,8 +212,11 @@ module _ (tells : Bool) (course : Course) (graph : Graph) where
         history = writes.history;
       })
 
-      abbrev pub on_response : IsOn tells course graph hand state new
-      on_response = on_over response_carried response_leaves response_quiet writes.events
+      pub response_removed : hand ≡ Some i → Removed
+      response_removed held = removed_response tells course.own (edges_of course) on.steps course.entry now new (grown on.steps hand now on.carried) rest hand on.removed i held command writes.history
+
+      abbrev pub on_response : hand ≡ Some i → IsOn tells course graph hand state new
+      on_response held = on_over response_carried response_leaves response_quiet writes.events (response_removed held)
 
   -- ---- an edge is taken in hand
 
@@ -203,6 +233,7 @@ module _ (tells : Bool) (course : Course) (graph : Graph) where
     seen = on.seen;
     anew = on.anew;
     started = on.started;
+    removed = removed_hand tells course.own (edges_of course) on.steps course.entry now (Some i) on.removed;
     room = on.room;
     noted = on.noted;
   }
@@ -230,6 +261,11 @@ module _ (tells : Bool) (course : Course) (graph : Graph) where
     pub log_writes : WritesAt tells course.own.build_log now new
     log_writes = subst (λ (path : List ℕ). WritesAt tells path now new) on.logging.path writes
 
+    -- response files are as they were
+    pub log_removed : AreRemoved tells course.own (edges_of course) on.steps hand course.entry new
+    log_removed =
+        removed_own tells course.own (edges_of course) on.steps course.entry now new (grown on.steps hand now on.carried) (well_rest on.steps hand now on.carried) hand on.removed course.own.build_log suits.log_owned log_writes.history
+
     -- whether it stands there or not
     pub log_carried : IsLoggedStill tells course.behaviour course.format course.own (edges_of course) on.steps next course.store course.entry new → Carried on.steps next new
     log_carried logged =
@@ -240,8 +276,8 @@ module _ (tells : Bool) (course : Course) (graph : Graph) where
         quiet_own tells course.own (edges_of course) on.steps course.entry now new (grown on.steps hand now on.carried) (run_by on.steps hand now on.carried) course.own.build_log suits.log_owned log_writes.history
 
     abbrev pub on_log : (records : Records) → IsSameLog state.records.file records.file → records.places.items ≡ state.records.places.items → Logging on.steps next new records.file
-        → IsOn tells course graph next (with_records state records) new
-    on_log records same places logging = record {
+        → hand ≡ next → IsOn tells course graph next (with_records state records) new
+    on_log records same places logging held = record {
       steps = on.steps;
       planned = on.planned;
       carried = log_carried logging.logged;
@@ -250,6 +286,7 @@ module _ (tells : Bool) (course : Course) (graph : Graph) where
       seen = seen_over on.steps state now new log_quiet on.seen;
       anew = on.anew;
       started = started_over on.steps state now new log_writes.events on.started;
+      removed = subst (λ (h : Option ℕ). AreRemoved tells course.own (edges_of course) on.steps h course.entry new) held log_removed;
       room = record { looks = on.room.looks; starts = on.room.starts };
       noted = on.noted;
     }

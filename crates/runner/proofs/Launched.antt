@@ -100,7 +100,7 @@ module _ (tells : Bool) (course : Course) (graph : Graph) (stays : LogStays) (ti
       (carried_ticks_or_not tells course.behaviour course.format course.own course.asked course.store course.entry steps (Some (suc e)) mid new tick suits.owned suits.no_build_log suits.no_deps_log ticks carried_mid)
 
   abbrev on_mid : On mid
-  on_mid = on_response tells course graph stays (Some (suc e)) state now mid begun.on (suc e) begun.next.1.stale response_at
+  on_mid = on_response tells course graph stays (Some (suc e)) state now mid begun.on (suc e) begun.next.1.stale response_at refl
 
   module _ (new : World) (stamp : ℕ) (ticks : Ticks tells tick stamp mid new) where
     abbrev on_new : On new

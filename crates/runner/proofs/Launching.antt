@@ -12,7 +12,7 @@ use Rattle.model.specs.Premises.{OwnFilesApart}
 use Rattle.model.specs.Schedule.{Step as Done, Started, IsLawfulStep, started_in, ended_in, running_in, well_in, failed_in}
 use Rattle.model.specs.SingleBuild.{task_of}
 use Rattle.model.specs.Kept.{StartedUnder}
-use Rattle.build_theory.proofs.Steps.{running_is, running_parts, started-append, ended-append, well-append, failed-append, in_either}
+use Rattle.build_theory.proofs.Steps.{IsKept, kept_lawful, running_is, running_parts, started-append, ended-append, well-append, failed-append, in_either}
 use Rattle.build_theory.proofs.Lists.{has_number-is}
 use Rattle.log_theory.specs.Writes.{GrewAt, WritesAt}
 use Rattle.log_theory.specs.Ledger.{HasNoRecord, IsReadyToStart}
@@ -27,8 +27,10 @@ use Rattle.plan.specs.Planned.{IsPlanned, TakesStep}
 use Rattle.records.specs.Laws.{LogStays}
 use Rattle.runner.specs.declared.state.State.{State}
 use Rattle.runner.specs.Course.{Course, Suits, edges_of, AreAnew, AreStarted, IsSeenStill, IsOn}
+use Rattle.runner.specs.Removing.{AreRemoved}
 use Rattle.runner.proofs.Quiet.{RunBy, quiet_adds, quiet_less, running_started}
-use Rattle.runner.proofs.Keeping.{Carried, Quietly, run_by, grown, stale_is_command, response_carried, logging_over, told_over, seen_over, started_more}
+use Rattle.runner.proofs.Keeping.{Carried, Quietly, run_by, grown, well_rest, stale_is_command, response_carried, logging_over, told_over, seen_over, started_more}
+use Rattle.runner.proofs.Removing.{removed_adds}
 
 -- ---- steps
 
@@ -92,6 +94,7 @@ module _ (tells : Bool) (course : Course) (graph : Graph) where
       seen = on.seen;
       anew = on.anew;
       started = stamped_started;
+      removed = on.removed;
       room = record { looks = on.room.looks; starts = ap length is ∙ (length-set state.starts.items e stamp ∙ on.room.starts) };
       noted = on.noted;
     }
@@ -130,6 +133,24 @@ module _ (tells : Bool) (course : Course) (graph : Graph) where
         under : StartedUnder (suc e) now.ticked course.entry new
         under = started_under tells course.behaviour course.format course.own course.asked course.store course.entry on.steps (Some (suc e)) now new (suc e) act starts on.carried
 
+    pub start_removed : AreRemoved tells course.own (edges_of course) more None course.entry new
+    start_removed = removed_adds tells course.own (edges_of course) on.steps course.entry now new (grown tells course graph on.steps (Some (suc e)) now on.carried) (well_rest tells course graph on.steps (Some (suc e)) now on.carried)
+        (Some (suc e)) on.removed more None (well_rest tells course graph more None new start_carried) before (Start (suc e) act now.ticked) starts.history
+      where
+        kept : IsKept (task_of course.asked course.store) on.steps
+        kept = kept_lawful (task_of course.asked course.store) on.steps on.carried.run.lawful
+
+        before : (i : ℕ) → has_number (well_in more) i ≡ true → (None ≡ Some i → ⊥) → (has_number (well_in on.steps) i ≡ true) × (Some (suc e) ≡ Some i → ⊥)
+        before i well free = (
+          was,
+          λ same.
+              let here : suc e ≡ i = cc in
+              false≢true (sym next.1.once ∙ (ap (λ (n : ℕ). has_number (started_in on.steps) n) here ∙ kept.ended i (kept.well i was))),
+        )
+          where
+            was : has_number (well_in on.steps) i ≡ true
+            was = ap (λ (l : List ℕ). has_number l i) (sym (well_started on.steps (suc e))) ∙ well
+
     pub start_planned : TakesStep graph state.plan plan (Started (suc e)) → IsPlanned (task_of course.asked course.store) graph plan more
     start_planned takes = takes (task_of course.asked course.store) on.steps on.planned on.carried.run.lawful next
 
@@ -145,6 +166,7 @@ module _ (tells : Bool) (course : Course) (graph : Graph) where
       seen = start_seen;
       anew = λ p lt unfailed. ap (λ (c : Vec Bool Global). flags.has c.items p) flags_same ∙ anew_over on.steps more state (well_started on.steps (suc e)) (failed_started on.steps (suc e)) on.anew p lt unfailed;
       started = start_started stamped;
+      removed = start_removed;
       room = record { looks = on.room.looks; starts = on.room.starts };
       noted = on.noted ∙ sym (failed_started on.steps (suc e));
     }

@@ -1,4 +1,5 @@
 pub mod Quiet
+pub mod Removing
 pub mod Keeping
 pub mod Places
 pub mod Launching

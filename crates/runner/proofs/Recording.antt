@@ -2,6 +2,7 @@
 use Rattle.std.proofs.Common.{◌≡◌, ◌≢◌, inl, inr, ℕ, suc, ◌<◌, Bool, true, List, [], ◌∷◌, length, Option, Some, None, refl, sym, ◌∙◌, ap, subst, arith}
 use Rattle.model.specs.declared.graph.BuildGraph.{BuildGraph}
 use Rattle.model.specs.World.{World}
+use Rattle.model.specs.Calls.{Writes}
 use Rattle.model.specs.Graph.{has_number, edge_at, outputs, IsCommand, IsMadeOnce}
 use Rattle.model.specs.Outcome.{Behaviour}
 use Rattle.model.specs.Records.{LogFormat, OwnFiles, Store}
@@ -10,6 +11,7 @@ use Rattle.model.specs.SingleBuild.{task_of}
 use Rattle.build_theory.proofs.Lists.{has_number-one}
 use Rattle.build_theory.proofs.Steps.{IsKept, kept_lawful, ended-append, in_right}
 use Rattle.log_theory.specs.Writes.{WritesAt}
+use Rattle.log_theory.proofs.Ledger.{carried_response}
 use Rattle.links.specs.declared.graph.Graph.{Graph}
 use Rattle.links.specs.Told.{declared_by}
 use Rattle.records.specs.declared.records.Records.{Records}
@@ -21,7 +23,8 @@ use Rattle.runner.specs.declared.state.State.{State}
 use Rattle.runner.specs.Course.{Course, Suits, edges_of, IsOn}
 use Rattle.runner.specs.Going.{IsCut, IsInHand}
 use Rattle.runner.specs.Starting.{IsTakenIn}
-use Rattle.runner.proofs.Keeping.{Logging, with_records, on_log, log_carried, on_response, cut_free, cut_met}
+use Rattle.runner.proofs.Keeping.{Carried, Logging, with_records, on_log, log_carried, logging_with, logging_over, hand_carried, grown, well_rest, response_leaves, on_response, cut_free, cut_met}
+use Rattle.runner.proofs.Removing.{removed_last}
 use Rattle.runner.proofs.Running.{cone_within}
 
 -- ---- the display shows something
@@ -40,6 +43,7 @@ on_shown tells course graph hand state display now on = record {
   seen = on.seen;
   anew = on.anew;
   started = on.started;
+  removed = on.removed;
   room = record { looks = on.room.looks; starts = on.room.starts };
   noted = on.noted;
 }
@@ -116,11 +120,40 @@ module _ (tells : Bool) (course : Course) (tick : List ℕ) (graph : Graph) (sui
       pub removes_it : WritesAt tells (edge_at (edges_of course) (suc e)).act.response_path mid new
       removes_it = subst (λ (g : BuildGraph). WritesAt tells (edge_at g.edges (suc e)).act.response_path mid new) (sym suits.same) (subst (λ (p : List ℕ). WritesAt tells p mid new) path_is removes)
 
-      abbrev recorded : IsOn tells course graph None (with_records tells course graph state records) mid
-      recorded = on_log tells course graph tick suits (Some (suc e)) None state now mid taken.on writes records same places logging_then
+      pub carried_then : Carried tells course graph taken.on.steps None mid
+      carried_then = log_carried tells course graph tick suits (Some (suc e)) None state now mid taken.on writes logging_then.logged
 
-      abbrev pub removed : IsOn tells course graph None (with_records tells course graph state records) new
-      removed = on_response tells course graph stays None (with_records tells course graph state records) mid new recorded (suc e) stale removes_it
+      -- it is in hand until its response file is removed
+      abbrev recorded : IsOn tells course graph (Some (suc e)) (with_records tells course graph state records) mid
+      recorded = on_log tells course graph tick suits (Some (suc e)) (Some (suc e)) state now mid taken.on writes records same places
+          (logging_with tells course graph taken.on.steps None (Some (suc e)) mid records.file (hand_carried tells course graph taken.on.steps mid (suc e) carried_then) logging_then) refl
+
+      abbrev held : IsOn tells course graph (Some (suc e)) (with_records tells course graph state records) new
+      held = on_response tells course graph stays (Some (suc e)) (with_records tells course graph state records) mid new recorded (suc e) stale removes_it refl
+
+      pub carried_new : Carried tells course graph taken.on.steps None new
+      carried_new = carried_response tells course.behaviour course.format course.own course.asked course.store course.entry taken.on.steps None mid new (suc e) stale removes_it carried_then
+
+      pub writes_here : (path ≢ [] → Writes tells path None mid new) → (edge_at (edges_of course) (suc e)).act.response_path ≢ [] → Writes tells (edge_at (edges_of course) (suc e)).act.response_path None mid new
+      writes_here = subst (λ (p : List ℕ). (path ≢ [] → Writes tells path None mid new) → p ≢ [] → Writes tells p None mid new)
+          (path_is ∙ ap (λ (g : BuildGraph). (edge_at g.edges (suc e)).act.response_path) (sym suits.same)) (λ w. w)
+
+      abbrev pub removed : (path ≢ [] → Writes tells path None mid new) → IsOn tells course graph None (with_records tells course graph state records) new
+      removed writes_it = record {
+        steps = taken.on.steps;
+        planned = taken.on.planned;
+        carried = carried_new;
+        logging = logging_over tells course graph stays taken.on.steps taken.on.steps None None mid new records.file
+            (response_leaves tells course graph stays (Some (suc e)) (with_records tells course graph state records) mid new recorded (suc e) stale removes_it) carried_new logging_then;
+        told = held.told;
+        seen = held.seen;
+        anew = held.anew;
+        started = held.started;
+        removed = removed_last tells course.own (edges_of course) taken.on.steps course.entry mid new (grown tells course graph taken.on.steps None mid carried_then) (well_rest tells course graph taken.on.steps None mid carried_then)
+            (Some (suc e)) recorded.removed (suc e) refl command_here (writes_here writes_it) removes_it.history;
+        room = held.room;
+        noted = held.noted;
+      }
 
       pub cut_removing : IsCut tells course graph state.plan new
-      cut_removing = cut_free tells course graph state.plan new removed.steps removed.planned removed.carried
+      cut_removing = cut_free tells course graph state.plan new taken.on.steps taken.on.planned carried_new

@@ -20,6 +20,7 @@ use Rattle.looks.specs.Seen.{AreSeenOf}
 use Rattle.records.specs.Known.{IsOf}
 use Rattle.records.specs.Logging.{IsLogging}
 use Rattle.log_theory.specs.Ledger.{IsCarried}
+use Rattle.runner.specs.Removing.{AreRemoved}
 use Rattle.runner.specs.declared.state.State.{State}
 
 -- What a run is of: what commands do, how its logs are read, which files are its own, what was asked, what the logs told at the
@@ -111,5 +112,6 @@ pub record IsOn (tells : Bool) (course : Course) (graph : Graph) (hand : Option 
   pub seen : IsSeenStill tells course graph steps state now
   pub anew : AreAnew course graph steps state
   pub started : AreStarted course steps state now
+  pub removed : AreRemoved tells course.own (edges_of course) steps hand course.entry now
   pub room : HasRoom graph state
   pub noted : map suc state.failed.items ≡ failed_in steps

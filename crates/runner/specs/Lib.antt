@@ -1,4 +1,5 @@
 pub mod Cut
+pub mod Removing
 pub mod Course
 pub mod Going
 pub mod Starting

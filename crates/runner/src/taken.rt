@@ -1,15 +1,19 @@
 //! Taking in a command that has ended.
 
-ghost use Rattle.std.specs.Prelude.{◌≡◌, ◌<◌, suc, None, false, get_or, IfErr, OnOk, OnErr};
+ghost use Rattle.std.specs.Prelude.{◌≡◌, ◌<◌, ◌++◌, ◌∷◌, [], ℕ, suc, None, true, false, get_or, IfErr, OnOk, OnErr};
+ghost use Rattle.model.specs.declared.event.Event.TheVariants.{Finish};
 ghost use Rattle.model.specs.Calls.{HasCause};
+ghost use Rattle.model.specs.Graph.{edge_at};
 ghost use Rattle.model.specs.Schedule.{Ended as Finished};
 ghost use Rattle.model.specs.SingleBuild.{task_of};
+ghost use Rattle.links.specs.Told.{declared_by};
 ghost use Rattle.plan.specs.declared.step.Standing.{Standing};
 ghost use Rattle.plan.specs.declared.step.Step.TheVariants as step;
 ghost use Rattle.plan.specs.Standing.{standing_at};
 ghost use Rattle.plan.specs.Planned.{IsPlanOver, IsNextOf, TakesStep};
 ghost use Rattle.runner.specs.Course.{Course, Suits, IsOn};
 ghost use Rattle.runner.specs.Going.{IsGoing, IsCut, AreSet, HasEnded, failed_after, work_left};
+ghost use Rattle.runner.specs.Removing.{EndsByRemoving};
 ghost use Rattle.runner.specs.Starting.{IsTakenIn};
 ghost use Rattle.runner.specs.Cutting.{Cuts, IsOfWait};
 
@@ -39,6 +43,7 @@ pub fn take_in<S: Site>(
     ensures of_wait { IfErr result (IsOfWait (S.world site.old) (S.world site.new)) }
     ensures nearer { OnOk result (work_left state.new.plan.standings.items < work_left state.old.plan.standings.items) }
     ensures set { state.new.set ≡ state.old.set }
+    ensures removed { OnOk result ((i : ℕ) → (S.world site.new).events ≡ (S.world site.old).events ++ Finish i true ∷ [] → EndsByRemoving S.tells (edge_at (declared_by setting.entry.graph.now).edges i).act (S.world site.old) (S.world site.new)) }
     ensures on { OnOk result ((course : Course) → Suits course setting.entry.tick.now setting.entry.graph.now → (on : IsOn S.tells course setting.entry.graph.now None state.old (S.world site.old)) → IsNextOf (task_of course.asked course.store) on.steps step.Wait → IsOn S.tells course setting.entry.graph.now None state.new (S.world site.new)) }
     ensures cut { OnErr result ((course : Course) → Suits course setting.entry.tick.now setting.entry.graph.now → (on : IsOn S.tells course setting.entry.graph.now None state.old (S.world site.old)) → IsNextOf (task_of course.asked course.store) on.steps step.Wait → IsCut S.tells course setting.entry.graph.now state.new.plan (S.world site.new)) }
 {
@@ -100,6 +105,7 @@ fn record_end<S: Site>(
     ensures at_start { (S.world site.new).failures_at_start ≡ (S.world site.old).failures_at_start }
     ensures plan { state.new.plan ≡ state.old.plan }
     ensures set { state.new.set ≡ state.old.set }
+    ensures removed { OnOk result (ok ≡ true → EndsByRemoving S.tells (edge_at (declared_by setting.entry.graph.now).edges (suc edge)).act (S.world site.old) (S.world site.new)) }
     ensures on { OnOk result ((course : Course) → Suits course setting.entry.tick.now setting.entry.graph.now → IsTakenIn S.tells course setting.entry.graph.now (suc edge) (get_or state.old.starts.items edge 0) ok state.old (S.world site.old) → IsOn S.tells course setting.entry.graph.now None state.new (S.world site.new)) }
     ensures cut { OnErr result ((course : Course) → Suits course setting.entry.tick.now setting.entry.graph.now → IsTakenIn S.tells course setting.entry.graph.now (suc edge) (get_or state.old.starts.items edge 0) ok state.old (S.world site.old) → IsCut S.tells course setting.entry.graph.now state.new.plan (S.world site.new)) }
 {

@@ -6,6 +6,8 @@ use Rattle.runner.proofs.Ends.{cut_looking}
 use Rattle.runner.proofs.Finishing.{end_cut, end_taken_in}
 use Rattle.runner.proofs.Keeping.{on_looks}
 use Rattle.runner.proofs.Recording.{on_shown}
+use Rattle.links.specs.Told.{declared_by}
+use Rattle.runner.proofs.Removing.{taken_by_removing}
 use Rattle.runner.proofs.Results.{on_ok, on_err, ok_by, err_by}
 use Rattle.runner.proofs.Running.{some_runs, running_edge}
 use Rattle.runner.proofs.taken.take_in.Goals as goal
@@ -56,6 +58,15 @@ end-requires-clause-within g c =
     let going = c.requires.waits.0 in
     let runs = running_edge g.S.Texts.tells going.course c.args.setting.graph.now None c.args.state.now (g.S.Texts.world c.args.site.now) going.on c.in-Ok.finished.job c.in-Ok.ensures.finishes.ran in
     omega (arith, runs.is, runs.within, c.edge-edge.ensures)
+
+pub returns-in_ok-map_err-in-Ok-clause-removed : goal.returns-in_ok-map_err-in-Ok-clause-removed
+returns-in_ok-map_err-in-Ok-clause-removed g c = on_ok c.map_err-in-Ok.result (
+    let going = c.requires.waits.0 in
+    let runs = running_edge g.S.Texts.tells going.course c.args.setting.graph.now None c.args.state.now (g.S.Texts.world c.args.site.now) going.on c.in-Ok.finished.job c.in-Ok.ensures.finishes.ran in
+    let job_is : c.in-Ok.finished.job ≡ suc c.edge-edge.result = omega (arith, runs.is, c.edge-edge.ensures) in
+    let finish = subst (λ (n : ℕ). Finishes g.S.Texts.tells n c.in-Ok.finished.ok (g.S.Texts.world c.args.site.now) (g.S.Texts.world c.wait_any.new.self)) job_is c.in-Ok.ensures.finishes in
+    taken_by_removing g.S.Texts.tells (declared_by c.args.setting.graph.now).edges (suc c.edge-edge.result) c.in-Ok.finished.ok (g.S.Texts.world c.args.site.now) (g.S.Texts.world c.wait_any.new.self) (g.S.Texts.world c.record_end.new.site) (g.S.Texts.world c.end.new.site)
+    finish c.record_end.ensures.events (ok_by c.record_end.result c.map_err.result _ c.map_err.ensures.variant c.in_ok-map_err-in-Ok.was c.record_end.ensures.removed) c.end.ensures.looks)
 
 pub returns-in_ok-map_err-in-Ok-clause-on : goal.returns-in_ok-map_err-in-Ok-clause-on
 returns-in_ok-map_err-in-Ok-clause-on g c = on_ok c.map_err-in-Ok.result (λ course suits on turn.
