@@ -1,5 +1,5 @@
 -- The end of a list of moves, and where memory is wanting before it.
-use Rattle.std.proofs.Common.{◌≡◌, inl, inr, ℕ, suc, ◌<◌, Bool, true, false, IsTrue, List, [], ◌∷◌, ◌++◌, Some, None, refl, sym, ◌∙◌, subst, arith}
+use Rattle.std.proofs.Common.{◌≡◌, inl, inr, ℕ, suc, ◌<◌, Bool, false, IsTrue, List, [], ◌∷◌, ◌++◌, Some, None, refl, sym, subst, arith}
 use Rattle.std.specs.List.{AllByRecursion}
 use Rattle.std.proofs.lemmas.List.{append-nil}
 use Rattle.model.specs.declared.graph.Edge.{Edge}
@@ -12,7 +12,7 @@ use Rattle.model.specs.Outcome.{Behaviour}
 use Rattle.model.specs.Records.{LogFormat, OwnFiles}
 use Rattle.model.specs.Premises.{HaveEnded, StampsGrow, KeepToOutputs, NothingIsEdited}
 use Rattle.model.specs.History.{Visit, Restarted, IsHistory, IsHistoryFrom, Keeps, edges_after, exit_of, last_edges, world_after}
-use Rattle.model.specs.Driven.{Reader, IsDriven, IsCutEdit, IsCutNext, StartsAgain, answers_in}
+use Rattle.model.specs.Driven.{Reader, IsDriven, IsCutNext, StartsAgain, answers_in}
 use Rattle.build_theory.proofs.Lists.{all_append}
 use Rattle.log_theory.specs.Histories.{HasHeadline}
 use Rattle.log_theory.proofs.Edits.{edit_keeps, restarted_idle}

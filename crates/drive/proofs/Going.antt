@@ -1,8 +1,5 @@
 -- A list of moves goes on by one visit, and by a restart before it where that was asked for.
 use Rattle.std.proofs.Common.{◌≡◌, ◌≢◌, inl, inr, ℕ, Bool, true, false, List, [], ◌∷◌, ◌++◌, append_assoc, refl, sym, ◌∙◌, ap, subst}
-use Rattle.std.specs.List.{AllByRecursion}
-use Rattle.std.proofs.lemmas.Bool.{false≢true}
-use Rattle.std.proofs.lemmas.List.{append-nil}
 use Rattle.model.specs.declared.graph.Edge.{Edge}
 use Rattle.model.specs.declared.moves.Move.{Move}
 use Rattle.model.specs.declared.moves.Move.TheVariants.{Write, Delete, Build}

@@ -1,9 +1,10 @@
 -- What the loop over the moves keeps.
-use Rattle.std.proofs.Common.{◌≡◌, ◌⊎◌, inl, inr, ℕ, zero, suc, ◌+◌, ◌<◌, ◌≤◌, Bool, true, false, List, [], ◌∷◌, ◌++◌, append_assoc, take, drop, length, get_or, refl, sym, ◌∙◌, ap, subst, arith}
+use Rattle.std.proofs.Common.{◌≡◌, inl, inr, ℕ, suc, ◌+◌, ◌<◌, ◌≤◌, Bool, false, List, [], ◌∷◌, ◌++◌, take, drop, length, length-append, get_or, refl, sym, ◌∙◌, ap, subst, arith}
 use Rattle.std.proofs.Math.Seq.{take-suc}
-use Rattle.std.proofs.lemmas.List.{take-append-drop}
+use Rattle.std.proofs.lemmas.List.{drop_more, take-append-drop}
 use Rattle.model.specs.declared.act.Act.{Act}
 use Rattle.model.specs.declared.moves.Move.{Move}
+use Rattle.model.specs.declared.moves.Move.TheVariants.{Write, Delete, Build}
 use Rattle.model.specs.declared.outcome.Outcome.{Outcome}
 use Rattle.model.specs.Driven.{StartsAgain, IsCutNext}
 use Rattle.model.specs.Premises.{HaveEnded}
@@ -11,8 +12,8 @@ use Rattle.model.specs.World.{World, View, IsIdle}
 use Rattle.builder.specs.Build.{build_logs}
 use Rattle.builder.specs.declared.asked.Limits.{Limits}
 use Rattle.builder.specs.declared.report.Report.{Report}
-use Rattle.drive.specs.Driven.{behaving, words_in, Drives, StopsShort}
-use Rattle.drive.specs.Moves.{IsCarried, AreDone}
+use Rattle.drive.specs.Driven.{behaving, Drives, StopsShort}
+use Rattle.drive.specs.Moves.{builds_among, IsCarried, AreDone}
 use Rattle.drive.proofs.Going.{goes_on, gone_at_first}
 use Rattle.drive.proofs.Ended.{was_driven, cut_in_edit}
 use Rattle.drive.proofs.Visited.{cut_before}
@@ -60,7 +61,43 @@ take_more xs i m less is =
     let next : suc i ≡ i + 1 = omega arith in
     ap (λ (x : Move). take i xs ++ x ∷ []) is ∙ (sym (take-suc xs i m less) ∙ ap (λ (n : ℕ). take n xs) next)
 
+drop_one : (xs : List Move) (i : ℕ) (m : Move) → i < length xs → m ≡ get_or xs i m → drop i xs ≡ m ∷ drop (i + 1) xs
+drop_one xs i m less is = drop_more xs i m less ∙ ap (λ (x : Move). x ∷ drop (i + 1) xs) (sym is)
+
 pub split_at : (xs : List Move) (i : ℕ) (m : Move) → i < length xs → m ≡ get_or xs i m → take i xs ++ m ∷ drop (i + 1) xs ≡ xs
-split_at xs i m less is =
-    sym (append_assoc (take i xs) (m ∷ []) (drop (i + 1) xs))
-    ∙ (ap (λ (l : List Move). l ++ drop (i + 1) xs) (take_more xs i m less is) ∙ take-append-drop (i + 1) xs)
+split_at xs i m less is = ap (λ (l : List Move). take i xs ++ l) (sym (drop_one xs i m less is)) ∙ take-append-drop i xs
+
+-- ---- room for the reports
+
+none_more : (n : ℕ) → 0 + n ≡ n
+none_more n = omega arith
+
+one_more : (n : ℕ) → 1 + n ≡ suc n
+one_more n = omega arith
+
+builds_first : (m : Move) (ms : List Move) → builds_among (m ∷ []) + builds_among ms ≡ builds_among (m ∷ ms)
+builds_first (Write path content) ms = none_more (builds_among ms)
+builds_first (Delete path) ms = none_more (builds_among ms)
+builds_first (Build words) ms = one_more (builds_among ms)
+
+builds_from : (xs : List Move) (i : ℕ) (m : Move) → i < length xs → m ≡ get_or xs i m → builds_among (m ∷ []) + builds_among (drop (i + 1) xs) ≡ builds_among (drop i xs)
+builds_from xs i m less is = builds_first m (drop (i + 1) xs) ∙ ap (λ (l : List Move). builds_among l) (sym (drop_one xs i m less is))
+
+pub room_at_first : (moves : List Move) (reports : List Report) (count room : ℕ) → reports ≡ [] → count ≡ builds_among moves → room ≡ count → length reports + builds_among moves ≤ room
+room_at_first moves reports count room none counts made =
+    let empty : length reports ≡ 0 = ap (λ (l : List Report). length l) none in
+    omega (arith, empty, counts, made)
+
+-- there is room for what this move reports
+pub room_for_one : (xs : List Move) (i : ℕ) (m : Move) (used room : ℕ) → i < length xs → m ≡ get_or xs i m → used + builds_among (drop i xs) ≤ room → used + builds_among (m ∷ []) ≤ room
+room_for_one xs i m used room less is fits = let parts = builds_from xs i m less is in omega (arith, parts, fits)
+
+module _ (tells : Bool) (outcome : Act → View → Outcome) (name : List ℕ) (limits : Limits) where
+  -- and then for what comes behind it
+  pub room_behind : (xs : List Move) (i : ℕ) (m : Move) (again : Bool) (before after : List Report) (old new : World) (room more : ℕ) → i < length xs → m ≡ get_or xs i m → length before + builds_among (drop i xs) ≤ room → room ≤ more
+      → IsCarried tells outcome name limits m again before after old new → length after + builds_among (drop (i + 1) xs) ≤ more
+  room_behind xs i m again before after old new room more less is fits grows carried =
+      let parts = builds_from xs i m less is in
+      let counted = carried.done.counted in
+      let longer : length after ≡ length before + length carried.told = ap (λ (l : List Report). length l) carried.grows ∙ length-append before carried.told in
+      omega (arith, parts, counted, longer, fits, grows)

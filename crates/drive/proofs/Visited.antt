@@ -1,26 +1,24 @@
 -- One move as a visit.
-use Rattle.std.proofs.Common.{◌≡◌, ◌⊎◌, inl, inr, ℕ, ◌<◌, Bool, true, false, IsTrue, List, [], ◌∷◌, ◌++◌, Option, Some, None, Result, Ok, Err, IfOk, OnErr, refl, sym, ◌∙◌, ap, subst}
+use Rattle.std.proofs.Common.{◌≡◌, inl, inr, ℕ, Bool, true, false, List, [], ◌∷◌, Option, Some, None, Result, Ok, Err, IfOk, OnErr, refl, sym, ◌∙◌, ap, subst}
 use Rattle.std.proofs.lemmas.List.{append-nil}
 use Rattle.std.proofs.lemmas.Bool.{false≢true}
 use Rattle.model.specs.declared.act.Act.{Act}
 use Rattle.model.specs.declared.event.Event.{Event}
-use Rattle.model.specs.declared.fault.SiteFault.{SiteFault}
 use Rattle.model.specs.declared.fault.SiteFault.TheVariants.{Device, Stopped, Memory}
 use Rattle.model.specs.declared.graph.BuildGraph.{BuildGraph}
 use Rattle.model.specs.declared.moves.Move.{Move}
 use Rattle.model.specs.declared.moves.Move.TheVariants.{Write, Delete, Build}
 use Rattle.model.specs.declared.outcome.Outcome.{Outcome}
 use Rattle.model.specs.declared.record.Record.{Record}
-use Rattle.model.specs.Calls.{OnlyLooks, HasCause, is_stop}
+use Rattle.model.specs.Calls.{OnlyLooks, HasCause}
 use Rattle.model.specs.Driven.{IsCutEdit, IsCutNext}
 use Rattle.model.specs.Graph.{Addition}
-use Rattle.model.specs.History.{Visit, Edited, Built, Unread, IsHeadline, IsNotRead}
+use Rattle.model.specs.History.{Edited, Built, Unread, IsHeadline, IsNotRead}
 use Rattle.model.specs.Kept.{KeepsLogs}
 use Rattle.model.specs.Outcome.{Behaviour}
 use Rattle.model.specs.Premises.{HaveEnded}
 use Rattle.model.specs.Records.{LogFormat, OwnFiles, IsOwnIn, file_in, build_log_name, deps_log_name}
-use Rattle.model.specs.SingleBuild as answer
-use Rattle.model.specs.SingleBuild.{Asked, Answer, SingleBuild, PassesNoFault, is_fault}
+use Rattle.model.specs.SingleBuild.{Asked, Answer, SingleBuild, is_fault}
 use Rattle.model.specs.World.{World, View, IsIdle}
 use Rattle.build_log.specs.Laws.{Reads, HasReader}
 use Rattle.build_log.specs.Record.{forms}
@@ -31,7 +29,7 @@ use Rattle.builder.specs.Build.{Says, Builds, IsUnread, IsBuilt, IsBuild, asked_
 use Rattle.builder.specs.declared.asked.Limits.{Limits}
 use Rattle.builder.specs.declared.report.Report.{Report}
 use Rattle.drive.specs.Driven.{unread_answer, behaving}
-use Rattle.drive.specs.Moves.{reports_fault, IsEdited, IsVisited, IsDone, IsCarried}
+use Rattle.drive.specs.Moves.{reports_fault, IsEdited, IsReported, IsVisited, IsDone, IsCarried}
 use Rattle.drive.proofs.Saying.{said_once, fault_same}
 
 idle_over : (old new : World) → new.events ≡ old.events → IsIdle old.events → IsIdle new.events
@@ -222,8 +220,8 @@ module _ (tells : Bool) (outcome : Act → View → Outcome) (name : List ℕ) (
   pub delete_cut : {E : Type 0} (m : Move) (path : List ℕ) → m ≡ Delete path → (r : Result Bool E) → OnErr r (IsCutEdit tells path None old new) → OnErr r (IsCutNext tells (m ∷ []) old new)
   delete_cut m path is r cut = on_err_then r cut (λ one. subst (λ (x : Move). IsCutNext tells (x ∷ []) old new) (sym is) one)
 
-  pub build_carried : (m : Move) (words : List (List ℕ)) → m ≡ Build words → IsIdle old.events → HasReader forms → (report : Report) → IsBuild tells outcome name limits words old new report
-      → (again : Bool) (after : List Report) → again ≡ reports_fault report → after ≡ reports ++ report ∷ [] → IsCarried tells outcome name limits m again reports after old new
-  build_carried m words is idle reading report built again after faults grows = subst (λ (x : Move). IsCarried tells outcome name limits x again reports after old new) (sym is)
-      (subst (λ (b : Bool). IsCarried tells outcome name limits (Build words) b reports after old new) (sym faults)
-      (record { told = report ∷ []; grows = grows; done = build_done tells outcome name limits words old new report idle reading built }))
+  pub build_carried : (m : Move) (words : List (List ℕ)) → m ≡ Build words → IsIdle old.events → HasReader forms → (again : Bool) (after : List Report)
+      → IsReported tells outcome name limits words again reports after old new → IsCarried tells outcome name limits m again reports after old new
+  build_carried m words is idle reading again after reported = subst (λ (x : Move). IsCarried tells outcome name limits x again reports after old new) (sym is)
+      (subst (λ (b : Bool). IsCarried tells outcome name limits (Build words) b reports after old new) (sym reported.asks)
+      (record { told = reported.report ∷ []; grows = reported.grows; done = build_done tells outcome name limits words old new reported.report idle reading reported.built }))

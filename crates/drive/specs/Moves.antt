@@ -8,7 +8,7 @@ use Rattle.model.specs.declared.moves.Move.{Move}
 use Rattle.model.specs.declared.moves.Move.TheVariants.{Write, Delete, Build}
 use Rattle.model.specs.declared.outcome.Outcome.{Outcome}
 use Rattle.model.specs.declared.record.Record.{Record}
-use Rattle.model.specs.Driven.{Reader, Does, HasLogs, CarriesOut, RestartsFrom, asks_restart, asks_at_end}
+use Rattle.model.specs.Driven.{Does, HasLogs, CarriesOut, RestartsFrom, asks_restart, asks_at_end}
 use Rattle.model.specs.Graph.{Addition}
 use Rattle.model.specs.History.{Visit, IsEdit, IsHistory, entry_of, exit_of}
 use Rattle.model.specs.Outcome.{Behaviour}
@@ -18,7 +18,7 @@ use Rattle.model.specs.World.{World, View}
 use Rattle.build_log.specs.Laws.{Reads}
 use Rattle.build_log.specs.Record.{forms}
 use Rattle.log_theory.specs.Histories.{HasHeadline}
-use Rattle.builder.specs.Build.{build_logs}
+use Rattle.builder.specs.Build.{build_logs, IsBuild}
 use Rattle.builder.specs.declared.asked.Limits.{Limits}
 use Rattle.builder.specs.declared.report.Report.{Report}
 use Rattle.builder.specs.declared.report.Report.TheVariants.{Success, Failed, Refused, Fault}
@@ -55,6 +55,13 @@ pub record IsEdited (tells : Bool) (path : List ℕ) (content : Option (List ℕ
   pub stopped : new.stopped ≡ again
 
 -- ---- one move
+
+-- a build was made, its report stands behind those before it, and is a fault just where `again`
+pub record IsReported (tells : Bool) (outcome : Act → View → Outcome) (name : List ℕ) (limits : Limits) (words : List (List ℕ)) (again : Bool) (before after : List Report) (old new : World) : Type 0 where
+  pub report : Report
+  pub built : IsBuild tells outcome name limits words old new report
+  pub grows : after ≡ before ++ report ∷ []
+  pub asks : again ≡ reports_fault report
 
 -- one visit carries out the move: it tells these reports, and asks for a restart where `again`
 pub record IsVisited (tells : Bool) (B : Behaviour) (format : LogFormat) (name : List ℕ) (limits : Limits) (move : Move) (again : Bool) (told : List Report) (old new : World) : Type 0 where

@@ -1,5 +1,3 @@
-use Rattle.std.proofs.Common.{ℕ, List, sym, ◌∙◌, ap}
-use Rattle.model.specs.declared.moves.Move.TheVariants.{Build}
 use Rattle.builder.specs.Build.{limits_of}
 use Rattle.drive.proofs.Visited.{write_carried, delete_carried, build_carried}
 use Rattle.drive.proofs.one_move.carry_out.Goals as goal
@@ -16,6 +14,5 @@ returns-in-Delete-clause-carried g c =
 
 pub returns-in-Build-clause-carried : goal.returns-in-Build-clause-carried
 returns-in-Build-clause-carried g c =
-    build_carried g.S.Texts.tells g.S.Site.outcome c.args.options.now.file (limits_of c.args.options.now) c.args.reports.now.items (g.S.Texts.world c.args.site.now) (g.S.Texts.world c.build-report.new.site)
-    c.args.step.now c.as_slice.result.now (c.in-Build.is ∙ ap (λ (ws : List (List ℕ)). Build ws) (sym c.as_slice.ensures)) c.requires.idle c.has_reader.ensures c.build-report.result c.build-report.ensures
-    c.is_fault-again.result c.push_reserved.new.reports.items c.is_fault-again.ensures c.push_reserved.ensures.items
+    build_carried g.S.Texts.tells g.S.Site.outcome c.args.options.now.file (limits_of c.args.options.now) c.args.reports.now.items (g.S.Texts.world c.args.site.now) (g.S.Texts.world c.build_next.new.site)
+    c.args.step.now c.in-Build.targets c.in-Build.is c.requires.idle c.has_reader.ensures c.build_next.result c.build_next.new.reports.items c.build_next.ensures.reported
