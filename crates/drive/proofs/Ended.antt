@@ -19,7 +19,7 @@ use Rattle.log_theory.proofs.Edits.{edit_keeps, restarted_idle}
 use Rattle.log_theory.proofs.Over.{histories_are_as_claimed, histories_grow}
 use Rattle.builder.specs.declared.asked.Limits.{Limits}
 use Rattle.builder.specs.declared.report.Report.{Report}
-use Rattle.drive.specs.Driven.{words_in, WasDriven, EditLeavesOutputs, IsCutInEdit}
+use Rattle.drive.specs.Driven.{words_in, WasDriven, EditLeavesOutputs, IsUnrefused, IsCutInEdit}
 use Rattle.drive.specs.Moves.{IsGone}
 
 -- ---- an edit that found no memory
@@ -104,7 +104,7 @@ module _ (tells : Bool) (B : Behaviour) (format : LogFormat) (name : List ℕ) (
     pub was_driven : WasDriven tells B format name limits moves reports first now
     was_driven = record { answers = answers_in gone.visits; driven = driven_so; reported = gone.reported }
 
-    module _ (rest : List Move) (mid new : World) (ended : asked ≡ false → HaveEnded now) (starts : StartsAgain tells asked now mid) (cut : IsCutNext tells rest mid new) where
+    module _ (rest : List Move) (mid new : World) (ended : asked ≡ false → HaveEnded now) (starts : StartsAgain tells asked now mid) (cut : IsCutNext tells rest mid new) (unrefused : IsUnrefused mid new) where
       idle : HaveEnded mid
       idle = elim starts [
         | inl none ↦ subst HaveEnded (sym none.1) (ended none.0)
@@ -133,6 +133,7 @@ module _ (tells : Bool) (B : Behaviour) (format : LogFormat) (name : List ℕ) (
         again = mid;
         starts = subst (λ (b : Bool). StartsAgain tells b now mid) (sym gone.asks) starts;
         cut = cut;
+        unrefused = unrefused;
         faithful = λ own tell faithful keeps stamps within edits later others leaves.
             cut_edit_keeps tells tell B format own (last_edges [] gone.visits) mid new (faithful_before own tell faithful keeps stamps within edits) idle later others rest cut leaves;
       }

@@ -12,7 +12,7 @@ use Rattle.model.specs.World.{World, View, IsIdle}
 use Rattle.builder.specs.Build.{build_logs}
 use Rattle.builder.specs.declared.asked.Limits.{Limits}
 use Rattle.builder.specs.declared.report.Report.{Report}
-use Rattle.drive.specs.Driven.{behaving, Drives, StopsShort}
+use Rattle.drive.specs.Driven.{behaving, Drives, StopsShort, IsUnrefused}
 use Rattle.drive.specs.Moves.{builds_among, IsCarried, AreDone}
 use Rattle.drive.proofs.Going.{goes_on, gone_at_first}
 use Rattle.drive.proofs.Ended.{was_driven, cut_in_edit}
@@ -49,10 +49,10 @@ module _ (tells : Bool) (outcome : Act → View → Outcome) (name : List ℕ) (
 
   -- an edit behind these moves found no memory
   pub short_at : (done rest : List Move) (asked : Bool) (reports : List Report) (first now mid new : World) (move : Move) → AreDone tells outcome name limits done asked reports first now
-      → StartsAgain tells asked now mid → IsCutNext tells (move ∷ []) mid new → StopsShort tells outcome name limits (done ++ move ∷ rest) first new
-  short_at done rest asked reports first now mid new move are starts cut = inr (λ reader depfile dyndep reads.
+      → StartsAgain tells asked now mid → IsCutNext tells (move ∷ []) mid new → IsUnrefused mid new → StopsShort tells outcome name limits (done ++ move ∷ rest) first new
+  short_at done rest asked reports first now mid new move are starts cut unrefused = inr (λ reader depfile dyndep reads.
       cut_in_edit tells (behaving outcome depfile dyndep) (build_logs reader) name limits done asked reports first now (are.gone reader depfile dyndep reads) (move ∷ rest) mid new are.ended starts
-      (cut_before tells mid new move rest cut))
+      (cut_before tells mid new move rest cut) unrefused)
 
 -- ---- lists
 

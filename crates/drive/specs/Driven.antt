@@ -121,6 +121,10 @@ EditLeavesOutputs format own (Write path content ∷ moves) old = LeavesOutputs 
 EditLeavesOutputs format own (Delete path ∷ moves) old = LeavesOutputs format own path None old
 EditLeavesOutputs format own (Build words ∷ moves) old = ⊥
 
+-- the device refused nothing meanwhile, and the site has not stopped
+abbrev pub IsUnrefused : World → World → Type 0
+IsUnrefused old new = (new.failures ≡ old.failures) × (new.stopped ≡ false)
+
 -- An edit found no memory: the moves before it were carried out, the site was started again where that was asked for, and the edit is
 -- left by half. A faithful store stays faithful over that too, where all of it keeps the premises.
 pub record IsCutInEdit (tells : Bool) (B : Behaviour) (format : LogFormat) (R : Reader) (moves : List Move) (first last : World) : Type 0 where
@@ -128,6 +132,7 @@ pub record IsCutInEdit (tells : Bool) (B : Behaviour) (format : LogFormat) (R : 
   pub again : World
   pub starts : StartsAgain tells (asks_at_end false short.driven.visits) short.before again
   pub cut : IsCutNext tells short.rest again last
+  pub unrefused : IsUnrefused again last
   pub faithful : (own : OwnFiles) → IsTrue tells → IsFaithfulStore B format own [] first → AllByRecursion (λ v. Keeps own v) short.driven.visits
       → StampsGrow short.before.history again.history → KeepToOutputs (last_edges [] short.driven.visits) short.before.history again.history
       → NothingIsEdited short.before.history again.history

@@ -42,8 +42,8 @@ fn count_builds(moves: &[Move]) -> usize
     ensures { result ≡ builds_among moves.now }
 {
     let mut count = 0;
-    for step in moves {
-        if is_build(step) {
+    for next in moves {
+        if is_build(next) {
             count += 1;
         }
     }

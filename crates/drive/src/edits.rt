@@ -2,6 +2,7 @@
 
 ghost use Rattle.std.specs.Prelude.{Some, None, IfOk, OnErr};
 ghost use Rattle.model.specs.Driven.{IsCutEdit};
+ghost use Rattle.drive.specs.Driven.{IsUnrefused};
 ghost use Rattle.drive.specs.Moves.{EndsEdit, IsEdited};
 
 use model::SiteFault;
@@ -13,6 +14,7 @@ use text::{Bytes, Path};
 pub fn write<S: Site>(site: &mut S, path: &Path, content: &Bytes) -> Result<bool, AllocError>
     ensures edited { IfOk result (λ again. IsEdited S.tells path.now (Some content.now) again (S.world site.old) (S.world site.new)) }
     ensures cut { OnErr result (IsCutEdit S.tells path.now (Some content.now) (S.world site.old) (S.world site.new)) }
+    ensures unrefused { OnErr result (IsUnrefused (S.world site.old) (S.world site.new)) }
 {
     stopped_in(site.write(path.as_str(), content.as_slice()))
 }
@@ -21,6 +23,7 @@ pub fn write<S: Site>(site: &mut S, path: &Path, content: &Bytes) -> Result<bool
 pub fn delete<S: Site>(site: &mut S, path: &Path) -> Result<bool, AllocError>
     ensures edited { IfOk result (λ again. IsEdited S.tells path.now None again (S.world site.old) (S.world site.new)) }
     ensures cut { OnErr result (IsCutEdit S.tells path.now None (S.world site.old) (S.world site.new)) }
+    ensures unrefused { OnErr result (IsUnrefused (S.world site.old) (S.world site.new)) }
 {
     stopped_in(site.remove(path.as_str()))
 }

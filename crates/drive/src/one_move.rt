@@ -4,6 +4,7 @@ ghost use Rattle.std.specs.Prelude.{◌≡◌, ◌∷◌, [], ◌++◌, ◌+◌,
 ghost use Rattle.model.specs.Driven.{IsCutNext};
 ghost use Rattle.model.specs.World.{IsIdle};
 ghost use Rattle.builder.specs.Build.{limits_of};
+ghost use Rattle.drive.specs.Driven.{IsUnrefused};
 ghost use Rattle.drive.specs.Moves.{reports_fault, builds_among, IsReported, IsCarried};
 
 use crate::edits::{delete, write};
@@ -27,6 +28,7 @@ pub fn carry_out<S: Site>(
     requires room { length reports.old.items + builds_among (step.now ∷ []) ≤ vec_capacity reports.old }
     ensures carried { IfOk result (λ again. IsCarried S.tells S.outcome options.now.file (limits_of options.now) step.now again reports.old.items reports.new.items (S.world site.old) (S.world site.new)) }
     ensures cut { OnErr result (IsCutNext S.tells (step.now ∷ []) (S.world site.old) (S.world site.new)) }
+    ensures unrefused { OnErr result (IsUnrefused (S.world site.old) (S.world site.new)) }
     ensures grows { vec_capacity reports.old ≤ vec_capacity reports.new }
 {
     match step {

@@ -32,7 +32,7 @@ returns-in_err-again-clause-cut g c = on_err c.from_residual-in_err-again.result
     (split_at c.args.moves.now c.loop-step.step-index c.step-item.result c.loop-step-test.true c.step-item.is)
     (short_at g.S.Texts.tells g.S.Site.outcome c.args.options.now.file (limits_of c.args.options.now) (take c.loop-step.step-index c.args.moves.now) (drop (c.loop-step.step-index + 1) c.args.moves.now)
     c.loop-step.again c.loop-step.reports.items (g.S.Texts.world c.args.site.now) (g.S.Texts.world c.loop-step.site) (g.S.Texts.world c.start_again.new.site) (g.S.Texts.world c.carry_out.new.site)
-    c.step-item.result c.loop-step.invariant.0 c.start_again.ensures c.in_err-again.ensures.cut))
+    c.step-item.result c.loop-step.invariant.0 c.start_again.ensures c.in_err-again.ensures.cut c.in_err-again.ensures.unrefused))
 
 pub loop-step-preserved : goal.loop-step-preserved
 loop-step-preserved g c = (
