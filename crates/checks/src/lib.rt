@@ -8,4 +8,6 @@ mod clean_builds;
 #[cfg(test)]
 mod large_builds;
 #[cfg(test)]
+mod moves;
+#[cfg(test)]
 mod refused_calls;

@@ -1,0 +1,5 @@
+pub mod Saying
+pub mod Visited
+pub mod Going
+pub mod Ended
+pub mod Loop

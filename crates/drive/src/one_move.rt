@@ -1,0 +1,79 @@
+//! One move.
+
+ghost use Rattle.std.specs.Prelude.{◌≡◌, ◌∷◌, [], ◌++◌, ◌+◌, ◌≤◌, ◌<◌, length, vec_capacity, IfOk, OnErr};
+ghost use Rattle.model.specs.Driven.{IsCutNext};
+ghost use Rattle.model.specs.World.{IsIdle};
+ghost use Rattle.builder.specs.Build.{limits_of};
+ghost use Rattle.drive.specs.Driven.{IsUnrefused};
+ghost use Rattle.drive.specs.Moves.{reports_fault, builds_among, IsReported, IsCarried};
+
+use crate::edits::{delete, write};
+use build_log::{Log, has_reader};
+use builder::{Options, Report, build};
+use model::Move;
+use site::Site;
+use std::alloc::{AllocError, Global};
+use text::{Items, Text};
+
+/// Carries out one move, puts what a build reports behind the reports, and answers whether the site is to be started again
+/// before the next move.
+pub fn carry_out<S: Site>(
+    alloc: Global,
+    site: &mut S,
+    options: &Options,
+    step: &Move,
+    reports: &mut Vec<Report>,
+) -> Result<bool, AllocError>
+    requires idle { IsIdle (S.world site.old).events }
+    requires room { length reports.old.items + builds_among (step.now ∷ []) ≤ vec_capacity reports.old }
+    ensures carried { IfOk result (λ again. IsCarried S.tells S.outcome options.now.file (limits_of options.now) step.now again reports.old.items reports.new.items (S.world site.old) (S.world site.new)) }
+    ensures cut { OnErr result (IsCutNext S.tells (step.now ∷ []) (S.world site.old) (S.world site.new)) }
+    ensures unrefused { OnErr result (IsUnrefused (S.world site.old) (S.world site.new)) }
+    ensures grows { vec_capacity reports.old ≤ vec_capacity reports.new }
+{
+    match step {
+        Move::Write { path, content } => write(site, path, content),
+        Move::Delete { path } => delete(site, path),
+        Move::Build { targets } => {
+            has_reader::<Log>();
+            Ok(build_next(alloc, site, options, targets, reports))
+        }
+    }
+}
+
+/// Builds the targets, puts the report behind the reports, and answers whether it is a fault.
+fn build_next<S: Site>(
+    alloc: Global,
+    site: &mut S,
+    options: &Options,
+    targets: &Items<Text>,
+    reports: &mut Vec<Report>,
+) -> bool
+    requires idle { IsIdle (S.world site.old).events }
+    requires room { length reports.old.items < vec_capacity reports.old }
+    ensures reported { IsReported S.tells S.outcome options.now.file (limits_of options.now) targets.now result reports.old.items reports.new.items (S.world site.old) (S.world site.new) }
+    ensures grows { vec_capacity reports.old ≤ vec_capacity reports.new }
+{
+    let report = build(alloc, site, options, targets.as_slice());
+    let again = is_fault(&report);
+    push_reserved(reports, report);
+    again
+}
+
+fn is_fault(report: &Report) -> bool
+    ensures { result ≡ reports_fault report.now }
+{
+    matches!(report, Report::Fault(_))
+}
+
+/// Adds a report to a list that has room.
+fn push_reserved(reports: &mut Vec<Report>, report: Report)
+    requires { length reports.old.items < vec_capacity reports.old }
+    ensures items { reports.new.items ≡ reports.old.items ++ report ∷ [] }
+    ensures grows { vec_capacity reports.old ≤ vec_capacity reports.new }
+{
+    match reports.push(report) {
+        Ok(()) => {}
+        Err(_) => unreachable!(),
+    }
+}
