@@ -63,6 +63,10 @@ impl<'a> Folder<'a> {
         Ok(fs::metadata(self.rt, path.as_str())?.mtime_nsec())
     }
 
+    pub fn remove(&self, path: &str) -> io::Result<()> {
+        fs::remove_file(self.rt, self.whole(path)?.as_str())
+    }
+
     pub fn make_dir(&self, path: &str) -> io::Result<()> {
         fs::create_dir_all(self.rt, self.whole(path)?.as_str())
     }
