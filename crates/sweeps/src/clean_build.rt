@@ -94,12 +94,7 @@ fn files(alloc: Global, site: &Sim<Toy>, source: Source<'_>) -> Result<History, 
     Ok(files)
 }
 
-fn copy(
-    alloc: Global,
-    site: &Sim<Toy>,
-    path: &str,
-    files: &mut History,
-) -> Result<(), AllocError> {
+fn copy(alloc: Global, site: &Sim<Toy>, path: &str, files: &mut History) -> Result<(), AllocError> {
     if let Some(content) = site.content(path) {
         let content = Bytes::from_slice(alloc, content.as_slice())?;
         files.write(Writer::Someone, Path::from_str(alloc, path)?, Some(content))?;

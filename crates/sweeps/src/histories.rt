@@ -62,8 +62,14 @@ fn tell<W: Write>(writer: &mut W, source: Source<'_>, counts: &Counts) -> io::Re
     let (count, seed) = (source.count, source.seed);
     let (well, done, failed) = (counts.well, counts.done, counts.failed);
     let (refused, faults) = (counts.refused, counts.faults);
-    write!(writer, "random {count} {seed}: {well} well, {done} with nothing to do, ")?;
-    write!(writer, "{failed} failed, {refused} refused, {faults} faults, ")?;
+    write!(
+        writer,
+        "random {count} {seed}: {well} well, {done} with nothing to do, "
+    )?;
+    write!(
+        writer,
+        "{failed} failed, {refused} refused, {faults} faults, "
+    )?;
     match &counts.wrong {
         None => writer.write_all(b"ok\n"),
         Some((seed, told)) => {

@@ -6,7 +6,7 @@ ghost use Rattle.sim.specs.World.{world_of};
 
 use crate::rows::{Move, move_of};
 use builder::{Options, Report, build};
-use model::Event;
+use model::{Event, SiteFault};
 use sim::{Sim, Toy};
 use site::Site;
 use status::Pattern;
@@ -28,14 +28,18 @@ rule args
   rspfile_content = $in $flags
 ";
 
-/// How a build ended, as far as something went wrong in it.
+/// What went wrong in a build.
 #[derive(Clone, Copy, PartialEq, Eq)]
 pub enum Met {
     Nothing,
-    /// A fault was answered, and no command ran by then.
-    Fault,
-    /// A fault was answered while commands ran.
-    FaultWhileRunning,
+    /// The device refused a call, and no command ran when that was answered.
+    Refused,
+    /// The device refused a call, and commands ran when that was answered.
+    RefusedWhileRunning,
+    /// The site stopped.
+    Stopped,
+    /// There was no memory.
+    NoMemory,
 }
 
 /// So many commands at once, and so many failures.
@@ -89,22 +93,29 @@ fn build_target(
 }
 
 /// What went wrong in the build that has just ended so.
-pub fn met_in(report: &Report, site: &Sim<Toy>) -> Met {
+fn met_in(report: &Report, site: &Sim<Toy>) -> Met {
     match report {
-        Report::Fault(_) => left_by(site.events()),
+        Report::Fault(SiteFault::Device) => refused(site.events()),
+        Report::Fault(SiteFault::Stopped) => Met::Stopped,
+        Report::Fault(SiteFault::Memory) => Met::NoMemory,
         Report::Success { .. } => Met::Nothing,
         Report::Failed { .. } => Met::Nothing,
         Report::Refused(_) => Met::Nothing,
     }
 }
 
-/// What a fault came to, by the starts and finishes until then.
-fn left_by(events: &[Event]) -> Met {
-    let finishes = events.iter().filter(|event| is_finish(event)).count();
+/// That a call was refused, where these are the starts and finishes so far.
+fn refused(events: &[Event]) -> Met {
+    let mut finishes = 0_usize;
+    for event in events {
+        if is_finish(event) {
+            finishes = finishes.saturating_add(1);
+        }
+    }
     if finishes < events.len().saturating_sub(finishes) {
-        Met::FaultWhileRunning
+        Met::RefusedWhileRunning
     } else {
-        Met::Fault
+        Met::Refused
     }
 }
 
@@ -124,12 +135,7 @@ fn push_text(bytes: &mut Vec<u8>, text: &str) -> Result<(), AllocError> {
 }
 
 /// Somebody writes this text.
-pub fn put(
-    alloc: Global,
-    site: &mut Sim<Toy>,
-    path: &str,
-    text: &str,
-) -> Result<(), AllocError> {
+pub fn put(alloc: Global, site: &mut Sim<Toy>, path: &str, text: &str) -> Result<(), AllocError> {
     let mut bytes = Vec::new(alloc);
     push_text(&mut bytes, text)?;
     site.put(path, bytes.as_slice())

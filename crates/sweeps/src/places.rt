@@ -78,13 +78,19 @@ pub fn name(site: &mut Sim<Toy>, place: Place) -> Result<(), AllocError> {
     }
 }
 
-/// Whether a place leaves commands running just where it has to: a refused wait does, and behind every other refused call
-/// they are taken in.
+/// Whether a build may have met this where something was to go wrong at the place.
 pub fn fits(place: Place, met: Met) -> bool {
-    match (place.trouble, place.call, met) {
-        (Trouble::Stop { .. }, _, _) => true,
-        (Trouble::Refused, _, Met::Nothing) => true,
-        (Trouble::Refused, Call::WaitAny, met) => met == Met::FaultWhileRunning,
-        (Trouble::Refused, _, met) => met == Met::Fault,
+    met == Met::Nothing || met == met_at(place)
+}
+
+/// What the build meets that comes to the place: a refused wait leaves commands running, and behind every other refused call
+/// they are taken in.
+fn met_at(place: Place) -> Met {
+    match place.trouble {
+        Trouble::Stop { .. } => Met::Stopped,
+        Trouble::Refused => match place.call {
+            Call::WaitAny => Met::RefusedWhileRunning,
+            _ => Met::Refused,
+        },
     }
 }
