@@ -7,5 +7,3 @@ mod builds;
 mod clean_builds;
 #[cfg(test)]
 mod large_builds;
-#[cfg(test)]
-mod refused_calls;
