@@ -1,6 +1,7 @@
 //! A folder in which the program is run.
 
 use crate::run::run;
+use std::alloc::Global;
 use std::os::unix::fs::MetadataExt;
 use std::{env, fs, io, process};
 
@@ -34,6 +35,10 @@ impl<'a> Folder<'a> {
         let folder = Folder { rt, path };
         folder.write("build.ninja", build)?;
         Ok(folder)
+    }
+
+    pub fn alloc(&self) -> Global {
+        self.rt.alloc()
     }
 
     fn whole(&self, path: &str) -> io::Result<String> {

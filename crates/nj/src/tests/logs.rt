@@ -6,15 +6,15 @@ use std::io;
 use std::process::Abort;
 use std::test::Fail;
 
-/// In a folder of its own does what the lines say, one after another.
-fn follow(rt: &HostRuntime, name: &str, lines: &str) -> Result<(), Fail> {
-    let folder = Folder::new(rt, name, "")?;
+/// In a folder does what the lines say, one after another, and removes it.
+fn follow(rt: &impl Abort, folder: io::Result<Folder<'_>>, lines: &str) -> Result<(), Fail> {
+    let folder = folder?;
     follow_all(rt, &folder, lines)?;
     folder.close()?;
     Ok(())
 }
 
-fn follow_all(rt: &HostRuntime, folder: &Folder<'_>, lines: &str) -> Result<(), Fail> {
+fn follow_all(rt: &impl Abort, folder: &Folder<'_>, lines: &str) -> Result<(), Fail> {
     for line in lines.split('\n') {
         let (word, rest) = cut(line);
         follow_one(rt, folder, word, rest)?;
@@ -28,7 +28,7 @@ fn cut(line: &str) -> (&str, &str) {
 }
 
 /// What a line asks for.
-fn follow_one(rt: &HostRuntime, folder: &Folder<'_>, word: &str, rest: &str) -> Result<(), Fail> {
+fn follow_one(rt: &impl Abort, folder: &Folder<'_>, word: &str, rest: &str) -> Result<(), Fail> {
     match word {
         // One command at a time is run, which ends well with this on the standard output.
         "runs" => ends(rt, folder, rest, "", 0),
@@ -41,14 +41,14 @@ fn follow_one(rt: &HostRuntime, folder: &Folder<'_>, word: &str, rest: &str) -> 
     }
 }
 
-fn fails(rt: &HostRuntime, folder: &Folder<'_>, told: &str) -> Result<(), Fail> {
+fn fails(rt: &impl Abort, folder: &Folder<'_>, told: &str) -> Result<(), Fail> {
     let (out, err) = told.split_once('@').unwrap_or((told, ""));
     ends(rt, folder, out, err, 1)
 }
 
 /// A run ends so, with these on the standard output and on the standard error.
 fn ends(
-    rt: &HostRuntime,
+    rt: &impl Abort,
     folder: &Folder<'_>,
     out: &str,
     err: &str,
@@ -56,8 +56,8 @@ fn ends(
 ) -> Result<(), Fail> {
     let expected = Ran {
         status,
-        out: text_of(rt.alloc(), out)?,
-        err: text_of(rt.alloc(), err)?,
+        out: text_of(folder.alloc(), out)?,
+        err: text_of(folder.alloc(), err)?,
     };
     let ran = folder.run(&["-j1"])?;
     is_as(rt, &ran, &expected);
@@ -70,13 +70,13 @@ fn is_as(rt: &impl Abort, ran: &Ran, expected: &Ran) {
 
 /// A file holds the text, or is not there; or it is changed.
 fn follow_file(
-    rt: &HostRuntime,
+    rt: &impl Abort,
     folder: &Folder<'_>,
     word: &str,
     path: &str,
     text: &str,
 ) -> Result<(), Fail> {
-    let text = text_of(rt.alloc(), text)?;
+    let text = text_of(folder.alloc(), text)?;
     match word {
         "holds" => is_text(rt, folder.read(path)?.as_str(), text.as_str()),
         "lacks" => is_absent(rt, path, folder.has(path)?),
@@ -119,7 +119,7 @@ fn text_of(alloc: Global, text: &str) -> Result<String, AllocError> {
 fn builds_nothing_twice(rt: HostRuntime) -> Result<(), Fail> {
     follow(
         &rt,
-        "twice",
+        Folder::new(&rt, "twice", ""),
         "write build.ninja rule cp^  command = cat $in > $out^build b: cp a^build c: cp b a^
 write a x
 runs [1/2] cat a > b^[2/2] cat b a > c^
@@ -139,7 +139,7 @@ runs [1/2] cat a > b^[2/2] cat b a > c^",
 fn takes_a_torn_log(rt: HostRuntime) -> Result<(), Fail> {
     follow(
         &rt,
-        "torn",
+        Folder::new(&rt, "torn", ""),
         "write build.ninja rule cp^  command = cat $in > $out^build b: cp a^build c: cp b a^
 write a x
 runs [1/2] cat a > b^[2/2] cat b a > c^
@@ -156,7 +156,7 @@ runs [1/2] cat a > b^[2/2] cat b a > c^",
 fn builds_what_does_something_else(rt: HostRuntime) -> Result<(), Fail> {
     follow(
         &rt,
-        "modes",
+        Folder::new(&rt, "modes", ""),
         "write rules rule r^  command = $mode $in > $out^build b: r a^build c: r a^  mode = cat^
 write build.ninja mode = cat^include rules^
 write a x
@@ -172,7 +172,7 @@ runs nj: no work to do.^",
 fn builds_what_failed(rt: HostRuntime) -> Result<(), Fail> {
     follow(
         &rt,
-        "half",
+        Folder::new(&rt, "half", ""),
         "write build.ninja rule cp^  command = cat $in > $out^build b: cp a^build c: cp b a^
 write a x
 runs [1/2] cat a > b^[2/2] cat b a > c^
@@ -189,7 +189,7 @@ holds c xx",
 fn wants_an_order_only_input(rt: HostRuntime) -> Result<(), Fail> {
     follow(
         &rt,
-        "order",
+        Folder::new(&rt, "order", ""),
         "write build.ninja rule cp^  command = cat $in > $out^build o: cp a || m^
 write a x
 write m z
@@ -205,7 +205,7 @@ fails @nj: error: N32: 'm', needed by 'o', is missing and no rule makes it^",
 fn builds_what_is_always_due(rt: HostRuntime) -> Result<(), Fail> {
     follow(
         &rt,
-        "force",
+        Folder::new(&rt, "force", ""),
         "write build.ninja rule cp^  command = cat $in > $out^build force: phony^build o: cp a | force^
 write a x
 runs [1/1] cat a > o^
@@ -219,7 +219,7 @@ runs [1/1] cat a > o^",
 fn writes_response_files(rt: HostRuntime) -> Result<(), Fail> {
     follow(
         &rt,
-        "response",
+        Folder::new(&rt, "response", ""),
         "write rules rule r^  command = $do^  rspfile = r/$out.rsp^  rspfile_content = $flags $in_newline^build o: r a d/b^
 folder d
 write d/b
@@ -243,7 +243,7 @@ holds r/o.rsp 3 a^d/b",
 fn tells_where_its_log_cannot_be(rt: HostRuntime) -> Result<(), Fail> {
     follow(
         &rt,
-        "no_log",
+        Folder::new(&rt, "no_log", ""),
         "write build.ninja rule cp^  command = cat $in > $out^build b: cp a^build c: cp b a^
 write a x
 folder .nj_log
