@@ -9,5 +9,3 @@ mod clean_builds;
 mod large_builds;
 #[cfg(test)]
 mod moves;
-#[cfg(test)]
-mod refused_calls;

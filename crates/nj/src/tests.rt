@@ -2,6 +2,7 @@
 
 mod builds;
 mod folder;
+mod logs;
 mod refusals;
 mod shown;
 mod waiting;

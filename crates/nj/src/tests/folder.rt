@@ -1,6 +1,7 @@
 //! A folder in which the program is run.
 
 use crate::run::run;
+use std::alloc::Global;
 use std::os::unix::fs::MetadataExt;
 use std::{env, fs, io, process};
 
@@ -36,6 +37,10 @@ impl<'a> Folder<'a> {
         Ok(folder)
     }
 
+    pub fn alloc(&self) -> Global {
+        self.rt.alloc()
+    }
+
     fn whole(&self, path: &str) -> io::Result<String> {
         let folder = self.path.as_str();
         Ok(format!(in self.rt.alloc(); "{folder}/{path}")?)
@@ -61,6 +66,10 @@ impl<'a> Folder<'a> {
         self.write("stamp", "x")?;
         let path = self.whole("stamp")?;
         Ok(fs::metadata(self.rt, path.as_str())?.mtime_nsec())
+    }
+
+    pub fn remove(&self, path: &str) -> io::Result<()> {
+        fs::remove_file(self.rt, self.whole(path)?.as_str())
     }
 
     pub fn make_dir(&self, path: &str) -> io::Result<()> {
