@@ -4,9 +4,11 @@ use Rattle.std.specs.Option.{option_map}
 use Rattle.std.specs.Str.{bytes_eq}
 use Rattle.std.proofs.lemmas.List.{map-append}
 use Rattle.std.proofs.lemmas.Bool.{cases_Bool, eqb-true, eq-eqb, ne_eqb, and_right}
+use Rattle.model.specs.declared.record.Record.{Record}
 use Rattle.model.specs.Graph.{has}
+use Rattle.model.specs.Records.{in_force}
 use Rattle.build_log.specs.Kept.{Saying, Telling, tellings, told_from, told_of, place_from, place_of, is_place, left_to, outputs_at, some_of, in_force_from, in_force_of}
-use Rattle.build_log.specs.Log.{made_of, saying, done_record, compaction, CompactionKeeps}
+use Rattle.build_log.specs.Log.{made_of, saying, done_record, compaction}
 use Rattle.build_log.proofs.Distinct.{same_bytes}
 use Rattle.build_log.proofs.Lookups.{got, told_place}
 use Rattle.build_log.proofs.InForce.{in_force_told}
@@ -124,7 +126,7 @@ same_sayings : (ts : List (Telling Done)) → map saying (map done_record ts) �
 same_sayings [] = refl
 same_sayings (t ∷ ts) = ap (λ (l : List (Saying Done)). (t.0, Some t.1) ∷ l) (same_sayings ts)
 
-pub compaction_keeps_law : CompactionKeeps
+pub compaction_keeps_law : (records : List Record) (output : List ℕ) → in_force (compaction records) output ≡ in_force records output
 compaction_keeps_law records output =
     in_force_told (compaction records) output
     ∙ (ap (λ (all : List (Saying Done)). option_map made_of (told_of all output)) (same_sayings (in_force_of (map saying records)))

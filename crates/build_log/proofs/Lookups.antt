@@ -1,5 +1,5 @@
 -- What is found in what is kept.
-use Rattle.std.proofs.Common.{◌≡◌, ◌<◌, ◌≤◌, ◌+◌, ℕ, zero, suc, Bool, true, false, cond, ◌||◌, ◌⊎◌, List, [], ◌∷◌, ◌++◌, length, map, filter, take, get_or, Option, Some, None, slice_get, refl, sym, ap, ◌∙◌, subst, inl, inr, arith, append_assoc, Result, Ok, Err, Vec, Global, Bor}
+use Rattle.std.proofs.Common.{option_and_then, ◌≡◌, ◌<◌, ◌≤◌, ◌+◌, ℕ, zero, suc, Bool, true, false, cond, ◌||◌, ◌⊎◌, List, [], ◌∷◌, ◌++◌, length, map, filter, take, get_or, Option, Some, None, slice_get, refl, sym, ap, ◌∙◌, subst, inl, inr, arith, append_assoc, Result, Ok, Err, Vec, Global, Bor}
 use Rattle.std.specs.List.{list_any, AllByRecursion}
 use Rattle.std.specs.Prelude.{IfOk}
 use Rattle.std.proofs.lemmas.List.{length-append, append-nil, take_all}
@@ -80,6 +80,13 @@ module _ {T : Type 0} where
   -- what is in force is what the record in force tells
   pub told_place : (all : List (Saying T)) (o : List ℕ) → told_of all o ≡ got (tolds all) (place_of all o)
   told_place all o = told_place_from all o [] None None 0 refl refl
+
+  got_as : (xs : List T) (p : Option ℕ) → option_and_then (slice_get xs) p ≡ got xs p
+  got_as xs None = refl
+  got_as xs (Some n) = refl
+
+  pub told_found : (all : List (Saying T)) (o : List ℕ) (p : Option ℕ) → p ≡ place_of all o → option_and_then (slice_get (tolds all)) p ≡ told_of all o
+  told_found all o p e = got_as (tolds all) p ∙ (ap (got (tolds all)) e ∙ sym (told_place all o))
 
   pub told_same : (xs : List (List ℕ)) (ks : List (List ℕ × T)) (ts : List (Telling T)) → AreTold xs ks ts → map (λ k. k.1) ks ≡ map (λ t. t.1) ts
   told_same xs [] [] are = refl

@@ -32,6 +32,11 @@ Reads {R} forms reader = (bytes : List ℕ) (records : List R) (tail : Tail) →
 abbrev pub HasReader : {R : Type 0} → (Version → Form R) → Type 0
 HasReader {R} forms = (reader : List ℕ → Option (List R)) × Reads forms reader
 
+-- of a compaction the same is in force as of the records, and of none nothing
+pub record KeepsInForce {R X : Type 0} (in_force : List R → List ℕ → Option X) (compaction : List R → List R) : Type 0 where
+  pub nothing : (output : List ℕ) → in_force [] output ≡ None
+  pub same : (records : List R) (output : List ℕ) → in_force (compaction records) output ≡ in_force records output
+
 -- ---- parts of records
 
 -- the number below 2 to the 64 that the text spells, or that it spells none

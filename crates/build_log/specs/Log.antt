@@ -1,8 +1,8 @@
 -- The build log.
-use Rattle.std.specs.Prelude.{◌≡◌, ℕ, List, Some, None, map}
+use Rattle.std.specs.Prelude.{ℕ, List, Some, None, map}
 use Rattle.model.specs.declared.record.Record.{Record}
 use Rattle.model.specs.declared.record.Record.TheVariants.{Begun, Done as DoneRecord}
-use Rattle.model.specs.Records.{Made, in_force}
+use Rattle.model.specs.Records.{Made}
 use Rattle.build_log.specs.declared.done.Done.{Done}
 use Rattle.build_log.specs.declared.form.Version.TheVariants.{Two}
 use Rattle.build_log.specs.Kept.{Saying, Telling, Table, IsTableOf, in_force_of, tellings}
@@ -35,7 +35,3 @@ compaction records = map done_record (in_force_of (map saying records))
 -- what the done records say, in order
 abbrev pub makings : List Record → List Made
 makings records = map (λ t. made_of t.1) (tellings (map saying records))
-
--- of a compaction the same is in force
-abbrev pub CompactionKeeps : Type 0
-CompactionKeeps = (records : List Record) (output : List ℕ) → in_force (compaction records) output ≡ in_force records output

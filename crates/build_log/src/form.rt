@@ -1,7 +1,12 @@
 //! What makes a log: how its records are written in either version, and what is kept of them.
 
-ghost use Rattle.std.specs.Prelude.{◌≡◌, [], ◌∷◌, ◌++◌, List, ℕ, IfOk, IsTrue, IsFalse};
+ghost use Rattle.std.specs.Prelude.{◌≡◌, ◌↔◌, [], ◌∷◌, ◌++◌, List, ℕ, Option, IfOk, IsTrue, IsFalse, length, slice_get};
+ghost use Rattle.std.specs.Option.{option_and_then};
+ghost use Rattle.build_log.specs.declared.form.Version.TheVariants.{Two};
 ghost use Rattle.build_log.specs.Form.{Form, IsReadable};
+ghost use Rattle.build_log.specs.Text.{IsLogOf};
+ghost use Rattle.build_log.specs.Kept.{WantsCompaction};
+ghost use Rattle.build_log.specs.Laws.{KeepsInForce};
 
 use crate::field::Field;
 use std::alloc::{AllocError, Global};
@@ -28,6 +33,18 @@ pub trait Records: Sized + Drop {
     /// What is kept stands for these records.
     ghost Keeps: { List Self.Record → Self → Type 0 };
 
+    /// What a record may tell of its outputs.
+    ghost Told: { Type 0 };
+
+    /// What is in force for an output.
+    ghost in_force: { List Self.Record → List ℕ → Option Told };
+
+    /// What is told by the records that tell something, in order: the number of one is its place here, from 0.
+    ghost told: { List Self.Record → List Told };
+
+    /// The records in force in the order of the log, each with those of its outputs for which it is in force.
+    ghost compaction: { List Self.Record → List Self.Record };
+
     /// What is kept of no records. It takes no memory.
     fn new(alloc: Global) -> Self
         ensures { Keeps [] result };
@@ -46,6 +63,28 @@ pub trait Records: Sized + Drop {
     ) -> Result<bool, AllocError>
         ensures put { IfOk result (λ is_put. IsTrue is_put → (r : Self.Record) × (fields.now ≡ (forms version).fields r) × (forms version).Fits r × ((records : List Self.Record) → Keeps records self.old → Keeps (records ++ r ∷ []) self.new)) }
         ensures none { IfOk result (λ is_put. IsFalse is_put → (r : Self.Record) → (forms version).Fits r → fields.now ≡ (forms version).fields r → ⊥) };
+
+    /// The number of the record in force for an output. It takes no memory.
+    fn find(&self, output: &str) -> Option<usize>
+        ensures { (records : List Self.Record) → Keeps records self.now → option_and_then (slice_get (told records)) result ≡ in_force records output.now };
+
+    /// How many records there were.
+    fn records(&self) -> u64
+        ensures { (records : List Self.Record) → Keeps records self.now → result ≡ length records };
+
+    /// Whether the log is to be compacted before something is appended: where it has at least 100 records, and more than
+    /// half of them are not in force.
+    fn wants_compaction(&self) -> bool
+        ensures { (records : List Self.Record) → Keeps records self.now → IsTrue result ↔ WantsCompaction (length records) (length (compaction records)) };
+
+    /// The text of a log, in version 2, with the records in force in their order, each with those of its outputs for
+    /// which it is in force, and no others.
+    fn compacted(&self, alloc: Global) -> Result<Vec<u8>, AllocError>
+        ensures { IfOk result (λ text. (records : List Self.Record) → Keeps records self.now → IsLogOf (forms Two) text.items (compaction records)) };
+
+    /// A compaction keeps what is in force. It does nothing: its contract is a law.
+    fn keeps_in_force()
+        ensures { KeepsInForce in_force compaction };
 
     /// Texts of both versions are read in one way. It does nothing: its contract is a law.
     fn are_readable()

@@ -2,7 +2,7 @@
 
 ghost use Rattle.std.specs.Prelude.{◌≡◌, ◌<◌, ◌≤◌, ◌↔◌, ◌*◌, [], ◌∷◌, ◌++◌, List, ℕ, Option, Some, None, IsTrue, IfOk, IfSome, IfNone, OnOk, OnErr, length, slice_get, map, if◌then◌else◌};
 ghost use Rattle.std.specs.List.{list_any, AllByRecursion};
-ghost use Rattle.std.specs.Option.{option_copied, option_map};
+ghost use Rattle.std.specs.Option.{option_and_then, option_copied, option_map};
 ghost use Rattle.model.specs.Graph.{has, has_number};
 ghost use Rattle.build_log.specs.Kept.{Saying, IsTableOf, AreDistinct, AreNumbersOf, told_of, place_of, is_place, tellings, in_force_of, left_to, outputs_at, some_of, texts_at, if_some, joined, WantsCompaction};
 ghost use Rattle.build_log.specs.Found.{tellings_in, IsNamed};
@@ -159,7 +159,8 @@ impl<T: Drop> Kept<T> {
 
     /// The number of the record in force for an output. It takes no memory.
     pub fn find(&self, output: &str) -> Option<usize>
-        ensures { (all : List (Saying T)) → IsTableOf all self.now → result ≡ place_of all output.now }
+        ensures place { (all : List (Saying T)) → IsTableOf all self.now → result ≡ place_of all output.now }
+        ensures told { (all : List (Saying T)) → IsTableOf all self.now → option_and_then (slice_get (map (λ t. t.1) (tellings all))) result ≡ told_of all output.now }
     {
         let (number, _) = self.outputs.get_full(output)?;
         self.place(number)

@@ -2,7 +2,6 @@
 
 ghost use Rattle.build_log.specs.Laws.{OneReading, EachIsRead, HasReader, PartsAreDecided, OneSpelling, LineGrowsLog, FrontOfLog, FrontOfLines};
 ghost use Rattle.build_log.specs.Kept.{InForceKeeps};
-ghost use Rattle.build_log.specs.Log.{CompactionKeeps};
 
 use crate::form::Records;
 
@@ -65,9 +64,4 @@ pub fn front_of_lines<L: Records>()
 /// The records in force, each with those of its outputs for which it is in force, tell of each output what all tell.
 pub fn in_force_keeps<T>()
     ensures { InForceKeeps T }
-{}
-
-/// A compaction keeps what is in force for each output.
-pub fn compaction_keeps()
-    ensures { CompactionKeeps }
 {}

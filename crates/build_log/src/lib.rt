@@ -20,8 +20,8 @@ pub use field::{Field, field_text, plain_fields, push_field};
 pub use form::{Records, Version};
 pub use kept::{InForce, Kept};
 pub use laws::{
-    compaction_keeps, each_is_read, front_of_lines, front_of_log, has_reader, in_force_keeps,
-    line_grows_log, one_reading, one_spelling, parts_are_decided,
+    each_is_read, front_of_lines, front_of_log, has_reader, in_force_keeps, line_grows_log,
+    one_reading, one_spelling, parts_are_decided,
 };
 pub use line::{end_line, fields, push_list, push_number, push_text};
 pub use log::Log;

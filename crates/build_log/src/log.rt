@@ -41,13 +41,22 @@ impl Model for Log {
 
 impl Records for Log {
     ghost use Rattle.build_log.specs.Record.{forms};
-    ghost use Rattle.build_log.specs.Log.{Keeps};
+    ghost use Rattle.build_log.specs.Log.{Keeps, makings, compaction};
+    ghost use Rattle.model.specs.Records.{Made, in_force};
 
     type Record = Record;
 
     ghost forms = { forms };
 
     ghost Keeps = { Keeps };
+
+    ghost Told = { Made };
+
+    ghost in_force = { in_force };
+
+    ghost told = { makings };
+
+    ghost compaction = { compaction };
 
     fn new(alloc: Global) -> Log {
         Log {
@@ -74,6 +83,29 @@ impl Records for Log {
         self.kept.put(alloc, outputs, said)?;
         Ok(true)
     }
+
+    fn find(&self, output: &str) -> Option<usize> {
+        self.kept.find(output)
+    }
+
+    fn records(&self) -> u64 {
+        self.kept.records()
+    }
+
+    fn wants_compaction(&self) -> bool {
+        self.kept.wants_compaction()
+    }
+
+    fn compacted(&self, alloc: Global) -> Result<Vec<u8>, AllocError> {
+        let mut text = Vec::from_slice(alloc, Log::first_line(Version::Two))?;
+        text.push(b'\n')?;
+        for number in 0..self.kept.tellings() {
+            self.push_in_force(alloc, &mut text, number)?;
+        }
+        Ok(text)
+    }
+
+    fn keeps_in_force() {}
 
     fn are_readable() {}
 }
@@ -120,13 +152,6 @@ impl Log {
         self.kept.lookup(output)
     }
 
-    /// The number of the record in force for an output, as `done_at` takes it. It takes no memory.
-    pub fn find(&self, output: &str) -> Option<usize>
-        ensures { (records : List Record) → Keeps records self.now → option_and_then (slice_get (makings records)) result ≡ in_force records output.now }
-    {
-        self.kept.find(output)
-    }
-
     /// What the done record with this number tells: they are counted from 0. It takes no memory.
     pub fn done_at(&self, number: usize) -> Option<&Done>
         ensures { (records : List Record) → Keeps records self.now → option_map made_of (option_copied result) ≡ slice_get (makings records) number }
@@ -134,39 +159,11 @@ impl Log {
         self.kept.at(number)
     }
 
-    /// How many records there were.
-    pub fn records(&self) -> u64
-        ensures { (records : List Record) → Keeps records self.now → result ≡ length records }
-    {
-        self.kept.records()
-    }
-
     /// How many records are in force, each for one of its outputs at least.
     pub fn records_in_force(&self) -> usize
         ensures { (records : List Record) → Keeps records self.now → result ≡ length (compaction records) }
     {
         self.kept.records_in_force()
-    }
-
-    /// Whether the log is to be compacted before something is appended: where it has at least 100 records, and more than
-    /// half of them are not in force.
-    pub fn wants_compaction(&self) -> bool
-        ensures { (records : List Record) → Keeps records self.now → IsTrue result ↔ WantsCompaction (length records) (length (compaction records)) }
-    {
-        self.kept.wants_compaction()
-    }
-
-    /// The text of a log, in version 2, with the done records in force in their order, each with those of its outputs for
-    /// which it is in force, and no others.
-    pub fn compacted(&self, alloc: Global) -> Result<Vec<u8>, AllocError>
-        ensures { IfOk result (λ text. (records : List Record) → Keeps records self.now → IsLog text.items (compaction records)) }
-    {
-        let mut text = Vec::from_slice(alloc, Log::first_line(Version::Two))?;
-        text.push(b'\n')?;
-        for number in 0..self.kept.tellings() {
-            self.push_in_force(alloc, &mut text, number)?;
-        }
-        Ok(text)
     }
 
     /// Writes the line of the done record with this number, with the outputs for which it is in force, at the end; none

@@ -14,9 +14,7 @@ use Rattle.model.specs.Outcome.{Behaviour}
 use Rattle.model.specs.OutOfDate.{NothingIsMissing}
 use Rattle.model.specs.Phases.{IsPointAfter, WasNothingMissing, WasNothingMissingIn}
 use Rattle.model.specs.Premises.{FilesAreKept, NothingIsEdited}
-use Rattle.model.specs.declared.record.Record.{Record}
-use Rattle.model.specs.declared.record.DepsRecord.{DepsRecord}
-use Rattle.model.specs.Records.{OwnFiles, Store, LogFormat, store_in, read_log, recorded_inputs, IsOwnIn, file_in, build_log_name, deps_log_name}
+use Rattle.model.specs.Records.{OwnFiles, Store, LogFormat, store_in, recorded_inputs, IsOwnIn, file_in, build_log_name, deps_log_name}
 use Rattle.model.specs.History.{IsHeadline}
 use Rattle.model.specs.Kept.{KeepsLogs}
 use Rattle.model.specs.Schedule.{Step as Done, Judged, IsLawful, IsSettled, AreEventsOf, AreFinishes, started_in, well_in, failed_in, running_in, done_in}
@@ -57,7 +55,7 @@ use Rattle.links.specs.declared.cone.Cone.{Cone}
 use Rattle.log_theory.specs.Ledger.{IsCutOff}
 use Rattle.log_theory.specs.Builds.{IsRunOf}
 use Rattle.log_theory.proofs.Builds.{headline_of_run, logs_of_run}
-use Rattle.log_theory.proofs.Ledger.{carried_entry, carried_looks, cut_off, run_of, judged_of, frame_of, met_by_step}
+use Rattle.log_theory.proofs.Ledger.{carried_entry, carried_found, carried_looks, cut_off, run_of, judged_of, frame_of, met_by_step}
 use Rattle.log_theory.proofs.Over.{no_logs_are_faithful}
 use Rattle.log_theory.proofs.Stated.{clean_with_loads}
 use Rattle.builder.specs.declared.asked.Limits.{Limits}
@@ -66,23 +64,12 @@ use Rattle.builder.specs.declared.report.Refusal.{Refusal}
 use Rattle.builder.specs.declared.report.Refusal.TheVariants as refusal
 use Rattle.builder.specs.declared.report.Report.{Report}
 use Rattle.builder.specs.declared.report.Report.TheVariants.{Success, Failed, Refused, Fault}
-use Rattle.builder.specs.Build.{build_logs, asked_of, missing_answer, Says, LeavesNoResponses, Builds}
-use Rattle.builder.specs.Reports.{first_output_of, ungraphed, ShowsFault, HasNoDeps, SaysNotTaken, SaysNoCone, IsMissingFor, LacksSource, ShowsCause, SaysResult, SaysRun, run_answer}
+use Rattle.builder.specs.Build.{asked_of, missing_answer, Says, LeavesNoResponses, Builds}
+use Rattle.builder.specs.Reports.{first_output_of, ungraphed, ShowsFault, SaysNotTaken, SaysNoCone, IsMissingFor, LacksSource, ShowsCause, SaysResult, SaysRun, run_answer}
+use Rattle.builder.specs.Recorded.{IsRecordedBy}
 use Rattle.builder.specs.Taken.{IsTaken}
 use Rattle.builder.proofs.Formed.{no_dyndep, names_no_other}
 use Rattle.builder.proofs.Slices.{suc_has, map_suc}
-
--- what the logs told at the entry
-abbrev pub store_of : (List ℕ → Option (List Record)) → OwnFiles → World → Store
-store_of reader own entry = store_in (build_logs reader) own (view_of entry.history)
-
--- no deps log is read
-pub no_deps : (reader : List ℕ → Option (List Record)) (own : OwnFiles) (entry : World) → HasNoDeps (store_of reader own entry)
-no_deps reader own entry = by_log (view_of entry.history own.deps_log)
-  where
-    by_log : (held : Option (List ℕ)) → read_log {A = DepsRecord} (λ text. None) held ≡ []
-    by_log None = refl
-    by_log (Some content) = refl
 
 none_before : (before after : List Done) (step : Done) → [] ≡ before ++ step ∷ after → ⊥
 none_before [] after step is = cc
@@ -160,17 +147,22 @@ built_by tells B format own asked entry now answer build of_run responses = reco
 }
 
 -- what a run of a build is of
-abbrev pub course_of : Behaviour → (List ℕ → Option (List Record)) → OwnFiles → Asked → World → Course
-course_of B reader own asked entry = record { behaviour = B; format = build_logs reader; own = own; asked = asked; store = store_of reader own entry; entry = entry }
+abbrev pub course_of : Behaviour → LogFormat → OwnFiles → Asked → Store → World → Course
+course_of B format own asked store entry = record { behaviour = B; format = format; own = own; asked = asked; store = store; entry = entry }
 
-module _ (tells : Bool) (B : Behaviour) (reader : List ℕ → Option (List Record)) (own : OwnFiles) (graph : BuildGraph) (folder : List ℕ) (limits : Limits) (given targets : List (List ℕ)) (entry now : World) (idle : IsIdle entry.events) where
+-- these records are those of the store at the entry, unless somebody has written since
+abbrev pub IsFoundAt : Bool → LogFormat → OwnFiles → Store → World → World → Type 0
+IsFoundAt tells format own store entry now = IsTrue tells → NothingIsEdited entry.history now.history → store ≡ store_in format own (view_of entry.history)
+
+module _ (tells : Bool) (B : Behaviour) (format : LogFormat) (own : OwnFiles) (graph : BuildGraph) (folder : List ℕ) (limits : Limits) (given targets : List (List ℕ)) (store : Store) (entry now : World) (found : IsFoundAt tells format own store entry now)
+    (idle : IsIdle entry.events) where
   abbrev pub BuiltAs : Answer → Type 0
-  BuiltAs answer = Built tells B (build_logs reader) own (asked_of graph folder limits targets) entry now answer
+  BuiltAs answer = Built tells B format own (asked_of graph folder limits targets) entry now answer
 
   abbrev pub BuildsAs : Report → Type 0
-  BuildsAs report = Builds tells B (build_logs reader) own graph folder limits given targets entry now report
+  BuildsAs report = Builds tells B format own graph folder limits given targets entry now report
 
-  abbrev nothing_scheduled : OnlyLooks tells entry now → (answer : Answer) → IsScheduled B none_loaded (asked_of graph folder limits targets) (store_of reader own entry) [] entry now answer
+  abbrev nothing_scheduled : OnlyLooks tells entry now → (answer : Answer) → IsScheduled B none_loaded (asked_of graph folder limits targets) store [] entry now answer
   nothing_scheduled looks answer = record {
     lawful = record { earlier = []; last = []; taken_in = []; whole = refl; begins = refl; phases = tt; lawful = record { lawful = tt; unloaded = tt }; rest = tt; cause = inl refl };
     first = [];
@@ -184,11 +176,11 @@ module _ (tells : Bool) (B : Behaviour) (reader : List ℕ → Option (List Reco
 
   -- a build that has only looked
   abbrev looking : OnlyLooks tells entry now → (answer : Answer) → (IsSuccess answer → ⊥) → PassesNoFault entry now answer
-      → IsAnswer tells B own none_loaded (asked_of graph folder limits targets) (store_of reader own entry) [] [] [] entry now answer
-      → SingleBuild tells B (build_logs reader) own (asked_of graph folder limits targets) entry now answer
+      → IsAnswer tells B own none_loaded (asked_of graph folder limits targets) store [] [] [] entry now answer
+      → SingleBuild tells B format own (asked_of graph folder limits targets) entry now answer
   looking looks answer failed passes is = record {
-    store = store_of reader own entry;
-    logs = λ tell edits. refl;
+    store = store;
+    logs = found;
     texts = none_loaded;
     held = λ tell kept file content loaded. absurd (nothing_held content loaded);
     steps = [];
@@ -209,20 +201,20 @@ module _ (tells : Bool) (B : Behaviour) (reader : List ℕ → Option (List Reco
   }
 
   -- its run has no step
-  looked_run : OnlyLooks tells entry now → IsRunOf tells B (build_logs reader) own (asked_of graph folder limits targets) (store_of reader own entry) [] None entry now
+  looked_run : OnlyLooks tells entry now → IsRunOf tells B format own (asked_of graph folder limits targets) store [] None entry now
   looked_run looks =
-      let format = build_logs reader in
       let asked = asked_of graph folder limits targets in
-      let store = store_of reader own entry in
+      let told = store_in format own (view_of entry.history) in
       run_of tells B format own asked store entry [] None now
       (cut_off tells B format own asked store entry [] None now
-      (carried_looks tells B format own asked store entry [] None entry now looks (carried_entry tells B format own asked store entry refl idle)))
+      (carried_found tells B format own asked told entry store None now (λ tell kept. found tell kept.edits)
+      (carried_looks tells B format own asked told entry [] None entry now looks (carried_entry tells B format own asked told entry refl idle))))
       (inr looks)
 
   built_looking : OnlyLooks tells entry now → (answer : Answer) → (IsSuccess answer → ⊥) → PassesNoFault entry now answer
-      → IsAnswer tells B own none_loaded (asked_of graph folder limits targets) (store_of reader own entry) [] [] [] entry now answer → BuiltAs answer
+      → IsAnswer tells B own none_loaded (asked_of graph folder limits targets) store [] [] [] entry now answer → BuiltAs answer
   built_looking looks answer failed passes is =
-      built_by tells B (build_logs reader) own (asked_of graph folder limits targets) entry now answer (looking looks answer failed passes is) (looked_run looks) (λ fine i well. absurd (false≢true well))
+      built_by tells B format own (asked_of graph folder limits targets) entry now answer (looking looks answer failed passes is) (looked_run looks) (λ fine i well. absurd (false≢true well))
 
   built_fault : {T : Type 0} → OnlyLooks tells entry now → (fault : SiteFault) → HasCause {T = T} entry now (Err fault) → BuiltAs (answer.Fault fault)
   built_fault looks Device cause = built_looking looks (answer.Fault Device) (λ h. h) (passes_fault tells entry now looks Device cause) (seen_of entry now (Err Device) cause)
@@ -234,7 +226,7 @@ module _ (tells : Bool) (B : Behaviour) (reader : List ℕ → Option (List Reco
 
   -- a refusal
   built_refusal : Looked tells entry now → (answer : Answer) → (IsSuccess answer → ⊥)
-      → IsAnswer tells B own none_loaded (asked_of graph folder limits targets) (store_of reader own entry) [] [] [] entry now answer → BuiltAs answer
+      → IsAnswer tells B own none_loaded (asked_of graph folder limits targets) store [] [] [] entry now answer → BuiltAs answer
   built_refusal looked answer failed is = built_looking looked.looks answer failed (passes_looking tells entry now looked answer) is
 
   -- ---- something is not taken yet
@@ -293,7 +285,7 @@ module _ (tells : Bool) (B : Behaviour) (reader : List ℕ → Option (List Reco
         (text_at targets place, refl, record { place = place; first = first; text_is = refl; path_is = refl })
         (built_refusal looked (answer.Unknown (text_at targets place)) (λ h. h) ((λ none. looked.looks), refl, path_has targets place first.within, first.unknown))
 
-    pub builds_cycle : Looked tells entry now → (paths : List (List ℕ)) → answer.AllNamed (asked_of graph folder limits targets) → IsShownCycle (asked_of graph folder limits targets) (store_of reader own entry) paths
+    pub builds_cycle : Looked tells entry now → (paths : List (List ℕ)) → answer.AllNamed (asked_of graph folder limits targets) → IsShownCycle (asked_of graph folder limits targets) store paths
         → BuildsAs (Refused (refusal.Cycle paths))
     builds_cycle looked paths named cycle =
         builds_as (Refused (refusal.Cycle paths)) (answer.Cyclic paths) refl
@@ -302,7 +294,7 @@ module _ (tells : Bool) (B : Behaviour) (reader : List ℕ → Option (List Reco
     of_memory : Looked tells entry now → (report : Report) → report ≡ Fault Memory → BuildsAs report
     of_memory looked report is = subst (λ (r : Report). BuildsAs r) (sym {A = Report} is) (builds_memory looked)
 
-    of_refusal : Looked tells entry now → (paths : List (List ℕ)) (fault : ConeFault) → IsNoCone (asked_of graph folder limits targets) (store_of reader own entry) paths fault → (refused : Refusal) → ShowsFault paths given fault refused
+    of_refusal : Looked tells entry now → (paths : List (List ℕ)) (fault : ConeFault) → IsNoCone (asked_of graph folder limits targets) store paths fault → (refused : Refusal) → ShowsFault paths given fault refused
         → BuildsAs (Refused refused)
     of_refusal looked paths cone_fault.Memory none refused shows = absurd shows
     of_refusal looked paths (cone_fault.Unknown place) none refused shows =
@@ -310,20 +302,20 @@ module _ (tells : Bool) (B : Behaviour) (reader : List ℕ → Option (List Reco
     of_refusal looked paths (cone_fault.Cycle numbers) none refused shows =
         subst (λ (r : Refusal). BuildsAs (Refused r)) (sym {A = Refusal} shows) (builds_cycle looked (texts_at paths numbers) none.0 none.1)
 
-    pub builds_uncut : Looked tells entry now → (numbers : Graph) → graph ≡ declared_by numbers → (report : Report) → SaysNoCone numbers given targets report → BuildsAs report
-    builds_uncut looked numbers same report (inl is) = of_memory looked report is
-    builds_uncut looked numbers same report (inr (refused, is, cause)) =
+    pub builds_uncut : Looked tells entry now → (numbers : Graph) → graph ≡ declared_by numbers → IsRecordedBy numbers store → (report : Report) → SaysNoCone numbers given targets report → BuildsAs report
+    builds_uncut looked numbers same in_use report (inl is) = of_memory looked report is
+    builds_uncut looked numbers same in_use report (inr (refused, is, cause)) =
         subst (λ (r : Report). BuildsAs r) (sym {A = Report} is)
-        (of_refusal looked numbers.manifest.paths cause.fault (cause.is (asked_of graph folder limits targets) (store_of reader own entry) refl same refl (no_deps reader own entry)) refused cause.shows)
+        (of_refusal looked numbers.manifest.paths cause.fault (cause.is (asked_of graph folder limits targets) store refl same refl in_use) refused cause.shows)
 
     -- ---- a build that has run commands
 
     -- no edge names a dyndep file, so the schedule has one phase
-    abbrev scheduled : (steps : List Done) → IsLawful (task_of (asked_of graph folder limits targets) (store_of reader own entry)) steps → (answer : Answer) (first later : List Event) → now.events ≡ entry.events ++ (first ++ later)
+    abbrev scheduled : (steps : List Done) → IsLawful (task_of (asked_of graph folder limits targets) store) steps → (answer : Answer) (first later : List Event) → now.events ≡ entry.events ++ (first ++ later)
         → AreEventsOf graph.edges steps first → AreFinishes (entry.events ++ first) later → (is_fault answer ≡ false → later ≡ [])
-        → IsScheduled B none_loaded (asked_of graph folder limits targets) (store_of reader own entry) steps entry now answer
+        → IsScheduled B none_loaded (asked_of graph folder limits targets) store steps entry now answer
     scheduled steps lawful answer first later grows of_steps finishes whole = record {
-      lawful = one_phase B.dyndep none_loaded graph.edges (task_of (asked_of graph folder limits targets) (store_of reader own entry)) (store_of reader own entry) steps refl (no_dyndep graph.edges taken) lawful;
+      lawful = one_phase B.dyndep none_loaded graph.edges (task_of (asked_of graph folder limits targets) store) store steps refl (no_dyndep graph.edges taken) lawful;
       first = first;
       later = later;
       grows = grows;
@@ -333,54 +325,54 @@ module _ (tells : Bool) (B : Behaviour) (reader : List ℕ → Option (List Reco
       went_on = λ on. refl;
     }
 
-    module _ (steps : List Done) (met : Option ℕ) (cut : IsCutOff tells B (build_logs reader) own (asked_of graph folder limits targets) (store_of reader own entry) steps met entry now) (once : IsMadeOnce graph.edges) where
-      abbrev running : (answer : Answer) → ((i : ℕ) → met ≡ Some i → MetFault (task_of (asked_of graph folder limits targets) (store_of reader own entry)) steps entry now answer i)
+    module _ (steps : List Done) (met : Option ℕ) (cut : IsCutOff tells B format own (asked_of graph folder limits targets) store steps met entry now) (once : IsMadeOnce graph.edges) where
+      abbrev running : (answer : Answer) → ((i : ℕ) → met ≡ Some i → MetFault (task_of (asked_of graph folder limits targets) store) steps entry now answer i)
           → (first later : List Event) → now.events ≡ entry.events ++ (first ++ later) → AreEventsOf graph.edges steps first → AreFinishes (entry.events ++ first) later → (is_fault answer ≡ false → later ≡ [])
-          → IsAnswer tells B own none_loaded (asked_of graph folder limits targets) (store_of reader own entry) [] steps steps entry now answer
-          → (IsSuccess answer → (i : ℕ) → InCone (asked_of graph folder limits targets) (store_of reader own entry) i → IsSettled graph.edges (done_in steps) i)
-          → WasInOrder tells own (asked_of graph folder limits targets) (store_of reader own entry) [] steps entry now → PassesNoFault entry now answer → (is_fault answer ≡ false → IsIdle now.events)
-          → SingleBuild tells B (build_logs reader) own (asked_of graph folder limits targets) entry now answer
+          → IsAnswer tells B own none_loaded (asked_of graph folder limits targets) store [] steps steps entry now answer
+          → (IsSuccess answer → (i : ℕ) → InCone (asked_of graph folder limits targets) store i → IsSettled graph.edges (done_in steps) i)
+          → WasInOrder tells own (asked_of graph folder limits targets) store [] steps entry now → PassesNoFault entry now answer → (is_fault answer ≡ false → IsIdle now.events)
+          → SingleBuild tells B format own (asked_of graph folder limits targets) entry now answer
       running answer met_fault first later grows of_steps finishes whole is settled ordered passes ended = record {
-        store = store_of reader own entry;
-        logs = λ tell edits. refl;
+        store = store;
+        logs = found;
         texts = none_loaded;
         held = λ tell kept file content loaded. absurd (nothing_held content loaded);
         steps = steps;
         schedule = scheduled steps cut.lawful answer first later grows of_steps finishes whole;
         met = met;
         met_fault = met_fault;
-        judged = λ tell kept apart known. judged_of tells B (build_logs reader) own (asked_of graph folder limits targets) (store_of reader own entry) entry steps met now cut once tell kept apart;
+        judged = λ tell kept apart known. judged_of tells B format own (asked_of graph folder limits targets) store entry steps met now cut once tell kept apart;
         answers = is;
         in_order = inr ordered;
         faults = passes;
         idle = ended;
-        frame = λ tell. frame_of tells B (build_logs reader) own (asked_of graph folder limits targets) (store_of reader own entry) entry steps met now cut once tell;
+        frame = λ tell. frame_of tells B format own (asked_of graph folder limits targets) store entry steps met now cut once tell;
         from_nothing = λ tell success nothing premises.
-            clean_with_loads tells B (build_logs reader) own none_loaded (asked_of graph folder limits targets) (store_of reader own entry) steps met entry now tell idle cut.run
-            (one_phase B.dyndep none_loaded graph.edges (task_of (asked_of graph folder limits targets) (store_of reader own entry)) (store_of reader own entry) steps refl (no_dyndep graph.edges taken) cut.lawful)
-            once once (names_no_other graph.edges taken) refl (no_logs_are_faithful B (build_logs reader) own graph.edges entry nothing.build_log nothing.deps_log)
-            (judged_of tells B (build_logs reader) own (asked_of graph folder limits targets) (store_of reader own entry) entry steps met now cut once tell premises.files.kept premises.files.recorded_apart)
+            clean_with_loads tells B format own none_loaded (asked_of graph folder limits targets) store steps met entry now tell idle cut.run
+            (one_phase B.dyndep none_loaded graph.edges (task_of (asked_of graph folder limits targets) store) store steps refl (no_dyndep graph.edges taken) cut.lawful)
+            once once (names_no_other graph.edges taken) (found tell premises.files.kept.edits) (no_logs_are_faithful B format own graph.edges entry nothing.build_log nothing.deps_log)
+            (judged_of tells B format own (asked_of graph folder limits targets) store entry steps met now cut once tell premises.files.kept premises.files.recorded_apart)
             (settled success) premises;
       }
 
-      built_running : (answer : Answer) → ((i : ℕ) → met ≡ Some i → MetFault (task_of (asked_of graph folder limits targets) (store_of reader own entry)) steps entry now answer i)
+      built_running : (answer : Answer) → ((i : ℕ) → met ≡ Some i → MetFault (task_of (asked_of graph folder limits targets) store) steps entry now answer i)
           → (first later : List Event) → now.events ≡ entry.events ++ (first ++ later) → AreEventsOf graph.edges steps first → AreFinishes (entry.events ++ first) later → (is_fault answer ≡ false → later ≡ [])
-          → IsAnswer tells B own none_loaded (asked_of graph folder limits targets) (store_of reader own entry) [] steps steps entry now answer
-          → (IsSuccess answer → (i : ℕ) → InCone (asked_of graph folder limits targets) (store_of reader own entry) i → IsSettled graph.edges (done_in steps) i)
-          → WasInOrder tells own (asked_of graph folder limits targets) (store_of reader own entry) [] steps entry now → PassesNoFault entry now answer → (is_fault answer ≡ false → IsIdle now.events)
+          → IsAnswer tells B own none_loaded (asked_of graph folder limits targets) store [] steps steps entry now answer
+          → (IsSuccess answer → (i : ℕ) → InCone (asked_of graph folder limits targets) store i → IsSettled graph.edges (done_in steps) i)
+          → WasInOrder tells own (asked_of graph folder limits targets) store [] steps entry now → PassesNoFault entry now answer → (is_fault answer ≡ false → IsIdle now.events)
           → (is_fault answer ≡ false → AreRemoved tells own graph.edges steps None entry now) → BuiltAs answer
       built_running answer met_fault first later grows of_steps finishes whole is settled ordered passes ended removed =
-          built_by tells B (build_logs reader) own (asked_of graph folder limits targets) entry now answer
+          built_by tells B format own (asked_of graph folder limits targets) entry now answer
           (running answer met_fault first later grows of_steps finishes whole is settled ordered passes ended)
-          (run_of tells B (build_logs reader) own (asked_of graph folder limits targets) (store_of reader own entry) entry steps met now cut (inl once)) removed
+          (run_of tells B format own (asked_of graph folder limits targets) store entry steps met now cut (inl once)) removed
 
-    module _ (order : List ℕ) (marks : List Mark) (listed : IsConeOf graph.edges (recorded_inputs (store_of reader own entry) graph.edges) (targets_of graph targets) order marks)
-        (named : answer.AllNamed (asked_of graph folder limits targets)) (acyclic : answer.HasNoCycle (asked_of graph folder limits targets) (store_of reader own entry)) where
+    module _ (order : List ℕ) (marks : List Mark) (listed : IsConeOf graph.edges (recorded_inputs store graph.edges) (targets_of graph targets) order marks)
+        (named : answer.AllNamed (asked_of graph folder limits targets)) (acyclic : answer.HasNoCycle (asked_of graph folder limits targets) store) where
       -- a source is missing
       pub builds_missing : Looked tells entry now → (missing : Missing)
-          → (IsTrue tells → FilesAreKept own graph.edges entry.history now.history → IsMissingFor graph.edges (store_of reader own entry) (targets_of graph targets) entry.history missing.path missing.needed_by)
+          → (IsTrue tells → FilesAreKept own graph.edges entry.history now.history → IsMissingFor graph.edges store (targets_of graph targets) entry.history missing.path missing.needed_by)
           → BuildsAs (Refused (refusal.Missing missing))
-      builds_missing looked missing found = builds_as (Refused (refusal.Missing missing)) (missing_answer missing.path missing.needed_by) refl (by_needed missing.needed_by found)
+      builds_missing looked missing lacks = builds_as (Refused (refusal.Missing missing)) (missing_answer missing.path missing.needed_by) refl (by_needed missing.needed_by lacks)
         where
           -- the entry, before the first start
           at_entry : IsTrue tells → IsPointAfter [] entry.history now.history entry.history
@@ -388,11 +380,11 @@ module _ (tells : Bool) (B : Behaviour) (reader : List ℕ → Option (List Reco
               let call = looked.looks.history tell in
               record { so_far = []; later = call.more; is = sym (append-nil entry.history); grows = call.grows; happened = refl; entry = λ none. refl }
 
-          at_once : IsAsked (task_of (asked_of graph folder limits targets) (store_of reader own entry)) [] []
-          at_once = record { at_once = refl; loaded = λ file due source. none_is_due (task_of (asked_of graph folder limits targets) (store_of reader own entry)) [] (no_dyndep graph.edges taken) file due }
+          at_once : IsAsked (task_of (asked_of graph folder limits targets) store) [] []
+          at_once = record { at_once = refl; loaded = λ file due source. none_is_due (task_of (asked_of graph folder limits targets) store) [] (no_dyndep graph.edges taken) file due }
 
           by_needed : (needed : Option (List ℕ))
-              → (IsTrue tells → FilesAreKept own graph.edges entry.history now.history → IsMissingFor graph.edges (store_of reader own entry) (targets_of graph targets) entry.history missing.path needed)
+              → (IsTrue tells → FilesAreKept own graph.edges entry.history now.history → IsMissingFor graph.edges store (targets_of graph targets) entry.history missing.path needed)
               → BuiltAs (missing_answer missing.path needed)
           by_needed None so =
               built_refusal looked (answer.MissingTarget missing.path) (λ h. h) ((λ none. looked.looks), named, acyclic, at_once, λ tell kept. (entry.history, at_entry tell, so tell kept))
@@ -406,18 +398,18 @@ module _ (tells : Bool) (B : Behaviour) (reader : List ℕ → Option (List Reco
               )
 
       module _ (once : IsMadeOnce graph.edges)
-          (sources : IsTrue tells → FilesAreKept own graph.edges entry.history now.history → NothingIsMissing graph.edges (store_of reader own entry) [] entry.history (targets_of graph targets)) where
-        in_order : IsInOrder tells own (asked_of graph folder limits targets) (store_of reader own entry) [] entry now
+          (sources : IsTrue tells → FilesAreKept own graph.edges entry.history now.history → NothingIsMissing graph.edges store [] entry.history (targets_of graph targets)) where
+        in_order : IsInOrder tells own (asked_of graph folder limits targets) store [] entry now
         in_order = record {
           made_once = once;
           dyndep = names_no_other graph.edges taken;
           named = named;
           no_cycle = acyclic;
-          sources = λ tell kept none at point. subst (λ (files : List Moment). NothingIsMissing graph.edges (store_of reader own entry) [] files (targets_of graph targets)) (sym {A = List Moment} (point.entry refl)) (sources tell kept);
+          sources = λ tell kept none at point. subst (λ (files : List Moment). NothingIsMissing graph.edges store [] files (targets_of graph targets)) (sym {A = List Moment} (point.entry refl)) (sources tell kept);
         }
 
         -- whatever steps were taken then
-        was_in_order : (steps : List Done) → WasInOrder tells own (asked_of graph folder limits targets) (store_of reader own entry) [] steps entry now
+        was_in_order : (steps : List Done) → WasInOrder tells own (asked_of graph folder limits targets) store [] steps entry now
         was_in_order steps = record {
           made_once = once;
           dyndep = names_no_other graph.edges taken;
@@ -426,30 +418,30 @@ module _ (tells : Bool) (B : Behaviour) (reader : List ℕ → Option (List Reco
           sources = λ tell kept. by_steps steps (in_order.sources tell kept);
         }
           where
-            by_steps : (steps : List Done) → WasNothingMissing (task_of (asked_of graph folder limits targets) (store_of reader own entry)) (store_of reader own entry) entry.history now.history [] []
-                → WasNothingMissingIn (task_of (asked_of graph folder limits targets) (store_of reader own entry)) (store_of reader own entry) entry.history now.history [] [] steps
+            by_steps : (steps : List Done) → WasNothingMissing (task_of (asked_of graph folder limits targets) store) store entry.history now.history [] []
+                → WasNothingMissingIn (task_of (asked_of graph folder limits targets) store) store entry.history now.history [] [] steps
             by_steps [] none = tt
             by_steps (step ∷ steps) none = none
 
-        in_cone : (i : ℕ) (n : ℕ) → suc n ≡ i → InCone (asked_of graph folder limits targets) (store_of reader own entry) (suc n) → InCone (asked_of graph folder limits targets) (store_of reader own entry) i
-        in_cone i n is h = subst (λ (k : ℕ). InCone (asked_of graph folder limits targets) (store_of reader own entry) k) is h
+        in_cone : (i : ℕ) (n : ℕ) → suc n ≡ i → InCone (asked_of graph folder limits targets) store (suc n) → InCone (asked_of graph folder limits targets) store i
+        in_cone i n is h = subst (λ (k : ℕ). InCone (asked_of graph folder limits targets) store k) is h
 
-        all_settled : (steps : List Done) → HasEnded (asked_of graph folder limits targets) (store_of reader own entry) steps now → running_in steps ≡ [] → failed_in steps ≡ []
-            → (i : ℕ) → InCone (asked_of graph folder limits targets) (store_of reader own entry) i → IsSettled graph.edges (done_in steps) i
+        all_settled : (steps : List Done) → HasEnded (asked_of graph folder limits targets) store steps now → running_in steps ≡ [] → failed_in steps ≡ []
+            → (i : ℕ) → InCone (asked_of graph folder limits targets) store i → IsSettled graph.edges (done_in steps) i
         all_settled steps ended none fine i within =
-            settled_at_end (task_of (asked_of graph folder limits targets) (store_of reader own entry)) steps ended.judged ended.started none fine (map suc order) listed.ordered
+            settled_at_end (task_of (asked_of graph folder limits targets) store) steps ended.judged ended.started none fine (map suc order) listed.ordered
             (λ k within. let place = suc_has order k within in in_cone k place.0 place.1 (listed.within place.0 place.2))
             i (listed.all i within)
 
-        all_well : (steps : List Done) → IsRun tells own (task_of (asked_of graph folder limits targets) (store_of reader own entry)) steps entry now → running_in steps ≡ [] → failed_in steps ≡ [] → length (started_in steps) ≡ length (well_in steps)
+        all_well : (steps : List Done) → IsRun tells own (task_of (asked_of graph folder limits targets) store) steps entry now → running_in steps ≡ [] → failed_in steps ≡ [] → length (started_in steps) ≡ length (well_in steps)
         all_well steps run none fine =
-            let a = started_length (task_of (asked_of graph folder limits targets) (store_of reader own entry)) steps run.lawful in
+            let a = started_length (task_of (asked_of graph folder limits targets) store) steps run.lawful in
             let b = ended_length steps in
             let c = ap length none in
             let d = ap length fine in
             omega (arith, a, b, c, d)
 
-        ended_so : (steps : List Done) → (run : IsRun tells own (task_of (asked_of graph folder limits targets) (store_of reader own entry)) steps entry now) → now.events ≡ entry.events ++ (run.events ++ [])
+        ended_so : (steps : List Done) → (run : IsRun tells own (task_of (asked_of graph folder limits targets) store) steps entry now) → now.events ≡ entry.events ++ (run.events ++ [])
         ended_so steps run = run.grows ∙ ap (λ (l : List Event). entry.events ++ l) (sym (append-nil run.events))
 
         module _ (numbers : Graph) (same : (declared_by numbers).edges ≡ graph.edges) (report : Report) (cause : ShowsCause entry now report) (passes : PassesNoFault entry now (run_answer report)) where
@@ -459,20 +451,20 @@ module _ (tells : Bool) (B : Behaviour) (reader : List ℕ → Option (List Reco
           tells_as : (told : Report) → report ≡ told → BuildsAs told → BuildsAs report
           tells_as told is builds = subst (λ (r : Report). BuildsAs r) (sym {A = Report} is) builds
 
-          by_fault : (result : Result Summary Cut) → HasRun tells (course_of B reader own (asked_of graph folder limits targets) entry) now result → (fault : SiteFault) → report ≡ Fault fault → BuildsAs report
+          by_fault : (result : Result Summary Cut) → HasRun tells (course_of B format own (asked_of graph folder limits targets) store entry) now result → (fault : SiteFault) → report ≡ Fault fault → BuildsAs report
           by_fault result ran fault is = tells_as (Fault fault) is (of_seen fault (passes_as (Fault fault) is) (subst (λ (r : Report). ShowsCause entry now r) is cause))
             where
-              met_so : (fault : SiteFault) (i : ℕ) → ran.met ≡ Some i → MetFault (task_of (asked_of graph folder limits targets) (store_of reader own entry)) ran.steps entry now (answer.Fault fault) i
+              met_so : (fault : SiteFault) (i : ℕ) → ran.met ≡ Some i → MetFault (task_of (asked_of graph folder limits targets) store) ran.steps entry now (answer.Fault fault) i
               met_so fault i met =
                   let hand = ran.in_hand i met in
                   record {
                     fault = refl;
                     under_way = hand.under_way;
                     stale = hand.stale;
-                    taken_in = met_by_step tells B (build_logs reader) own (asked_of graph folder limits targets) (store_of reader own entry) entry ran.steps ran.met now ran.cut i hand.taken_in;
+                    taken_in = met_by_step tells B format own (asked_of graph folder limits targets) store entry ran.steps ran.met now ran.cut i hand.taken_in;
                   }
 
-              of_fault : (fault : SiteFault) → IsAnswer tells B own none_loaded (asked_of graph folder limits targets) (store_of reader own entry) [] ran.steps ran.steps entry now (answer.Fault fault) → PassesNoFault entry now (answer.Fault fault)
+              of_fault : (fault : SiteFault) → IsAnswer tells B own none_loaded (asked_of graph folder limits targets) store [] ran.steps ran.steps entry now (answer.Fault fault) → PassesNoFault entry now (answer.Fault fault)
                   → BuildsAs (Fault fault)
               of_fault fault is passes = builds_as (Fault fault) (answer.Fault fault) refl
                   (built_running ran.steps ran.met ran.cut once (answer.Fault fault) (met_so fault) ran.cut.run.first ran.cut.run.later ran.cut.run.grows ran.cut.run.of_steps ran.cut.run.finishes (λ fine. absurd (false≢true (sym fine))) is
@@ -483,21 +475,21 @@ module _ (tells : Bool) (B : Behaviour) (reader : List ℕ → Option (List Reco
               of_seen Stopped passes seen = of_fault Stopped seen passes
               of_seen Memory passes seen = of_fault Memory tt passes
 
-          none_met_in : (met : Option ℕ) (said : Answer) (steps : List Done) → met ≡ None → (i : ℕ) → met ≡ Some i → MetFault (task_of (asked_of graph folder limits targets) (store_of reader own entry)) steps entry now said i
+          none_met_in : (met : Option ℕ) (said : Answer) (steps : List Done) → met ≡ None → (i : ℕ) → met ≡ Some i → MetFault (task_of (asked_of graph folder limits targets) store) steps entry now said i
           none_met_in met said steps none i is = absurd (none_met i (sym none ∙ is))
 
-          ended_well : (started : ℕ) → HasRun tells (course_of B reader own (asked_of graph folder limits targets) entry) now (Ok (Well started)) → report ≡ Success started → BuildsAs report
+          ended_well : (started : ℕ) → HasRun tells (course_of B format own (asked_of graph folder limits targets) store entry) now (Ok (Well started)) → report ≡ Success started → BuildsAs report
           ended_well started ran is =
               let run = ran.ends.1 in
               let over = ran.ends.2 in
-              let ended = has_ended tells own (asked_of graph folder limits targets) (store_of reader own entry) ran.steps entry now idle run over.2 over.0 over.1
-              (none_is_due (task_of (asked_of graph folder limits targets) (store_of reader own entry)) ran.steps (no_dyndep graph.edges taken)) in
+              let ended = has_ended tells own (asked_of graph folder limits targets) store ran.steps entry now idle run over.2 over.0 over.1
+              (none_is_due (task_of (asked_of graph folder limits targets) store) ran.steps (no_dyndep graph.edges taken)) in
               let settled = all_settled ran.steps ended over.2 over.3 in
               tells_as (Success started) is (builds_as (Success started) (answer.Success started) refl
               (built_running ran.steps ran.met ran.cut once (answer.Success started) (none_met_in ran.met (answer.Success started) ran.steps ran.ends.0) run.events [] (ended_so ran.steps run) run.of_steps tt (λ fine. refl)
               (in_order, ended, settled, over.3, all_well ran.steps run over.2 over.3 ∙ sym ran.ends.3) (λ success. settled) (was_in_order ran.steps) (passes_as (Success started) is) (λ fine. ended.idle) (λ fine. ran.removed)))
 
-          ended_badly : (edges : Vec ℕ Global) → HasRun tells (course_of B reader own (asked_of graph folder limits targets) entry) now (Ok (SomeFailed edges)) → report ≡ Failed (map (first_output_of numbers.manifest) edges.items)
+          ended_badly : (edges : Vec ℕ Global) → HasRun tells (course_of B format own (asked_of graph folder limits targets) store entry) now (Ok (SomeFailed edges)) → report ≡ Failed (map (first_output_of numbers.manifest) edges.items)
               → BuildsAs report
           ended_badly edges ran is =
               let run = ran.ends.1 in
@@ -506,19 +498,19 @@ module _ (tells : Bool) (B : Behaviour) (reader : List ℕ → Option (List Reco
               let told : map (λ i. first_output (edge_at graph.edges i)) (failed_in ran.steps) ≡ outputs =
               ap (λ (l : List ℕ). map (λ i. first_output (edge_at graph.edges i)) l) (sym ran.ends.3)
               ∙ (ap (λ (es : List Edge). map (λ i. first_output (edge_at es i)) (map suc edges.items)) (sym same) ∙ sym (map_suc (λ i. first_output (edge_at (declared_by numbers).edges i)) edges.items)) in
-              let ended = has_ended tells own (asked_of graph folder limits targets) (store_of reader own entry) ran.steps entry now idle run over.2 over.0 over.1
-              (none_is_due (task_of (asked_of graph folder limits targets) (store_of reader own entry)) ran.steps (no_dyndep graph.edges taken)) in
+              let ended = has_ended tells own (asked_of graph folder limits targets) store ran.steps entry now idle run over.2 over.0 over.1
+              (none_is_due (task_of (asked_of graph folder limits targets) store) ran.steps (no_dyndep graph.edges taken)) in
               tells_as (Failed outputs) is (builds_as (Failed outputs) (answer.Failed outputs) refl
               (built_running ran.steps ran.met ran.cut once (answer.Failed outputs) (none_met_in ran.met (answer.Failed outputs) ran.steps ran.ends.0) run.events [] (ended_so ran.steps run) run.of_steps tt (λ fine. refl)
               (in_order, ended, told, over.3) (λ success. absurd success) (was_in_order ran.steps) (passes_as (Failed outputs) is) (λ fine. ended.idle) (λ fine. ran.removed)))
 
-          by_result : (result : Result Summary Cut) → HasRun tells (course_of B reader own (asked_of graph folder limits targets) entry) now result → (report ≡ Fault Memory) ⊎ SaysResult numbers result report → BuildsAs report
+          by_result : (result : Result Summary Cut) → HasRun tells (course_of B format own (asked_of graph folder limits targets) store entry) now result → (report ≡ Fault Memory) ⊎ SaysResult numbers result report → BuildsAs report
           by_result result ran (inl is) = by_fault result ran Memory is
           by_result (Ok (Well started)) ran (inr is) = ended_well started ran is
           by_result (Ok (SomeFailed edges)) ran (inr is) = ended_badly edges ran is
           by_result (Err cut) ran (inr is) = by_fault (Err cut) ran (fault_of cut) is
 
-          pub builds_run : SaysRun tells (course_of B reader own (asked_of graph folder limits targets) entry) numbers now report → BuildsAs report
+          pub builds_run : SaysRun tells (course_of B format own (asked_of graph folder limits targets) store entry) numbers now report → BuildsAs report
           builds_run says = by_result says.result says.ran says.says
 
 -- what a run has added to the history
@@ -557,21 +549,20 @@ own_in folder = record { build_log = refl; deps_log = refl; is_log = refl; is_de
 pub none_kept : (folder : List ℕ) (edges : List Edge) (old new : List Moment) → FilesAreKept (any_own folder) edges old new → ⊥
 none_kept folder edges old new kept = false≢true (kept.own_files.within [] refl)
 
-pub builds_grow : (tells : Bool) (B : Behaviour) (reader : List ℕ → Option (List Record)) (own : OwnFiles) (graph : BuildGraph) (folder : List ℕ) (limits : Limits) (given targets : List (List ℕ)) (old new : World) (report : Report)
-    → Builds tells B (build_logs reader) own graph folder limits given targets old new report → IsTrue tells → (later : List Moment) × (new.history ≡ old.history ++ later)
-builds_grow tells B reader own graph folder limits given targets old new report builds tell = let frame = builds.build.frame tell in (frame.more, frame.grows)
+pub builds_grow : (tells : Bool) (B : Behaviour) (format : LogFormat) (own : OwnFiles) (graph : BuildGraph) (folder : List ℕ) (limits : Limits) (given targets : List (List ℕ)) (old new : World) (report : Report)
+    → Builds tells B format own graph folder limits given targets old new report → IsTrue tells → (later : List Moment) × (new.history ≡ old.history ++ later)
+builds_grow tells B format own graph folder limits given targets old new report builds tell = let frame = builds.build.frame tell in (frame.more, frame.grows)
 
--- a source is missing by the store of the entry, or that was not to be seen
-pub builds_lacking : (tells : Bool) (B : Behaviour) (reader : List ℕ → Option (List Record)) (own : OwnFiles) (graph : Graph) (folder : List ℕ) (limits : Limits) (given targets : List (List ℕ)) (entry old now : World) → IsIdle entry.events
-    → IsGraph (declared_by graph) → IsTaken (declared_by graph).edges → (records : Records) (cone : Cone) → IsConeIn graph (store_of reader own entry) targets cone
-    → (IsTrue tells → FilesAreKept own (declared_by graph).edges entry.history now.history → IsStoreOf graph records (store_of reader own entry))
+-- a source is missing by the records that were read, or that was not to be seen
+pub builds_lacking : (tells : Bool) (B : Behaviour) (format : LogFormat) (own : OwnFiles) (graph : Graph) (folder : List ℕ) (limits : Limits) (given targets : List (List ℕ)) (store : Store) (entry old now : World) → IsFoundAt tells format own store entry now
+    → IsIdle entry.events → IsGraph (declared_by graph) → IsTaken (declared_by graph).edges → (records : Records) (cone : Cone) → IsConeIn graph store targets cone → IsStoreOf graph records store
     → Looked tells entry old → OnlyLooks tells old now → (report : Report) → LacksSource tells graph records cone old now report
-    → Builds tells B (build_logs reader) own (declared_by graph) folder limits given targets entry now report
-builds_lacking tells B reader own graph folder limits given targets entry old now idle formed taken records cone listed known looked looks report (inl so) =
-    subst (λ (r : Report). Builds tells B (build_logs reader) own (declared_by graph) folder limits given targets entry now r) (sym {A = Report} so.says)
-    (builds_fault tells B reader own (declared_by graph) folder limits given targets entry now idle formed taken (looks_then tells entry old now looked.looks looks) so.fault (cause_then entry old now (Err so.fault) looked.unrefused so.cause))
-builds_lacking tells B reader own graph folder limits given targets entry old now idle formed taken records cone listed known looked looks report (inr so) =
-    subst (λ (r : Report). Builds tells B (build_logs reader) own (declared_by graph) folder limits given targets entry now r) (sym {A = Report} so.says)
-    (builds_missing tells B reader own (declared_by graph) folder limits given targets entry now idle formed taken cone.order.items cone.marks.items listed.listed listed.named listed.acyclic (looked_more tells entry old now looked looks so.unrefused) so.missing
-    (λ tell kept. so.is targets (store_of reader own entry) (known tell kept) listed tell entry.history
+    → Builds tells B format own (declared_by graph) folder limits given targets entry now report
+builds_lacking tells B format own graph folder limits given targets store entry old now found idle formed taken records cone listed known looked looks report (inl so) =
+    subst (λ (r : Report). Builds tells B format own (declared_by graph) folder limits given targets entry now r) (sym {A = Report} so.says)
+    (builds_fault tells B format own (declared_by graph) folder limits given targets store entry now found idle formed taken (looks_then tells entry old now looked.looks looks) so.fault (cause_then entry old now (Err so.fault) looked.unrefused so.cause))
+builds_lacking tells B format own graph folder limits given targets store entry old now found idle formed taken records cone listed known looked looks report (inr so) =
+    subst (λ (r : Report). Builds tells B format own (declared_by graph) folder limits given targets entry now r) (sym {A = Report} so.says)
+    (builds_missing tells B format own (declared_by graph) folder limits given targets store entry now found idle formed taken cone.order.items cone.marks.items listed.listed listed.named listed.acyclic (looked_more tells entry old now looked looks so.unrefused) so.missing
+    (λ tell kept. so.is targets store known listed tell entry.history
     (stays_at_entry tells entry old now now.history [] idle looked looks (sym (append-nil now.history)) tell kept.edits)))

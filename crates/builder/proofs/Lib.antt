@@ -3,6 +3,8 @@ pub mod Builds
 pub mod Counting
 pub mod Folders
 pub mod Formed
+pub mod Joining
+pub mod Numbering
 pub mod Opening
 pub mod Slices
 pub mod Stages

@@ -1,33 +1,41 @@
--- What was read of the build log, and what it is known for afterwards.
-use Rattle.std.proofs.Common.{◌≡◌, ℕ, Bool, IsTrue, List, [], Option, None, sym, ◌∙◌, subst}
+-- What was read of the logs, and what it is known for afterwards.
+use Rattle.std.proofs.Common.{◌≡◌, ◌≢◌, ℕ, Bool, IsTrue, List, [], Option, None, refl, sym, ◌∙◌, ap, subst}
+use Rattle.model.specs.declared.event.Moment.{Moment}
+use Rattle.model.specs.declared.graph.Edge.{Edge}
 use Rattle.model.specs.declared.record.Record.{Record}
-use Rattle.model.specs.World.{World, file_at, content_of, IsIdle}
+use Rattle.model.specs.declared.record.DepsRecord.{DepsRecord}
+use Rattle.model.specs.World.{World, view_of, file_at, content_of, IsIdle}
 use Rattle.model.specs.Calls.{OnlyLooks, Sees}
 use Rattle.model.specs.Outcome.{Behaviour}
-use Rattle.model.specs.Premises.{FilesAreKept}
-use Rattle.model.specs.Records.{OwnFiles, IsOwnIn, file_in, build_log_name}
-use Rattle.build_theory.specs.Seen.{Looked}
+use Rattle.model.specs.Premises.{NothingIsEdited}
+use Rattle.model.specs.Records.{LogFormat, OwnFiles, Store, read_log, store_in, IsOwnIn, file_in, build_log_name, deps_log_name}
+use Rattle.build_theory.specs.Seen.{Looked, Unrefused}
 use Rattle.build_theory.proofs.Calls.{seen_since}
+use Rattle.build_theory.proofs.Looks.{looks_then, looks_keep, edits_before, sees_so}
+use Rattle.build_log.specs.declared.form.Version.{Version}
+use Rattle.build_log.specs.Form.{Form}
 use Rattle.build_log.specs.Laws.{Reads}
+use Rattle.build_log.specs.Log.{Keeps, compaction}
 use Rattle.build_log.specs.Record.{forms}
-use Rattle.links.specs.declared.cone.Cone.{Cone}
+use Rattle.deps_log.specs.Format.{ReadsLogs}
+use Rattle.deps_log.specs.Log.{Keeps as KeepsDeps, compaction as deps_compaction}
+use Rattle.deps_log.specs.Record.{forms as deps_forms}
+use Rattle.depfile.specs.Depfile.{IsReading}
+use Rattle.log_theory.specs.Logged.{IsLoggedAt}
 use Rattle.links.specs.declared.graph.Graph.{Graph}
 use Rattle.links.specs.Told.{declared_by}
-use Rattle.dues.specs.Stores.{IsStoreOf, IsConeIn}
-use Rattle.looks.specs.declared.table.Looks.{Looks}
-use Rattle.looks.specs.Seen.{AreSeen}
 use Rattle.records.specs.declared.records.Records.{Records}
-use Rattle.records.specs.Held.{IsReadFrom}
-use Rattle.records.specs.Known.{IsOf}
-use Rattle.records.specs.Laws.{LogBegins, AreOfEntry}
+use Rattle.records.specs.Held.{Held, WasRead}
+use Rattle.records.specs.Laws.{LogBegins, WereRead}
 use Rattle.records.specs.Logging.{IsLogging}
+use Rattle.records.proofs.Told.{records_told}
 use Rattle.builder.specs.declared.asked.Asked.{Asked as Request}
 use Rattle.builder.specs.declared.report.Report.{Report}
 use Rattle.builder.specs.declared.report.Report.TheVariants.{Success, Failed, Refused, Fault}
-use Rattle.builder.specs.Build.{asked_of, build_logs}
-use Rattle.builder.specs.Reports.{IsUnrecorded, MayRun, ShowsCause}
-use Rattle.builder.proofs.Beginning.{store_known, may_run}
-use Rattle.builder.proofs.Builds.{store_of, course_of, no_deps}
+use Rattle.builder.specs.Build.{asked_of}
+use Rattle.builder.specs.Recorded.{HasJoined}
+use Rattle.builder.specs.Reports.{HasRead, ShowsCause}
+use Rattle.builder.proofs.Builds.{IsFoundAt, course_of, looked_more}
 use Rattle.builder.proofs.Folders.{logs_apart}
 
 -- a fault that is told has its cause, since no call was refused before
@@ -37,28 +45,87 @@ cause_since entry old new (Failed outputs) same cause = tt
 cause_since entry old new (Refused refusal) same cause = tt
 cause_since entry old new (Fault fault) same cause = seen_since entry old new fault same cause
 
--- this was read of the log at the path, in a call
-abbrev pub WasRead : Bool → Graph → Records → List ℕ → World → World → Type 0
-WasRead tells graph records path old new =
-    (content : Option (List ℕ)) × (rs : List Record) × IsReadFrom content rs records.file × IsOf rs graph.manifest.paths records
-    × (IsTrue tells → Sees (λ history. content_of (file_at history path)) content old.history new.history)
+-- ---- what was read is what the logs told at the entry
 
-module _ (law : LogBegins) (tells : Bool) (graph : Graph) (request : Request) (records : Records) (path : List ℕ) (old read : World) (looks : OnlyLooks tells old read)
-    (at : records.file.path ≡ path) (in_folder : path ≡ file_in request.folder build_log_name) (was : WasRead tells graph records path old read)
-    (B : Behaviour) (reader : List ℕ → Option (List Record)) (reads : Reads forms reader) (own : OwnFiles) (owned : IsOwnIn own request.folder) (entry : World) (idle : IsIdle entry.events) (looked : OnlyLooks tells entry old)
-    (now : World) (later : OnlyLooks tells read now) where
-  begun : IsLogging tells B (build_logs reader) own (declared_by graph).edges [] None (store_of reader own entry) entry now records.file × AreOfEntry tells (build_logs reader) own (declared_by graph).edges entry now was.1
-  begun =
-      law tells B (build_logs reader) own (declared_by graph).edges entry old read now records.file was.0 was.1 idle looked looks later
-      (at ∙ (in_folder ∙ sym {A = List ℕ} owned.build_log))
-      (λ same. logs_apart request.folder (sym {A = List ℕ} owned.build_log ∙ (same ∙ owned.deps_log)))
-      reads was.2 (λ tell. subst (λ (p : List ℕ). Sees (λ history. content_of (file_at history p)) was.0 old.history read.history) (sym {A = List ℕ} at) (was.4 tell))
+-- in calls that only look a file is seen as it was at the entry, where nobody writes
+module _ (tells : Bool) (entry old read : World) (idle : IsIdle entry.events) (before : OnlyLooks tells entry old) (looks : OnlyLooks tells old read) (tell : IsTrue tells) (edits : NothingIsEdited entry.history read.history) where
+  old_is : old.history ≡ entry.history
+  old_is = let call = looks.history tell in looks_keep tells entry old idle before tell (edits_before entry.history old.history read.history call.more call.grows edits)
 
-  -- the records are those of the store at the entry
-  pub known_at_entry : IsUnrecorded graph → IsTrue tells → FilesAreKept own (declared_by graph).edges entry.history now.history → IsStoreOf graph records (store_of reader own entry)
-  known_at_entry unrecorded tell kept = store_known graph records (store_of reader own entry) was.1 unrecorded (no_deps reader own entry) was.3 (begun.1 tell kept)
+  read_is : read.history ≡ entry.history
+  read_is = looks_keep tells entry read idle (looks_then tells entry old read before looks) tell edits
 
-  pub may_run_here : (cone : Cone) (seen : Looks) → Looked tells entry now → IsConeIn graph (store_of reader own entry) request.targets cone
-      → (IsTrue tells → FilesAreKept own (declared_by graph).edges entry.history now.history → AreSeen graph.manifest.paths now.history seen.seen.items)
-      → MayRun tells graph request cone records seen (course_of B reader own (asked_of (declared_by graph) request.folder request.limits request.targets) entry) now
-  may_run_here cone seen here listed are = may_run tells B reader own graph request cone records seen entry now was.1 owned idle here listed begun.0 was.3 begun.1 are
+  content_is : (path : List ℕ) (content : Option (List ℕ)) → Sees (λ history. content_of (file_at history path)) content old.history read.history → view_of entry.history path ≡ content
+  content_is path content seen =
+      sym (sees_so (λ history. content_of (file_at history path)) content old.history read.history (read_is ∙ sym old_is) seen ∙ ap (λ (h : List Moment). content_of (file_at h path)) old_is)
+
+  -- so a log tells then what was read of it
+  told_at_entry : {R T : Type 0} (forms : Version → Form R) (Keeps : List R → T → Type 0) (compaction : List R → List R) (rs : List R) (file : Held T) → WasRead forms Keeps compaction tells old read rs file
+      → (reader : List ℕ → Option (List R)) → Reads forms reader → (path : List ℕ) → file.path ≡ path → rs ≡ read_log reader (view_of entry.history path)
+  told_at_entry forms Keeps compaction rs file was reader reads path is =
+      sym (
+      ap (read_log reader) (ap (view_of entry.history) (sym {A = List ℕ} is) ∙ content_is file.path was.content (was.seen tell))
+      ∙ records_told forms reader reads was.content rs was.read.records
+      )
+
+module _ (law : LogBegins) (tells : Bool) (graph new : Graph) (request : Request) (records : Records) (rs : List Record) (ds : List DepsRecord) (old read : World) (looks : OnlyLooks tells old read) (passed : Unrefused old read)
+    (build_log : records.logs.build_log.path ≡ file_in request.folder build_log_name) (deps_log : records.logs.deps_log.path ≡ file_in request.folder deps_log_name)
+    (were : WereRead tells old read rs ds records.logs) (joined : HasJoined graph new rs ds records) where
+  abbrev store_read : Store
+  store_read = record { records = rs; deps = ds }
+
+  pub has_read : (B : Behaviour) (format : LogFormat) (own : OwnFiles) (entry : World) → IsReading B.depfile → ReadsLogs format → IsOwnIn own request.folder → IsIdle entry.events → Looked tells entry old
+      → HasRead tells new request records (course_of B format own (asked_of (declared_by new) request.folder request.limits request.targets) store_read entry) read
+  has_read B format own entry depfiles reads owned idle looked = record {
+    asked = refl;
+    reads = depfiles;
+    owned = owned;
+    found = found;
+    idle = idle;
+    looked = looked_more tells entry old read looked looks passed;
+    in_use = joined.in_use store_read refl refl;
+    logging = logging;
+    known = rs;
+    deps = ds;
+    told = joined.known;
+    store = refl;
+  }
+    where
+      edges : List Edge
+      edges = (declared_by new).edges
+
+      build_is : records.logs.build_log.path ≡ own.build_log
+      build_is = build_log ∙ sym {A = List ℕ} owned.build_log
+
+      deps_is : records.logs.deps_log.path ≡ own.deps_log
+      deps_is = deps_log ∙ sym {A = List ℕ} owned.deps_log
+
+      found : IsFoundAt tells format own store_read entry read
+      found tell edits =
+          ap (λ (l : List Record). record { records = l; deps = ds })
+          (told_at_entry tells entry old read idle looked.looks looks tell edits forms Keeps compaction rs records.logs.build_log were.build_log format.records reads.records own.build_log build_is)
+          ∙ ap (λ (l : List DepsRecord). record { records = read_log format.records (view_of entry.history own.build_log); deps = l })
+          (told_at_entry tells entry old read idle looked.looks looks tell edits deps_forms KeepsDeps deps_compaction ds records.logs.deps_log were.deps_log format.deps reads.deps own.deps_log deps_is)
+
+      apart : own.build_log ≢ own.deps_log
+      apart same = logs_apart request.folder (sym {A = List ℕ} owned.build_log ∙ (same ∙ owned.deps_log))
+
+      logging : (later : World) → OnlyLooks tells read later → IsLogging tells B format own edges [] None store_read entry later records.logs
+      logging later more =
+          let begun = law tells B format own edges entry old read later records.logs rs ds idle looked.looks looks more build_is deps_is apart reads were in
+          of_found later more begun.0
+        where
+          of_found : (later : World) → OnlyLooks tells read later → IsLogging tells B format own edges [] None (store_in format own (view_of entry.history)) entry later records.logs → IsLogging tells B format own edges [] None store_read entry later records.logs
+          of_found later more l = record {
+            build_log = l.build_log;
+            deps_log = l.deps_log;
+            apart = l.apart;
+            reads = l.reads;
+            commands = l.commands;
+            grows = l.grows;
+            build_held = l.build_held;
+            deps_held = l.deps_held;
+            logged = λ tell kept.
+                let call = more.history tell in
+                subst (λ (s : Store). IsLoggedAt B format own edges [] None s entry later) (sym {A = Store} (found tell (edits_before entry.history read.history later.history call.more call.grows kept.edits))) (l.logged tell kept);
+          }

@@ -20,8 +20,8 @@ use Rattle.runner.specs.declared.summary.Summary.TheVariants.{Well, Failed as So
 use Rattle.runner.specs.Ran.{answer_of}
 use Rattle.build_theory.specs.Seen.{Looked}
 use Rattle.build_theory.proofs.Calls.{unrefused_call}
-use Rattle.build_log.specs.Laws.{HasReader}
-use Rattle.build_log.specs.Record.{forms}
+use Rattle.deps_log.specs.Format.{HasFormat}
+use Rattle.depfile.specs.Depfile.{HasReading}
 use Rattle.manifest.specs.declared.fault.ReadError.{ReadError}
 use Rattle.manifest.specs.Answer.{IsGraph, ReadsFile}
 use Rattle.looks.specs.declared.table.Look.{Look}
@@ -31,8 +31,8 @@ use Rattle.builder.specs.declared.asked.Limits.{Limits}
 use Rattle.builder.specs.declared.asked.Asked.{Asked}
 use Rattle.builder.specs.declared.report.Report.{Report}
 use Rattle.builder.specs.Asked.{AreTargets, IsFolder}
-use Rattle.builder.specs.Build.{build_logs, Builds, BuildsFor, IsBuild}
-use Rattle.builder.specs.Reports.{report_in, run_answer, SaysEnd}
+use Rattle.builder.specs.Build.{Builds, BuildsFor, IsBuild}
+use Rattle.builder.specs.Reports.{report_in, run_answer, SaysEnd, ShowsCause}
 use Rattle.builder.proofs.Builds.{looked_nothing, idle_after, any_own, own_in, builds_grow}
 
 -- the report of an exit by `?`
@@ -66,6 +66,11 @@ pub passes_told : (graph : Graph) (old new : World) (summary : Summary) (report 
 passes_told graph old new (Well started) report is passes = subst (λ (r : Report). PassesNoFault old new (run_answer r)) (sym {A = Report} is) passes
 passes_told graph old new (SomeFailed edges) report is passes = subst (λ (r : Report). PassesNoFault old new (run_answer r)) (sym {A = Report} is) passes
 
+-- an end that is no fault has no cause to show
+pub shows_end : (graph : Graph) (old new : World) (summary : Summary) (report : Report) → SaysEnd graph summary report → ShowsCause old new report
+shows_end graph old new (Well started) report is = subst (λ (r : Report). ShowsCause old new r) (sym {A = Report} is) tt
+shows_end graph old new (SomeFailed edges) report is = subst (λ (r : Report). ShowsCause old new r) (sym {A = Report} is) tt
+
 module _ (tells : Bool) (outcome : Act → View → Outcome) (name : List ℕ) (limits : Limits) (given : List (List ℕ)) (old mid : World) (idle : IsIdle old.events) (looks : OnlyLooks tells old mid) (cause : HasCause {T = Unit {0}} old mid (Ok tt))
     (graph : BuildGraph) (formed : IsGraph graph) (file : IsTrue tells → ReadsFile name old.history mid.history (Ok graph))
     (asked : Asked) (given_is : asked.given.now ≡ given) (canonical : AreTargets given asked.targets) (in_folder : IsFolder graph.builddir asked.folder) (limits_is : asked.limits ≡ limits) where
@@ -82,23 +87,23 @@ module _ (tells : Bool) (outcome : Act → View → Outcome) (name : List ℕ) (
     canonical = canonical;
     folder = asked.folder;
     in_folder = in_folder;
-    builds = λ own reader depfile dyndep reads owned.
-        subst (λ (l : Limits). Builds tells (record { outcome = outcome; depfile = depfile; dyndep = dyndep }) (build_logs reader) own graph asked.folder l given asked.targets old new report) limits_is
-        (subst (λ (g : List (List ℕ)). Builds tells (record { outcome = outcome; depfile = depfile; dyndep = dyndep }) (build_logs reader) own graph asked.folder asked.limits g asked.targets old new report) given_is
-        (builds (record { outcome = outcome; depfile = depfile; dyndep = dyndep }) reader own old reads owned idle looked));
+    builds = λ own format depfile dyndep depfiles reads owned.
+        subst (λ (l : Limits). Builds tells (record { outcome = outcome; depfile = depfile; dyndep = dyndep }) format own graph asked.folder l given asked.targets old new report) limits_is
+        (subst (λ (g : List (List ℕ)). Builds tells (record { outcome = outcome; depfile = depfile; dyndep = dyndep }) format own graph asked.folder asked.limits g asked.targets old new report) given_is
+        (builds (record { outcome = outcome; depfile = depfile; dyndep = dyndep }) format own old depfiles reads owned idle looked));
   }
 
   -- right after the files were read
   pub built_here : (report : Report) → BuildsFor tells graph asked mid mid report → IsBuild tells outcome name limits given old mid report
   built_here report builds = built_on mid report file builds
 
-  pub built_later : HasReader forms → ((name : List ℕ) (old mid new later : List Moment) (result : Result BuildGraph ReadError) → new ≡ mid ++ later → ReadsFile name old mid result → ReadsFile name old new result)
+  pub built_later : HasFormat → HasReading → ((name : List ℕ) (old mid new later : List Moment) (result : Result BuildGraph ReadError) → new ≡ mid ++ later → ReadsFile name old mid result → ReadsFile name old new result)
       → (new : World) (report : Report) → BuildsFor tells graph asked mid new report → IsBuild tells outcome name limits given old new report
-  built_later some longer new report builds = built_on new report (λ tell. let later = grown tell in longer name old.history mid.history new.history later.0 (Ok graph) later.1 (file tell)) builds
+  built_later logs depfiles longer new report builds = built_on new report (λ tell. let later = grown tell in longer name old.history mid.history new.history later.0 (Ok graph) later.1 (file tell)) builds
     where
       any : Behaviour
-      any = record { outcome = outcome; depfile = λ text. None; dyndep = λ text. None }
+      any = record { outcome = outcome; depfile = depfiles.0; dyndep = λ text. None }
 
       grown : IsTrue tells → (later : List Moment) × (new.history ≡ mid.history ++ later)
-      grown tell = builds_grow tells any some.0 (any_own asked.folder) graph asked.folder asked.limits asked.given.now asked.targets mid new report
-          (builds any some.0 (any_own asked.folder) mid some.1 (own_in asked.folder) (idle_after tells old mid looks idle) (looked_nothing tells mid cause.stopped)) tell
+      grown tell = builds_grow tells any logs.0 (any_own asked.folder) graph asked.folder asked.limits asked.given.now asked.targets mid new report
+          (builds any logs.0 (any_own asked.folder) mid depfiles.1 logs.1 (own_in asked.folder) (idle_after tells old mid looks idle) (looked_nothing tells mid cause.stopped)) tell

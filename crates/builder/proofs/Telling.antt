@@ -1,13 +1,15 @@
 -- How a manifest in numbers is told in texts.
-use Rattle.std.proofs.Common.{◌≡◌, ℕ, zero, suc, ◌<◌, ◌≤◌, ◌+◌, cond, Bool, true, false, is_some, List, [], ◌∷◌, ◌++◌, map, length, take, drop, get_or, slice_get, Option, Some, None, refl, sym, ◌∙◌, ap, subst, arith}
-use Rattle.std.specs.List.{list_all}
+use Rattle.std.proofs.Common.{◌≡◌, ℕ, zero, suc, ◌<◌, ◌≤◌, ◌+◌, cond, bytes_eq, Bool, true, false, is_some, List, [], ◌∷◌, ◌++◌, map, length, take, drop, get_or, slice_get, Option, Some, None, refl, sym, ◌∙◌, ap, subst, arith}
 use Rattle.std.specs.Option.{option_map}
 use Rattle.std.proofs.lemmas.List.{map-append, take_more, take_all}
 use Rattle.model.specs.declared.event.Moment.{Moment}
 use Rattle.model.specs.declared.graph.Edge.{Edge}
 use Rattle.model.specs.Graph.{edge_at, first_output, no_edge, outputs, has}
-use Rattle.model.specs.declared.record.DepsRecord.{DepsRecord}
-use Rattle.model.specs.Records.{Store, recorded_of, recorded_inputs, all_paths_in, is_known, in_force, deps_in_force}
+use Rattle.build_theory.proofs.Lists.{bytes_same}
+use Rattle.std.proofs.lemmas.Bool.{false≢true, or_left}
+use Rattle.links.specs.declared.graph.Graph.{Graph}
+use Rattle.links.specs.Told.{declared_by, recorded_by}
+use Rattle.model.specs.Records.{Store, recorded_of}
 use Rattle.paths.specs.declared.line.Line.{Line}
 use Rattle.paths.specs.declared.manifest.Action.{Action}
 use Rattle.paths.specs.declared.manifest.Action.TheVariants.{Alias, Command}
@@ -15,9 +17,9 @@ use Rattle.paths.specs.declared.manifest.Manifest.{Manifest}
 use Rattle.paths.specs.Commands.{no_action}
 use Rattle.paths.specs.Lists.{line_at, line_outputs}
 use Rattle.paths.specs.Told.{text_at, texts_at, edge_of, edges_of, graph_of}
-use Rattle.links.specs.Told.{AreSameInputs}
 use Rattle.dues.specs.Lacks.{IsLackedBy}
-use Rattle.builder.specs.Reports.{HasNoDeps, IsMissingFor, IsNotTakenAt, first_output_of}
+use Rattle.builder.specs.Reports.{IsMissingFor, IsNotTakenAt, first_output_of}
+use Rattle.builder.specs.Recorded.{IsRecordedBy}
 use Rattle.builder.specs.Taken.{IsTakenEdge, IsTaken}
 use Rattle.builder.proofs.Slices.{split_at, all_one_more}
 
@@ -37,7 +39,7 @@ map_next f numbers i number before after one low is was pushed same =
 
 -- ---- the edges
 
-length_edges : (paths : List (List ℕ)) (lines : List Line) (actions : List Action) → length actions ≡ length lines → length (edges_of paths lines actions) ≡ length lines
+pub length_edges : (paths : List (List ℕ)) (lines : List Line) (actions : List Action) → length actions ≡ length lines → length (edges_of paths lines actions) ≡ length lines
 length_edges paths [] actions fits = refl
 length_edges paths (line ∷ lines) [] fits = absurd (omega (arith, fits))
 length_edges paths (line ∷ lines) (action ∷ actions) fits = ap suc (length_edges paths lines actions (omega (arith, fits)))
@@ -65,10 +67,10 @@ module _ (manifest : Manifest) where
   abbrev told : List Edge
   told = (graph_of manifest).edges
 
-  edge_is : (e : ℕ) → edge_at told (suc e) ≡ edge_of manifest.paths (line_at manifest.lines e) (get_or manifest.actions e no_action)
+  pub edge_is : (e : ℕ) → edge_at told (suc e) ≡ edge_of manifest.paths (line_at manifest.lines e) (get_or manifest.actions e no_action)
   edge_is e = edge_get manifest.paths manifest.lines manifest.actions e manifest.fits
 
-  outputs_are : (e : ℕ) → outputs (edge_at told (suc e)) ≡ texts_at manifest.paths (line_outputs (line_at manifest.lines e))
+  pub outputs_are : (e : ℕ) → outputs (edge_at told (suc e)) ≡ texts_at manifest.paths (line_outputs (line_at manifest.lines e))
   outputs_are e = ap outputs (edge_is e) ∙ outputs_of manifest.paths (line_at manifest.lines e) (get_or manifest.actions e no_action)
 
   pub first_some : (e p : ℕ) (numbers : List ℕ) → numbers ≡ line_outputs (line_at manifest.lines e) → Some p ≡ slice_get numbers 0 → text_at manifest.paths p ≡ first_output_of manifest e
@@ -108,27 +110,18 @@ module _ (manifest : Manifest) where
   pub taken_all : (place count : ℕ) → count ≡ length manifest.lines → count ≤ place → IsTaken (take place told) → IsTaken told
   taken_all place count all past taken = subst IsTaken (take_all place told (omega (arith, all, past, length_edges manifest.paths manifest.lines manifest.actions manifest.fits))) taken
 
--- ---- nothing recorded
+-- ---- what is recorded
 
-no_paths : (os : List (List ℕ)) → all_paths_in [] os ≡ []
-no_paths [] = refl
-no_paths (o ∷ os) = no_paths os
+-- a list that has no path is empty
+none_of_list : (paths : List (List ℕ)) → ((p : List ℕ) → has paths p ≡ false) → paths ≡ []
+none_of_list [] none = refl
+none_of_list (q ∷ paths) none = absurd (false≢true (sym (none q) ∙ or_left (bytes_eq q q) (has paths q) (bytes_same q)))
 
--- where no deps record is known, no edge has recorded inputs in use
-pub recorded_none : (store : Store) (edges : List Edge) (i : ℕ) → HasNoDeps store → recorded_inputs store edges i ≡ []
-recorded_none store edges i none = by_test (edge_at edges i).phony (is_some (edge_at edges i).dyndep)
-  where
-    known : (t : Bool) (os : List (List ℕ)) → cond t (all_paths_in store.deps os) [] ≡ []
-    known true os = ap (λ (l : List DepsRecord). all_paths_in l os) none ∙ no_paths os
-    known false os = refl
-
-    by_test : (t u : Bool) → cond t [] (cond u [] (recorded_of store (edge_at edges i))) ≡ []
-    by_test true u = refl
-    by_test false true = refl
-    by_test false false = known (list_all (λ o. is_known (edge_at edges i).act (in_force store.records o) (deps_in_force store.deps o)) (outputs (edge_at edges i))) (outputs (edge_at edges i))
-
-pub same_nothing : (store : Store) (edges : List Edge) (others : ℕ → List (List ℕ)) → HasNoDeps store → ((i : ℕ) → others i ≡ []) → AreSameInputs (recorded_inputs store edges) others
-same_nothing store edges others no_deps none i p = ap (λ (l : List (List ℕ)). has l p) (recorded_none store edges i no_deps ∙ sym (none i))
+-- a phony edge has no recorded inputs
+pub none_of_phony : (graph : Graph) (store : Store) → IsRecordedBy graph store → (i : ℕ) → (edge_at (declared_by graph).edges i).phony ≡ true → recorded_by graph i ≡ []
+none_of_phony graph store in_use i phony =
+    none_of_list (recorded_by graph i)
+    (λ p. sym (in_use i p) ∙ ap (λ (b : Bool). has (cond b [] (cond (is_some (edge_at (declared_by graph).edges i).dyndep) [] (recorded_of store (edge_at (declared_by graph).edges i)))) p) phony)
 
 -- ---- what is missing
 

@@ -9,12 +9,11 @@ use Rattle.model.specs.World.{World, View, IsIdle}
 use Rattle.model.specs.Graph.{Addition}
 use Rattle.model.specs.Calls.{OnlyLooks, HasCause}
 use Rattle.model.specs.Outcome.{Behaviour}
-use Rattle.model.specs.declared.record.Record.{Record}
 use Rattle.model.specs.Records.{LogFormat, OwnFiles, IsOwnIn}
 use Rattle.model.specs.History.{IsHeadline}
 use Rattle.model.specs.Kept.{KeepsLogs}
-use Rattle.build_log.specs.Laws.{Reads}
-use Rattle.build_log.specs.Record.{forms}
+use Rattle.deps_log.specs.Format.{ReadsLogs}
+use Rattle.depfile.specs.Depfile.{IsReading}
 use Rattle.model.specs.SingleBuild.{Asked, Answer, is_fault, SingleBuild}
 use Rattle.model.specs.SingleBuild as answer
 use Rattle.manifest.specs.Answer.{ReadsFile, site_part}
@@ -33,10 +32,6 @@ use Rattle.builder.specs.Taken.{IsTaken, IsFirstNotTaken}
 use Rattle.links.specs.Targets.{IsFirstUnknown}
 use Rattle.runner.specs.Removing.{AreRemoved}
 use Rattle.manifest.specs.Answer.{IsGraph}
-
--- build logs are read so, and no deps log is read yet
-abbrev pub build_logs : (List ℕ → Option (List Record)) → LogFormat
-build_logs reader = record { records = reader; deps = λ text. None }
 
 -- the limits of these options
 abbrev pub limits_of : Options → Limits
@@ -93,11 +88,11 @@ pub record Builds (tells : Bool) (B : Behaviour) (format : LogFormat) (own : Own
   pub responses : LeavesNoResponses build
 
 -- what was asked for was built from an entry on, since which there was only looked: for any own files of the program that lie in
--- this folder, and for each function that reads build logs as they are defined
+-- this folder, and for each format and each reading of depfiles by which logs and depfiles are read as they are defined
 abbrev pub BuildsFor : Bool → BuildGraph → Request → World → World → Report → Type 0
 BuildsFor tells graph asked old new report =
-    (B : Behaviour) (reader : List ℕ → Option (List Record)) (own : OwnFiles) (entry : World) → Reads forms reader → IsOwnIn own asked.folder → IsIdle entry.events → Looked tells entry old
-    → Builds tells B (build_logs reader) own graph asked.folder asked.limits asked.given.now asked.targets entry new report
+    (B : Behaviour) (format : LogFormat) (own : OwnFiles) (entry : World) → IsReading B.depfile → ReadsLogs format → IsOwnIn own asked.folder → IsIdle entry.events → Looked tells entry old
+    → Builds tells B format own graph asked.folder asked.limits asked.given.now asked.targets entry new report
 
 -- the report of a build whose files were not read
 abbrev pub unread : ReadError → Report
@@ -115,8 +110,8 @@ pub record IsUnread (tells : Bool) (name : List ℕ) (old new : World) (report :
   pub file : IsTrue tells → OnOk (site_part {T = BuildGraph} (Err error)) (ReadsFile name old.history new.history (Err error))
 
 -- The file of this name was read, and the graph that it declares was built: for any own files of the program that lie in the
--- folder which `builddir` names, for each function that reads build logs as they are defined, and whatever depfiles and dyndep
--- files say, as no edge has one.
+-- folder which `builddir` names, for each format and each reading of depfiles by which logs and depfiles are read as they are
+-- defined, and whatever dyndep files say, as no edge has one.
 pub record IsBuilt (tells : Bool) (outcome : Act → View → Outcome) (name : List ℕ) (limits : Limits) (given : List (List ℕ)) (old new : World) (report : Report) : Type 0 where
   pub graph : BuildGraph
   pub formed : IsGraph graph
@@ -126,8 +121,8 @@ pub record IsBuilt (tells : Bool) (outcome : Act → View → Outcome) (name : L
   pub canonical : AreTargets given targets
   pub folder : List ℕ
   pub in_folder : IsFolder graph.builddir folder
-  pub builds : (own : OwnFiles) (reader : List ℕ → Option (List Record)) (depfile : List ℕ → Option (List (List ℕ))) (dyndep : List ℕ → Option (List Addition)) → Reads forms reader → IsOwnIn own folder
-      → Builds tells (record { outcome = outcome; depfile = depfile; dyndep = dyndep }) (build_logs reader) own graph folder limits given targets old new report
+  pub builds : (own : OwnFiles) (format : LogFormat) (depfile : List ℕ → Option (List (List ℕ))) (dyndep : List ℕ → Option (List Addition)) → IsReading depfile → ReadsLogs format → IsOwnIn own folder
+      → Builds tells (record { outcome = outcome; depfile = depfile; dyndep = dyndep }) format own graph folder limits given targets old new report
 
 abbrev pub IsBuild : Bool → (Act → View → Outcome) → List ℕ → Limits → List (List ℕ) → World → World → Report → Type 0
 IsBuild tells outcome name limits given old new report = IsUnread tells name old new report ⊎ IsBuilt tells outcome name limits given old new report

@@ -5,10 +5,10 @@ use Rattle.model.specs.declared.fault.SiteFault.{SiteFault}
 use Rattle.model.specs.declared.fault.SiteFault.TheVariants.{Memory}
 use Rattle.model.specs.declared.graph.Edge.{Edge}
 use Rattle.model.specs.World.{World, view_of, IsIdle}
-use Rattle.model.specs.Calls.{HasCause}
+use Rattle.model.specs.Calls.{HasCause, OnlyLooks}
 use Rattle.model.specs.Graph.{edge_at, first_output, targets_of}
 use Rattle.model.specs.OutOfDate.{IsFirstMissing, IsMissingInput, NothingIsMissing}
-use Rattle.model.specs.Premises.{FilesAreKept}
+use Rattle.model.specs.Premises.{FilesAreKept, NothingIsEdited}
 use Rattle.model.specs.Records.{Store, IsOwnIn, store_in}
 use Rattle.model.specs.SingleBuild as answer
 use Rattle.model.specs.SingleBuild.{Asked, Answer, task_of}
@@ -27,9 +27,10 @@ use Rattle.dues.specs.Stores.{IsStoreOf, IsConeIn}
 use Rattle.looks.specs.declared.table.Looks.{Looks}
 use Rattle.looks.specs.Seen.{IfStays, AreSeen, AreSeenOf}
 use Rattle.records.specs.declared.records.Records.{Records}
-use Rattle.records.specs.Known.{IsOf}
+use Rattle.records.specs.Known.{AreKnown}
 use Rattle.records.specs.Logging.{IsLogging}
 use Rattle.model.specs.declared.record.Record.{Record}
+use Rattle.model.specs.declared.record.DepsRecord.{DepsRecord}
 use Rattle.plan.specs.declared.plan.Plan.{Plan}
 use Rattle.plan.specs.Planned.{IsPlanned}
 use Rattle.lowest.specs.Flags.{has}
@@ -47,6 +48,8 @@ use Rattle.builder.specs.declared.report.Refusal.TheVariants.{MadeTwice, NoDynde
 use Rattle.builder.specs.declared.report.Report.{Report}
 use Rattle.builder.specs.declared.report.Report.TheVariants.{Success, Failed, Refused, Fault}
 use Rattle.builder.specs.Build.{asked_of}
+use Rattle.depfile.specs.Depfile.{IsReading}
+use Rattle.builder.specs.Recorded.{IsRecordedBy}
 use Rattle.builder.specs.Taken.{IsFirstNotTaken}
 
 -- a stage that ends the build gives its report as an error
@@ -89,20 +92,16 @@ ShowsFault paths given cone.Memory refusal = ⊥
 ShowsFault paths given (cone.Unknown place) refusal = refusal ≡ UnknownTarget (text_at given place)
 ShowsFault paths given (cone.Cycle numbers) refusal = refusal ≡ Cycle (texts_at paths numbers)
 
--- no deps record is known
-abbrev pub HasNoDeps : Store → Type 0
-HasNoDeps store = store.deps ≡ []
-
--- these canonical targets have no cone where no deps record is known, and the refusal shows why
+-- these canonical targets have no cone with the recorded inputs of the graph, and the refusal shows why
 pub record IsConeRefused (graph : Graph) (given targets : List (List ℕ)) (refusal : Refusal) : Type 0 where
   pub fault : ConeFault
   pub shows : ShowsFault graph.manifest.paths given fault refusal
-  pub is : (asked : Asked) (store : Store) → asked.declared ≡ asked.graph.edges → asked.graph ≡ declared_by graph → asked.targets ≡ targets → HasNoDeps store
+  pub is : (asked : Asked) (store : Store) → asked.declared ≡ asked.graph.edges → asked.graph ≡ declared_by graph → asked.targets ≡ targets → IsRecordedBy graph store
       → IsNoCone asked store graph.manifest.paths fault
 
--- this is the cone of these targets where no deps record is known
-abbrev pub IsConeUnrecorded : Graph → List (List ℕ) → Cone → Type 0
-IsConeUnrecorded graph targets cone = (store : Store) → HasNoDeps store → IsConeIn graph store targets cone
+-- this is the cone of these targets with the recorded inputs of the graph
+abbrev pub IsConeRecorded : Graph → List (List ℕ) → Cone → Type 0
+IsConeRecorded graph targets cone = (store : Store) → IsRecordedBy graph store → IsConeIn graph store targets cone
 
 -- so it is told, or there was no memory
 abbrev pub SaysNoCone : Graph → List (List ℕ) → List (List ℕ) → Report → Type 0
@@ -145,28 +144,49 @@ LacksSource tells graph records cone old new report = SaysFault old new report �
 abbrev pub IsSeenAtEntry : Bool → Graph → World → World → Looks → Type 0
 IsSeenAtEntry tells graph old new looks = IfStays tells old new (λ files. AreSeen graph.manifest.paths files looks.seen.items)
 
+-- ---- what was read
+
+-- The logs were read by a build of what was asked for, on this course: no command ran at its entry, since which there was only looked
+-- and no call was refused; what they told is the store of the course, which is that of the entry unless somebody wrote since; its
+-- recorded inputs in use are those of the graph. From here on, as long as there is only looked, the logs go on.
+pub record HasRead (tells : Bool) (graph : Graph) (request : Request) (records : Records) (course : Course) (now : World) : Type 0 where
+  pub asked : course.asked ≡ asked_of (declared_by graph) request.folder request.limits request.targets
+  pub reads : IsReading course.behaviour.depfile
+  pub owned : IsOwnIn course.own request.folder
+  pub found : IsTrue tells → NothingIsEdited course.entry.history now.history → course.store ≡ store_in course.format course.own (view_of course.entry.history)
+  pub idle : IsIdle course.entry.events
+  pub looked : Looked tells course.entry now
+  pub in_use : IsRecordedBy graph course.store
+  pub logging : (later : World) → OnlyLooks tells now later → IsLogging tells course.behaviour course.format course.own (edges_of course) [] None course.store course.entry later records.logs
+  pub known : List Record
+  pub deps : List DepsRecord
+  pub told : AreKnown graph known deps records
+  pub store : course.store ≡ record { records = known; deps = deps }
+
 -- ---- the run
 
 -- in the plan of this cone nothing is judged yet, and nothing was made anew
 pub record IsPlanFor (graph : Graph) (cone : Cone) (limits : Limits) (plan : Plan) : Type 0 where
   pub flags : (p : ℕ) → has plan.changed.items p ≡ false
-  pub planned : (folder : List ℕ) (targets : List (List ℕ)) (store : Store) → HasNoDeps store → IsConeIn graph store targets cone
+  pub planned : (folder : List ℕ) (targets : List (List ℕ)) (store : Store) → IsRecordedBy graph store → IsConeIn graph store targets cone
       → IsPlanned (task_of (asked_of (declared_by graph) folder limits targets) store) graph plan []
 
--- A run of what was asked for may begin on this course: no command ran at its entry, since which there was only looked; the records
--- that were read are those of the entry, and what was seen of files is so.
+-- A run of what was asked for may begin on this course: no command ran at its entry, since which there was only looked; where files
+-- are kept, the records that were read are those of the entry, and what was seen of files is so.
 pub record MayRun (tells : Bool) (graph : Graph) (request : Request) (cone : Cone) (records : Records) (looks : Looks) (course : Course) (now : World) : Type 0 where
   pub asked : course.asked ≡ asked_of (declared_by graph) request.folder request.limits request.targets
   pub owned : IsOwnIn course.own request.folder
-  pub found : course.store ≡ store_in course.format course.own (view_of course.entry.history)
-  pub no_deps : HasNoDeps course.store
+  pub found : IsTrue tells → FilesAreKept course.own (edges_of course) course.entry.history now.history → course.store ≡ store_in course.format course.own (view_of course.entry.history)
+  pub in_use : IsRecordedBy graph course.store
+  pub reads : IsReading course.behaviour.depfile
   pub idle : IsIdle course.entry.events
   pub looked : Looked tells course.entry now
   pub listed : IsConeIn graph course.store request.targets cone
-  pub logging : IsLogging tells course.behaviour course.format course.own (edges_of course) [] None course.store course.entry now records.file
+  pub logging : IsLogging tells course.behaviour course.format course.own (edges_of course) [] None course.store course.entry now records.logs
   pub known : List Record
-  pub told : IsOf known graph.manifest.paths records
-  pub same : IsTrue tells → FilesAreKept course.own (edges_of course) course.entry.history now.history → course.store.records ≡ known
+  pub deps : List DepsRecord
+  pub told : AreKnown graph known deps records
+  pub store : course.store ≡ record { records = known; deps = deps }
   pub seen : IsTrue tells → FilesAreKept course.own (edges_of course) course.entry.history now.history
       → AreSeenOf (is_quiet course.own (edges_of course) []) graph.manifest.paths now.history looks.seen.items
 

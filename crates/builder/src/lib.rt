@@ -6,6 +6,7 @@ mod commands;
 mod names;
 mod one_build;
 mod own_files;
+mod recorded;
 mod report;
 mod sources;
 mod taken;

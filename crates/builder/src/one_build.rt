@@ -1,7 +1,14 @@
 //! One build.
 
-ghost use Rattle.std.specs.Prelude.{◌≡◌, ◌<◌, All, IfOk, IfErr, false, vec_len, length};
+ghost use Rattle.std.specs.Prelude.{◌≡◌, ◌<◌, All, List, IfOk, IfErr, OnOk, false, vec_len, length};
+ghost use Rattle.model.specs.declared.record.Record.{Record};
+ghost use Rattle.model.specs.declared.record.DepsRecord.{DepsRecord};
 ghost use Rattle.model.specs.World.{IsIdle};
+ghost use Rattle.model.specs.Calls.{OnlyLooks};
+ghost use Rattle.model.specs.Records.{file_in, build_log_name, deps_log_name};
+ghost use Rattle.build_theory.specs.Seen.{Unrefused};
+ghost use Rattle.records.specs.Known.{AreKnown};
+ghost use Rattle.records.specs.Laws.{WereRead};
 ghost use Rattle.model.specs.Graph.{IsMadeOnce};
 ghost use Rattle.model.specs.SingleBuild.{PassesNoFault};
 ghost use Rattle.links.specs.Told.{declared_by};
@@ -9,20 +16,22 @@ ghost use Rattle.manifest.specs.Answer.{IsGraph};
 ghost use Rattle.paths.specs.Told.{text_at};
 ghost use Rattle.runner.specs.Course.{Course};
 ghost use Rattle.runner.specs.Ran.{AreEdgesOf};
-ghost use Rattle.builder.specs.Build.{limits_of, BuildsFor, IsBuild};
-ghost use Rattle.builder.specs.Reports.{report_in, IsUnrecorded, IsConeUnrecorded, SaysNoCone, ShowsFault, IsPlanFor, MayRun, SaysEnd, SaysRun, ShowsCause, run_answer};
+ghost use Rattle.builder.specs.Build.{limits_of, Builds, IsBuild};
+ghost use Rattle.builder.specs.Reports.{report_in, HasRead, IsConeRecorded, SaysNoCone, SaysFault, ShowsFault, IsPlanFor, MayRun, SaysEnd, SaysRun, ShowsCause, run_answer};
 ghost use Rattle.builder.specs.Taken.{IsTaken};
 
 use crate::asked::{Asked, Limits};
 use crate::commands::due_commands;
 use crate::names::{first_outputs, path_texts};
-use crate::own_files::{LOG, TICK, own_path};
+use crate::own_files::{DEPS_LOG, LOG, TICK, own_path};
+use crate::recorded::join_recorded;
 use crate::report::{Options, Refusal, Report};
 use crate::sources::{Known, check_sources};
 use crate::taken::check_taken;
-use build_log::{Log, has_reader};
+use depfile::has_reading;
+use deps_log::has_format;
 use display::Display;
-use links::{Cone, ConeFault, Graph};
+use links::{Cone, ConeFault, Graph, lists_stand};
 use manifest::reads_longer;
 use plan::{Plan, task_of};
 use records::{Records, log_begins};
@@ -33,12 +42,13 @@ use text::Text;
 
 /// Builds the targets, or the default ones where none is given (manual: "Default target statements").
 ///
-/// What the build log in the folder of `builddir` (manual: "Top-level variables") tells is believed: a command whose outputs are in
-/// order by their records is not started. Each start and each good end is put behind the log; one that is damaged tells nothing.
+/// What the logs in the folder of `builddir` (manual: "Top-level variables") tell is believed: a command whose outputs are in
+/// order by their records is not started, and the inputs that it told in its depfile count as its inputs. Each start and each good
+/// end is put behind the build log, and what a command told behind the deps log; one that is damaged tells nothing.
 ///
 /// A refusal has started and written nothing. `NotTaken` goes before every other refusal of the graph. Where a call was
 /// refused, a fault is answered, and nothing was started after it; where the site has stopped, that is the fault. The file
-/// that gets new stamps lies beside the log.
+/// that gets new stamps lies beside the logs.
 pub fn build<S: Site>(alloc: Global, site: &mut S, options: &Options, targets: &[Text]) -> Report
     requires { IsIdle (S.world site.old).events }
     ensures { IsBuild S.tells S.outcome options.now.file (limits_of options.now) targets.now (S.world site.old) (S.world site.new) result }
@@ -62,32 +72,54 @@ fn try_build<S: Site>(
     let manifest = manifest::read(alloc, site, options.file.as_str())?;
     let asked = Asked::new(alloc, options, targets, &manifest.builddir)?;
     check_taken(alloc, &manifest)?;
-    let graph = Graph::build(alloc, manifest)?;
+    let mut graph = Graph::build(alloc, manifest)?;
     reads_longer();
-    has_reader::<Log>();
-    build_graph(alloc, site, &graph, &asked, options)
+    has_format();
+    has_reading();
+    log_begins();
+    let records = read_records(alloc, site, &graph, &asked)?;
+    join_recorded(alloc, &mut graph, &records)?;
+    build_graph(alloc, site, &graph, &asked, options, records)
 }
 
-/// Builds what was asked for of a graph.
+/// Reads the logs, which lie in the folder of the program's own files.
+fn read_records<S: Site>(
+    alloc: Global,
+    site: &mut S,
+    graph: &Graph,
+    asked: &Asked<'_>,
+) -> Result<Records, Report>
+    requires running { (S.world site.old).stopped ≡ false }
+    ensures looks { OnlyLooks S.tells (S.world site.old) (S.world site.new) }
+    ensures build_log { IfOk result (λ records. records.logs.build_log.path ≡ file_in asked.now.folder build_log_name) }
+    ensures deps_log { IfOk result (λ records. records.logs.deps_log.path ≡ file_in asked.now.folder deps_log_name) }
+    ensures read { IfOk result (λ records. (rs : List Record) × (ds : List DepsRecord) × AreKnown graph.now rs ds records × WereRead S.tells (S.world site.old) (S.world site.new) rs ds records.logs) }
+    ensures unrefused { OnOk result (Unrefused (S.world site.old) (S.world site.new)) }
+    ensures fault { IfErr result (SaysFault (S.world site.old) (S.world site.new)) }
+{
+    lists_stand(graph);
+    let build_log = own_path(alloc, asked.folder.as_str(), LOG)?;
+    let deps_log = own_path(alloc, asked.folder.as_str(), DEPS_LOG)?;
+    Ok(Records::read(alloc, site, graph, build_log, deps_log)?)
+}
+
+/// Builds what was asked for of a graph, which has the recorded inputs that are in use by these records.
 fn build_graph<S: Site>(
     alloc: Global,
     site: &mut S,
     graph: &Graph,
     asked: &Asked<'_>,
     options: &Options,
+    records: Records,
 ) -> Result<Report, Report>
     requires idle { IsIdle (S.world site.old).events }
     requires running { (S.world site.old).stopped ≡ false }
     requires formed { IsGraph (declared_by graph.now) }
     requires taken { IsTaken (declared_by graph.now).edges }
     requires once { IsMadeOnce (declared_by graph.now).edges }
-    requires unrecorded { IsUnrecorded graph.now }
-    ensures { BuildsFor S.tells (declared_by graph.now) asked.now (S.world site.old) (S.world site.new) (report_in result) }
+    requires read { (course : Course) × HasRead S.tells graph.now asked.now records course (S.world site.old) }
+    ensures { (course : Course) → HasRead S.tells graph.now asked.now records course (S.world site.old) → Builds S.tells course.behaviour course.format course.own (declared_by graph.now) asked.now.folder asked.now.limits asked.now.given.now asked.now.targets course.entry (S.world site.new) (report_in result) }
 {
-    log_begins();
-    has_reader::<Log>();
-    let path = own_path(alloc, asked.folder.as_str(), LOG)?;
-    let records = Records::read(alloc, site, graph, path)?;
     let cone = cone_of(alloc, graph, asked)?;
     let known = check_sources(alloc, site, graph, &cone, &records)?;
     run_cone(alloc, site, graph, &cone, asked, options, records, known)
@@ -95,10 +127,9 @@ fn build_graph<S: Site>(
 
 /// The cone of what was asked for.
 fn cone_of(alloc: Global, graph: &Graph, asked: &Asked<'_>) -> Result<Cone, Report>
-    requires { IsUnrecorded graph.now }
     ensures marks { IfOk result (λ cone. vec_len cone.marks ≡ length graph.now.manifest.lines) }
     ensures within { IfOk result (λ cone. All (λ e. e < length graph.now.manifest.lines) cone.order.items) }
-    ensures cone { IfOk result (IsConeUnrecorded graph.now asked.now.targets) }
+    ensures cone { IfOk result (IsConeRecorded graph.now asked.now.targets) }
     ensures refused { IfErr result (SaysNoCone graph.now asked.now.given.now asked.now.targets) }
 {
     match graph.cone(alloc, asked.targets.as_slice()) {
@@ -152,7 +183,6 @@ fn run_cone<S: Site>(
     requires formed { IsGraph (declared_by graph.now) }
     requires taken { IsTaken (declared_by graph.now).edges }
     requires once { IsMadeOnce (declared_by graph.now).edges }
-    requires unrecorded { IsUnrecorded graph.now }
     requires marks { vec_len cone.now.marks ≡ length graph.now.manifest.lines }
     requires due { vec_len known.due ≡ length graph.now.manifest.lines }
     requires fits { length known.looks.seen.items ≡ length graph.now.manifest.paths }
@@ -178,7 +208,6 @@ fn run_cone<S: Site>(
 
 /// The plan of a cone within these limits, in which nothing is judged yet.
 fn plan_of(alloc: Global, graph: &Graph, cone: &Cone, limits: Limits) -> Result<Plan, AllocError>
-    requires unrecorded { IsUnrecorded graph.now }
     requires marks { vec_len cone.now.marks ≡ length graph.now.manifest.lines }
     ensures { IfOk result (IsPlanFor graph.now cone.now limits) }
 {

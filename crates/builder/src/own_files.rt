@@ -8,6 +8,9 @@ use std::alloc::{AllocError, Global};
 /// The build log.
 pub const LOG: &str = ".nj_log";
 
+/// The deps log.
+pub const DEPS_LOG: &str = ".nj_deps";
+
 /// The file that gets a new stamp before each start.
 pub const TICK: &str = ".nj_tick";
 

@@ -4,3 +4,4 @@ pub mod Fronts
 pub mod Parts
 pub mod Lines
 pub mod Once
+pub mod Total

@@ -1,7 +1,7 @@
-//! That a depfile says one thing.
+//! That a depfile says one thing, whatever it holds.
 
 ghost use Rattle.std.specs.Prelude.{◌≡◌, ℕ, List, Result};
-ghost use Rattle.depfile.specs.Depfile.{IsRead};
+ghost use Rattle.depfile.specs.Depfile.{IsRead, HasReading};
 ghost use Rattle.depfile.specs.declared.fault.DepFault.{DepFault};
 
 use lexer::one_form;
@@ -12,3 +12,8 @@ pub fn one_answer()
 {
     one_form();
 }
+
+/// A law, which runs nothing: there is a function that reads each depfile as its grammar says.
+pub fn has_reading()
+    ensures { HasReading }
+{}

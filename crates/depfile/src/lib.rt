@@ -11,5 +11,5 @@ mod separators;
 mod words;
 
 pub use fault::{DepFault, ReadError};
-pub use laws::one_answer;
+pub use laws::{has_reading, one_answer};
 pub use reading::inputs;

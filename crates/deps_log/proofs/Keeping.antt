@@ -1,15 +1,15 @@
 -- What is kept of the records, in the words of the model.
 use Rattle.std.proofs.Common.{◌≡◌, ℕ, zero, suc, List, [], ◌∷◌, ◌++◌, length, map, Option, Some, None, slice_get, refl, sym, ap, ◌∙◌, subst, Bool, Result, Ok, Err}
 use Rattle.std.specs.Prelude.{◌↔◌, IsTrue, OnOk, OnErr}
-use Rattle.std.specs.Option.{option_map}
+use Rattle.std.specs.Option.{option_and_then, option_map}
 use Rattle.std.proofs.lemmas.List.{length-map}
 use Rattle.model.specs.declared.record.DepsRecord.{DepsRecord}
 use Rattle.model.specs.Records.{Told, deps_in_force}
-use Rattle.build_log.specs.Kept.{Saying, Table, IsTableOf, AreNumbersOf, texts_at, if_some, told_of, in_force_of, WantsCompaction}
+use Rattle.build_log.specs.Kept.{Saying, Telling, Table, IsTableOf, AreNumbersOf, texts_at, if_some, told_of, tellings, in_force_of, WantsCompaction}
 use Rattle.build_log.specs.Steps.{IsGrown}
 use Rattle.deps_log.specs.declared.deps.Deps.{Deps}
-use Rattle.deps_log.specs.Log.{saying, deps_record, IsSaidBy, AreSaidBy, Keeps, told_in, compaction}
-use Rattle.deps_log.proofs.Sayings.{over, on, told_over, in_force_over, deps_told}
+use Rattle.deps_log.specs.Log.{told_of_record, tolds, saying, deps_record, IsSaidBy, AreSaidBy, Keeps, told_in, compaction}
+use Rattle.deps_log.proofs.Sayings.{over, on, told_over, tellings_over, in_force_over, deps_told}
 
 get_grown : (xs ys : List (List ℕ)) (n : ℕ) (t : List ℕ) → slice_get xs n ≡ Some t → slice_get (xs ++ ys) n ≡ Some t
 get_grown [] ys n t is = cc
@@ -80,6 +80,33 @@ pub found_is : {table : Table Deps} (records : List DepsRecord) (o : List ℕ) (
 found_is {table = table} records o found keeps e =
     ap (option_map (told_in table.outputs)) e
     ∙ (sym (told_over (told_in table.outputs) keeps.all o) ∙ (ap (λ (l : List (Saying Told)). told_of l o) (named table.outputs keeps.all records keeps.said) ∙ sym (deps_told records o)))
+
+tellings_said : (records : List DepsRecord) → map (λ t. t.1) (tellings (map saying records)) ≡ tolds records
+tellings_said [] = refl
+tellings_said (r ∷ rs) = ap (λ (l : List Told). told_of_record r ∷ l) (tellings_said rs)
+
+get_on : (xs : List (List ℕ)) (ts : List (Telling Deps)) (n : ℕ) → option_map (told_in xs) (slice_get (map (λ t. t.1) ts) n) ≡ slice_get (map (λ t. t.1) (map (on (told_in xs)) ts)) n
+get_on xs [] n = refl
+get_on xs (t ∷ ts) zero = refl
+get_on xs (t ∷ ts) (suc n) = get_on xs ts n
+
+-- the record with a number
+at_number : {table : Table Deps} (records : List DepsRecord) (n : ℕ) (keeps : Keeps records table) → option_map (told_in table.outputs) (slice_get (map (λ t. t.1) (tellings keeps.all)) n) ≡ slice_get (tolds records) n
+at_number {table = table} records n keeps =
+    get_on table.outputs (tellings keeps.all) n
+    ∙ ap (λ (l : List Told). slice_get l n)
+    (ap (map (λ t. t.1)) (sym (tellings_over (told_in table.outputs) keeps.all) ∙ ap tellings (named table.outputs keeps.all records keeps.said)) ∙ tellings_said records)
+
+pub told_at : {table : Table Deps} (records : List DepsRecord) (n : ℕ) (found : Option Deps) (keeps : Keeps records table) → found ≡ slice_get (map (λ t. t.1) (tellings keeps.all)) n → option_map (told_in table.outputs) found ≡ slice_get (tolds records) n
+told_at {table = table} records n found keeps e = ap (option_map (told_in table.outputs)) e ∙ at_number records n keeps
+
+pub place_is : {table : Table Deps} (records : List DepsRecord) (o : List ℕ) (p : Option ℕ) (keeps : Keeps records table) → option_and_then (slice_get (map (λ t. t.1) (tellings keeps.all))) p ≡ told_of keeps.all o
+    → option_and_then (slice_get (tolds records)) p ≡ deps_in_force records o
+place_is {table = table} records o p keeps e = by_place p ∙ found_is records o (option_and_then (slice_get (map (λ t. t.1) (tellings keeps.all))) p) keeps e
+  where
+    by_place : (p : Option ℕ) → option_and_then (slice_get (tolds records)) p ≡ option_map (told_in table.outputs) (option_and_then (slice_get (map (λ t. t.1) (tellings keeps.all))) p)
+    by_place None = refl
+    by_place (Some n) = sym (at_number records n keeps)
 
 pub count_is : {table : Table Deps} (records : List DepsRecord) (keeps : Keeps records table) → length keeps.all ≡ length records
 count_is {table = table} records keeps =

@@ -6,7 +6,7 @@ use Rattle.model.specs.declared.record.DepsRecord.{DepsRecord}
 use Rattle.model.specs.Graph.{has}
 use Rattle.model.specs.Records.{Told, deps_in_force, deps_from}
 use Rattle.build_log.specs.Kept.{Saying, Telling, told_from, told_of, tellings, place_from, place_of, is_place, left_to, some_of, in_force_from, in_force_of, sayings_of, InForceKeeps}
-use Rattle.deps_log.specs.Log.{told_of_record, saying, deps_record, compaction, CompactionKeeps}
+use Rattle.deps_log.specs.Log.{told_of_record, saying, deps_record, compaction}
 
 module _ {T U : Type 0} (f : T → U) where
   abbrev pub over : Saying T → Saying U
@@ -26,7 +26,7 @@ module _ {T U : Type 0} (f : T → U) where
   pub told_over : (all : List (Saying T)) (o : List ℕ) → told_of (map over all) o ≡ option_map f (told_of all o)
   told_over all o = told_over_from all o None
 
-  tellings_over : (all : List (Saying T)) → tellings (map over all) ≡ map on (tellings all)
+  pub tellings_over : (all : List (Saying T)) → tellings (map over all) ≡ map on (tellings all)
   tellings_over [] = refl
   tellings_over ((os, None) ∷ all) = tellings_over all
   tellings_over ((os, Some x) ∷ all) = ap (λ (l : List (Telling U)). (os, f x) ∷ l) (tellings_over all)
@@ -87,7 +87,7 @@ said_again : (ts : List (Telling Told)) → map saying (map deps_record ts) ≡ 
 said_again [] = refl
 said_again (t ∷ ts) = ap (λ (l : List (Saying Told)). (t.0, Some t.1) ∷ l) (said_again ts)
 
-pub compaction_keeps_law : InForceKeeps DepsRecord → CompactionKeeps
+pub compaction_keeps_law : InForceKeeps DepsRecord → (records : List DepsRecord) (output : List ℕ) → deps_in_force (compaction records) output ≡ deps_in_force records output
 compaction_keeps_law keeps records output =
     deps_told (compaction records) output
     ∙ (ap (λ (l : List (Saying Told)). told_of l output) (said_again (in_force_of (map saying records)))

@@ -2,7 +2,7 @@
 use Rattle.std.specs.Prelude.{◌≡◌, ℕ, List, [], ◌∷◌, None, Some, map}
 use Rattle.std.specs.Borrow.{Bor}
 use Rattle.model.specs.declared.record.DepsRecord.{DepsRecord}
-use Rattle.model.specs.Records.{Told, deps_in_force}
+use Rattle.model.specs.Records.{Told}
 use Rattle.build_log.specs.declared.form.Version.TheVariants.{Two}
 use Rattle.build_log.specs.Kept.{Saying, Telling, Table, IsTableOf, AreNumbersOf, texts_at, in_force_of}
 use Rattle.build_log.specs.Found.{texts_in}
@@ -53,6 +53,6 @@ IsLog text records = IsLogOf (forms Two) text records
 abbrev pub compaction : List DepsRecord → List DepsRecord
 compaction records = map deps_record (in_force_of (map saying records))
 
--- of a compaction the same is in force
-abbrev pub CompactionKeeps : Type 0
-CompactionKeeps = (records : List DepsRecord) (output : List ℕ) → deps_in_force (compaction records) output ≡ deps_in_force records output
+-- what the records tell, in order
+abbrev pub tolds : List DepsRecord → List Told
+tolds records = map told_of_record records

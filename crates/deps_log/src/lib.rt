@@ -8,6 +8,6 @@ mod log;
 mod record;
 
 pub use deps::Deps;
-pub use laws::{compaction_keeps, has_format};
+pub use laws::has_format;
 pub use log::Log;
 pub use record::record_line;

@@ -10,11 +10,13 @@ ghost use Rattle.build_log.specs.Kept.{AreDistinct, WantsCompaction};
 ghost use Rattle.build_log.specs.Text.{IsRead};
 ghost use Rattle.build_log.specs.Found.{IsNamed};
 ghost use Rattle.deps_log.specs.Record.{IsRecord, forms};
-ghost use Rattle.deps_log.specs.Log.{Keeps, IsLog, compaction, told_in, record_in};
+ghost use Rattle.deps_log.specs.Log.{Keeps, compaction, told_in, tolds, record_in};
 
 use crate::deps::Deps;
 use crate::record::{record_line, said_by};
-use build_log::{Field, InForce, Kept, Records, Tail, Version, parts_are_decided, plain_fields};
+use build_log::{
+    Field, InForce, Kept, Records, Tail, Version, in_force_keeps, parts_are_decided, plain_fields,
+};
 use model::DepsRecord;
 use std::alloc::{AllocError, Global};
 use std::marker::Model;
@@ -39,13 +41,22 @@ impl Model for Log {
 
 impl Records for Log {
     ghost use Rattle.deps_log.specs.Record.{forms};
-    ghost use Rattle.deps_log.specs.Log.{Keeps};
+    ghost use Rattle.deps_log.specs.Log.{Keeps, tolds, compaction};
+    ghost use Rattle.model.specs.Records.{Told, deps_in_force};
 
     type Record = DepsRecord;
 
     ghost forms = { forms };
 
     ghost Keeps = { Keeps };
+
+    ghost Told = { Told };
+
+    ghost in_force = { deps_in_force };
+
+    ghost told = { tolds };
+
+    ghost compaction = { compaction };
 
     fn new(alloc: Global) -> Log {
         Log {
@@ -71,6 +82,32 @@ impl Records for Log {
         };
         self.put(alloc, outputs, start, paths)?;
         Ok(true)
+    }
+
+    fn find(&self, output: &str) -> Option<usize> {
+        self.kept.find(output)
+    }
+
+    fn records(&self) -> u64 {
+        self.kept.records()
+    }
+
+    fn wants_compaction(&self) -> bool {
+        self.kept.wants_compaction()
+    }
+
+    fn compacted(&self, alloc: Global) -> Result<Vec<u8>, AllocError> {
+        let found = self.kept.in_force(alloc)?;
+        let mut text = Vec::from_slice(alloc, Log::first_line(Version::Two))?;
+        text.push(b'\n')?;
+        for telling in found.as_slice() {
+            self.push_record(alloc, &mut text, telling)?;
+        }
+        Ok(text)
+    }
+
+    fn keeps_in_force() {
+        in_force_keeps::<DepsRecord>();
     }
 
     fn are_readable() {
@@ -124,6 +161,13 @@ impl Log {
         self.kept.lookup(output)
     }
 
+    /// What the record with this number tells: they are counted from 0. It takes no memory.
+    pub fn deps_at(&self, number: usize) -> Option<&Deps>
+        ensures { (records : List DepsRecord) → Keeps records self.now → option_map (told_in self.now.outputs) (option_copied result) ≡ slice_get (tolds records) number }
+    {
+        self.kept.at(number)
+    }
+
     /// The path with this number. It takes no memory.
     pub fn path(&self, number: usize) -> Option<&str>
         ensures { option_map (λ path. path.now) result ≡ slice_get self.now.outputs number }
@@ -131,40 +175,11 @@ impl Log {
         self.kept.text(number)
     }
 
-    /// How many records there were.
-    pub fn records(&self) -> u64
-        ensures { (records : List DepsRecord) → Keeps records self.now → result ≡ length records }
-    {
-        self.kept.records()
-    }
-
     /// How many records are in force, each for one of its outputs at least.
     pub fn records_in_force(&self) -> usize
         ensures { (records : List DepsRecord) → Keeps records self.now → result ≡ length (compaction records) }
     {
         self.kept.records_in_force()
-    }
-
-    /// Whether the log is to be compacted before something is appended: where it has at least 100 records, and more than
-    /// half of them are not in force.
-    pub fn wants_compaction(&self) -> bool
-        ensures { (records : List DepsRecord) → Keeps records self.now → IsTrue result ↔ WantsCompaction (length records) (length (compaction records)) }
-    {
-        self.kept.wants_compaction()
-    }
-
-    /// The text of a log, in version 2, with the records in force in their order, each with those of its outputs for
-    /// which it is in force, and no others.
-    pub fn compacted(&self, alloc: Global) -> Result<Vec<u8>, AllocError>
-        ensures { IfOk result (λ text. (records : List DepsRecord) → Keeps records self.now → IsLog text.items (compaction records)) }
-    {
-        let found = self.kept.in_force(alloc)?;
-        let mut text = Vec::from_slice(alloc, Log::first_line(Version::Two))?;
-        text.push(b'\n')?;
-        for telling in found.as_slice() {
-            self.push_record(alloc, &mut text, telling)?;
-        }
-        Ok(text)
     }
 
     /// Writes the line of a record at the end.

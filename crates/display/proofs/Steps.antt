@@ -4,7 +4,7 @@ use Rattle.std.proofs.lemmas.Bool.{cases_Bool, eqb-true, false≢true}
 use Rattle.model.specs.declared.graph.Edge.{Edge}
 use Rattle.status.specs.declared.counts.Counts.{Counts}
 use Rattle.status.specs.declared.part.Part.{Part}
-use Rattle.status.specs.Ending.{ending_text}
+use Rattle.status.specs.Ending.{DepfileFault, ending_text}
 use Rattle.status.specs.Screen.{held}
 use Rattle.display.specs.declared.display.Progress.{Progress}
 use Rattle.display.specs.Shown.{is_console, with_one_more, AreCounts, command_line, failure_of, end_text, Showing, with_unstarted, with_held, shown_now, behind, counted_off, released, shown_at_end, held_at_end, Ends, ends_silently}
@@ -32,9 +32,9 @@ pub both_ok : {T E : Type 0} {P R : T → Type 0} {Q : Type 0} (r : Result T E) 
 both_ok (Ok x) p q f = f x p q
 both_ok (Err e) p q f = tt
 
-module _ (progress : Progress) (edge : Edge) (ok : Bool) (printed : List ℕ) (old new : Showing) (counts : Counts) (are : AreCounts progress old.unstarted counts)
-    (text : List ℕ) (is : text ≡ end_text old.pattern old.verbose counts edge ok printed) (shown : List ℕ) where
-  pub ends_at_terminal : is_console edge ≡ true → shown ≡ held old.held ++ text → new ≡ released old → Ends progress edge ok printed old new shown
+module _ (progress : Progress) (edge : Edge) (ok : Bool) (depfile : Option DepfileFault) (printed : List ℕ) (old new : Showing) (counts : Counts) (are : AreCounts progress old.unstarted counts)
+    (text : List ℕ) (is : text ≡ end_text old.pattern old.verbose counts edge ok depfile printed) (shown : List ℕ) where
+  pub ends_at_terminal : is_console edge ≡ true → shown ≡ held old.held ++ text → new ≡ released old → Ends progress edge ok depfile printed old new shown
   ends_at_terminal console now after = record {
     counts = counts;
     are = are;
@@ -42,7 +42,7 @@ module _ (progress : Progress) (edge : Edge) (ok : Bool) (printed : List ℕ) (o
     after = after ∙ ap (with_held old) (sym (ap (λ (b : Bool). if b then None else behind old.held text) console) ∙ ap (held_at_end edge old.held) is);
   }
 
-  pub ends_among_others : is_console edge ≡ false → shown ≡ shown_now old.held text → new ≡ with_held old (behind old.held text) → Ends progress edge ok printed old new shown
+  pub ends_among_others : is_console edge ≡ false → shown ≡ shown_now old.held text → new ≡ with_held old (behind old.held text) → Ends progress edge ok depfile printed old new shown
   ends_among_others other now after = record {
     counts = counts;
     are = are;
@@ -62,9 +62,9 @@ and_parts : (a b : Bool) → (a && b) ≡ true → (a ≡ true) × (b ≡ true)
 and_parts true b h = (refl, h)
 and_parts false b h = absurd (false≢true h)
 
-module _ (progress : Progress) (edge : Edge) (ok : Bool) (printed : List ℕ) (old new : Showing) (shown : List ℕ) (ends : Ends progress edge ok printed old new shown) (silent : ends_silently edge ok old.held ≡ true) where
+module _ (progress : Progress) (edge : Edge) (ok : Bool) (depfile : Option DepfileFault) (printed : List ℕ) (old new : Showing) (shown : List ℕ) (ends : Ends progress edge ok depfile printed old new shown) (silent : ends_silently edge ok old.held ≡ true) where
   abbrev text : List ℕ
-  text = end_text old.pattern old.verbose ends.counts edge ok printed
+  text = end_text old.pattern old.verbose ends.counts edge ok depfile printed
 
   silent_at : (b : Bool) → is_console edge ≡ b → (if b then ok && (length (held old.held) == 0) else is_some old.held) ≡ true
   silent_at b is = sym (ap (λ (b : Bool). if b then ok && (length (held old.held) == 0) else is_some old.held) is) ∙ silent
@@ -74,8 +74,8 @@ module _ (progress : Progress) (edge : Edge) (ok : Bool) (printed : List ℕ) (o
 
   no_text : is_console edge ≡ true → ok ≡ true → text ≡ []
   no_text console well =
-      ap (λ (b : Bool). if b then ending_text (record { failure = failure_of edge ok; output = [] }) else command_line old.pattern old.verbose ends.counts edge ++ ending_text (record { failure = failure_of edge ok; output = printed })) console
-      ∙ ap (λ (b : Bool). ending_text (record { failure = failure_of edge b; output = [] })) well
+      ap (λ (b : Bool). if b then ending_text (record { failure = failure_of edge ok depfile; output = [] }) else command_line old.pattern old.verbose ends.counts edge ++ ending_text (record { failure = failure_of edge ok depfile; output = printed })) console
+      ∙ ap (λ (b : Bool). ending_text (record { failure = failure_of edge b depfile; output = [] })) well
 
   pub silent_end : shown ≡ []
   silent_end = elim (cases_Bool (is_console edge)) [

@@ -6,7 +6,7 @@ use Rattle.model.specs.Graph.{console, outputs}
 use Rattle.status.specs.declared.counts.Counts.{Counts}
 use Rattle.status.specs.declared.part.Part.{Part}
 use Rattle.status.specs.Line.{line_text, said_of}
-use Rattle.status.specs.Ending.{Failure, ending_text}
+use Rattle.status.specs.Ending.{DepfileFault, Failure, ending_text}
 use Rattle.status.specs.Screen.{held}
 use Rattle.display.specs.declared.display.Progress.{Progress}
 
@@ -44,16 +44,16 @@ pub record AreCounts (progress : Progress) (unstarted : ℕ) (counts : Counts) :
 abbrev pub command_line : List Part → Bool → Counts → Edge → List ℕ
 command_line pattern verbose counts edge = line_text pattern counts (said_of verbose edge.description edge.act.command)
 
--- why it failed, where it did
-abbrev pub failure_of : Edge → Bool → Option Failure
-failure_of edge true = None
-failure_of edge false = Some (record { outputs = outputs edge; command = edge.act.command; depfile = None })
+-- why it failed, where it did, and what is wrong with its depfile, where that is why
+abbrev pub failure_of : Edge → Bool → Option DepfileFault → Option Failure
+failure_of edge true depfile = None
+failure_of edge false depfile = Some (record { outputs = outputs edge; command = edge.act.command; depfile = depfile })
 
 -- what is shown of a command that has ended and printed this: of one with the terminal no line, and nothing that it printed
-abbrev pub end_text : List Part → Bool → Counts → Edge → Bool → List ℕ → List ℕ
-end_text pattern verbose counts edge ok printed =
-    if is_console edge then ending_text (record { failure = failure_of edge ok; output = [] })
-    else command_line pattern verbose counts edge ++ ending_text (record { failure = failure_of edge ok; output = printed })
+abbrev pub end_text : List Part → Bool → Counts → Edge → Bool → Option DepfileFault → List ℕ → List ℕ
+end_text pattern verbose counts edge ok depfile printed =
+    if is_console edge then ending_text (record { failure = failure_of edge ok depfile; output = [] })
+    else command_line pattern verbose counts edge ++ ending_text (record { failure = failure_of edge ok depfile; output = printed })
 
 -- ---- what a display keeps
 
@@ -105,11 +105,11 @@ abbrev pub held_at_end : Edge → Option (List ℕ) → List ℕ → Option (Lis
 held_at_end edge texts text = if is_console edge then None else behind texts text
 
 -- a command that printed this has ended
-pub record Ends (progress : Progress) (edge : Edge) (ok : Bool) (printed : List ℕ) (old new : Showing) (shown : List ℕ) : Type 0 where
+pub record Ends (progress : Progress) (edge : Edge) (ok : Bool) (depfile : Option DepfileFault) (printed : List ℕ) (old new : Showing) (shown : List ℕ) : Type 0 where
   pub counts : Counts
   pub are : AreCounts progress old.unstarted counts
-  pub now : shown ≡ shown_at_end edge old.held (end_text old.pattern old.verbose counts edge ok printed)
-  pub after : new ≡ with_held old (held_at_end edge old.held (end_text old.pattern old.verbose counts edge ok printed))
+  pub now : shown ≡ shown_at_end edge old.held (end_text old.pattern old.verbose counts edge ok depfile printed)
+  pub after : new ≡ with_held old (held_at_end edge old.held (end_text old.pattern old.verbose counts edge ok depfile printed))
 
 -- Nothing is shown when a command ends: it is held back; of one with the terminal, that it ended well and nothing was held back.
 abbrev pub ends_silently : Edge → Bool → Option (List ℕ) → Bool

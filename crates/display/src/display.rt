@@ -13,7 +13,7 @@ use links::Graph;
 use model::{Finished, SiteFault};
 use paths::EdgeId;
 use site::Site;
-use status::{Counts, Pattern, Screen, line};
+use status::{Counts, DepfileFault, Pattern, Screen, line};
 use std::alloc::{AllocError, Global};
 use std::marker::Model;
 
@@ -137,7 +137,8 @@ impl<'a> Display<'a> {
 
     /// Shows a command that has ended: its line, why it failed where it did, and what it printed; or holds that back, while
     /// another has the terminal. `progress` counts it as ended. Of one that had the terminal it shows what was held back for it
-    /// and then why it failed, where it did.
+    /// and then why it failed, where it did. `depfile` says what is wrong with its depfile, where that is why it counts as
+    /// failed.
     ///
     /// Where it fails, all is as it was, or what was held back is gone and nothing is held back any more.
     pub fn end<S: Site>(
@@ -146,17 +147,18 @@ impl<'a> Display<'a> {
         graph: &Graph,
         edge: EdgeId,
         finished: &Finished,
+        depfile: Option<DepfileFault<'_>>,
         progress: Progress,
     ) -> Result<(), SiteFault>
         requires running { (S.world site.old).stopped ≡ false }
         requires within { edge < length graph.now.manifest.lines }
         ensures looks { OnlyLooks S.tells (S.world site.old) (S.world site.new) }
         ensures cause { HasCause (S.world site.old) (S.world site.new) result }
-        ensures ok { OnOk result ((shown : List ℕ) × Ends progress (edge_at (declared_by graph.now).edges (suc edge)) finished.now.ok finished.now.output self.old self.new shown) }
+        ensures ok { OnOk result ((shown : List ℕ) × Ends progress (edge_at (declared_by graph.now).edges (suc edge)) finished.now.ok depfile.entry finished.now.output self.old self.new shown) }
         ensures silent { ends_silently (edge_at (declared_by graph.now).edges (suc edge)) finished.now.ok self.old.held ≡ true → (S.world site.new ≡ S.world site.old) }
         ensures err { OnErr result ((self.new ≡ self.old) ⊎ (self.new ≡ released self.old)) }
     {
-        let shown = self.ended(graph, edge, finished, progress)?;
+        let shown = self.ended(graph, edge, finished, depfile, progress)?;
         show_all(site, shown.as_slice())
     }
 
@@ -166,14 +168,15 @@ impl<'a> Display<'a> {
         graph: &Graph,
         edge: EdgeId,
         finished: &Finished,
+        depfile: Option<DepfileFault<'_>>,
         progress: Progress,
     ) -> Result<Vec<u8>, AllocError>
         requires { edge < length graph.now.manifest.lines }
-        ensures ok { IfOk result (λ shown. Ends progress (edge_at (declared_by graph.now).edges (suc edge)) finished.now.ok finished.now.output self.old self.new shown.items) }
+        ensures ok { IfOk result (λ shown. Ends progress (edge_at (declared_by graph.now).edges (suc edge)) finished.now.ok depfile.entry finished.now.output self.old self.new shown.items) }
         ensures err { OnErr result ((self.new ≡ self.old) ⊎ (self.new ≡ released self.old)) }
     {
         let counts = progress.counts(self.unstarted);
-        let text = self.end_text(graph, edge, finished, &counts)?;
+        let text = self.end_text(graph, edge, finished, depfile, &counts)?;
         if has_terminal(graph, edge) {
             self.release(text.as_slice())
         } else {
@@ -200,14 +203,23 @@ impl<'a> Display<'a> {
         graph: &Graph,
         edge: EdgeId,
         finished: &Finished,
+        depfile: Option<DepfileFault<'_>>,
         counts: &Counts,
     ) -> Result<Vec<u8>, AllocError>
         requires { edge < length graph.now.manifest.lines }
-        ensures { IfOk result (λ text. text.items ≡ end_text self.now.pattern self.now.verbose counts.now (edge_at (declared_by graph.now).edges (suc edge)) finished.now.ok finished.now.output) }
+        ensures { IfOk result (λ text. text.items ≡ end_text self.now.pattern self.now.verbose counts.now (edge_at (declared_by graph.now).edges (suc edge)) finished.now.ok depfile.entry finished.now.output) }
     {
         if has_terminal(graph, edge) {
             let mut text = Vec::new(self.alloc);
-            push_end(self.alloc, &mut text, graph, edge, finished.ok, b"")?;
+            push_end(
+                self.alloc,
+                &mut text,
+                graph,
+                edge,
+                finished.ok,
+                depfile,
+                b"",
+            )?;
             return Ok(text);
         }
         let mut text = self.line(graph, edge, counts)?;
@@ -217,6 +229,7 @@ impl<'a> Display<'a> {
             graph,
             edge,
             finished.ok,
+            depfile,
             finished.output.as_slice(),
         )?;
         Ok(text)

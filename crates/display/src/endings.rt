@@ -9,7 +9,7 @@ ghost use Rattle.display.specs.Shown.{failure_of};
 
 use links::Graph;
 use paths::{Action, EdgeId};
-use status::{Ending, Failure, push_ending};
+use status::{DepfileFault, Ending, Failure, push_ending};
 use std::alloc::{AllocError, Global};
 
 /// What a line says of the command of an edge.
@@ -35,10 +35,11 @@ pub fn push_end(
     graph: &Graph,
     edge: EdgeId,
     ok: bool,
+    depfile: Option<DepfileFault<'_>>,
     printed: &[u8],
 ) -> Result<(), AllocError>
     requires { edge < length graph.now.manifest.lines }
-    ensures { OnOk result (text.new.items ≡ text.old.items ++ ending_text (record { failure = failure_of (edge_at (declared_by graph.now).edges (suc edge)) ok; output = printed.now })) }
+    ensures { OnOk result (text.new.items ≡ text.old.items ++ ending_text (record { failure = failure_of (edge_at (declared_by graph.now).edges (suc edge)) ok depfile.entry; output = printed.now })) }
 {
     if ok {
         let ending = Ending {
@@ -48,7 +49,13 @@ pub fn push_end(
         return push_ending(text, &ending);
     }
     let outputs = outputs(alloc, graph, edge)?;
-    push_failed(text, outputs.as_slice(), command_of(graph, edge), printed)
+    push_failed(
+        text,
+        outputs.as_slice(),
+        command_of(graph, edge),
+        depfile,
+        printed,
+    )
 }
 
 /// Puts behind a text that a command failed, and what it printed.
@@ -56,14 +63,15 @@ fn push_failed<'x>(
     text: &mut Vec<u8>,
     outputs: &'x [&'x str],
     command: &'x str,
+    depfile: Option<DepfileFault<'x>>,
     printed: &'x [u8],
 ) -> Result<(), AllocError>
-    ensures { OnOk result (text.new.items ≡ text.old.items ++ ending_text (record { failure = Some (record { outputs = map (λ output. output.now) outputs.now; command = command.now; depfile = None }); output = printed.now })) }
+    ensures { OnOk result (text.new.items ≡ text.old.items ++ ending_text (record { failure = Some (record { outputs = map (λ output. output.now) outputs.now; command = command.now; depfile = depfile.entry }); output = printed.now })) }
 {
     let failure = Failure {
         outputs,
         command,
-        depfile: None,
+        depfile,
     };
     let ending = Ending {
         failure: Some(failure),

@@ -9,7 +9,6 @@ use Rattle.model.specs.declared.graph.BuildGraph.{BuildGraph}
 use Rattle.model.specs.declared.moves.Move.{Move}
 use Rattle.model.specs.declared.moves.Move.TheVariants.{Write, Delete, Build}
 use Rattle.model.specs.declared.outcome.Outcome.{Outcome}
-use Rattle.model.specs.declared.record.Record.{Record}
 use Rattle.model.specs.Calls.{OnlyLooks, HasCause}
 use Rattle.model.specs.Driven.{IsCutEdit, IsCutNext}
 use Rattle.model.specs.Graph.{Addition}
@@ -20,12 +19,12 @@ use Rattle.model.specs.Premises.{HaveEnded}
 use Rattle.model.specs.Records.{LogFormat, OwnFiles, IsOwnIn, file_in, build_log_name, deps_log_name}
 use Rattle.model.specs.SingleBuild.{Asked, Answer, SingleBuild, is_fault}
 use Rattle.model.specs.World.{World, View, IsIdle}
-use Rattle.build_log.specs.Laws.{Reads, HasReader}
-use Rattle.build_log.specs.Record.{forms}
+use Rattle.deps_log.specs.Format.{ReadsLogs, HasFormat}
+use Rattle.depfile.specs.Depfile.{IsReading, HasReading}
 use Rattle.manifest.specs.Answer.{site_part}
 use Rattle.manifest.specs.declared.fault.ReadError.{ReadError}
 use Rattle.manifest.specs.declared.fault.ReadError.TheVariants as read
-use Rattle.builder.specs.Build.{Says, Builds, IsUnread, IsBuilt, IsBuild, asked_of, build_logs, unread}
+use Rattle.builder.specs.Build.{Says, Builds, IsUnread, IsBuilt, IsBuild, asked_of, unread}
 use Rattle.builder.specs.declared.asked.Limits.{Limits}
 use Rattle.builder.specs.declared.report.Report.{Report}
 use Rattle.drive.specs.Driven.{unread_answer, behaving}
@@ -42,7 +41,7 @@ pub write_done : (tells : Bool) (outcome : Act → View → Outcome) (name : Lis
 write_done tells outcome name limits path content again old new idle edited = record {
   counted = refl;
   ended = λ is. idle_over old new edited.edit.events idle;
-  visited = λ reader depfile dyndep reads. record { visit = Edited path (Some content) old new edited.edit; entry = refl; exit = refl; does = (refl, refl); headline = tt; logs = tt; asks = edited.stopped; reported = tt };
+  visited = λ format depfile dyndep depfiles reads. record { visit = Edited path (Some content) old new edited.edit; entry = refl; exit = refl; does = (refl, refl); headline = tt; logs = tt; asks = edited.stopped; reported = tt };
 }
 
 pub delete_done : (tells : Bool) (outcome : Act → View → Outcome) (name : List ℕ) (limits : Limits) (path : List ℕ) (again : Bool) (old new : World) → IsIdle old.events
@@ -50,7 +49,7 @@ pub delete_done : (tells : Bool) (outcome : Act → View → Outcome) (name : Li
 delete_done tells outcome name limits path again old new idle edited = record {
   counted = refl;
   ended = λ is. idle_over old new edited.edit.events idle;
-  visited = λ reader depfile dyndep reads. record { visit = Edited path None old new edited.edit; entry = refl; exit = refl; does = (refl, refl); headline = tt; logs = tt; asks = edited.stopped; reported = tt };
+  visited = λ format depfile dyndep depfiles reads. record { visit = Edited path None old new edited.edit; entry = refl; exit = refl; does = (refl, refl); headline = tt; logs = tt; asks = edited.stopped; reported = tt };
 }
 
 -- ---- a build that read nothing
@@ -102,7 +101,7 @@ pub unread_done : (tells : Bool) (outcome : Act → View → Outcome) (name : Li
 unread_done tells outcome name limits words old new report idle un = record {
   counted = refl;
   ended = λ is. idle_over old new un.looks.events idle;
-  visited = λ reader depfile dyndep reads. record {
+  visited = λ format depfile dyndep depfiles reads. record {
     visit = Unread old new (unread_answer un.error) (not_read tells old new un.error un.looks un.cause);
     entry = refl;
     exit = refl;
@@ -138,25 +137,25 @@ module _ (tells : Bool) (B : Behaviour) (format : LogFormat) (graph : BuildGraph
       (record { build = builds.build; headline = builds.headline; logs = builds.logs })
 
 module _ (tells : Bool) (outcome : Act → View → Outcome) (name : List ℕ) (limits : Limits) (words : List (List ℕ)) (old new : World) (report : Report) (built : IsBuilt tells outcome name limits words old new report) where
-  module _ (reader : List ℕ → Option (List Record)) (depfile : List ℕ → Option (List (List ℕ))) (dyndep : List ℕ → Option (List Addition)) (reads : Reads forms reader) where
+  module _ (format : LogFormat) (depfile : List ℕ → Option (List (List ℕ))) (dyndep : List ℕ → Option (List Addition)) (depfiles : IsReading depfile) (reads : ReadsLogs format) where
     abbrev asked : Asked
     asked = asked_of built.graph built.folder limits built.targets
 
     builds_for : (own : OwnFiles) → IsOwnIn own built.folder
-        → Builds tells (behaving outcome depfile dyndep) (build_logs reader) own built.graph built.folder limits words built.targets old new report
-    builds_for own fits = built.builds own reader depfile dyndep reads fits
+        → Builds tells (behaving outcome depfile dyndep) format own built.graph built.folder limits words built.targets old new report
+    builds_for own fits = built.builds own format depfile dyndep depfiles reads fits
 
-    first : Builds tells (behaving outcome depfile dyndep) (build_logs reader) (some_own built.folder) built.graph built.folder limits words built.targets old new report
+    first : Builds tells (behaving outcome depfile dyndep) format (some_own built.folder) built.graph built.folder limits words built.targets old new report
     first = builds_for (some_own built.folder) (some_in built.folder)
 
-    sound : (own : OwnFiles) → IsOwnIn own built.folder → IsSound tells (behaving outcome depfile dyndep) (build_logs reader) own asked old new first.answer
-    sound own fits = sound_by tells (behaving outcome depfile dyndep) (build_logs reader) built.graph built.folder limits words built.targets old new report own first.answer (builds_for own fits)
+    sound : (own : OwnFiles) → IsOwnIn own built.folder → IsSound tells (behaving outcome depfile dyndep) format own asked old new first.answer
+    sound own fits = sound_by tells (behaving outcome depfile dyndep) format built.graph built.folder limits words built.targets old new report own first.answer (builds_for own fits)
         (λ a says. said_once built.graph.edges words built.targets report a first.answer says first.said)
 
     ended_so : reports_fault report ≡ false → HaveEnded new
     ended_so is = first.build.idle (fault_same built.graph.edges words built.targets report first.answer first.said ∙ is)
 
-    visited_so : IsVisited tells (behaving outcome depfile dyndep) (build_logs reader) name limits (Build words) (reports_fault report) (report ∷ []) old new
+    visited_so : IsVisited tells (behaving outcome depfile dyndep) format name limits (Build words) (reports_fault report) (report ∷ []) old new
     visited_so = record {
       visit = Built asked old new first.answer (λ own fits. (sound own fits).build);
       entry = refl;
@@ -168,17 +167,17 @@ module _ (tells : Bool) (outcome : Act → View → Outcome) (name : List ℕ) (
       reported = ((first.said, first.taken), tt);
     }
 
-  built_done : HasReader forms → IsDone tells outcome name limits (Build words) (reports_fault report) (report ∷ []) old new
-  built_done reading = record {
+  built_done : HasFormat → HasReading → IsDone tells outcome name limits (Build words) (reports_fault report) (report ∷ []) old new
+  built_done logs depfiles = record {
     counted = refl;
-    ended = λ is. ended_so reading.0 (λ text. None) (λ text. None) reading.1 is;
-    visited = λ reader depfile dyndep reads. visited_so reader depfile dyndep reads;
+    ended = λ is. ended_so logs.0 depfiles.0 (λ text. None) depfiles.1 logs.1 is;
+    visited = λ format depfile dyndep depfiles reads. visited_so format depfile dyndep depfiles reads;
   }
 
-pub build_done : (tells : Bool) (outcome : Act → View → Outcome) (name : List ℕ) (limits : Limits) (words : List (List ℕ)) (old new : World) (report : Report) → IsIdle old.events → HasReader forms
+pub build_done : (tells : Bool) (outcome : Act → View → Outcome) (name : List ℕ) (limits : Limits) (words : List (List ℕ)) (old new : World) (report : Report) → IsIdle old.events → HasFormat → HasReading
     → IsBuild tells outcome name limits words old new report → IsDone tells outcome name limits (Build words) (reports_fault report) (report ∷ []) old new
-build_done tells outcome name limits words old new report idle reading (inl un) = unread_done tells outcome name limits words old new report idle un
-build_done tells outcome name limits words old new report idle reading (inr built) = built_done tells outcome name limits words old new report built reading
+build_done tells outcome name limits words old new report idle logs depfiles (inl un) = unread_done tells outcome name limits words old new report idle un
+build_done tells outcome name limits words old new report idle logs depfiles (inr built) = built_done tells outcome name limits words old new report built logs depfiles
 
 -- ---- what carrying out a move comes to
 
@@ -220,8 +219,8 @@ module _ (tells : Bool) (outcome : Act → View → Outcome) (name : List ℕ) (
   pub delete_cut : {E : Type 0} (m : Move) (path : List ℕ) → m ≡ Delete path → (r : Result Bool E) → OnErr r (IsCutEdit tells path None old new) → OnErr r (IsCutNext tells (m ∷ []) old new)
   delete_cut m path is r cut = on_err_then r cut (λ one. subst (λ (x : Move). IsCutNext tells (x ∷ []) old new) (sym is) one)
 
-  pub build_carried : (m : Move) (words : List (List ℕ)) → m ≡ Build words → IsIdle old.events → HasReader forms → (again : Bool) (after : List Report)
+  pub build_carried : (m : Move) (words : List (List ℕ)) → m ≡ Build words → IsIdle old.events → HasFormat → HasReading → (again : Bool) (after : List Report)
       → IsReported tells outcome name limits words again reports after old new → IsCarried tells outcome name limits m again reports after old new
-  build_carried m words is idle reading again after reported = subst (λ (x : Move). IsCarried tells outcome name limits x again reports after old new) (sym is)
+  build_carried m words is idle logs depfiles again after reported = subst (λ (x : Move). IsCarried tells outcome name limits x again reports after old new) (sym is)
       (subst (λ (b : Bool). IsCarried tells outcome name limits (Build words) b reports after old new) (sym reported.asks)
-      (record { told = reported.report ∷ []; grows = reported.grows; done = build_done tells outcome name limits words old new reported.report idle reading reported.built }))
+      (record { told = reported.report ∷ []; grows = reported.grows; done = build_done tells outcome name limits words old new reported.report idle logs depfiles reported.built }))

@@ -7,7 +7,6 @@ use Rattle.model.specs.declared.moves.Move.{Move}
 use Rattle.model.specs.declared.moves.Move.TheVariants.{Write, Delete, Build}
 use Rattle.model.specs.declared.fault.SiteFault.TheVariants.{Memory}
 use Rattle.model.specs.declared.outcome.Outcome.{Outcome}
-use Rattle.model.specs.declared.record.Record.{Record}
 use Rattle.model.specs.Driven.{Reader, StartsAgain, asks_at_end, IsCutNext, IsDriven, IsCutShort}
 use Rattle.model.specs.Faithful.{IsFaithfulStore}
 use Rattle.model.specs.Graph.{Addition}
@@ -18,13 +17,13 @@ use Rattle.model.specs.Records.{LogFormat, OwnFiles}
 use Rattle.model.specs.SingleBuild as answer
 use Rattle.model.specs.SingleBuild.{Asked, Answer}
 use Rattle.model.specs.World.{World, View}
-use Rattle.build_log.specs.Laws.{Reads}
-use Rattle.build_log.specs.Record.{forms}
+use Rattle.deps_log.specs.Format.{ReadsLogs}
+use Rattle.depfile.specs.Depfile.{IsReading}
 use Rattle.manifest.specs.Answer.{IsGraph, ReadsFile}
 use Rattle.manifest.specs.declared.fault.ReadError.{ReadError}
 use Rattle.manifest.specs.declared.fault.ReadError.TheVariants as read
 use Rattle.builder.specs.Asked.{AreTargets, IsFolder}
-use Rattle.builder.specs.Build.{Says, IsNotTaken, IsUnread, asked_of, build_logs}
+use Rattle.builder.specs.Build.{Says, IsNotTaken, IsUnread, asked_of}
 use Rattle.builder.specs.Taken.{IsTaken}
 use Rattle.builder.specs.declared.asked.Limits.{Limits}
 use Rattle.builder.specs.declared.report.Report.{Report}
@@ -106,11 +105,12 @@ pub record WasDriven (tells : Bool) (B : Behaviour) (format : LogFormat) (name :
   pub driven : IsDriven tells B format (words_in tells name limits) moves answers first last
   pub reported : ReportEach name (words_of moves) (builds_in driven.visits) reports
 
--- so it is for each function that reads build logs as they are defined, and whatever depfiles and dyndep files say
+-- so it is for each format and each reading of depfiles by which logs and depfiles are read as they are defined, and whatever dyndep
+-- files say
 abbrev pub Drives : Bool → (Act → View → Outcome) → List ℕ → Limits → List Move → List Report → World → World → Type 0
 Drives tells outcome name limits moves reports first last =
-    (reader : List ℕ → Option (List Record)) (depfile : List ℕ → Option (List (List ℕ))) (dyndep : List ℕ → Option (List Addition)) → Reads forms reader
-    → WasDriven tells (behaving outcome depfile dyndep) (build_logs reader) name limits moves reports first last
+    (format : LogFormat) (depfile : List ℕ → Option (List (List ℕ))) (dyndep : List ℕ → Option (List Addition)) → IsReading depfile → ReadsLogs format
+    → WasDriven tells (behaving outcome depfile dyndep) format name limits moves reports first last
 
 -- ---- without memory
 
@@ -143,5 +143,5 @@ pub record IsCutInEdit (tells : Bool) (B : Behaviour) (format : LogFormat) (R : 
 abbrev pub StopsShort : Bool → (Act → View → Outcome) → List ℕ → Limits → List Move → World → World → Type 0
 StopsShort tells outcome name limits moves first last =
     (last ≡ first)
-    ⊎ ((reader : List ℕ → Option (List Record)) (depfile : List ℕ → Option (List (List ℕ))) (dyndep : List ℕ → Option (List Addition)) → Reads forms reader
-    → IsCutInEdit tells (behaving outcome depfile dyndep) (build_logs reader) (words_in tells name limits) moves first last)
+    ⊎ ((format : LogFormat) (depfile : List ℕ → Option (List (List ℕ))) (dyndep : List ℕ → Option (List Addition)) → IsReading depfile → ReadsLogs format
+    → IsCutInEdit tells (behaving outcome depfile dyndep) format (words_in tells name limits) moves first last)

@@ -7,7 +7,6 @@ use Rattle.model.specs.declared.fault.SiteFault.TheVariants.{Device, Stopped, Me
 use Rattle.model.specs.declared.moves.Move.{Move}
 use Rattle.model.specs.declared.moves.Move.TheVariants.{Write, Delete, Build}
 use Rattle.model.specs.declared.outcome.Outcome.{Outcome}
-use Rattle.model.specs.declared.record.Record.{Record}
 use Rattle.model.specs.Driven.{Does, HasLogs, CarriesOut, RestartsFrom, asks_restart, asks_at_end}
 use Rattle.model.specs.Graph.{Addition}
 use Rattle.model.specs.History.{Visit, IsEdit, IsHistory, entry_of, exit_of}
@@ -15,10 +14,10 @@ use Rattle.model.specs.Outcome.{Behaviour}
 use Rattle.model.specs.Premises.{HaveEnded}
 use Rattle.model.specs.Records.{LogFormat}
 use Rattle.model.specs.World.{World, View}
-use Rattle.build_log.specs.Laws.{Reads}
-use Rattle.build_log.specs.Record.{forms}
+use Rattle.deps_log.specs.Format.{ReadsLogs}
+use Rattle.depfile.specs.Depfile.{IsReading}
 use Rattle.log_theory.specs.Histories.{HasHeadline}
-use Rattle.builder.specs.Build.{build_logs, IsBuild}
+use Rattle.builder.specs.Build.{IsBuild}
 use Rattle.builder.specs.declared.asked.Limits.{Limits}
 use Rattle.builder.specs.declared.report.Report.{Report}
 use Rattle.builder.specs.declared.report.Report.TheVariants.{Success, Failed, Refused, Fault}
@@ -78,8 +77,8 @@ pub record IsVisited (tells : Bool) (B : Behaviour) (format : LogFormat) (name :
 pub record IsDone (tells : Bool) (outcome : Act → View → Outcome) (name : List ℕ) (limits : Limits) (move : Move) (again : Bool) (told : List Report) (old new : World) : Type 0 where
   pub counted : length told ≡ builds_among (move ∷ [])
   pub ended : again ≡ false → HaveEnded new
-  pub visited : (reader : List ℕ → Option (List Record)) (depfile : List ℕ → Option (List (List ℕ))) (dyndep : List ℕ → Option (List Addition)) → Reads forms reader
-      → IsVisited tells (behaving outcome depfile dyndep) (build_logs reader) name limits move again told old new
+  pub visited : (format : LogFormat) (depfile : List ℕ → Option (List (List ℕ))) (dyndep : List ℕ → Option (List Addition)) → IsReading depfile → ReadsLogs format
+      → IsVisited tells (behaving outcome depfile dyndep) format name limits move again told old new
 
 -- one move was carried out, and what it told stands behind the reports before it
 pub record IsCarried (tells : Bool) (outcome : Act → View → Outcome) (name : List ℕ) (limits : Limits) (move : Move) (again : Bool) (before after : List Report) (old new : World) : Type 0 where
@@ -103,5 +102,5 @@ pub record IsGone (tells : Bool) (B : Behaviour) (format : LogFormat) (name : Li
 -- WHAT THE LOOP KEEPS: the moves so far were carried out, and where no restart is asked for, no command runs.
 pub record AreDone (tells : Bool) (outcome : Act → View → Outcome) (name : List ℕ) (limits : Limits) (moves : List Move) (again : Bool) (reports : List Report) (first now : World) : Type 0 where
   pub ended : again ≡ false → HaveEnded now
-  pub gone : (reader : List ℕ → Option (List Record)) (depfile : List ℕ → Option (List (List ℕ))) (dyndep : List ℕ → Option (List Addition)) → Reads forms reader
-      → IsGone tells (behaving outcome depfile dyndep) (build_logs reader) name limits moves again reports first now
+  pub gone : (format : LogFormat) (depfile : List ℕ → Option (List (List ℕ))) (dyndep : List ℕ → Option (List Addition)) → IsReading depfile → ReadsLogs format
+      → IsGone tells (behaving outcome depfile dyndep) format name limits moves again reports first now

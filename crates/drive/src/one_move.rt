@@ -8,8 +8,9 @@ ghost use Rattle.drive.specs.Driven.{IsUnrefused};
 ghost use Rattle.drive.specs.Moves.{reports_fault, builds_among, IsReported, IsCarried};
 
 use crate::edits::{delete, write};
-use build_log::{Log, has_reader};
 use builder::{Options, Report, build};
+use depfile::has_reading;
+use deps_log::has_format;
 use model::Move;
 use site::Site;
 use std::alloc::{AllocError, Global};
@@ -35,7 +36,8 @@ pub fn carry_out<S: Site>(
         Move::Write { path, content } => write(site, path, content),
         Move::Delete { path } => delete(site, path),
         Move::Build { targets } => {
-            has_reader::<Log>();
+            has_format();
+            has_reading();
             Ok(build_next(alloc, site, options, targets, reports))
         }
     }

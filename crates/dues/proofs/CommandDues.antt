@@ -266,11 +266,13 @@ not_anew all same None = refl
 not_anew all same (Some j) = refl
 
 -- each edge may be judged by the files and records of the entry
-pub may_be_judged : (graph : Graph) (records : Records) (store : Store) (files : List Moment) → IsStoreOf graph records store → (i : ℕ) → MayBeJudgedBy graph store.records [] store [] files files i (λ p. true)
+pub may_be_judged : (graph : Graph) (records : Records) (store : Store) (files : List Moment) → IsStoreOf graph records store → (i : ℕ) → MayBeJudgedBy graph store.records store.deps [] store [] files files i (λ p. true)
 may_be_judged graph records store files is i = record {
   records = refl;
+  deps = refl;
   recorded = is.in_use i;
   untouched = λ o h. refl;
+  depfile = λ named. refl;
   flagged = λ p lt counted.
       let stamp = stamp_of (file_at files (text_at graph.manifest.paths p)) in
       no_flag p ∙ not_anew (declared_by graph).edges (is_same_number stamp stamp) (maker (declared_by graph).edges (text_at graph.manifest.paths p));

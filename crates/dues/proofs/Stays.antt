@@ -40,11 +40,14 @@ stays_parts tells files a b c first second told stays = (record { before = stays
 
 -- ---- where all files stay, each set of paths keeps its files
 
-pub all_kept : (files : List Moment) (old new : World) → StaysAt files old new → AreKept (λ p. true) old.history new.history
-all_kept files old new stays p is earlier later grows = ap (λ (l : List Moment). file_at l p) (ap (λ (l : List Moment). old.history ++ l) none ∙ append-nil old.history)
+pub all_kept_of : (files : List Moment) (old new : World) → StaysAt files old new → (set : List ℕ → Bool) → AreKept set old.history new.history
+all_kept_of files old new stays set p is earlier later grows = ap (λ (l : List Moment). file_at l p) (ap (λ (l : List Moment). old.history ++ l) none ∙ append-nil old.history)
   where
     none : earlier ≡ []
     none = nothing_left earlier later (same_rest old.history (earlier ++ later) [] (sym grows ∙ (stays.after ∙ (sym stays.before ∙ sym (append-nil old.history)))))
+
+pub all_kept : (files : List Moment) (old new : World) → StaysAt files old new → AreKept (λ p. true) old.history new.history
+all_kept files old new stays = all_kept_of files old new stays (λ p. true)
 
 pub seen_of_all : (paths : List (List ℕ)) (files history : List Moment) (seen : List Look) → history ≡ files → AreSeen paths files seen → AreSeenOf (λ p. true) paths history seen
 seen_of_all paths files history seen same are p asked is = are p asked ∙ ap (λ (h : List Moment). look_of (stamp_of (file_at h (text_at paths p)))) (sym same)

@@ -1,9 +1,7 @@
--- What is known before anything runs: the records of the build log, the cone, and the files that were seen.
-use Rattle.std.specs.Prelude.{◌≡◌, ℕ, Bool, List, []}
+-- What is known before anything runs: the records of the logs, the cone, and the files that were seen.
+use Rattle.std.specs.Prelude.{ℕ, Bool, List}
 use Rattle.model.specs.declared.event.Moment.{Moment}
-use Rattle.model.specs.declared.graph.Edge.{Edge}
 use Rattle.model.specs.World.{World}
-use Rattle.model.specs.Graph.{edge_at, IsCommand}
 use Rattle.model.specs.Records.{Store, recorded_inputs}
 use Rattle.links.specs.declared.cone.Cone.{Cone}
 use Rattle.links.specs.declared.graph.Graph.{Graph}
@@ -12,12 +10,12 @@ use Rattle.links.specs.Targets.{IsConeFor}
 use Rattle.looks.specs.declared.table.Looks.{Looks}
 use Rattle.looks.specs.Looking.{IfSeen}
 use Rattle.records.specs.declared.records.Records.{Records}
-use Rattle.records.specs.Known.{IsOf}
+use Rattle.records.specs.Known.{AreKnown}
 use Rattle.verdict.specs.Judged.{AreRecordedOf}
 
 -- the store has the records that were read, and the recorded inputs in use are those of the graph
 pub record IsStoreOf (graph : Graph) (records : Records) (store : Store) : Type 0 where
-  pub known : IsOf store.records graph.manifest.paths records
+  pub known : AreKnown graph store.records store.deps records
   pub in_use : (i : ℕ) → AreRecordedOf graph store i
 
 -- So it is by each such store and of the files, where the site tells them, they were the same before and after the calls, and what
@@ -32,7 +30,3 @@ IsConeIn graph store targets cone = IsConeFor graph (recorded_inputs store (decl
 -- the cone of some targets, whatever inputs are recorded
 abbrev pub IsAnyCone : Graph → Cone → Type 0
 IsAnyCone graph cone = (recorded : ℕ → List (List ℕ)) × (targets : List (List ℕ)) × IsConeFor graph recorded targets cone
-
--- no command has a depfile
-abbrev pub HaveNoDepfiles : List Edge → Type 0
-HaveNoDepfiles edges = (i : ℕ) → IsCommand edges i → (edge_at edges i).act.depfile ≡ []

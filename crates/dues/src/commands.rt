@@ -1,11 +1,9 @@
 //! Commands that are due.
 
-ghost use Rattle.std.specs.Prelude.{◌≡◌, ◌||◌, ◌<◌, [], All, IfOk, length, false, suc};
+ghost use Rattle.std.specs.Prelude.{◌≡◌, ◌||◌, ◌<◌, IfOk, length, false};
 ghost use Rattle.std.specs.List.{list_any};
 ghost use Rattle.model.specs.Calls.{HasCause};
-ghost use Rattle.model.specs.Graph.{edge_at};
 ghost use Rattle.links.specs.Links.{links_of};
-ghost use Rattle.links.specs.Told.{declared_by};
 ghost use Rattle.looks.specs.Looking.{HasLooked};
 ghost use Rattle.dues.specs.Stores.{IfKnown};
 ghost use Rattle.dues.specs.Dues.{is_made_due, reads_due, IsDueEdge};
@@ -35,7 +33,6 @@ pub fn is_command_due<S: Site>(
     requires within { edge < length graph.now.manifest.lines }
     requires due { length due.now ≡ length graph.now.manifest.lines }
     requires command { (links_of graph.now).phony edge ≡ false }
-    requires depfile { (edge_at (declared_by graph.now).edges (suc edge)).act.depfile ≡ [] }
     ensures looked { HasLooked S.tells graph.now (S.world site.old) (S.world site.new) looks.old looks.new }
     ensures cause { HasCause (S.world site.old) (S.world site.new) result }
     ensures due { IfOk result (λ is. IfKnown S.tells graph.now records.now (S.world site.old) (S.world site.new) looks.old (λ store files. IsDueEdge graph.now store due.now edge files is)) }

@@ -4,7 +4,7 @@ ghost use Rattle.std.specs.Prelude.{◌≡◌, ◌<◌, ℕ, List, IfOk, length,
 ghost use Rattle.model.specs.Calls.{HasCause};
 ghost use Rattle.links.specs.Told.{declared_by};
 ghost use Rattle.looks.specs.Looking.{HasLooked};
-ghost use Rattle.dues.specs.Stores.{HaveNoDepfiles, IfKnown, IsAnyCone, IsConeIn};
+ghost use Rattle.dues.specs.Stores.{IfKnown, IsAnyCone, IsConeIn};
 ghost use Rattle.dues.specs.Dues.{AreDue, IsDueEdge};
 
 use crate::aliases::is_alias_due;
@@ -30,7 +30,6 @@ pub fn due_edges<S: Site>(
     requires running { (S.world site.old).stopped ≡ false }
     requires fits { length looks.old.seen.items ≡ length graph.now.manifest.paths }
     requires cone { IsAnyCone graph.now cone.now }
-    requires depfiles { HaveNoDepfiles (declared_by graph.now).edges }
     ensures looked { HasLooked S.tells graph.now (S.world site.old) (S.world site.new) looks.old looks.new }
     ensures cause { HasCause (S.world site.old) (S.world site.new) result }
     ensures fits { IfOk result (λ due. length due.items ≡ length graph.now.manifest.lines) }
@@ -60,7 +59,6 @@ fn is_due<S: Site>(
     requires fits { length looks.old.seen.items ≡ length graph.now.manifest.paths }
     requires within { edge < length graph.now.manifest.lines }
     requires due { length due.now ≡ length graph.now.manifest.lines }
-    requires depfiles { HaveNoDepfiles (declared_by graph.now).edges }
     ensures looked { HasLooked S.tells graph.now (S.world site.old) (S.world site.new) looks.old looks.new }
     ensures cause { HasCause (S.world site.old) (S.world site.new) result }
     ensures due { IfOk result (λ is. IfKnown S.tells graph.now records.now (S.world site.old) (S.world site.new) looks.old (λ store files. IsDueEdge graph.now store due.now edge files is)) }

@@ -6,7 +6,7 @@ ghost use Rattle.model.specs.Graph.{targets_of};
 ghost use Rattle.links.specs.Told.{declared_by};
 ghost use Rattle.looks.specs.Seen.{AreSeen};
 ghost use Rattle.looks.specs.Looking.{HasLooked, IfSeen};
-ghost use Rattle.dues.specs.Stores.{HaveNoDepfiles, IfKnown, IsAnyCone, IsConeIn};
+ghost use Rattle.dues.specs.Stores.{IfKnown, IsAnyCone, IsConeIn};
 ghost use Rattle.dues.specs.Lacks.{IsFound, lack_in, IfPresent, HasDue, IsLackOf, IsMissingAt, IsFirstIn, IsFirstFor, IsFoundOfDue};
 
 use crate::aliases::is_absent;
@@ -36,8 +36,8 @@ pub enum Found {
 }
 
 /// The first requested path that is missing, else the first missing input of the lowest due edge of the cone, in the order
-/// of its lists; where none is missing, which edges are due. Which commands are due the records of the build log say, with the
-/// files and what due edges make; none has a depfile.
+/// of its lists; where none is missing, which edges are due. Which commands are due the records of the logs say, with the files
+/// and what due edges make. A recorded input that is missing is no missing source.
 ///
 /// What was seen of a path is not asked for again. Of a command that reads what a due edge makes only inputs are asked for,
 /// and it takes time for its regular and recorded inputs alone; any other command is judged by `verdict::reason`, which walks
@@ -53,7 +53,6 @@ pub fn sources<S: Site>(
     requires running { (S.world site.old).stopped ≡ false }
     requires fits { length looks.old.seen.items ≡ length graph.now.manifest.paths }
     requires cone { IsAnyCone graph.now cone.now }
-    requires depfiles { HaveNoDepfiles (declared_by graph.now).edges }
     ensures looks { OnlyLooks S.tells (S.world site.old) (S.world site.new) }
     ensures cause { HasCause (S.world site.old) (S.world site.new) result }
     ensures fits { length looks.new.seen.items ≡ length graph.now.manifest.paths }

@@ -4,12 +4,11 @@ use links::Graph;
 use manifest::read;
 use site::{SiteFault, Texts};
 use std::alloc::Global;
-use std::test::Fail;
 use text::Bytes;
 
 /// A site with one file, `build.ninja`, which gives its bytes once.
 #[derive(Drop)]
-pub struct OneFile {
+struct OneFile {
     content: Option<Bytes>,
 }
 
@@ -33,20 +32,10 @@ impl Texts for OneFile {
 }
 
 /// The graph of a build file.
-pub fn graph_of(alloc: Global, text: String) -> Result<Graph, Fail> {
+pub fn graph_of(alloc: Global, text: String) -> Option<Graph> {
     let mut site = OneFile {
         content: Some(Bytes::from_vec(text.into_bytes())),
     };
-    let manifest = read(alloc, &mut site, "build.ninja")?;
-    Ok(Graph::build(alloc, manifest)?)
-}
-
-/// The graph of these lines, behind a rule `r`.
-pub fn graph_of_lines(alloc: Global, lines: &[&str]) -> Result<Graph, Fail> {
-    let mut text = String::from_str(alloc, "rule r\n command = r $in $out\n")?;
-    for line in lines {
-        text.push_str(line)?;
-        text.push('\n')?;
-    }
-    graph_of(alloc, text)
+    let manifest = read(alloc, &mut site, "build.ninja").ok()?;
+    Graph::build(alloc, manifest).ok()
 }

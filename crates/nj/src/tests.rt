@@ -1,6 +1,7 @@
 //! Runs of the program in folders of their own.
 
 mod builds;
+mod depfiles;
 mod folder;
 mod logs;
 mod refusals;

@@ -11,8 +11,8 @@ use Rattle.builder.specs.declared.asked.Limits.{Limits}
 use Rattle.builder.specs.declared.report.Refusal.TheVariants.{File, MadeTwice, NoDyndepInput, NotTaken, UnknownTarget, Cycle, Missing}
 use Rattle.builder.specs.declared.report.Report.{Report}
 use Rattle.builder.specs.declared.report.Report.TheVariants.{Success, Failed, Refused, Fault}
-use Rattle.build_log.specs.Laws.{HasReader}
-use Rattle.build_log.specs.Record.{forms}
+use Rattle.deps_log.specs.Format.{HasFormat}
+use Rattle.depfile.specs.Depfile.{HasReading}
 use Rattle.builder.specs.Build.{missing_answer, Says, IsBuild}
 use Rattle.nj_sim.specs.Script.{GoesOn}
 
@@ -46,11 +46,11 @@ own_of folder = record { build_log = file_in folder build_log_name; deps_log = f
 own_in : (folder : List ℕ) → IsOwnIn (own_of folder) folder
 own_in folder = record { build_log = refl; deps_log = refl; is_log = refl; is_deps = refl; tick = refl; new_log = refl; new_deps = refl; outputs = λ digits are. refl }
 
-module _ (outcome : Act → View → Outcome) (name : List ℕ) (limits : Limits) (given : List (List ℕ)) (old exit : World) (idle : IsIdle old.events) (has : HasReader forms) where
+module _ (outcome : Act → View → Outcome) (name : List ℕ) (limits : Limits) (given : List (List ℕ)) (old exit : World) (idle : IsIdle old.events) (logs : HasFormat) (depfiles : HasReading) where
   ends_idle : (report : Report) → is_trouble report ≡ false → IsBuild true outcome name limits given old exit report → IsIdle exit.events
   ends_idle report fine (inl unread) = subst IsIdle (sym {A = List Event} unread.looks.events) idle
   ends_idle report fine (inr built) =
-      let builds = built.builds (own_of built.folder) has.0 (λ text. None) (λ text. None) has.1 (own_in built.folder) in
+      let builds = built.builds (own_of built.folder) logs.0 depfiles.0 (λ text. None) depfiles.1 logs.1 (own_in built.folder) in
       builds.build.idle (no_fault built.graph.edges given built.targets report builds.answer fine builds.said)
 
   -- the site goes on without running commands

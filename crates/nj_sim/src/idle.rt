@@ -5,8 +5,9 @@ ghost use Rattle.model.specs.World.{IsIdle};
 ghost use Rattle.sim.specs.World.{world_of, fresh};
 ghost use Rattle.nj_sim.specs.Script.{GoesOn, BuildsAlone};
 
-use build_log::{Log, has_reader};
 use builder::{Options, Report, build};
+use depfile::has_reading;
+use deps_log::has_format;
 use sim::{Call, Order, Sim, Timing, Toy};
 use site::{Event, Site};
 use std::alloc::{AllocError, Global};
@@ -111,7 +112,8 @@ fn build_alone(alloc: Global, site: &mut Sim<Toy>, options: &Options, targets: &
     ensures idle { IsIdle (world_of site.new).events }
     ensures build { BuildsAlone options.now targets.now site.old site.new result }
 {
-    has_reader::<Log>();
+    has_format();
+    has_reading();
     let report = build(alloc, site, options, targets);
     go_on(site, &report);
     site.forget_faults();

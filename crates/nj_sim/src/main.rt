@@ -2,6 +2,8 @@
 #![tactic(auto)]
 
 mod command;
+#[cfg(test)]
+mod depfiles;
 mod fault;
 mod idle;
 #[cfg(test)]

@@ -168,7 +168,7 @@ pub const FAULTS: [(&str, &str); 40] = [
 ];
 
 /// What a graph may not have, and what is not taken yet, behind `rows::RULES`.
-pub const GRAPHS: [(&str, &str); 12] = [
+pub const GRAPHS: [(&str, &str); 10] = [
     // The first output that repeats one, of the lowest edge that has such an output.
     (
         "|build b c: cat a
@@ -220,13 +220,6 @@ o absent
 ",
     ),
     (
-        "|build o: scan a
-write a x
-build
-",
-        "refused N70: 'o' is not taken yet\n",
-    ),
-    (
         "|build b: cat a
 |build | i: cat a
 |  restat = 1
@@ -249,14 +242,6 @@ build
         "|build p: phony o
 |build o: cat a
 |restat = 1
-write a x
-build
-",
-        "refused N70: 'o' is not taken yet\n",
-    ),
-    (
-        "|depfile = $out.d
-|build o: cat a
 write a x
 build
 ",

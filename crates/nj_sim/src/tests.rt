@@ -1,3 +1,4 @@
+use crate::depfiles::DEPFILES;
 use crate::fault::ScriptFault;
 use crate::language::{BUILD_FILE, SCOPES};
 use crate::lines::LINES;
@@ -131,6 +132,11 @@ fn graphs_are_built(rt: HostRuntime) -> Result<(), Fail> {
 #[test]
 fn builds_meet_faults_and_stops(rt: HostRuntime) -> Result<(), Fail> {
     check(&rt, rt.alloc(), RULES, &STOPS)
+}
+
+#[test]
+fn commands_tell_what_they_read(rt: HostRuntime) -> Result<(), Fail> {
+    check(&rt, rt.alloc(), RULES, &DEPFILES)
 }
 
 #[test]

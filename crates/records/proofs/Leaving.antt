@@ -1,32 +1,42 @@
--- Which calls leave the log alone, for whoever carries it over them.
-use Rattle.std.proofs.Common.{◌≢◌, inl, inr, ℕ, Bool, IsTrue, List, sym}
+-- Which calls leave the logs alone, for whoever carries it over them.
+use Rattle.std.proofs.Common.{◌≢◌, inl, inr, ℕ, Bool, List, ◌∷◌, ◌++◌, length, ap, arith}
+use Rattle.std.proofs.lemmas.List.{length-append}
 use Rattle.model.specs.declared.act.Act.{Act}
 use Rattle.model.specs.declared.graph.Edge.{Edge}
 use Rattle.model.specs.World.{World}
 use Rattle.model.specs.Calls.{OnlyLooks, Ticks, TicksOrNot, StartsOrNot}
 use Rattle.model.specs.Records.{OwnFiles}
-use Rattle.model.specs.Premises.{FilesAreKept}
 use Rattle.log_theory.specs.Writes.{WritesAt}
 use Rattle.log_theory.proofs.Writing.{looks_at, ticks_grew}
-use Rattle.records.specs.Laws.{LeavesTheLog}
+use Rattle.records.specs.Carried.{WhereKept}
+use Rattle.records.specs.Laws.{LeavesTheLogs}
 
 module _ (tells : Bool) (own : OwnFiles) (edges : List Edge) (first now new : World) where
-  module _ (path : List ℕ) (other : IsTrue tells → FilesAreKept own edges first.history new.history → path ≢ own.build_log) where
+  module _ (path : List ℕ) (other : WhereKept tells own edges first new ((path ≢ own.build_log) × (path ≢ own.deps_log))) where
     -- a write or a removal, failed or not, of another file (log_theory says which calls write at one path)
-    pub writes_leave : WritesAt tells path now new → LeavesTheLog tells own edges first now new
+    pub writes_leave : WritesAt tells path now new → LeavesTheLogs tells own edges first now new
     writes_leave writes = inl (record { events = writes.events; path = path; other = other; history = writes.history })
 
-    pub ticks_leave : (stamp : ℕ) → Ticks tells path stamp now new → LeavesTheLog tells own edges first now new
+    pub ticks_leave : (stamp : ℕ) → Ticks tells path stamp now new → LeavesTheLogs tells own edges first now new
     ticks_leave stamp ticks = inl (record { events = ticks.events; path = path; other = other; history = ticks_grew tells path stamp now new ticks })
 
-    pub ticks_or_not_leave : TicksOrNot tells path now new → LeavesTheLog tells own edges first now new
+    pub ticks_or_not_leave : TicksOrNot tells path now new → LeavesTheLogs tells own edges first now new
     ticks_or_not_leave (inl looks) = writes_leave (looks_at tells path now new looks)
     ticks_or_not_leave (inr (stamp, ticks)) = ticks_leave stamp ticks
 
-  module _ (apart : own.build_log ≢ own.deps_log) where
-    pub looks_leave : OnlyLooks tells now new → LeavesTheLog tells own edges first now new
-    looks_leave looks = writes_leave own.deps_log (λ tell kept same. apart (sym same)) (looks_at tells own.deps_log now new looks)
+  -- a path that is longer than both logs' is neither
+  abbrev neither : List ℕ
+  neither = 0 ∷ (own.build_log ++ own.deps_log)
 
-    pub starts_or_not_leave : (i : ℕ) (act : Act) → StartsOrNot tells i act now new → LeavesTheLog tells own edges first now new
-    starts_or_not_leave i act (inl looks) = looks_leave looks
-    starts_or_not_leave i act (inr starts) = inr (inl (i, act, starts))
+  not_build : (0 ∷ (own.build_log ++ own.deps_log)) ≢ own.build_log
+  not_build same = omega (arith, ap length same, length-append own.build_log own.deps_log)
+
+  not_deps : (0 ∷ (own.build_log ++ own.deps_log)) ≢ own.deps_log
+  not_deps same = omega (arith, ap length same, length-append own.build_log own.deps_log)
+
+  pub looks_leave : OnlyLooks tells now new → LeavesTheLogs tells own edges first now new
+  looks_leave looks = writes_leave neither (λ tell kept. (not_build, not_deps)) (looks_at tells neither now new looks)
+
+  pub starts_or_not_leave : (i : ℕ) (act : Act) → StartsOrNot tells i act now new → LeavesTheLogs tells own edges first now new
+  starts_or_not_leave i act (inl looks) = looks_leave looks
+  starts_or_not_leave i act (inr starts) = inr (inl (i, act, starts))

@@ -1,10 +1,15 @@
 pub mod Results
 pub mod Told
+pub mod Distinct
 pub mod Carrying
-pub mod Beginning
-pub mod Standing
+pub mod Composing
 pub mod Places
 pub mod States
 pub mod Appending
 pub mod Replacing
+pub mod Staying
+pub mod Putting
+pub mod Standing
+pub mod Reading
+pub mod Beginning
 pub mod Leaving

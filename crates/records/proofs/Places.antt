@@ -1,14 +1,12 @@
 -- The numbers of the records in force, path by path.
-use Rattle.std.proofs.Common.{◌≡◌, inl, inr, ℕ, ◌+◌, ◌<◌, false, List, [], ◌∷◌, ◌++◌, Option, None, take, length, map, get_or, slice_get, unwrap_or, sym, ◌∙◌, ap, arith}
+use Rattle.std.proofs.Common.{◌≡◌, inl, inr, ℕ, ◌+◌, ◌<◌, false, List, [], ◌∷◌, ◌++◌, Option, Some, None, take, length, map, get_or, slice_get, unwrap_or, subst, sym, ◌∙◌, ap, arith}
 use Rattle.std.specs.Option.{option_and_then}
 use Rattle.std.proofs.Math.Seq.{get_or-append_seam}
 use Rattle.std.proofs.lemmas.Option.{slice_get-get_or, unwrap_or-slice_get}
 use Rattle.std.proofs.lemmas.List.{get_or_append_left, length-append, map-append, take_more}
 use Rattle.std.proofs.lemmas.Bool.{cases_eq, false≢true}
-use Rattle.model.specs.declared.record.Record.{Record}
 use Rattle.model.specs.declared.graph.Edge.{Edge}
 use Rattle.model.specs.Graph.{outputs}
-use Rattle.model.specs.Records.{in_force}
 use Rattle.paths.specs.declared.line.Line.{Line}
 use Rattle.paths.specs.declared.manifest.Action.{Action}
 use Rattle.paths.specs.declared.manifest.Action.TheVariants.{Alias, Command}
@@ -16,25 +14,31 @@ use Rattle.paths.specs.declared.manifest.Command.{Command as Commanded}
 use Rattle.paths.specs.Lists.{line_outputs}
 use Rattle.paths.specs.Told.{text_at, texts_at, edge_of}
 use Rattle.build_log.specs.Kept.{joined}
-use Rattle.build_log.specs.Log.{makings}
+use Rattle.records.specs.Held.{ArePlaces}
 
 joined_get : (places : List (Option ℕ)) (p : ℕ) → p < length places → joined (slice_get places p) ≡ get_or places p None
 joined_get places p low = ap joined (slice_get-get_or places p None low)
 
+-- the number that was got from a list which is this one, at a place which is this one
+pub place_got : (list places : List (Option ℕ)) (i p n : ℕ) (found : Option ℕ) → list ≡ places → i ≡ p → i < length list → found ≡ get_or list i None → found ≡ Some n → joined (slice_get places p) ≡ Some n
+place_got list places i p n found same_list same_place low got is =
+    subst (λ (l : List (Option ℕ)). joined (slice_get l p) ≡ Some n) same_list
+    (subst (λ (k : ℕ). joined (slice_get list k) ≡ Some n) same_place (joined_get list i low ∙ (sym got ∙ is)))
+
 -- so many paths have their numbers
-abbrev pub AreMadeBelow : ℕ → List Record → List (List ℕ) → List (Option ℕ) → Type 0
-AreMadeBelow count rs paths places = (p : ℕ) → p < count → option_and_then (slice_get (makings rs)) (joined (slice_get places p)) ≡ in_force rs (text_at paths p)
+abbrev pub AreMadeBelow : {R X : Type 0} → (List R → List X) → (List R → List ℕ → Option X) → ℕ → List R → List (List ℕ) → List (Option ℕ) → Type 0
+AreMadeBelow told in_force count rs paths places = (p : ℕ) → p < count → option_and_then (slice_get (told rs)) (joined (slice_get places p)) ≡ in_force rs (text_at paths p)
 
 pub longer : (old new : List (Option ℕ)) (place : ℕ) (one : Option ℕ) → length old ≡ place → new ≡ old ++ one ∷ [] → length new ≡ place + 1
 longer old new place one fits pushed = ap length pushed ∙ (length-append old (one ∷ []) ∙ ap (λ (n : ℕ). n + 1) fits)
 
-pub placed : (rs : List Record) (paths : List (List ℕ)) (old new : List (Option ℕ)) (place : ℕ) (one : Option ℕ) → length old ≡ place → new ≡ old ++ one ∷ []
-    → option_and_then (slice_get (makings rs)) one ≡ in_force rs (text_at paths place) → AreMadeBelow place rs paths old → AreMadeBelow (place + 1) rs paths new
-placed rs paths old new place one fits pushed is all p low = elim (cases_eq p place) [
-  | inl here ↦ ap (option_and_then (slice_get (makings rs))) (at_end p here) ∙ (is ∙ ap (λ (n : ℕ). in_force rs (text_at paths n)) (sym here))
+pub placed : {R X : Type 0} (told : List R → List X) (in_force : List R → List ℕ → Option X) (rs : List R) (paths : List (List ℕ)) (old new : List (Option ℕ)) (place : ℕ) (one : Option ℕ) → length old ≡ place → new ≡ old ++ one ∷ []
+    → option_and_then (slice_get (told rs)) one ≡ in_force rs (text_at paths place) → AreMadeBelow told in_force place rs paths old → AreMadeBelow told in_force (place + 1) rs paths new
+placed told in_force rs paths old new place one fits pushed is all p low = elim (cases_eq p place) [
+  | inl here ↦ ap (option_and_then (slice_get (told rs))) (at_end p here) ∙ (is ∙ ap (λ (n : ℕ). in_force rs (text_at paths n)) (sym here))
   | inr other ↦
       let below : p < place = omega (arith, low, other) in
-      ap (option_and_then (slice_get (makings rs))) (before p below) ∙ all p below
+      ap (option_and_then (slice_get (told rs))) (before p below) ∙ all p below
 ]
   where
     at_end : (p : ℕ) → p ≡ place → joined (slice_get new p) ≡ one
@@ -48,6 +52,11 @@ placed rs paths old new place one fits pushed is all p low = elim (cases_eq p pl
         joined_get new p (omega (arith, below, longer old new place one fits pushed))
         ∙ (ap (λ (l : List (Option ℕ)). get_or l p None) pushed
         ∙ (get_or_append_left old (one ∷ []) None p (omega (arith, below, fits)) ∙ sym (joined_get old p (omega (arith, below, fits)))))
+
+-- a log without records has none in force
+pub no_places : {R X : Type 0} (told : List R → List X) (in_force : List R → List ℕ → Option X) → ((o : List ℕ) → in_force [] o ≡ None) → (rs : List R) (paths : List (List ℕ)) → length rs ≡ 0 → ArePlaces told in_force rs paths []
+no_places told in_force nothing [] paths none p low = sym (nothing (text_at paths p))
+no_places told in_force nothing (r ∷ rs) paths none p low = absurd (omega (arith, none))
 
 -- ---- texts of numbers
 

@@ -1,23 +1,23 @@
--- What a build keeps of its log, and how it hangs together with the file that it read.
-use Rattle.std.specs.Prelude.{◌≡◌, ◌↔◌, ◌<◌, ℕ, List, [], Option, Some, None, length, slice_get}
+-- What a build keeps of a log, and how it hangs together with the file that it read. It is said of any log: by the forms of its
+-- records, what is kept of them, and what they have in force.
+use Rattle.std.specs.Prelude.{◌≡◌, ◌↔◌, ◌<◌, ◌⊎◌, ℕ, Bool, IsTrue, List, [], ◌∷◌, ◌++◌, Option, Some, None, length, slice_get}
 use Rattle.std.specs.Option.{option_and_then}
-use Rattle.model.specs.declared.record.Record.{Record}
-use Rattle.model.specs.Records.{LogFormat, in_force}
+use Rattle.model.specs.World.{World, file_at, content_of}
+use Rattle.model.specs.Calls.{Sees}
 use Rattle.paths.specs.Told.{text_at}
-use Rattle.build_log.specs.declared.done.Done.{Done}
+use Rattle.build_log.specs.declared.form.Version.{Version}
+use Rattle.build_log.specs.declared.form.Version.TheVariants.{Two}
 use Rattle.build_log.specs.declared.tail.Tail.{Tail}
-use Rattle.build_log.specs.Kept.{Table, WantsCompaction, joined}
-use Rattle.build_log.specs.Text.{IsRead}
-use Rattle.build_log.specs.Laws.{Reads}
-use Rattle.build_log.specs.Record.{forms}
-use Rattle.build_log.specs.Log.{Keeps, IsLog, compaction, makings}
+use Rattle.build_log.specs.Form.{Form}
+use Rattle.build_log.specs.Kept.{WantsCompaction, joined}
+use Rattle.build_log.specs.Text.{IsRead, IsLogOf, IsEnded, IsTornOf}
 use Rattle.records.specs.declared.file.State.{State}
-use Rattle.records.specs.declared.file.State.TheVariants.{Usable}
+use Rattle.records.specs.declared.file.State.TheVariants.{Usable, Stale}
 
--- the path of the log, what it told when it was read, and what may be done with its file
-pub record Held : Type 0 where
+-- the path of a log, what it told when it was read, and what may be done with its file
+pub record Held (T : Type 0) : Type 0 where
   pub path : List ℕ
-  pub log : Table Done
+  pub log : T
   pub state : State
 
 -- what a file holds; one that is absent holds nothing
@@ -26,28 +26,65 @@ text_in None = []
 text_in (Some text) = text
 
 -- the file tells these records, however it ends
-abbrev pub AreRecordsIn : Option (List ℕ) → List Record → Type 0
-AreRecordsIn content rs = (tail : Tail) × IsRead forms (text_in content) rs tail
+abbrev pub AreRecordsIn : {R : Type 0} → (Version → Form R) → Option (List ℕ) → List R → Type 0
+AreRecordsIn forms content rs = (tail : Tail) × IsRead forms (text_in content) rs tail
 
 -- a line may be appended: the file is a log of version 2 of these records, which wants no compaction
-abbrev pub MayBeAppendedTo : Option (List ℕ) → List Record → Type 0
-MayBeAppendedTo content rs = IsLog (text_in content) rs × (WantsCompaction (length rs) (length (compaction rs)) → ⊥)
+abbrev pub MayBeAppendedTo : {R : Type 0} → (Version → Form R) → (List R → List R) → Option (List ℕ) → List R → Type 0
+MayBeAppendedTo forms compaction content rs = IsLogOf (forms Two) (text_in content) rs × (WantsCompaction (length rs) (length (compaction rs)) → ⊥)
 
 -- this was read of a file that held this, and tells these records
-pub record IsReadFrom (content : Option (List ℕ)) (rs : List Record) (file : Held) : Type 0 where
-  pub records : AreRecordsIn content rs
+pub record IsReadFrom {R T : Type 0} (forms : Version → Form R) (Keeps : List R → T → Type 0) (compaction : List R → List R) (content : Option (List ℕ)) (rs : List R) (file : Held T) : Type 0 where
+  pub records : AreRecordsIn forms content rs
   pub keeps : Keeps rs file.log
-  pub state : (file.state ≡ Usable) ↔ MayBeAppendedTo content rs
+  pub state : (file.state ≡ Usable) ↔ MayBeAppendedTo forms compaction content rs
+
+-- it was read so at some moment between these worlds
+pub record WasRead {R T : Type 0} (forms : Version → Form R) (Keeps : List R → T → Type 0) (compaction : List R → List R) (tells : Bool) (old new : World) (rs : List R) (file : Held T) : Type 0 where
+  pub content : Option (List ℕ)
+  pub read : IsReadFrom forms Keeps compaction content rs file
+  pub seen : IsTrue tells → Sees (λ history. content_of (file_at history file.path)) content old.history new.history
 
 -- these are, for each of the paths, the numbers of the records in force for it
-abbrev pub AreMade : List Record → List (List ℕ) → List (Option ℕ) → Type 0
-AreMade rs paths places = (p : ℕ) → p < length paths → option_and_then (slice_get (makings rs)) (joined (slice_get places p)) ≡ in_force rs (text_at paths p)
+abbrev pub ArePlaces : {R X : Type 0} → (List R → List X) → (List R → List ℕ → Option X) → List R → List (List ℕ) → List (Option ℕ) → Type 0
+ArePlaces told in_force rs paths places = (p : ℕ) → p < length paths → option_and_then (slice_get (told rs)) (joined (slice_get places p)) ≡ in_force rs (text_at paths p)
 
 -- of a log nothing changed but what may be done with its file
-pub record IsSameLog (old new : Held) : Type 0 where
+pub record IsSameLog {T : Type 0} (old new : Held T) : Type 0 where
   pub path : new.path ≡ old.path
   pub log : new.log ≡ old.log
 
--- the texts of build logs are read as they are defined
-abbrev pub ReadsRecords : LogFormat → Type 0
-ReadsRecords format = Reads forms format.records
+-- ---- while a build runs
+
+-- What the file of the log holds: a log of version 2, to which a line may be appended; or still a text whose records are those
+-- that were read.
+abbrev pub HoldsStill : {R T : Type 0} → (Version → Form R) → (List R → T → Type 0) → State → T → Option (List ℕ) → Type 0
+HoldsStill {R = R} forms Keeps Usable log content = (text : List ℕ) × (rs : List R) × (content ≡ Some text) × IsLogOf (forms Two) text rs
+HoldsStill {R = R} forms Keeps Stale log content = (rs : List R) × AreRecordsIn forms content rs × Keeps rs log
+
+-- the text can be read and tells these records: it is whole, or torn
+abbrev pub IsToldBy : {R : Type 0} → (Version → Form R) → List ℕ → List R → Type 0
+IsToldBy forms text rs = IsEnded (forms Two) text rs ⊎ IsTornOf (forms Two) text rs
+
+-- these records, and one behind them where one is put
+abbrev pub behind : {R : Type 0} → List R → Option R → List R
+behind rs None = rs
+behind rs (Some r) = rs ++ r ∷ []
+
+-- The file told some records. Now it tells these, or others that have the same in force, and the one that was put behind them.
+pub record TellsMore {R X : Type 0} (forms : Version → Form R) (in_force : List R → List ℕ → Option X) (added : Option R) (before after : Option (List ℕ)) : Type 0 where
+  pub old : List R
+  pub was : AreRecordsIn forms before old
+  pub new : List R
+  pub same : (o : List ℕ) → in_force new o ≡ in_force old o
+  pub text : List ℕ
+  pub holds : after ≡ Some text
+  pub told : IsToldBy forms text (behind new added)
+
+-- the file is as it was, or tells what has the same in force
+abbrev pub IsKeptOrWrittenAnew : {R X : Type 0} → (Version → Form R) → (List R → List ℕ → Option X) → Option (List ℕ) → Option (List ℕ) → Type 0
+IsKeptOrWrittenAnew forms in_force before after = (after ≡ before) ⊎ TellsMore forms in_force None before after
+
+-- and, perhaps, the record that was to be put behind that
+abbrev pub MayTellMore : {R X : Type 0} → (Version → Form R) → (List R → List ℕ → Option X) → R → Option (List ℕ) → Option (List ℕ) → Type 0
+MayTellMore forms in_force r before after = IsKeptOrWrittenAnew forms in_force before after ⊎ TellsMore forms in_force (Some r) before after

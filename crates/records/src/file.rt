@@ -1,27 +1,23 @@
-//! The file of the log, and what it told when it was read.
+//! The file of a log, and what it told when it was read.
 
-ghost use Rattle.std.specs.Prelude.{◌≡◌, ◌<◌, ◌↔◌, ◌^◌, ℕ, List, Option, IfOk, OnOk, OnErr, IsTrue, IsFalse, false, string_bytes, length, slice_get};
-ghost use Rattle.std.specs.Option.{option_and_then, option_copied, option_map};
-ghost use Rattle.model.specs.World.{World, file_at, content_of};
-ghost use Rattle.model.specs.Calls.{OnlyLooks, HasCause, Sees};
-ghost use Rattle.model.specs.Outcome.{Behaviour};
-ghost use Rattle.model.specs.Records.{LogFormat, OwnFiles, Store, in_force};
-ghost use Rattle.model.specs.Schedule.{Step};
+ghost use Rattle.std.specs.Prelude.{◌≡◌, ◌<◌, ◌≤◌, ◌↔◌, ◌^◌, ℕ, List, Option, Some, None, IfOk, OnOk, OnErr, IsFalse, false, string_bytes, length, slice_get};
+ghost use Rattle.std.specs.Option.{option_and_then};
 ghost use Rattle.model.specs.declared.graph.Edge.{Edge};
+ghost use Rattle.model.specs.World.{World, view_of};
+ghost use Rattle.model.specs.Calls.{OnlyLooks, HasCause};
+ghost use Rattle.model.specs.Records.{OwnFiles};
 ghost use Rattle.paths.specs.Told.{text_at};
 ghost use Rattle.build_log.specs.declared.form.Version.TheVariants.{Two};
 ghost use Rattle.build_log.specs.Kept.{WantsCompaction};
-ghost use Rattle.build_log.specs.Text.{IsRead};
+ghost use Rattle.build_log.specs.Text.{IsRead, IsLogOf};
 ghost use Rattle.build_log.specs.Form.{IsLineOf};
-ghost use Rattle.build_log.specs.Record.{forms};
-ghost use Rattle.build_log.specs.Log.{Keeps, IsLog, compaction, made_of, makings};
 ghost use Rattle.log_theory.specs.Writes.{WritesAt};
-ghost use Rattle.records.specs.Held.{text_in, IsReadFrom, AreMade, IsSameLog};
-ghost use Rattle.records.specs.Logging.{IsLogging, IsLoggedStill, MayStand, EndsWith};
+ghost use Rattle.records.specs.Held.{text_in, WasRead, ArePlaces, IsSameLog, TellsMore, IsKeptOrWrittenAnew, MayTellMore};
+ghost use Rattle.records.specs.Carried.{WhereKept, IsCarriedLog};
 
-use build_log::{Done, Log, Tail, compaction_keeps, front_of_lines, line_grows_log, one_reading};
+use build_log::{Records, Tail, front_of_lines, line_grows_log, one_reading};
 use links::Graph;
-use model::{Record, SiteFault};
+use model::SiteFault;
 use paths::PathId;
 use site::Site;
 use std::alloc::{AllocError, Global};
@@ -38,49 +34,61 @@ pub enum State {
     Stale,
 }
 
-/// The file of the log. In memory stands what it told when it was read.
+/// The file of a log. In memory stands what it told when it was read.
 #[derive(Drop)]
-pub struct LogFile {
+pub struct LogFile<L> {
     path: String,
-    log: Log,
+    log: L,
     state: State,
 }
 
-impl Model for LogFile {
+impl<L> Model for LogFile<L> {
     ghost use Rattle.std.specs.Prelude.{string_bytes};
     ghost use Rattle.records.specs.Held.{Held};
 
-    ghost Value = { Held };
+    ghost Value = { Held L };
 
     ghost view = { λ file. record { path = string_bytes file.path; log = file.log; state = file.state } };
 }
 
-impl LogFile {
+impl<L: Records> LogFile<L> {
     /// Reads the log. It only looks; a text that is torn, damaged or of version 1 is no fault.
     pub(crate) fn read<S: Site>(
         alloc: Global,
         site: &mut S,
         path: String,
-    ) -> Result<LogFile, SiteFault>
+    ) -> Result<LogFile<L>, SiteFault>
         requires running { (S.world site.old).stopped ≡ false }
         ensures looks { OnlyLooks S.tells (S.world site.old) (S.world site.new) }
         ensures cause { HasCause (S.world site.old) (S.world site.new) result }
         ensures path { IfOk result (λ file. file.path ≡ string_bytes path) }
-        ensures read { IfOk result (λ file. (content : Option (List ℕ)) × (rs : List Record) × IsReadFrom content rs file × (IsTrue S.tells → Sees (λ history. content_of (file_at history (string_bytes path))) content (S.world site.old).history (S.world site.new).history)) }
+        ensures read { IfOk result (λ file. (rs : List L.Record) × WasRead L.forms L.Keeps L.compaction S.tells (S.world site.old) (S.world site.new) rs file) }
     {
         let content = site.read(path.as_str())?;
-        let (log, state) = log_of(alloc, &content)?;
+        let (log, state) = log_of::<L>(alloc, &content)?;
         Ok(LogFile { path, log, state })
     }
 
-    /// For each path of the graph the number of the record in force.
+    /// For each path of the graph the number of the record in force; none at all, and no memory, where the log has no records.
     pub(crate) fn places(
         &self,
         alloc: Global,
         graph: &Graph,
     ) -> Result<Vec<Option<usize>>, AllocError>
+        ensures fits { IfOk result (λ places. length places.items ≤ length graph.now.manifest.paths) }
+        ensures made { IfOk result (λ places. (rs : List L.Record) → L.Keeps rs self.now.log → ArePlaces L.told L.in_force rs graph.now.manifest.paths places.items) }
+    {
+        L::keeps_in_force();
+        if self.log.records() == 0 {
+            return Ok(Vec::new(alloc));
+        }
+        self.all_places(alloc, graph)
+    }
+
+    /// For each path of the graph the number of the record in force.
+    fn all_places(&self, alloc: Global, graph: &Graph) -> Result<Vec<Option<usize>>, AllocError>
         ensures fits { IfOk result (λ places. length places.items ≡ length graph.now.manifest.paths) }
-        ensures made { IfOk result (λ places. (rs : List Record) → Keeps rs self.now.log → AreMade rs graph.now.manifest.paths places.items) }
+        ensures made { IfOk result (λ places. (rs : List L.Record) → L.Keeps rs self.now.log → ArePlaces L.told L.in_force rs graph.now.manifest.paths places.items) }
     {
         let count = graph.manifest.paths.len();
         let mut places = Vec::with_capacity(alloc, count)?;
@@ -94,17 +102,17 @@ impl LogFile {
     fn place_at(&self, graph: &Graph, place: usize) -> Option<usize>
         requires within { place < length graph.now.manifest.paths }
         requires small { place < 2 ^ 32 }
-        ensures { (rs : List Record) → Keeps rs self.now.log → option_and_then (slice_get (makings rs)) result ≡ in_force rs (text_at graph.now.manifest.paths place) }
+        ensures { (rs : List L.Record) → L.Keeps rs self.now.log → option_and_then (slice_get (L.told rs)) result ≡ L.in_force rs (text_at graph.now.manifest.paths place) }
     {
         let path = PathId::at(place)?;
         self.log.find(graph.text(path))
     }
 
-    /// What the record with this number tells.
-    pub(crate) fn done_at(&self, number: usize) -> Option<&Done>
-        ensures { (rs : List Record) → Keeps rs self.now.log → option_map made_of (option_copied result) ≡ slice_get (makings rs) number }
+    /// What the log told when it was read.
+    pub(crate) fn log(&self) -> &L
+        ensures { result.now ≡ self.now.log }
     {
-        self.log.done_at(number)
+        &self.log
     }
 
     /// Puts the line of a record behind the log, which is made usable first. Where it fails, a beginning of the line may
@@ -119,11 +127,13 @@ impl LogFile {
         ensures cause { HasCause (S.world site.old) (S.world site.new) result }
         ensures writes { WritesAt S.tells self.old.path (S.world site.old) (S.world site.new) }
         ensures same { IsSameLog self.old self.new }
-        ensures ok { OnOk result ((B : Behaviour) (format : LogFormat) (own : OwnFiles) (edges : List Edge) (steps : List Step) (hand next : Option ℕ) (entry : Store) (first : World) (r : Record) → IsLineOf (forms Two) r line.now → MayStand S.tells B edges steps hand next entry first (S.world site.old) self.old.path r → IsLogging S.tells B format own edges steps hand entry first (S.world site.old) self.old → IsLogging S.tells B format own edges steps next entry first (S.world site.new) self.new × EndsWith S.tells format own edges first (S.world site.new) r) }
-        ensures err { OnErr result ((B : Behaviour) (format : LogFormat) (own : OwnFiles) (edges : List Edge) (steps : List Step) (hand : Option ℕ) (entry : Store) (first : World) (r : Record) → IsLineOf (forms Two) r line.now → MayStand S.tells B edges steps hand hand entry first (S.world site.old) self.old.path r → IsLogging S.tells B format own edges steps hand entry first (S.world site.old) self.old → IsLoggedStill S.tells B format own edges steps hand entry first (S.world site.new)) }
+        ensures carried { OnOk result ((own : OwnFiles) (edges : List Edge) (first : World) (r : L.Record) → IsLineOf (L.forms Two) r line.now → IsCarriedLog L.forms L.Keeps S.tells own edges first (S.world site.old) self.old → IsCarriedLog L.forms L.Keeps S.tells own edges first (S.world site.new) self.new) }
+        ensures ok { OnOk result ((own : OwnFiles) (edges : List Edge) (first : World) (r : L.Record) → IsLineOf (L.forms Two) r line.now → IsCarriedLog L.forms L.Keeps S.tells own edges first (S.world site.old) self.old → WhereKept S.tells own edges first (S.world site.new) (TellsMore L.forms L.in_force (Some r) (view_of (S.world site.old).history self.old.path) (view_of (S.world site.new).history self.old.path))) }
+        ensures err { OnErr result ((own : OwnFiles) (edges : List Edge) (first : World) (r : L.Record) → IsLineOf (L.forms Two) r line.now → IsCarriedLog L.forms L.Keeps S.tells own edges first (S.world site.old) self.old → WhereKept S.tells own edges first (S.world site.new) (MayTellMore L.forms L.in_force r (view_of (S.world site.old).history self.old.path) (view_of (S.world site.new).history self.old.path))) }
     {
-        line_grows_log::<Log>();
-        front_of_lines::<Log>();
+        line_grows_log::<L>();
+        front_of_lines::<L>();
+        one_reading::<L>();
         self.make_usable(alloc, site)?;
         site.append(self.path.as_str(), line)?;
         Ok(())
@@ -136,8 +146,8 @@ impl LogFile {
         ensures writes { WritesAt S.tells self.old.path (S.world site.old) (S.world site.new) }
         ensures same { IsSameLog self.old self.new }
         ensures usable { OnOk result (self.new.state ≡ State.Usable) }
-        ensures ok { OnOk result ((B : Behaviour) (format : LogFormat) (own : OwnFiles) (edges : List Edge) (steps : List Step) (hand : Option ℕ) (entry : Store) (first : World) → IsLogging S.tells B format own edges steps hand entry first (S.world site.old) self.old → IsLogging S.tells B format own edges steps hand entry first (S.world site.new) self.new) }
-        ensures err { OnErr result ((B : Behaviour) (format : LogFormat) (own : OwnFiles) (edges : List Edge) (steps : List Step) (hand : Option ℕ) (entry : Store) (first : World) → IsLogging S.tells B format own edges steps hand entry first (S.world site.old) self.old → IsLoggedStill S.tells B format own edges steps hand entry first (S.world site.new)) }
+        ensures carried { OnOk result ((own : OwnFiles) (edges : List Edge) (first : World) → IsCarriedLog L.forms L.Keeps S.tells own edges first (S.world site.old) self.old → IsCarriedLog L.forms L.Keeps S.tells own edges first (S.world site.new) self.new) }
+        ensures anew { (own : OwnFiles) (edges : List Edge) (first : World) → IsCarriedLog L.forms L.Keeps S.tells own edges first (S.world site.old) self.old → WhereKept S.tells own edges first (S.world site.new) (IsKeptOrWrittenAnew L.forms L.in_force (view_of (S.world site.old).history self.old.path) (view_of (S.world site.new).history self.old.path)) }
     {
         match self.state {
             State::Usable => Ok(()),
@@ -153,10 +163,10 @@ impl LogFile {
         ensures writes { WritesAt S.tells self.old.path (S.world site.old) (S.world site.new) }
         ensures same { IsSameLog self.old self.new }
         ensures usable { OnOk result (self.new.state ≡ State.Usable) }
-        ensures ok { OnOk result ((B : Behaviour) (format : LogFormat) (own : OwnFiles) (edges : List Edge) (steps : List Step) (hand : Option ℕ) (entry : Store) (first : World) → IsLogging S.tells B format own edges steps hand entry first (S.world site.old) self.old → IsLogging S.tells B format own edges steps hand entry first (S.world site.new) self.new) }
-        ensures err { OnErr result ((B : Behaviour) (format : LogFormat) (own : OwnFiles) (edges : List Edge) (steps : List Step) (hand : Option ℕ) (entry : Store) (first : World) → IsLogging S.tells B format own edges steps hand entry first (S.world site.old) self.old → IsLoggedStill S.tells B format own edges steps hand entry first (S.world site.new)) }
+        ensures carried { OnOk result ((own : OwnFiles) (edges : List Edge) (first : World) → IsCarriedLog L.forms L.Keeps S.tells own edges first (S.world site.old) self.old → IsCarriedLog L.forms L.Keeps S.tells own edges first (S.world site.new) self.new) }
+        ensures anew { (own : OwnFiles) (edges : List Edge) (first : World) → IsCarriedLog L.forms L.Keeps S.tells own edges first (S.world site.old) self.old → WhereKept S.tells own edges first (S.world site.new) (IsKeptOrWrittenAnew L.forms L.in_force (view_of (S.world site.old).history self.old.path) (view_of (S.world site.new).history self.old.path)) }
     {
-        compaction_keeps();
+        L::keeps_in_force();
         let text = self.log.compacted(alloc)?;
         site.replace(self.path.as_str(), text.as_slice())?;
         self.state = State::Usable;
@@ -165,12 +175,12 @@ impl LogFile {
 }
 
 /// What the content of the file tells, and what may be done with it. One that is absent is as one that is empty.
-fn log_of(alloc: Global, content: &Option<Bytes>) -> Result<(Log, State), AllocError>
-    ensures { IfOk result (λ log. (rs : List Record) × ((tail : Tail) × IsRead forms (text_in content.now) rs tail) × Keeps rs log.0 × ((log.1 ≡ State.Usable) ↔ (IsLog (text_in content.now) rs × (WantsCompaction (length rs) (length (compaction rs)) → ⊥)))) }
+fn log_of<L: Records>(alloc: Global, content: &Option<Bytes>) -> Result<(L, State), AllocError>
+    ensures { IfOk result (λ log. (rs : List L.Record) × ((tail : Tail) × IsRead L.forms (text_in content.now) rs tail) × L.Keeps rs log.0 × ((log.1 ≡ State.Usable) ↔ (IsLogOf (L.forms Two) (text_in content.now) rs × (WantsCompaction (length rs) (length (L.compaction rs)) → ⊥)))) }
 {
     let text = bytes_in(content);
-    let (log, tail) = Log::parse(alloc, text)?;
-    let state = state_of(text, &log, tail);
+    let (log, tail) = build_log::parse::<L>(alloc, text)?;
+    let state = state_of::<L>(text, &log, tail);
     Ok((log, state))
 }
 
@@ -185,10 +195,10 @@ fn bytes_in(content: &Option<Bytes>) -> &[u8]
 }
 
 /// What may be done with a file that holds the text, which tells the log and ends so.
-fn state_of(text: &[u8], log: &Log, tail: Tail) -> State
-    ensures { (rs : List Record) → IsRead forms text.now rs tail → Keeps rs log.now → (result ≡ State.Usable) ↔ (IsLog text.now rs × (WantsCompaction (length rs) (length (compaction rs)) → ⊥)) }
+fn state_of<L: Records>(text: &[u8], log: &L, tail: Tail) -> State
+    ensures { (rs : List L.Record) → IsRead L.forms text.now rs tail → L.Keeps rs log.now → (result ≡ State.Usable) ↔ (IsLogOf (L.forms Two) text.now rs × (WantsCompaction (length rs) (length (L.compaction rs)) → ⊥)) }
 {
-    one_reading::<Log>();
+    one_reading::<L>();
     if text.is_empty() || is_other(tail) || log.wants_compaction() {
         State::Stale
     } else {

@@ -1,13 +1,23 @@
-//! What a run carries of its log. These functions do nothing: their contracts are the laws.
+//! What a run carries of its logs. These functions do nothing: their contracts are the laws.
 
-ghost use Rattle.records.specs.Laws.{LogBegins, LogStays};
+ghost use Rattle.records.specs.Laws.{LogBegins, LogStays, StoreStays, NoneWhileRunning};
 
-/// A log that was read before anything ran is logged from there on, and what it told is what the logs told at the entry.
+/// Logs that were read before anything ran are logged from there on, and what they told is what the logs told at the entry.
 pub fn log_begins()
     ensures { LogBegins }
 {}
 
-/// Over each call that writes elsewhere, starts or takes in a command, the log goes on.
+/// Over each call that writes elsewhere, starts or takes in a command, the logs go on.
 pub fn log_stays()
     ensures { LogStays }
+{}
+
+/// Over such a call they tell the same.
+pub fn store_stays()
+    ensures { StoreStays }
+{}
+
+/// No output of a command that was started, and has not ended well, has a record in force.
+pub fn none_while_running()
+    ensures { NoneWhileRunning }
 {}

@@ -1,14 +1,18 @@
-//! The lines that a build puts behind its log.
+//! The lines that a build puts behind its logs.
 
 ghost use Rattle.std.specs.Prelude.{◌≡◌, ◌≢◌, ◌<◌, [], ℕ, suc, List, IfOk, OnOk, length, map};
 ghost use Rattle.model.specs.Graph.{edge_at, outputs, IsCommand, IsMadeOnce};
 ghost use Rattle.build_log.specs.declared.form.Version.TheVariants.{Two};
 ghost use Rattle.build_log.specs.Form.{IsLineOf};
+ghost use Rattle.build_log.specs.Found.{texts_in};
 ghost use Rattle.build_log.specs.Record.{forms};
+ghost use Rattle.deps_log.specs.Record.{forms as deps_forms};
+ghost use Rattle.records.specs.Logging.{deps_of};
 ghost use Rattle.paths.specs.Told.{text_at};
 ghost use Rattle.links.specs.Told.{declared_by};
 
 use build_log::{begun_line, made_line};
+use deps_log::record_line;
 use links::{Graph, numbers_stand};
 use model::{Act, Record};
 use paths::{Action, EdgeId, PathId};
@@ -49,6 +53,27 @@ pub fn done_line_of(
     let outputs = output_texts(alloc, graph, edge)?;
     line.clear();
     made_line(line, outputs.as_slice(), start, act_of(graph, edge))?;
+    Ok(())
+}
+
+/// Makes the line that of the deps record of an edge, whose command was started under this stamp and read these paths. What
+/// stood there is let go.
+pub fn deps_line_of(
+    alloc: Global,
+    line: &mut Vec<u8>,
+    graph: &Graph,
+    edge: EdgeId,
+    start: u64,
+    paths: &[&str],
+) -> Result<(), AllocError>
+    requires within { edge < length graph.now.manifest.lines }
+    requires once { IsMadeOnce (declared_by graph.now).edges }
+    requires some { outputs (edge_at (declared_by graph.now).edges (suc edge)) ≢ [] }
+    ensures { OnOk result (IsLineOf (deps_forms Two) (deps_of (declared_by graph.now).edges (suc edge) start (texts_in paths.now)) line.new.items) }
+{
+    let outputs = output_texts(alloc, graph, edge)?;
+    line.clear();
+    record_line(line, outputs.as_slice(), start, paths)?;
     Ok(())
 }
 

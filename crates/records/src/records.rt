@@ -1,78 +1,103 @@
 //! The records of a build.
 
-ghost use Rattle.std.specs.Prelude.{◌≡◌, ◌≢◌, ◌<◌, ◌≤◌, [], ℕ, suc, List, Option, Some, None, IfOk, OnOk, OnErr, IsTrue, true, false, string_bytes, length};
+ghost use Rattle.std.specs.Prelude.{◌≡◌, ◌≢◌, ◌<◌, ◌≤◌, [], ℕ, suc, List, Option, Some, None, IfOk, OnOk, OnErr, false, string_bytes, length, slice_get};
 ghost use Rattle.std.specs.Option.{option_copied, option_map};
-ghost use Rattle.model.specs.declared.event.Moment.{Moment};
-ghost use Rattle.model.specs.World.{World, file_at, content_of};
-ghost use Rattle.model.specs.Calls.{OnlyLooks, HasCause, Sees};
-ghost use Rattle.model.specs.Graph.{has_number, edge_at, outputs, IsCommand, IsMadeOnce};
+ghost use Rattle.model.specs.declared.record.DepsRecord.{DepsRecord};
+ghost use Rattle.model.specs.World.{World};
+ghost use Rattle.model.specs.Calls.{OnlyLooks, HasCause};
+ghost use Rattle.model.specs.Graph.{edge_at, outputs, IsCommand, IsMadeOnce};
 ghost use Rattle.model.specs.Outcome.{Behaviour};
-ghost use Rattle.model.specs.Records.{LogFormat, OwnFiles, Store, in_force};
-ghost use Rattle.model.specs.Schedule.{Step, well_in};
-ghost use Rattle.model.specs.Premises.{EndedAt};
-ghost use Rattle.model.specs.Kept.{StartedUnder};
+ghost use Rattle.model.specs.Records.{LogFormat, OwnFiles, Store, in_force, deps_in_force};
+ghost use Rattle.model.specs.Schedule.{Step};
+ghost use Rattle.build_log.specs.Found.{texts_in};
 ghost use Rattle.build_log.specs.Log.{made_of};
+ghost use Rattle.deps_log.specs.Log.{told_in};
 ghost use Rattle.log_theory.specs.Writes.{WritesAt};
 ghost use Rattle.paths.specs.Told.{text_at};
 ghost use Rattle.links.specs.Told.{declared_by};
-ghost use Rattle.records.specs.Held.{IsReadFrom, IsSameLog};
-ghost use Rattle.records.specs.Known.{IsOf};
-ghost use Rattle.records.specs.Logging.{IsLogging, IsLoggedStill, NoneInForce, EndedWell};
+ghost use Rattle.records.specs.Known.{IsOf, IsOfDeps};
+ghost use Rattle.records.specs.Laws.{WereRead};
+ghost use Rattle.records.specs.Logging.{AreSameLogs, IsLogging, IsLoggedStill, NoneInForce, IsReported, MayReport, EndedWell};
 
-use crate::file::LogFile;
-use crate::lines::{begun_line_of, done_line_of};
+use crate::lines::{begun_line_of, deps_line_of, done_line_of};
+use crate::logs::Logs;
 use build_log::Done;
+use deps_log::Deps;
 use links::Graph;
 use model::{Record, SiteFault};
 use paths::{EdgeId, PathId};
 use site::Site;
 use std::alloc::Global;
 
-/// The records of a build: what its log told at the entry, for each path of its graph by number, and the file behind which
-/// more are put. Beside the log as it was read a path takes 16 bytes; the room for a line is lent again and again.
+/// The records of a build: what its logs told at the entry, for each path of its graph by number, and the files behind which
+/// more are put. Beside the logs as they were read a path takes 16 bytes for each log that told something; the room for a line is
+/// lent again and again.
 #[derive(Drop)]
 pub struct Records {
-    pub file: LogFile,
-    /// For each path of the graph the number of the record in force at the entry.
+    pub logs: Logs,
+    /// For each path of the graph the number of its record of the build log in force at the entry; empty where that log told
+    /// nothing.
     pub places: Vec<Option<usize>>,
+    /// The same of the deps log.
+    pub deps_places: Vec<Option<usize>>,
     line: Vec<u8>,
 }
 
 impl Records {
-    /// Reads the log at the path. It only looks. An absent or empty log has no records, and neither has a damaged one, which
+    /// Reads the logs at these paths. It only looks. An absent or empty log has no records, and neither has a damaged one, which
     /// is no fault; a torn one loses its last line alone.
     pub fn read<S: Site>(
         alloc: Global,
         site: &mut S,
         graph: &Graph,
-        path: String,
+        build_log: String,
+        deps_log: String,
     ) -> Result<Records, SiteFault>
         requires running { (S.world site.old).stopped ≡ false }
         ensures looks { OnlyLooks S.tells (S.world site.old) (S.world site.new) }
         ensures cause { HasCause (S.world site.old) (S.world site.new) result }
-        ensures path { IfOk result (λ records. records.file.path ≡ string_bytes path) }
-        ensures read { IfOk result (λ records. (content : Option (List ℕ)) × (rs : List Record) × IsReadFrom content rs records.file × IsOf rs graph.now.manifest.paths records × (IsTrue S.tells → Sees (λ history. content_of (file_at history (string_bytes path))) content (S.world site.old).history (S.world site.new).history)) }
+        ensures build_log { IfOk result (λ records. records.logs.build_log.path ≡ string_bytes build_log) }
+        ensures deps_log { IfOk result (λ records. records.logs.deps_log.path ≡ string_bytes deps_log) }
+        ensures read { IfOk result (λ records. (rs : List Record) × (ds : List DepsRecord) × IsOf rs graph.now.manifest.paths records × IsOfDeps ds graph.now.manifest.paths records × WereRead S.tells (S.world site.old) (S.world site.new) rs ds records.logs) }
     {
-        let file = LogFile::read(alloc, site, path)?;
-        let places = file.places(alloc, graph)?;
+        let logs = Logs::read(alloc, site, build_log, deps_log)?;
+        let places = logs.build_log.places(alloc, graph)?;
+        let deps_places = logs.deps_log.places(alloc, graph)?;
         Ok(Records {
-            file,
+            logs,
             places,
+            deps_places,
             line: Vec::new(alloc),
         })
     }
 
-    /// The record in force at the entry for a path that the graph had when the log was read; none for a path that it got
+    /// The record in force at the entry for a path that the graph had when the logs were read; none for a path that it got
     /// later, whatever the log tells of its text. It takes no memory.
     pub fn made(&self, path: PathId) -> Option<&Done>
         ensures made { (rs : List Record) (paths : List (List ℕ)) → IsOf rs paths self.now → path < length paths → option_map made_of (option_copied result) ≡ in_force rs (text_at paths path) }
         ensures later { (rs : List Record) (paths : List (List ℕ)) → IsOf rs paths self.now → length paths ≤ path → result ≡ None }
     {
         let place = (*self.places.get(path.index())?)?;
-        self.file.done_at(place)
+        self.logs.build_log.log().done_at(place)
     }
 
-    /// Puts one record behind the log that says that the command of the edge is about to start: no earlier record of its
+    /// The deps record in force at the entry, in the same way. `deps_path` gives the paths that it names. It takes no memory.
+    pub fn deps(&self, path: PathId) -> Option<&Deps>
+        ensures told { (ds : List DepsRecord) (paths : List (List ℕ)) → IsOfDeps ds paths self.now → path < length paths → option_map (told_in self.now.logs.deps_log.log.outputs) (option_copied result) ≡ deps_in_force ds (text_at paths path) }
+        ensures later { (ds : List DepsRecord) (paths : List (List ℕ)) → IsOfDeps ds paths self.now → length paths ≤ path → result ≡ None }
+    {
+        let place = (*self.deps_places.get(path.index())?)?;
+        self.logs.deps_log.log().deps_at(place)
+    }
+
+    /// The text of a path that a deps record names by this number. It takes no memory.
+    pub fn deps_path(&self, number: usize) -> Option<&str>
+        ensures { option_map (λ path. path.now) result ≡ slice_get self.now.logs.deps_log.log.outputs number }
+    {
+        self.logs.deps_log.log().path(number)
+    }
+
+    /// Puts one record behind the build log that says that the command of the edge is about to start: no earlier record of its
     /// outputs is in force any more.
     ///
     /// Where it fails the log may tell so already, or may be torn; nothing more may be put behind it.
@@ -88,18 +113,53 @@ impl Records {
         requires once { IsMadeOnce (declared_by graph.now).edges }
         requires some { outputs (edge_at (declared_by graph.now).edges (suc edge)) ≢ [] }
         ensures cause { HasCause (S.world site.old) (S.world site.new) result }
-        ensures writes { WritesAt S.tells self.old.file.path (S.world site.old) (S.world site.new) }
-        ensures same { IsSameLog self.old.file self.new.file }
+        ensures writes { WritesAt S.tells self.old.logs.build_log.path (S.world site.old) (S.world site.new) }
+        ensures same { AreSameLogs self.old.logs self.new.logs }
         ensures places { self.new.places.items ≡ self.old.places.items }
-        ensures ok { OnOk result ((B : Behaviour) (format : LogFormat) (own : OwnFiles) (steps : List Step) (entry : Store) (first : World) → IsLogging S.tells B format own (declared_by graph.now).edges steps (Some (suc edge)) entry first (S.world site.old) self.old.file → IsLogging S.tells B format own (declared_by graph.now).edges steps (Some (suc edge)) entry first (S.world site.new) self.new.file × NoneInForce S.tells format own (declared_by graph.now).edges (suc edge) first (S.world site.new)) }
-        ensures err { OnErr result ((B : Behaviour) (format : LogFormat) (own : OwnFiles) (steps : List Step) (entry : Store) (first : World) → IsLogging S.tells B format own (declared_by graph.now).edges steps (Some (suc edge)) entry first (S.world site.old) self.old.file → IsLoggedStill S.tells B format own (declared_by graph.now).edges steps (Some (suc edge)) entry first (S.world site.new)) }
+        ensures deps_places { self.new.deps_places.items ≡ self.old.deps_places.items }
+        ensures ok { OnOk result ((B : Behaviour) (format : LogFormat) (own : OwnFiles) (steps : List Step) (entry : Store) (first : World) → IsLogging S.tells B format own (declared_by graph.now).edges steps (Some (suc edge)) entry first (S.world site.old) self.old.logs → IsLogging S.tells B format own (declared_by graph.now).edges steps (Some (suc edge)) entry first (S.world site.new) self.new.logs × NoneInForce S.tells format own (declared_by graph.now).edges (suc edge) first (S.world site.new)) }
+        ensures err { OnErr result ((B : Behaviour) (format : LogFormat) (own : OwnFiles) (steps : List Step) (entry : Store) (first : World) → IsLogging S.tells B format own (declared_by graph.now).edges steps (Some (suc edge)) entry first (S.world site.old) self.old.logs → IsLoggedStill S.tells B format own (declared_by graph.now).edges steps (Some (suc edge)) entry first (S.world site.new)) }
     {
         begun_line_of(alloc, &mut self.line, graph, edge)?;
-        self.file.append(alloc, site, self.line.as_slice())?;
+        self.logs
+            .build_log
+            .append(alloc, site, self.line.as_slice())?;
         Ok(())
     }
 
-    /// Puts one record behind the log that says that the command of the edge, which was started under this stamp, ended well.
+    /// Puts one record behind the deps log that says that the command of the edge, which was started under this stamp and ended
+    /// well, told that it read these paths. Behind it `done` is to follow, before another command is taken in.
+    ///
+    /// Where it fails the log may tell so already, or may be torn; nothing more may be put behind it.
+    pub fn report<S: Site>(
+        &mut self,
+        alloc: Global,
+        site: &mut S,
+        graph: &Graph,
+        edge: EdgeId,
+        start: u64,
+        paths: &[&str],
+    ) -> Result<(), SiteFault>
+        requires running { (S.world site.old).stopped ≡ false }
+        requires within { edge < length graph.now.manifest.lines }
+        requires once { IsMadeOnce (declared_by graph.now).edges }
+        requires some { outputs (edge_at (declared_by graph.now).edges (suc edge)) ≢ [] }
+        ensures cause { HasCause (S.world site.old) (S.world site.new) result }
+        ensures writes { WritesAt S.tells self.old.logs.deps_log.path (S.world site.old) (S.world site.new) }
+        ensures same { AreSameLogs self.old.logs self.new.logs }
+        ensures places { self.new.places.items ≡ self.old.places.items }
+        ensures deps_places { self.new.deps_places.items ≡ self.old.deps_places.items }
+        ensures ok { OnOk result ((B : Behaviour) (format : LogFormat) (own : OwnFiles) (steps : List Step) (entry : Store) (first : World) → MayReport S.tells format own (declared_by graph.now).edges steps (suc edge) start first (S.world site.old) → IsLogging S.tells B format own (declared_by graph.now).edges steps (Some (suc edge)) entry first (S.world site.old) self.old.logs → IsLogging S.tells B format own (declared_by graph.now).edges steps (Some (suc edge)) entry first (S.world site.new) self.new.logs × IsReported S.tells format own (declared_by graph.now).edges (suc edge) start (texts_in paths.now) first (S.world site.new)) }
+        ensures err { OnErr result ((B : Behaviour) (format : LogFormat) (own : OwnFiles) (steps : List Step) (entry : Store) (first : World) → MayReport S.tells format own (declared_by graph.now).edges steps (suc edge) start first (S.world site.old) → IsLogging S.tells B format own (declared_by graph.now).edges steps (Some (suc edge)) entry first (S.world site.old) self.old.logs → IsLoggedStill S.tells B format own (declared_by graph.now).edges steps (Some (suc edge)) entry first (S.world site.new)) }
+    {
+        deps_line_of(alloc, &mut self.line, graph, edge, start, paths)?;
+        self.logs
+            .deps_log
+            .append(alloc, site, self.line.as_slice())?;
+        Ok(())
+    }
+
+    /// Puts one record behind the build log that says that the command of the edge, which was started under this stamp, ended well.
     ///
     /// Where it fails the log may tell so already, or may be torn; nothing more may be put behind it.
     pub fn done<S: Site>(
@@ -116,14 +176,17 @@ impl Records {
         requires some { outputs (edge_at (declared_by graph.now).edges (suc edge)) ≢ [] }
         requires command { IsCommand (declared_by graph.now).edges (suc edge) }
         ensures cause { HasCause (S.world site.old) (S.world site.new) result }
-        ensures writes { WritesAt S.tells self.old.file.path (S.world site.old) (S.world site.new) }
-        ensures same { IsSameLog self.old.file self.new.file }
+        ensures writes { WritesAt S.tells self.old.logs.build_log.path (S.world site.old) (S.world site.new) }
+        ensures same { AreSameLogs self.old.logs self.new.logs }
         ensures places { self.new.places.items ≡ self.old.places.items }
-        ensures ok { OnOk result ((B : Behaviour) (format : LogFormat) (own : OwnFiles) (steps : List Step) (entry : Store) (first : World) → EndedWell S.tells B (declared_by graph.now).edges steps (suc edge) start first (S.world site.old) → IsLogging S.tells B format own (declared_by graph.now).edges steps (Some (suc edge)) entry first (S.world site.old) self.old.file → IsLogging S.tells B format own (declared_by graph.now).edges steps None entry first (S.world site.new) self.new.file) }
-        ensures err { OnErr result ((B : Behaviour) (format : LogFormat) (own : OwnFiles) (steps : List Step) (entry : Store) (first : World) → EndedWell S.tells B (declared_by graph.now).edges steps (suc edge) start first (S.world site.old) → IsLogging S.tells B format own (declared_by graph.now).edges steps (Some (suc edge)) entry first (S.world site.old) self.old.file → IsLoggedStill S.tells B format own (declared_by graph.now).edges steps (Some (suc edge)) entry first (S.world site.new)) }
+        ensures deps_places { self.new.deps_places.items ≡ self.old.deps_places.items }
+        ensures ok { OnOk result ((B : Behaviour) (format : LogFormat) (own : OwnFiles) (steps : List Step) (entry : Store) (first : World) → EndedWell S.tells B format own (declared_by graph.now).edges steps (suc edge) start first (S.world site.old) → IsLogging S.tells B format own (declared_by graph.now).edges steps (Some (suc edge)) entry first (S.world site.old) self.old.logs → IsLogging S.tells B format own (declared_by graph.now).edges steps None entry first (S.world site.new) self.new.logs) }
+        ensures err { OnErr result ((B : Behaviour) (format : LogFormat) (own : OwnFiles) (steps : List Step) (entry : Store) (first : World) → EndedWell S.tells B format own (declared_by graph.now).edges steps (suc edge) start first (S.world site.old) → IsLogging S.tells B format own (declared_by graph.now).edges steps (Some (suc edge)) entry first (S.world site.old) self.old.logs → IsLoggedStill S.tells B format own (declared_by graph.now).edges steps (Some (suc edge)) entry first (S.world site.new)) }
     {
         done_line_of(alloc, &mut self.line, graph, edge, start)?;
-        self.file.append(alloc, site, self.line.as_slice())?;
+        self.logs
+            .build_log
+            .append(alloc, site, self.line.as_slice())?;
         Ok(())
     }
 }

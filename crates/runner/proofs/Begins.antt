@@ -14,14 +14,13 @@ use Rattle.display.specs.declared.display.Display.{Display}
 use Rattle.links.specs.declared.graph.Graph.{Graph}
 use Rattle.links.specs.Told.{declared_by}
 use Rattle.records.specs.declared.records.Records.{Records}
-use Rattle.records.specs.Held.{IsSameLog}
-use Rattle.records.specs.Logging.{IsLogging, IsLoggedStill, NoneInForce}
+use Rattle.records.specs.Logging.{AreSameLogs, IsLogging, IsLoggedStill, NoneInForce}
 use Rattle.records.specs.Laws.{LogStays}
 use Rattle.runner.specs.declared.state.State.{State}
 use Rattle.runner.specs.Course.{Course, Suits, edges_of, IsOn}
 use Rattle.runner.specs.Going.{IsCut}
 use Rattle.runner.specs.Starting.{IsBegun}
-use Rattle.runner.proofs.Keeping.{stale_is_command, looks_carried, on_looks, on_hand, on_log, log_carried, cut_free, cut_met}
+use Rattle.runner.proofs.Keeping.{stale_is_command, looks_carried, on_looks, on_hand, on_log, log_carried, build_log_writes, cut_free, cut_met}
 
 module _ (tells : Bool) (course : Course) (graph : Graph) (tick : List ℕ) (suits : Suits course tick graph) where
   pub declared_once : IsMadeOnce (declared_by graph).edges
@@ -42,41 +41,44 @@ module _ (tells : Bool) (course : Course) (graph : Graph) (tick : List ℕ) (sui
     pub cut_looking : (new : World) → OnlyLooks tells now new → IsCut tells course graph state.plan new
     cut_looking new looks = cut_free tells course graph state.plan new on.steps on.planned (looks_carried tells course graph stays None state now new on looks)
 
-    module _ (mid new : World) (looks : OnlyLooks tells now mid) (writes : WritesAt tells state.records.file.path mid new) where
+    module _ (mid new : World) (looks : OnlyLooks tells now mid) (writes : WritesAt tells state.records.logs.build_log.path mid new) where
       abbrev pub on_mid : IsOn tells course graph (Some (suc e)) state mid
       on_mid = on_hand tells course graph state mid (suc e) (on_looks tells course graph stays None state now mid on looks)
 
-      -- the log over the edges that the graph declares
-      declared_logging : IsLogging tells course.behaviour course.format course.own (declared_by graph).edges on.steps (Some (suc e)) course.store course.entry mid state.records.file
-      declared_logging = subst (λ (edges : List Edge). IsLogging tells course.behaviour course.format course.own edges on.steps (Some (suc e)) course.store course.entry mid state.records.file) same_edges on_mid.logging
+      log_writes : WritesAt tells course.own.build_log mid new
+      log_writes = build_log_writes tells course graph on.steps (Some (suc e)) mid mid new state.records.logs on_mid.logging writes
+
+      -- the logs over the edges that the graph declares
+      declared_logging : IsLogging tells course.behaviour course.format course.own (declared_by graph).edges on.steps (Some (suc e)) course.store course.entry mid state.records.logs
+      declared_logging = subst (λ (edges : List Edge). IsLogging tells course.behaviour course.format course.own edges on.steps (Some (suc e)) course.store course.entry mid state.records.logs) same_edges on_mid.logging
 
       -- the record could not be put there
       pub cut_beginning : ((B : Behaviour) (format : LogFormat) (own : OwnFiles) (steps : List Done) (entry : Store) (first : World)
-          → IsLogging tells B format own (declared_by graph).edges steps (Some (suc e)) entry first mid state.records.file → IsLoggedStill tells B format own (declared_by graph).edges steps (Some (suc e)) entry first new)
+          → IsLogging tells B format own (declared_by graph).edges steps (Some (suc e)) entry first mid state.records.logs → IsLoggedStill tells B format own (declared_by graph).edges steps (Some (suc e)) entry first new)
           → IsCut tells course graph state.plan new
       cut_beginning logged =
           cut_met tells course graph state.plan new on.steps (suc e) (record { under_way = inr (next.0, next.1); stale = next.1.stale; taken_in = inl next.1.once }) on.planned
-          (log_carried tells course graph tick suits (Some (suc e)) (Some (suc e)) state mid new on_mid writes
+          (log_carried tells course graph (Some (suc e)) (Some (suc e)) state mid new on_mid course.own.build_log suits.log_owned log_writes
           (subst (λ (edges : List Edge). IsLoggedStill tells course.behaviour course.format course.own edges on.steps (Some (suc e)) course.store course.entry new) (sym same_edges)
           (logged course.behaviour course.format course.own on.steps course.store course.entry declared_logging)))
 
       -- it stands there
-      pub begun_now : (records : Records) (display : Display) → IsSameLog state.records.file records.file → records.places.items ≡ state.records.places.items
+      pub begun_now : (records : Records) (display : Display) → AreSameLogs state.records.logs records.logs → records.places.items ≡ state.records.places.items → records.deps_places.items ≡ state.records.deps_places.items
           → ((B : Behaviour) (format : LogFormat) (own : OwnFiles) (steps : List Done) (entry : Store) (first : World)
-          → IsLogging tells B format own (declared_by graph).edges steps (Some (suc e)) entry first mid state.records.file
-          → IsLogging tells B format own (declared_by graph).edges steps (Some (suc e)) entry first new records.file × NoneInForce tells format own (declared_by graph).edges (suc e) first new)
+          → IsLogging tells B format own (declared_by graph).edges steps (Some (suc e)) entry first mid state.records.logs
+          → IsLogging tells B format own (declared_by graph).edges steps (Some (suc e)) entry first new records.logs × NoneInForce tells format own (declared_by graph).edges (suc e) first new)
           → IsBegun tells course graph (suc e) (record { plan = state.plan; looks = state.looks; records = records; display = display; due = state.due; starts = state.starts; failed = state.failed; set = state.set }) new
-      begun_now records display same places begun =
+      begun_now records display same places deps_places begun =
           let told = begun course.behaviour course.format course.own on.steps course.store course.entry declared_logging in
-          let logging = subst (λ (edges : List Edge). IsLogging tells course.behaviour course.format course.own edges on.steps (Some (suc e)) course.store course.entry new records.file) (sym same_edges) told.0 in
-          let after = on_log tells course graph tick suits (Some (suc e)) (Some (suc e)) state mid new on_mid writes records same places logging refl in
+          let logging = subst (λ (edges : List Edge). IsLogging tells course.behaviour course.format course.own edges on.steps (Some (suc e)) course.store course.entry new records.logs) (sym same_edges) told.0 in
+          let after = on_log tells course graph (Some (suc e)) (Some (suc e)) state mid new on_mid course.own.build_log suits.log_owned log_writes records same places deps_places logging refl in
           record {
             on = record {
               steps = on.steps;
               planned = on.planned;
               carried = after.carried;
               logging = after.logging;
-              told = record { records = after.told.records; known = after.told.known; same = after.told.same };
+              told = record { records = after.told.records; deps = after.told.deps; known = after.told.known; same = after.told.same };
               seen = after.seen;
               anew = after.anew;
               started = after.started;

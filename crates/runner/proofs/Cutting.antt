@@ -1,5 +1,5 @@
 -- Faults that cut a run off, and what is left then.
-use Rattle.std.proofs.Common.{◌≡◌, inl, inr, ◌≤◌, Bool, true, false, List, Err, refl, sym, ◌∙◌, ap, arith}
+use Rattle.std.proofs.Common.{◌≡◌, inl, inr, ◌≤◌, Bool, true, false, List, Result, Ok, Err, refl, sym, ◌∙◌, ap, arith}
 use Rattle.std.specs.Result.{IsErrOf}
 use Rattle.std.proofs.lemmas.Bool.{false≢true}
 use Rattle.model.specs.declared.event.Event.{Event}
@@ -13,7 +13,8 @@ use Rattle.build_theory.specs.Seen.{IsSeen, Unrefused, StartsUnrefused}
 use Rattle.runner.specs.declared.cut.Cut.{Cut}
 use Rattle.runner.specs.declared.cut.Cut.TheVariants.{Waiting, Other}
 use Rattle.runner.specs.Cut.{fault_of, is_final, IsLeft}
-use Rattle.runner.specs.Cutting.{SomeRuns, IfWaiting, TakesIn}
+use Rattle.runner.specs.Cutting.{SomeRuns, IfWaiting, TakesIn, Cuts, site_answer}
+use Rattle.build_theory.proofs.Calls.{cause_then}
 
 -- where no command runs, a fault that is not final has left none
 pub left_idle : (now : World) (cut : Cut) → is_final cut ≡ false → IsIdle now.events → IsLeft now cut
@@ -93,3 +94,15 @@ cause_err {T = T} {U = U} old new f cause = record {
     same_stop Device = refl
     same_stop Stopped = refl
     same_stop Memory = refl
+
+-- a call that was not made has no fault
+pub cause_none : (world : World) → world.stopped ≡ false → HasCause {T = Unit {0}} world world (Ok tt)
+cause_none world running = record { grows = omega arith; device = λ is. cc; others = λ none. refl; stopped = running; after_stop = λ stopped. absurd (false≢true (sym running ∙ stopped)); earlier = refl }
+
+-- calls that start nothing, and were not refused, come before
+pub cuts_then : {T : Type 0} (old mid new : World) (r : Result T Cut) → Unrefused old mid → mid.failures_at_start ≡ old.failures_at_start → Cuts mid new r → Cuts old new r
+cuts_then old mid new r unrefused same cuts = record { cause = cause_then old mid new (site_answer r) unrefused cuts.cause; starts = by_start cuts.starts; waits = cuts.waits }
+  where
+    by_start : StartsUnrefused mid new → StartsUnrefused old new
+    by_start (inl none) = inl (none ∙ same)
+    by_start (inr first) = inr (first ∙ unrefused.failures)

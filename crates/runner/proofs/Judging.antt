@@ -1,28 +1,36 @@
 -- An edge is judged, rightly by the files of now.
-use Rattle.std.proofs.Common.{◌≡◌, ℕ, suc, ◌<◌, ◌&&◌, not, Vec, Global, Bool, true, IsTrue, List, [], ◌∷◌, ◌++◌, length, Option, None, is_some, sym, ◌∙◌, ap, subst}
+use Rattle.std.proofs.Common.{◌≡◌, ℕ, suc, ◌<◌, ◌&&◌, not, Vec, Global, Bool, true, false, IsTrue, List, [], ◌∷◌, ◌++◌, length, Option, None, is_some, bytes_eq, inl, refl, sym, ◌∙◌, ap, subst}
 use Rattle.std.proofs.lemmas.List.{append-nil}
+use Rattle.std.proofs.lemmas.Bool.{false≢true, false_from_ne_true}
+use Rattle.std.specs.List.{AllByRecursion}
 use Rattle.model.specs.declared.graph.BuildGraph.{BuildGraph}
 use Rattle.model.specs.declared.graph.Edge.{Edge}
 use Rattle.model.specs.declared.reason.Reason.{Reason}
 use Rattle.model.specs.declared.record.Record.{Record}
-use Rattle.model.specs.World.{World, file_at, stamp_of}
+use Rattle.model.specs.declared.record.DepsRecord.{DepsRecord}
+use Rattle.model.specs.World.{World, file_at, stamp_of, IsRunning}
 use Rattle.model.specs.Calls.{OnlyLooks}
 use Rattle.model.specs.Graph.{has, has_number, edge_at, IsCommand}
 use Rattle.model.specs.Records.{recorded_inputs}
 use Rattle.model.specs.Judgement.{is_same_number}
 use Rattle.model.specs.OutOfDate.{input_facts, Counted, IsVerdict}
 use Rattle.model.specs.Schedule.{Step as Done, Judged, IsLawfulStep, MayBeJudged, started_in, ended_in, well_in, failed_in, running_in}
-use Rattle.model.specs.Premises.{FilesAreKept, RecordedApart}
+use Rattle.model.specs.Premises.{FilesAreKept, RecordedApart, IsWithinEdge, IsNoEdit}
 use Rattle.model.specs.SingleBuild.{task_of}
 use Rattle.build_theory.specs.Run.{IsRunOrRest}
+use Rattle.build_theory.proofs.Lists.{same_bytes}
+use Rattle.build_theory.proofs.Files.{IsElsewhere}
 use Rattle.build_theory.proofs.Runs.{rest_begins}
+use Rattle.build_theory.proofs.Starting.{OthersRun, since, private_elsewhere}
 use Rattle.build_theory.proofs.Orderly.{IsKept, kept_orderly}
 use Rattle.build_theory.proofs.Steps.{running_is, started-append, ended-append, well-append, failed-append}
-use Rattle.log_theory.proofs.Ledger.{carried_judged}
+use Rattle.log_theory.proofs.Kept.{depfile_stays}
+use Rattle.log_theory.proofs.Ledger.{others_run, carried_judged}
 use Rattle.display.specs.declared.display.Display.{Display}
 use Rattle.lowest.specs.Flags as flags
 use Rattle.paths.specs.Told.{text_at}
 use Rattle.links.specs.declared.graph.Graph.{Graph}
+use Rattle.links.specs.Links.{links_of}
 use Rattle.links.specs.Told.{declared_by, recorded_by}
 use Rattle.looks.specs.declared.table.Looks.{Looks}
 use Rattle.looks.specs.Looking.{HasLooked}
@@ -30,14 +38,15 @@ use Rattle.looks.specs.Seen.{IfKept, AreSeenOf}
 use Rattle.plan.specs.declared.plan.Plan.{Plan}
 use Rattle.plan.specs.Planned.{TakesStep}
 use Rattle.records.specs.Laws.{LogStays}
-use Rattle.records.specs.Known.{IsOf}
+use Rattle.records.specs.Known.{AreKnown}
 use Rattle.verdict.specs.Facts.{flag_at}
-use Rattle.verdict.specs.Judged.{IsAnswer, IsReasonBy, MayBeJudgedBy, AreUntouched, HasPathsOf}
+use Rattle.verdict.specs.Judged.{IsAnswer, IsReasonBy, MayBeJudgedBy, AreUntouched, HasOldDepfile, KeepsDepfile, HasPathsOf}
 use Rattle.runner.specs.declared.state.State.{State}
 use Rattle.runner.specs.Course.{Course, Suits, edges_of, is_quiet, AreStarted, IsOn}
-use Rattle.runner.proofs.Quiet.{quiet_less}
+use Rattle.runner.proofs.Places.{phony_is}
+use Rattle.runner.proofs.Quiet.{all_kept, quiet_less}
 use Rattle.runner.proofs.Removing.{removed_steps}
-use Rattle.runner.proofs.Keeping.{Carried, looks_carried, looks_leave, looks_quiet, looks_removed, logging_over, told_over, started_more}
+use Rattle.runner.proofs.Keeping.{Carried, grown, looks_carried, looks_leave, looks_quiet, looks_removed, logging_over, told_over, started_more}
 use Rattle.runner.proofs.Launching.{anew_over}
 use Rattle.runner.proofs.Settled.{anew_is_made, counted_unfailed, paths_quiet, outputs_untouched}
 
@@ -79,6 +88,26 @@ module _ (tells : Bool) (course : Course) (graph : Graph) (stays : LogStays) (ti
 
   -- ---- it may be judged by what is known
 
+  -- its command does not run
+  others : OthersRun (edges_of course) (suc e) (IsRunning now.events)
+  others = others_run tells course.behaviour course.format course.own course.asked course.store course.entry on.steps now on.carried.beside.idle
+      (rest_begins tells course.own (task_of course.asked course.store) course.entry on.steps now on.carried.run) (suc e)
+      (false_from_ne_true (has_number (started_in on.steps) (suc e)) (λ started. false≢true (sym turn.once ∙ kept.out_of_date (suc e) (kept.started (suc e) started))))
+
+  abbrev depfile : List ℕ
+  depfile = (edge_at (edges_of course) (suc e)).act.depfile
+
+  -- so its depfile keeps its file
+  keeps_depfile : FilesAreKept course.own (edges_of course) course.entry.history new.history → KeepsDepfile tells (edges_of course) now new (suc e)
+  keeps_depfile files tell named =
+      let call = looks.history tell in
+      let more = grown tells course graph on.steps None now on.carried tell in
+      all_kept (bytes_eq depfile) now.history call.more new.history call.grows (λ p is.
+      subst (λ (q : List ℕ). AllByRecursion (IsElsewhere q) call.more) (same_bytes depfile p is)
+      (private_elsewhere course.own (edges_of course) files.own_files (suc e) turn.command depfile (record { named = named; is = inl refl }) (IsRunning now.events) others call.more call.all
+      (since (IsWithinEdge (edges_of course)) course.entry.history more.0 now.history call.more new.history more.1 call.grows files.commands)
+      (since IsNoEdit course.entry.history more.0 now.history call.more new.history more.1 call.grows files.edits)))
+
   module _ (tell : IsTrue tells) (files : FilesAreKept course.own (edges_of course) course.entry.history new.history) (apart : RecordedApart course.own (recorded_inputs course.store (edges_of course))) where
     abbrev FlagsOver : List Edge → Type 0
     FlagsOver es =
@@ -88,16 +117,19 @@ module _ (tells : Bool) (course : Course) (graph : Graph) (stays : LogStays) (ti
     flagged : FlagsOver (edges_of course)
     flagged p lt counted =
         on.anew p lt (counted_unfailed edges on.steps kept course.own files.own_files suits.once course.asked course.store (suc e) turn.once apart (λ q j h made. turn.ready q h j made) new.history (text_at graph.manifest.paths p) counted)
-        ∙ anew_is_made edges on.steps kept suits.once (λ j command. (suits.bare j command).1) (text_at graph.manifest.paths p)
+        ∙ anew_is_made edges on.steps kept suits.once suits.bare (text_at graph.manifest.paths p)
         (is_same_number (stamp_of (file_at course.entry.history (text_at graph.manifest.paths p))) (stamp_of (file_at new.history (text_at graph.manifest.paths p))))
 
     pub may_be_judged : FilesAreKept course.own (edges_of course) course.entry.history now.history
-        → MayBeJudgedBy graph on.told.records state.plan.changed.items course.store (well_in on.steps) course.entry.history new.history (suc e) (is_quiet course.own (edges_of course) on.steps)
+        → MayBeJudgedBy graph on.told.records on.told.deps state.plan.changed.items course.store (well_in on.steps) course.entry.history new.history (suc e) (is_quiet course.own (edges_of course) on.steps)
     may_be_judged before = record {
-      records = on.told.same tell before;
+      records = (on.told.same tell before).0;
+      deps = (on.told.same tell before).1;
       recorded = subst (λ (es : List Edge). (p : List ℕ) → has (recorded_inputs course.store es (suc e)) p ≡ has (recorded_by graph (suc e)) p) same_edges (λ p. suits.recorded (suc e) p);
       untouched = subst (λ (es : List Edge). AreUntouched es course.entry.history new.history (suc e)) same_edges
           (outputs_untouched tells course.own (task_of course.asked course.store) on.steps course.entry new suits.idle rest tell files suits.once (suc e) turn.command turn.once);
+      depfile = subst (λ (es : List Edge). HasOldDepfile es course.entry.history new.history (suc e)) same_edges
+          (λ named. depfile_stays tells course.own (task_of course.asked course.store) on.steps course.entry new suits.idle rest tell suits.once files (suc e) turn.command named (λ out. false≢true (sym turn.once ∙ kept.out_of_date (suc e) out)));
       flagged = subst (λ (es : List Edge). FlagsOver es) same_edges flagged;
       paths = subst (λ (es : List Edge). HasPathsOf es course.store (suc e) (is_quiet course.own (edges_of course) on.steps)) same_edges
           (paths_quiet edges on.steps kept course.own files.own_files suits.once course.asked course.store (suc e) turn.once apart (λ q j h made. turn.ready q h j made));
@@ -106,7 +138,8 @@ module _ (tells : Bool) (course : Course) (graph : Graph) (stays : LogStays) (ti
   -- ---- the verdict
 
   module _ (after : Looks) (reason : Option Reason) (stale : Bool) (told : stale ≡ is_some reason) (looked : HasLooked tells graph now new state.looks after)
-      (answer : (rs : List Record) → IsOf rs graph.manifest.paths state.records → IfKept tells graph.manifest.paths now new state.looks.seen.items (IsAnswer graph rs state.plan.changed.items e reason)) where
+      (answer : (rs : List Record) (ds : List DepsRecord) → AreKnown graph rs ds state.records → KeepsDepfile tells (declared_by graph).edges now new (suc e)
+      → IfKept tells graph.manifest.paths now new state.looks.seen.items (IsAnswer graph rs ds state.plan.changed.items e reason)) where
     abbrev pub more : List Done
     more = on.steps ++ Judged (suc e) stale ∷ []
 
@@ -114,7 +147,8 @@ module _ (tells : Bool) (course : Course) (graph : Graph) (stays : LogStays) (ti
         → IsVerdict (edges_of course) course.store (well_in on.steps) course.entry.history new.history (suc e) stale
     right tell files apart =
         let quiet = looks_quiet tells course graph stays None state now new on looks tell files in
-        let by = answer on.told.records on.told.known tell (is_quiet course.own (edges_of course) on.steps) quiet.1 (on.seen tell quiet.0) course.store (well_in on.steps) course.entry.history
+        let keeps = subst (λ (es : List Edge). KeepsDepfile tells es now new (suc e)) same_edges (keeps_depfile files) in
+        let by = answer on.told.records on.told.deps on.told.known keeps tell (is_quiet course.own (edges_of course) on.steps) quiet.1 (on.seen tell quiet.0) course.store (well_in on.steps) course.entry.history
         (may_be_judged tell files apart quiet.0) in
         let over = subst (λ (es : List Edge). IsReasonBy es course.store (well_in on.steps) course.entry.history new.history (suc e) reason) (sym same_edges) by in
         record { read = over.read; counted = over.counted; verdict = told ∙ ap (λ (r : Option Reason). is_some r) over.is }
@@ -139,8 +173,8 @@ module _ (tells : Bool) (course : Course) (graph : Graph) (stays : LogStays) (ti
           steps = more;
           planned = takes (task_of course.asked course.store) on.steps on.planned on.carried.run.lawful (next stale);
           carried = judged_carried;
-          logging = logging_over tells course graph stays on.steps more None None now new state.records.file (looks_leave tells course graph stays None state now new on looks) judged_carried on.logging;
-          told = record { records = now_told.records; known = now_told.known; same = now_told.same };
+          logging = logging_over tells course graph stays on.steps more None None now new state.records.logs (looks_leave tells course graph now new looks) judged_carried on.logging;
+          told = record { records = now_told.records; deps = now_told.deps; known = now_told.known; same = now_told.same };
           seen = judged_seen;
           anew = λ p lt unfailed. ap (λ (c : Vec Bool Global). flags.has c.items p) flags_same
               ∙ anew_over tells course graph on.steps more state (well_judged on.steps (suc e) stale) (failed_judged on.steps (suc e) stale) on.anew p lt unfailed;
@@ -150,6 +184,6 @@ module _ (tells : Bool) (course : Course) (graph : Graph) (stays : LogStays) (ti
           noted = on.noted ∙ sym (failed_judged on.steps (suc e) stale);
         }
 
--- the edge names no depfile
-pub judged_bare : (course : Course) (graph : Graph) (tick : List ℕ) → Suits course tick graph → (i : ℕ) → IsCommand (edges_of course) i → (edge_at (declared_by graph).edges i).act.depfile ≡ []
-judged_bare course graph tick suits i command = subst (λ (b : BuildGraph). (edge_at b.edges i).act.depfile ≡ []) suits.same (suits.bare i command).0
+-- it is that of a command in numbers too
+pub judged_command : (course : Course) (graph : Graph) (tick : List ℕ) → Suits course tick graph → (e : ℕ) → IsCommand (edges_of course) (suc e) → (links_of graph).phony e ≡ false
+judged_command course graph tick suits e command = phony_is graph e (subst (λ (b : BuildGraph). IsCommand b.edges (suc e)) suits.same command)

@@ -1,13 +1,16 @@
 -- What a run keeps goes on over the calls of its site: one lemma for each part, and one for each kind of call.
-use Rattle.std.proofs.Common.{◌≡◌, inl, ℕ, suc, Bool, true, IsTrue, List, [], ◌∷◌, ◌++◌, length, Option, Some, None, sym, ◌∙◌, ap, subst, append_assoc}
-use Rattle.std.proofs.lemmas.List.{append-nil}
+use Rattle.std.proofs.Common.{◌≡◌, ◌≢◌, inl, ℕ, suc, ◌≤◌, ◌<◌, Bool, true, IsTrue, List, [], ◌∷◌, ◌++◌, length, Option, Some, None, sym, ◌∙◌, ap, subst, append_assoc, arith}
+use Rattle.std.proofs.lemmas.List.{append-nil, length-append}
 use Rattle.std.proofs.lemmas.Bool.{false≢true}
 use Rattle.model.specs.declared.event.Event.{Event}
 use Rattle.model.specs.declared.event.Event.TheVariants.{Start}
 use Rattle.model.specs.declared.event.Moment.{Moment}
+use Rattle.model.specs.declared.record.Record.{Record}
+use Rattle.model.specs.declared.record.DepsRecord.{DepsRecord}
 use Rattle.model.specs.World.{World, File, file_at, stamp_of, runs}
-use Rattle.model.specs.Calls.{OnlyLooks, Ticks}
+use Rattle.model.specs.Calls.{OnlyLooks, Ticks, WritesOrNot}
 use Rattle.model.specs.Graph.{has_number, edge_at, IsCommand}
+use Rattle.model.specs.Records.{OwnFiles, in_force, deps_in_force}
 use Rattle.model.specs.Schedule.{Step as Done, ended_in, out_of_date_in}
 use Rattle.model.specs.SingleBuild.{task_of}
 use Rattle.model.specs.Kept.{StartedUnder}
@@ -17,11 +20,13 @@ use Rattle.build_theory.proofs.Runs.{rest_begins}
 use Rattle.build_theory.proofs.Steps.{IsKept, kept_lawful, running_parts}
 use Rattle.build_log.specs.declared.done.Done.{Done as Line}
 use Rattle.build_log.specs.Kept.{Table}
-use Rattle.build_log.specs.Log.{Keeps}
+use Rattle.build_log.specs.Log.{Keeps, makings}
+use Rattle.deps_log.specs.declared.deps.Deps.{Deps}
+use Rattle.deps_log.specs.Log.{Keeps as KeepsDeps, tolds}
 use Rattle.log_theory.specs.Writes.{WritesAt}
 use Rattle.log_theory.specs.Ledger.{IsCarried, IsCutOff}
-use Rattle.log_theory.proofs.Ledger.{command_of, running_of, stale_command, carried_looks, carried_ticks, carried_response, carried_log, carried_hand, cut_off}
-use Rattle.log_theory.proofs.Writing.{looks_at, ticks_grew}
+use Rattle.log_theory.proofs.Ledger.{command_of, running_of, stale_command, carried_looks, carried_ticks, carried_response, carried_depfile, carried_log, carried_hand, cut_off}
+use Rattle.log_theory.proofs.Writing.{looks_at, writes_or_not_at, ticks_grew}
 use Rattle.links.specs.declared.graph.Graph.{Graph}
 use Rattle.paths.specs.Told.{text_at}
 use Rattle.looks.specs.declared.table.Look.{Look}
@@ -29,15 +34,17 @@ use Rattle.looks.specs.Seen.{look_of, AreKept, AreSeenOf}
 use Rattle.plan.specs.declared.plan.Plan.{Plan}
 use Rattle.plan.specs.Planned.{IsPlanned}
 use Rattle.records.specs.declared.records.Records.{Records}
-use Rattle.records.specs.Held.{Held, IsSameLog, AreMade}
-use Rattle.records.specs.Logging.{IsLogging, IsLoggedStill}
-use Rattle.records.specs.Laws.{LeavesTheLog, LogStays}
+use Rattle.records.specs.declared.logs.Logs.{Logs}
+use Rattle.records.specs.Held.{ArePlaces}
+use Rattle.records.specs.Known.{AreKnown}
+use Rattle.records.specs.Logging.{AreSameLogs, IsLogging, IsLoggedStill}
+use Rattle.records.specs.Laws.{LeavesTheLogs, LogStays}
 use Rattle.runner.specs.declared.state.State.{State}
 use Rattle.runner.specs.Course.{Course, Suits, edges_of, is_quiet, IsSeenStill, AreTold, AreStarted, IsOn}
 use Rattle.runner.specs.Removing.{AreRemoved}
 use Rattle.runner.specs.Going.{IsInHand, IsCut}
-use Rattle.runner.proofs.Quiet.{KeepsQuiet, RunBy, quiet_own, quiet_response, quiet_looks}
-use Rattle.runner.proofs.Removing.{WellRest, removed_looks, removed_own, removed_response, removed_hand}
+use Rattle.runner.proofs.Quiet.{KeepsQuiet, RunBy, quiet_own, quiet_response, quiet_depfile, quiet_looks}
+use Rattle.runner.proofs.Removing.{WellRest, removed_looks, removed_own, removed_depfile, removed_response, removed_hand}
 
 -- ---- the parts
 
@@ -61,18 +68,35 @@ started_more i stamp old now new more grows started = record {
       ∙ ap (λ (l : List Event). old.events ++ l) (append_assoc started.before (Start i started.act stamp ∷ started.after) more)));
 }
 
+-- a path that is longer than those of both logs is neither
+abbrev neither : OwnFiles → List ℕ
+neither own = 0 ∷ (own.build_log ++ own.deps_log)
+
+longer_than_both : (own : OwnFiles) → (length own.build_log < length (neither own)) × (length own.deps_log < length (neither own))
+longer_than_both own = let sum = length-append own.build_log own.deps_log in (omega (arith, sum), omega (arith, sum))
+
+not_build : (own : OwnFiles) → neither own ≢ own.build_log
+not_build own same = omega (arith, (longer_than_both own).0, ap length same)
+
+not_deps : (own : OwnFiles) → neither own ≢ own.deps_log
+not_deps own same = omega (arith, (longer_than_both own).1, ap length same)
+
 module _ (tells : Bool) (course : Course) (graph : Graph) where
   abbrev pub Carried : List Done → Option ℕ → World → Type 0
   Carried steps hand now = IsCarried tells course.behaviour course.format course.own course.asked course.store steps hand course.entry now
 
-  abbrev pub Logging : List Done → Option ℕ → World → Held → Type 0
-  Logging steps hand now file = IsLogging tells course.behaviour course.format course.own (edges_of course) steps hand course.store course.entry now file
+  abbrev pub Logging : List Done → Option ℕ → World → Logs → Type 0
+  Logging steps hand now logs = IsLogging tells course.behaviour course.format course.own (edges_of course) steps hand course.store course.entry now logs
 
   abbrev pub Quietly : List Done → World → World → Type 0
   Quietly steps now new = KeepsQuiet tells course.own (edges_of course) steps course.entry now new
 
   abbrev pub Leaves : World → World → Type 0
-  Leaves now new = LeavesTheLog tells course.own (edges_of course) course.entry now new
+  Leaves now new = LeavesTheLogs tells course.own (edges_of course) course.entry now new
+
+  -- a call that only looks
+  pub looks_leave : (now new : World) → OnlyLooks tells now new → Leaves now new
+  looks_leave now new looks = inl (record { events = looks.events; path = neither course.own; other = λ tell kept. (not_build course.own, not_deps course.own); history = (looks_at tells (neither course.own) now new looks).history })
 
   rest_of : (steps : List Done) (hand : Option ℕ) (now : World) → Carried steps hand now → IsRunOrRest tells course.own (task_of course.asked course.store) steps course.entry now
   rest_of steps hand now carried = rest_begins tells course.own (task_of course.asked course.store) course.entry steps now carried.run
@@ -104,26 +128,28 @@ module _ (tells : Bool) (course : Course) (graph : Graph) where
     pub grown : IsTrue tells → (so_far : List Moment) × (now.history ≡ course.entry.history ++ so_far)
     grown tell = let told = carried.run.history tell in (told.more, told.grows)
 
-  -- of the log, with another edge in hand
-  abbrev pub logging_with : (steps : List Done) (hand next : Option ℕ) (now : World) (file : Held) → Carried steps next now → Logging steps hand now file → Logging steps next now file
-  logging_with steps hand next now file carried logging = record {
-    path = logging.path;
+  -- of the logs, with other steps and another edge in hand
+  abbrev pub logging_with : (steps many : List Done) (hand next : Option ℕ) (now : World) (logs : Logs) → Carried many next now → Logging steps hand now logs → Logging many next now logs
+  logging_with steps many hand next now logs carried logging = record {
+    build_log = logging.build_log;
+    deps_log = logging.deps_log;
     apart = logging.apart;
     reads = logging.reads;
     commands = logging.commands;
     grows = logging.grows;
-    held = logging.held;
+    build_held = logging.build_held;
+    deps_held = logging.deps_held;
     logged = carried.beside.logged;
   }
 
-  -- over a call that leaves the log
-  pub logging_over : LogStays → (steps many : List Done) (hand next : Option ℕ) (now new : World) (file : Held) → Leaves now new → Carried many next new → Logging steps hand now file → Logging many next new file
-  logging_over stays steps many hand next now new file leaves carried logging =
-      stays tells course.behaviour course.format course.own (edges_of course) steps many hand next course.store course.entry now new file leaves (commands_run many next new carried) carried.beside.logged logging
+  -- over a call that leaves the logs
+  pub logging_over : LogStays → (steps many : List Done) (hand next : Option ℕ) (now new : World) (logs : Logs) → Leaves now new → Carried many next new → Logging steps hand now logs → Logging many next new logs
+  logging_over stays steps many hand next now new logs leaves carried logging =
+      stays tells course.behaviour course.format course.own (edges_of course) steps many hand next course.store course.entry now new logs leaves (commands_run many next new carried) carried.beside.logged logging
 
   -- over a call that keeps quiet paths
   pub told_over : (steps : List Done) (state : State) (now new : World) → Quietly steps now new → AreTold tells course graph state now → AreTold tells course graph state new
-  told_over steps state now new quiet told = record { records = told.records; known = told.known; same = λ tell kept. told.same tell (quiet tell kept).0 }
+  told_over steps state now new quiet told = record { records = told.records; deps = told.deps; known = told.known; same = λ tell kept. told.same tell (quiet tell kept).0 }
 
   pub seen_over : (steps : List Done) (state : State) (now new : World) → Quietly steps now new → IsSeenStill tells course graph steps state now → IsSeenStill tells course graph steps state new
   seen_over steps state now new quiet seen tell kept =
@@ -147,7 +173,7 @@ module _ (tells : Bool) (course : Course) (graph : Graph) where
       steps = on.steps;
       planned = on.planned;
       carried = carried;
-      logging = logging_over stays on.steps on.steps hand hand now new state.records.file leaves carried on.logging;
+      logging = logging_over stays on.steps on.steps hand hand now new state.records.logs leaves carried on.logging;
       told = told_over on.steps state now new quiet on.told;
       seen = seen_over on.steps state now new quiet on.seen;
       anew = on.anew;
@@ -158,9 +184,6 @@ module _ (tells : Bool) (course : Course) (graph : Graph) where
     }
 
     -- a call that only looks
-    pub looks_leave : OnlyLooks tells now new → Leaves now new
-    looks_leave looks = inl (record { events = looks.events; path = course.own.deps_log; other = λ tell kept same. on.logging.apart (sym same); history = (looks_at tells course.own.deps_log now new looks).history })
-
     pub looks_quiet : OnlyLooks tells now new → Quietly on.steps now new
     looks_quiet looks = quiet_looks tells course.own (edges_of course) on.steps course.entry now new (grown on.steps hand now on.carried) (run_by on.steps hand now on.carried) looks
 
@@ -171,7 +194,7 @@ module _ (tells : Bool) (course : Course) (graph : Graph) where
     looks_removed looks = removed_looks tells course.own (edges_of course) on.steps course.entry now new (grown on.steps hand now on.carried) rest hand on.removed looks
 
     abbrev pub on_looks : OnlyLooks tells now new → IsOn tells course graph hand state new
-    on_looks looks = on_over (looks_carried looks) (looks_leave looks) (looks_quiet looks) looks.events (looks_removed looks)
+    on_looks looks = on_over (looks_carried looks) (looks_leave now new looks) (looks_quiet looks) looks.events (looks_removed looks)
 
     -- a tick
     module _ (tick : List ℕ) (suits : Suits course tick graph) where
@@ -184,7 +207,7 @@ module _ (tells : Bool) (course : Course) (graph : Graph) where
           quiet_own tells course.own (edges_of course) on.steps course.entry now new (grown on.steps hand now on.carried) (run_by on.steps hand now on.carried) tick suits.owned (ticks_grew tells tick stamp now new ticks)
 
       pub ticks_leave : (stamp : ℕ) → Ticks tells tick stamp now new → Leaves now new
-      ticks_leave stamp ticks = inl (record { events = ticks.events; path = tick; other = λ tell kept. suits.no_build_log; history = ticks_grew tells tick stamp now new ticks })
+      ticks_leave stamp ticks = inl (record { events = ticks.events; path = tick; other = λ tell kept. (suits.no_build_log, suits.no_deps_log); history = ticks_grew tells tick stamp now new ticks })
 
       pub ticks_removed : (stamp : ℕ) → Ticks tells tick stamp now new → Removed
       ticks_removed stamp ticks =
@@ -208,7 +231,10 @@ module _ (tells : Bool) (course : Course) (graph : Graph) where
       response_leaves = inl (record {
         events = writes.events;
         path = (edge_at (edges_of course) i).act.response_path;
-        other = λ tell kept same. false≢true (sym (kept.own_files.responses i command).1 ∙ (ap course.own.files same ∙ kept.own_files.build_log));
+        other = λ tell kept. (
+          λ same. false≢true (sym (kept.own_files.responses i command).1 ∙ (ap course.own.files same ∙ kept.own_files.build_log)),
+          λ same. false≢true (sym (kept.own_files.responses i command).1 ∙ (ap course.own.files same ∙ kept.own_files.deps_log)),
+        );
         history = writes.history;
       })
 
@@ -217,6 +243,37 @@ module _ (tells : Bool) (course : Course) (graph : Graph) where
 
       abbrev pub on_response : hand ≡ Some i → IsOn tells course graph hand state new
       on_response held = on_over response_carried response_leaves response_quiet writes.events (response_removed held)
+
+    -- the depfile of an edge that was judged out of date is removed, or not
+    module _ (i : ℕ) (stale : has_number (out_of_date_in on.steps) i ≡ true) (removes : WritesOrNot tells (edge_at (edges_of course) i).act.depfile None now new) where
+      reads : IsCommand (edges_of course) i
+      reads = stale_is_command on.steps hand now on.carried i stale
+
+      pub depfile_at : WritesAt tells (edge_at (edges_of course) i).act.depfile now new
+      depfile_at = writes_or_not_at tells (edge_at (edges_of course) i).act.depfile None now new removes
+
+      pub depfile_carried : Carried on.steps hand new
+      depfile_carried = carried_depfile tells course.behaviour course.format course.own course.asked course.store course.entry on.steps hand now new i stale removes on.carried
+
+      pub depfile_quiet : Quietly on.steps now new
+      depfile_quiet = quiet_depfile tells course.own (edges_of course) on.steps course.entry now new (grown on.steps hand now on.carried) (run_by on.steps hand now on.carried) i reads depfile_at.history
+
+      pub depfile_leaves : Leaves now new
+      depfile_leaves = inl (record {
+        events = depfile_at.events;
+        path = (edge_at (edges_of course) i).act.depfile;
+        other = λ tell kept. (
+          λ same. false≢true (sym (kept.own_files.depfiles i reads).1 ∙ (ap course.own.files same ∙ kept.own_files.build_log)),
+          λ same. false≢true (sym (kept.own_files.depfiles i reads).1 ∙ (ap course.own.files same ∙ kept.own_files.deps_log)),
+        );
+        history = depfile_at.history;
+      })
+
+      pub depfile_removed : Removed
+      depfile_removed = removed_depfile tells course.own (edges_of course) on.steps course.entry now new (grown on.steps hand now on.carried) rest hand on.removed i reads depfile_at.history
+
+      abbrev pub on_depfile : IsOn tells course graph hand state new
+      on_depfile = on_over depfile_carried depfile_leaves depfile_quiet depfile_at.events depfile_removed
 
   -- ---- an edge is taken in hand
 
@@ -228,7 +285,7 @@ module _ (tells : Bool) (course : Course) (graph : Graph) where
     steps = on.steps;
     planned = on.planned;
     carried = hand_carried on.steps now i on.carried;
-    logging = logging_with on.steps None (Some i) now state.records.file (hand_carried on.steps now i on.carried) on.logging;
+    logging = logging_with on.steps on.steps None (Some i) now state.records.logs (hand_carried on.steps now i on.carried) on.logging;
     told = on.told;
     seen = on.seen;
     anew = on.anew;
@@ -245,51 +302,68 @@ module _ (tells : Bool) (course : Course) (graph : Graph) where
   with_records state records =
       record { plan = state.plan; looks = state.looks; records = records; display = state.display; due = state.due; starts = state.starts; failed = state.failed; set = state.set }
 
-  pub told_by : (state : State) (now : World) (records : Records) → IsSameLog state.records.file records.file → records.places.items ≡ state.records.places.items
-      → AreTold tells course graph state now → AreTold tells course graph (with_records state records) now
-  told_by state now records same places told = record {
-    records = told.records;
+  -- what is known stays where only what may be done with the files changed
+  pub known_by : (rs : List Record) (ds : List DepsRecord) (old new : Records) → AreSameLogs old.logs new.logs → new.places.items ≡ old.places.items → new.deps_places.items ≡ old.deps_places.items
+      → AreKnown graph rs ds old → AreKnown graph rs ds new
+  known_by rs ds old new same places deps_places known = record {
+    paths = known.paths;
+    more = known.more;
+    grown = known.grown;
+    outputs = known.outputs;
     known = record {
-      keeps = subst (λ (log : Table Line). Keeps told.records log) (sym same.log) told.known.keeps;
-      fits = ap length places ∙ told.known.fits;
-      made = subst (λ (l : List (Option ℕ)). AreMade told.records graph.manifest.paths l) (sym places) told.known.made;
+      keeps = subst (λ (log : Table Line). Keeps rs log) (sym same.build_log.log) known.known.keeps;
+      fits = subst (λ (l : List (Option ℕ)). length l ≤ length known.paths) (sym places) known.known.fits;
+      made = subst (λ (l : List (Option ℕ)). ArePlaces makings in_force rs known.paths l) (sym places) known.known.made;
     };
-    same = told.same;
+    told = record {
+      keeps = subst (λ (log : Table Deps). KeepsDeps ds log) (sym same.deps_log.log) known.told.keeps;
+      fits = subst (λ (l : List (Option ℕ)). length l ≤ length known.paths) (sym deps_places) known.told.fits;
+      told = subst (λ (l : List (Option ℕ)). ArePlaces tolds deps_in_force ds known.paths l) (sym deps_places) known.told.told;
+    };
   }
 
-  module _ (tick : List ℕ) (suits : Suits course tick graph) (hand next : Option ℕ) (state : State) (now new : World) (on : IsOn tells course graph hand state now) (writes : WritesAt tells state.records.file.path now new) where
-    pub log_writes : WritesAt tells course.own.build_log now new
-    log_writes = subst (λ (path : List ℕ). WritesAt tells path now new) on.logging.path writes
+  pub told_by : (state : State) (now : World) (records : Records) → AreSameLogs state.records.logs records.logs → records.places.items ≡ state.records.places.items
+      → records.deps_places.items ≡ state.records.deps_places.items → AreTold tells course graph state now → AreTold tells course graph (with_records state records) now
+  told_by state now records same places deps_places told =
+      record { records = told.records; deps = told.deps; known = known_by told.records told.deps state.records records same places deps_places told.known; same = told.same }
 
+  -- a log, which is one of the program's own files, was written
+  module _ (hand next : Option ℕ) (state : State) (now new : World) (on : IsOn tells course graph hand state now) (path : List ℕ) (owned : course.own.files path ≡ true) (writes : WritesAt tells path now new) where
     -- response files are as they were
     pub log_removed : AreRemoved tells course.own (edges_of course) on.steps hand course.entry new
     log_removed =
-        removed_own tells course.own (edges_of course) on.steps course.entry now new (grown on.steps hand now on.carried) (well_rest on.steps hand now on.carried) hand on.removed course.own.build_log suits.log_owned log_writes.history
+        removed_own tells course.own (edges_of course) on.steps course.entry now new (grown on.steps hand now on.carried) (well_rest on.steps hand now on.carried) hand on.removed path owned writes.history
 
     -- whether it stands there or not
     pub log_carried : IsLoggedStill tells course.behaviour course.format course.own (edges_of course) on.steps next course.store course.entry new → Carried on.steps next new
     log_carried logged =
-        carried_log tells course.behaviour course.format course.own course.asked course.store course.entry on.steps hand next now new course.own.build_log suits.log_owned log_writes (λ tell kept was. logged tell kept) on.carried
+        carried_log tells course.behaviour course.format course.own course.asked course.store course.entry on.steps hand next now new path owned writes (λ tell kept was. logged tell kept) on.carried
 
     pub log_quiet : Quietly on.steps now new
-    log_quiet =
-        quiet_own tells course.own (edges_of course) on.steps course.entry now new (grown on.steps hand now on.carried) (run_by on.steps hand now on.carried) course.own.build_log suits.log_owned log_writes.history
+    log_quiet = quiet_own tells course.own (edges_of course) on.steps course.entry now new (grown on.steps hand now on.carried) (run_by on.steps hand now on.carried) path owned writes.history
 
-    abbrev pub on_log : (records : Records) → IsSameLog state.records.file records.file → records.places.items ≡ state.records.places.items → Logging on.steps next new records.file
-        → hand ≡ next → IsOn tells course graph next (with_records state records) new
-    on_log records same places logging held = record {
+    abbrev pub on_log : (records : Records) → AreSameLogs state.records.logs records.logs → records.places.items ≡ state.records.places.items → records.deps_places.items ≡ state.records.deps_places.items
+        → Logging on.steps next new records.logs → hand ≡ next → IsOn tells course graph next (with_records state records) new
+    on_log records same places deps_places logging held = record {
       steps = on.steps;
       planned = on.planned;
       carried = log_carried logging.logged;
       logging = logging;
-      told = told_by state new records same places (told_over on.steps state now new log_quiet on.told);
+      told = told_by state new records same places deps_places (told_over on.steps state now new log_quiet on.told);
       seen = seen_over on.steps state now new log_quiet on.seen;
       anew = on.anew;
-      started = started_over on.steps state now new log_writes.events on.started;
+      started = started_over on.steps state now new writes.events on.started;
       removed = subst (λ (h : Option ℕ). AreRemoved tells course.own (edges_of course) on.steps h course.entry new) held log_removed;
       room = record { looks = on.room.looks; starts = on.room.starts };
       noted = on.noted;
     }
+
+  -- the path of the build log, and that of the deps log
+  pub build_log_writes : (steps : List Done) (hand : Option ℕ) (now mid new : World) (logs : Logs) → Logging steps hand now logs → WritesAt tells logs.build_log.path mid new → WritesAt tells course.own.build_log mid new
+  build_log_writes steps hand now mid new logs logging writes = subst (λ (path : List ℕ). WritesAt tells path mid new) logging.build_log writes
+
+  pub deps_log_writes : (steps : List Done) (hand : Option ℕ) (now mid new : World) (logs : Logs) → Logging steps hand now logs → WritesAt tells logs.deps_log.path mid new → WritesAt tells course.own.deps_log mid new
+  deps_log_writes steps hand now mid new logs logging writes = subst (λ (path : List ℕ). WritesAt tells path mid new) logging.deps_log writes
 
   -- ---- where a fault cuts a run off
 

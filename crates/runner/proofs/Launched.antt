@@ -8,7 +8,7 @@ use Rattle.model.specs.declared.event.Event.{Event}
 use Rattle.model.specs.declared.event.Event.TheVariants.{Start}
 use Rattle.model.specs.declared.graph.BuildGraph.{BuildGraph}
 use Rattle.model.specs.World.{World, runs}
-use Rattle.model.specs.Calls.{OnlyLooks, Ticks, TicksOrNot, Starts, StartsOrNot, Writes}
+use Rattle.model.specs.Calls.{OnlyLooks, Ticks, TicksOrNot, Starts, StartsOrNot, Writes, WritesOrNot}
 use Rattle.model.specs.Graph.{edge_at, IsCommand}
 use Rattle.model.specs.Schedule.{Step as Done, Started}
 use Rattle.model.specs.SingleBuild.{task_of}
@@ -26,7 +26,7 @@ use Rattle.runner.specs.Course.{Course, Suits, edges_of, IsOn}
 use Rattle.runner.specs.Going.{IsInHand, IsCut}
 use Rattle.runner.specs.Starting.{IsBegun}
 use Rattle.runner.proofs.Places.{within}
-use Rattle.runner.proofs.Keeping.{Carried, stale_is_command, looks_carried, response_carried, on_response, on_ticks, cut_free, cut_met}
+use Rattle.runner.proofs.Keeping.{stale_is_command, looks_carried, on_depfile, on_response, on_ticks, cut_free, cut_met}
 use Rattle.runner.proofs.Launching.{with_starts, with_plan, on_stamped, on_starts, start_carried, start_planned, ready_to_start}
 
 pub err_then : {T E : Type 0} {P Q : Type 0} (r : Result T E) → OnErr r P → (P → Q) → OnErr r Q
@@ -70,8 +70,8 @@ start_told (Err e) tells job act old new known now known_is now_is same ok = tt
 
 -- ---- an edge that is begun
 
-module _ (tells : Bool) (course : Course) (graph : Graph) (stays : LogStays) (tick : List ℕ) (suits : Suits course tick graph) (state : State) (now mid : World) (e : ℕ) (act : Act)
-    (said : act ≡ (edge_at (declared_by graph).edges (suc e)).act) (begun : IsBegun tells course graph (suc e) state now) (at : WritesAt tells act.response_path now mid) where
+module _ (tells : Bool) (course : Course) (graph : Graph) (stays : LogStays) (tick : List ℕ) (suits : Suits course tick graph) (state : State) (now gone : World) (e : ℕ) (act : Act)
+    (said : act ≡ (edge_at (declared_by graph).edges (suc e)).act) (begun : IsBegun tells course graph (suc e) state now) (removes : WritesOrNot tells act.depfile None now gone) where
   abbrev On : World → Type 0
   On world = IsOn tells course graph (Some (suc e)) state world
 
@@ -84,79 +84,87 @@ module _ (tells : Bool) (course : Course) (graph : Graph) (stays : LogStays) (ti
   in_hand : IsInHand (task_of course.asked course.store) steps (suc e)
   in_hand = record { under_way = inr (begun.next.0, begun.next.1); stale = begun.next.1.stale; taken_in = inl begun.next.1.once }
 
-  response_at : WritesAt tells (edge_at (edges_of course) (suc e)).act.response_path now mid
-  response_at = subst (λ (a : Act). WritesAt tells a.response_path now mid) is at
+  depfile_removes : WritesOrNot tells (edge_at (edges_of course) (suc e)).act.depfile None now gone
+  depfile_removes = subst (λ (a : Act). WritesOrNot tells a.depfile None now gone) is removes
 
-  carried_mid : Carried tells course graph steps (Some (suc e)) mid
-  carried_mid = response_carried tells course graph stays (Some (suc e)) state now mid begun.on (suc e) begun.next.1.stale response_at
+  abbrev on_gone : On gone
+  on_gone = on_depfile tells course graph stays (Some (suc e)) state now gone begun.on (suc e) begun.next.1.stale depfile_removes
 
-  -- its response file could not be written
-  pub cut_writing : IsCut tells course graph state.plan mid
-  cut_writing = cut_met tells course graph state.plan mid steps (suc e) in_hand begun.on.planned carried_mid
+  -- its old depfile could not be removed
+  pub cut_clearing : IsCut tells course graph state.plan gone
+  cut_clearing = cut_met tells course graph state.plan gone steps (suc e) in_hand begun.on.planned on_gone.carried
 
-  -- no stamp was given
-  pub cut_ticking : (new : World) → TicksOrNot tells tick mid new → IsCut tells course graph state.plan new
-  cut_ticking new ticks = cut_met tells course graph state.plan new steps (suc e) in_hand begun.on.planned
-      (carried_ticks_or_not tells course.behaviour course.format course.own course.asked course.store course.entry steps (Some (suc e)) mid new tick suits.owned suits.no_build_log suits.no_deps_log ticks carried_mid)
+  module _ (mid : World) (at : WritesAt tells act.response_path gone mid) where
+    response_at : WritesAt tells (edge_at (edges_of course) (suc e)).act.response_path gone mid
+    response_at = subst (λ (a : Act). WritesAt tells a.response_path gone mid) is at
 
-  abbrev on_mid : On mid
-  on_mid = on_response tells course graph stays (Some (suc e)) state now mid begun.on (suc e) begun.next.1.stale response_at refl
+    abbrev on_mid : On mid
+    on_mid = on_response tells course graph stays (Some (suc e)) state gone mid on_gone (suc e) begun.next.1.stale response_at refl
 
-  module _ (new : World) (stamp : ℕ) (ticks : Ticks tells tick stamp mid new) where
-    abbrev on_new : On new
-    on_new = on_ticks tells course graph stays (Some (suc e)) state mid new on_mid tick suits stamp ticks
+    -- its response file could not be written
+    pub cut_writing : IsCut tells course graph state.plan mid
+    cut_writing = cut_met tells course graph state.plan mid steps (suc e) in_hand begun.on.planned on_mid.carried
 
-    within_starts : e < length state.starts.items
-    within_starts =
-        let command = stale_is_command tells course graph steps (Some (suc e)) now begun.on.carried (suc e) begun.next.1.stale in
-        let lt = within graph e (subst (λ (b : BuildGraph). IsCommand b.edges (suc e)) suits.same command) in
-        omega (arith, lt, begun.on.room.starts)
+    -- no stamp was given
+    pub cut_ticking : (new : World) → TicksOrNot tells tick mid new → IsCut tells course graph state.plan new
+    cut_ticking new ticks = cut_met tells course graph state.plan new steps (suc e) in_hand begun.on.planned
+        (carried_ticks_or_not tells course.behaviour course.format course.own course.asked course.store course.entry steps (Some (suc e)) mid new tick suits.owned suits.no_build_log suits.no_deps_log ticks on_mid.carried)
 
-    -- its command does not run
-    pub starts_idle : runs (suc e) new.events ≡ false
-    starts_idle = not_running tells course.own (task_of course.asked course.store) course.entry steps new (suc e) begun.on.carried.beside.idle on_new.carried.run begun.next.1.once
+    module _ (new : World) (stamp : ℕ) (ticks : Ticks tells tick stamp mid new) where
+      abbrev on_new : On new
+      on_new = on_ticks tells course graph stays (Some (suc e)) state mid new on_mid tick suits stamp ticks
 
-    module _ (last : World) (job : ℕ) (is_job : job ≡ suc e) (starts : Vec ℕ Global) (is_starts : starts.items ≡ slice_set state.starts.items e stamp) (plan : Plan)
-        (written : act.response_path ≢ [] → Writes tells act.response_path (Some act.response_content) now mid) where
-      abbrev stamped : State
-      stamped = with_starts tells course graph state starts
+      within_starts : e < length state.starts.items
+      within_starts =
+          let command = stale_is_command tells course graph steps (Some (suc e)) now begun.on.carried (suc e) begun.next.1.stale in
+          let lt = within graph e (subst (λ (b : BuildGraph). IsCommand b.edges (suc e)) suits.same command) in
+          omega (arith, lt, begun.on.room.starts)
 
-      abbrev on_last : IsOn tells course graph (Some (suc e)) stamped new
-      on_last = on_stamped tells course graph (Some (suc e)) state new e stamp starts is_starts on_new begun.next.1.once
+      -- its command does not run
+      pub starts_idle : runs (suc e) new.events ≡ false
+      starts_idle = not_running tells course.own (task_of course.asked course.store) course.entry steps new (suc e) begun.on.carried.beside.idle on_new.carried.run begun.next.1.once
 
-      ready : IsReadyToStart tells course.format course.own (edges_of course) (suc e) course.entry new
-      ready = ready_to_start tells course graph stays tick suits state now mid new (suc e) stamp begun.on begun.next begun.begun act is at written ticks
+      module _ (last : World) (job : ℕ) (is_job : job ≡ suc e) (starts : Vec ℕ Global) (is_starts : starts.items ≡ slice_set state.starts.items e stamp) (plan : Plan)
+          (removed : act.depfile ≢ [] → Writes tells act.depfile None now gone) (written : act.response_path ≢ [] → Writes tells act.response_path (Some act.response_content) gone mid) where
+        abbrev stamped : State
+        stamped = with_starts tells course graph state starts
 
-      given : get_or starts.items e 0 ≡ new.ticked
-      given = ap (λ (l : List ℕ). get_or l e 0) is_starts ∙ (get_or-set_same state.starts.items e stamp 0 within_starts ∙ sym ticks.ticked)
+        abbrev on_last : IsOn tells course graph (Some (suc e)) stamped new
+        on_last = on_stamped tells course graph (Some (suc e)) state new e stamp starts is_starts on_new begun.next.1.once
 
-      of_job : Starts tells job act new last → Starts tells (suc e) act new last
-      of_job made = subst (λ (n : ℕ). Starts tells n act new last) is_job made
+        ready : IsReadyToStart tells course.format course.own (edges_of course) (suc e) course.entry new
+        ready = ready_to_start tells course graph stays tick suits state now gone mid new (suc e) stamp begun.on begun.next begun.begun act is removes removed at written ticks
 
-      pub launched : TakesStep graph state.plan plan (Started (suc e)) → plan.changed ≡ state.plan.changed → Starts tells job act new last → IsOn tells course graph None (with_plan tells course graph stamped plan) last
-      launched takes same made = on_starts tells course graph stays stamped new last e act plan on_last begun.next is ready (of_job made) takes same given
+        given : get_or starts.items e 0 ≡ new.ticked
+        given = ap (λ (l : List ℕ). get_or l e 0) is_starts ∙ (get_or-set_same state.starts.items e stamp 0 within_starts ∙ sym ticks.ticked)
 
-      -- the start met a fault
-      pub cut_starting : TakesStep graph state.plan plan (Started (suc e)) → Starts tells job act new last → IsCut tells course graph plan last
-      cut_starting takes made =
-          cut_free tells course graph plan last (steps ++ Started (suc e) ∷ []) (start_planned tells course graph stays stamped new last e act plan on_last begun.next is ready (of_job made) takes)
-          (start_carried tells course graph stays stamped new last e act plan on_last begun.next is ready (of_job made))
+        of_job : Starts tells job act new last → Starts tells (suc e) act new last
+        of_job made = subst (λ (n : ℕ). Starts tells n act new last) is_job made
 
-      pub cut_unstarted : plan ≡ state.plan → OnlyLooks tells new last → IsCut tells course graph plan last
-      cut_unstarted same looks =
-          subst (λ (p : Plan). IsCut tells course graph p last) (sym same)
-          (cut_met tells course graph state.plan last steps (suc e) in_hand begun.on.planned (looks_carried tells course graph stays (Some (suc e)) state new last on_new looks))
+        pub launched : TakesStep graph state.plan plan (Started (suc e)) → plan.changed ≡ state.plan.changed → Starts tells job act new last → IsOn tells course graph None (with_plan tells course graph stamped plan) last
+        launched takes same made = on_starts tells course graph stays stamped new last e act plan on_last begun.next is ready (of_job made) takes same given
 
-      -- as the events show it
-      module _ (known seen : List Event) (known_is : known ≡ new.earlier ++ new.events) (seen_is : seen ≡ last.earlier ++ last.events) (same : last.earlier ≡ new.earlier)
-          (still : ltb (length known) (length seen) ≡ false → plan ≡ state.plan)
-          (takes : ltb (length known) (length seen) ≡ true → (graph : Graph) → TakesStep graph state.plan plan (Started (suc e))) (flags_same : plan.changed ≡ state.plan.changed) where
-        told_so : Starts tells job act new last → ltb (length known) (length seen) ≡ true
-        told_so made = shown known seen (Start job act new.ticked) (one_more_event new last known seen known_is seen_is same (Start job act new.ticked) made.events)
+        -- the start met a fault
+        pub cut_starting : TakesStep graph state.plan plan (Started (suc e)) → Starts tells job act new last → IsCut tells course graph plan last
+        cut_starting takes made =
+            cut_free tells course graph plan last (steps ++ Started (suc e) ∷ []) (start_planned tells course graph stays stamped new last e act plan on_last begun.next is ready (of_job made) takes)
+            (start_carried tells course graph stays stamped new last e act plan on_last begun.next is ready (of_job made))
 
-        pub launch_on : Starts tells job act new last → IsOn tells course graph None (with_plan tells course graph stamped plan) last
-        launch_on made = launched (takes (told_so made) graph) flags_same made
+        pub cut_unstarted : plan ≡ state.plan → OnlyLooks tells new last → IsCut tells course graph plan last
+        cut_unstarted same looks =
+            subst (λ (p : Plan). IsCut tells course graph p last) (sym same)
+            (cut_met tells course graph state.plan last steps (suc e) in_hand begun.on.planned (looks_carried tells course graph stays (Some (suc e)) state new last on_new looks))
 
-        pub launch_cut : StartsOrNot tells job act new last → IsCut tells course graph plan last
-        launch_cut (inl looks) = cut_unstarted (still (unshown known seen (none_more new last known seen known_is seen_is same looks.events))) looks
-        launch_cut (inr made) = cut_starting (takes (told_so made) graph) made
+        -- as the events show it
+        module _ (known seen : List Event) (known_is : known ≡ new.earlier ++ new.events) (seen_is : seen ≡ last.earlier ++ last.events) (same : last.earlier ≡ new.earlier)
+            (still : ltb (length known) (length seen) ≡ false → plan ≡ state.plan)
+            (takes : ltb (length known) (length seen) ≡ true → (graph : Graph) → TakesStep graph state.plan plan (Started (suc e))) (flags_same : plan.changed ≡ state.plan.changed) where
+          told_so : Starts tells job act new last → ltb (length known) (length seen) ≡ true
+          told_so made = shown known seen (Start job act new.ticked) (one_more_event new last known seen known_is seen_is same (Start job act new.ticked) made.events)
+
+          pub launch_on : Starts tells job act new last → IsOn tells course graph None (with_plan tells course graph stamped plan) last
+          launch_on made = launched (takes (told_so made) graph) flags_same made
+
+          pub launch_cut : StartsOrNot tells job act new last → IsCut tells course graph plan last
+          launch_cut (inl looks) = cut_unstarted (still (unshown known seen (none_more new last known seen known_is seen_is same looks.events))) looks
+          launch_cut (inr made) = cut_starting (takes (told_so made) graph) made

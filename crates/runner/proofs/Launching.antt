@@ -5,18 +5,19 @@ use Rattle.std.proofs.lemmas.Bool.{false≢true}
 use Rattle.model.specs.declared.act.Act.{Act}
 use Rattle.model.specs.declared.event.Event.TheVariants.{Start}
 use Rattle.model.specs.World.{World, IsRunning}
-use Rattle.model.specs.Calls.{Starts, Ticks, Writes}
+use Rattle.model.specs.Calls.{Starts, Ticks, Writes, WritesOrNot}
 use Rattle.std.specs.List.{list_any}
 use Rattle.model.specs.Graph.{has, has_number, edge_at, outputs, IsCommand}
-use Rattle.model.specs.Premises.{OwnFilesApart}
+use Rattle.model.specs.Premises.{OwnFilesApart, LiesIn}
 use Rattle.model.specs.Schedule.{Step as Done, Started, IsLawfulStep, started_in, ended_in, running_in, well_in, failed_in}
 use Rattle.model.specs.SingleBuild.{task_of}
 use Rattle.model.specs.Kept.{StartedUnder}
 use Rattle.build_theory.proofs.Steps.{IsKept, kept_lawful, running_is, running_parts, started-append, ended-append, well-append, failed-append, in_either}
 use Rattle.build_theory.proofs.Lists.{has_number-is}
 use Rattle.log_theory.specs.Writes.{GrewAt, WritesAt}
-use Rattle.log_theory.specs.Ledger.{HasNoRecord, IsReadyToStart}
-use Rattle.log_theory.proofs.Readying.{tick_given, holds_written, holds_over_own, no_record_apart}
+use Rattle.log_theory.specs.Ledger.{HasNoRecord, HoldsStill, IsReadyToStart}
+use Rattle.build_theory.proofs.Starting.{IsPrivate}
+use Rattle.log_theory.proofs.Readying.{tick_given, holds_written, holds_over_own, depfile_over_response, no_record_apart}
 use Rattle.log_theory.proofs.Writing.{ticks_grew}
 use Rattle.log_theory.proofs.Ledger.{carried_starts, started_under}
 use Rattle.links.specs.declared.graph.Graph.{Graph}
@@ -29,7 +30,7 @@ use Rattle.runner.specs.declared.state.State.{State}
 use Rattle.runner.specs.Course.{Course, Suits, edges_of, AreAnew, AreStarted, IsSeenStill, IsOn}
 use Rattle.runner.specs.Removing.{AreRemoved}
 use Rattle.runner.proofs.Quiet.{RunBy, quiet_adds, quiet_less, running_started}
-use Rattle.runner.proofs.Keeping.{Carried, Quietly, run_by, grown, well_rest, stale_is_command, response_carried, logging_over, told_over, seen_over, started_more}
+use Rattle.runner.proofs.Keeping.{Carried, Quietly, run_by, grown, well_rest, stale_is_command, response_carried, depfile_at, on_depfile, logging_over, told_over, seen_over, started_more}
 use Rattle.runner.proofs.Removing.{removed_adds}
 
 -- ---- steps
@@ -90,7 +91,7 @@ module _ (tells : Bool) (course : Course) (graph : Graph) where
       planned = on.planned;
       carried = on.carried;
       logging = on.logging;
-      told = record { records = on.told.records; known = on.told.known; same = on.told.same };
+      told = record { records = on.told.records; deps = on.told.deps; known = on.told.known; same = on.told.same };
       seen = on.seen;
       anew = on.anew;
       started = stamped_started;
@@ -159,10 +160,10 @@ module _ (tells : Bool) (course : Course) (graph : Graph) where
       steps = more;
       planned = start_planned takes;
       carried = start_carried;
-      logging = logging_over tells course graph stays on.steps more (Some (suc e)) None now new state.records.file (inr (inl (suc e, act, starts))) start_carried on.logging;
+      logging = logging_over tells course graph stays on.steps more (Some (suc e)) None now new state.records.logs (inr (inl (suc e, act, starts))) start_carried on.logging;
       told =
           let told = told_over tells course graph more state now new start_quiet on.told in
-          record { records = told.records; known = told.known; same = told.same };
+          record { records = told.records; deps = told.deps; known = told.known; same = told.same };
       seen = start_seen;
       anew = λ p lt unfailed. ap (λ (c : Vec Bool Global). flags.has c.items p) flags_same ∙ anew_over on.steps more state (well_started on.steps (suc e)) (failed_started on.steps (suc e)) on.anew p lt unfailed;
       started = start_started stamped;
@@ -173,42 +174,69 @@ module _ (tells : Bool) (course : Course) (graph : Graph) where
 
   -- ---- all is made ready
 
-  -- its response file was written, and then a tick came
-  module _ (stays : LogStays) (tick : List ℕ) (suits : Suits course tick graph) (state : State) (now mid new : World) (i stamp : ℕ) (on : IsOn tells course graph (Some i) state now) (next : IsLawfulStep (task_of course.asked course.store) on.steps (Started i))
+  -- its old depfile was removed, its response file was written, and then a tick came
+  module _ (stays : LogStays) (tick : List ℕ) (suits : Suits course tick graph) (state : State) (now gone mid new : World) (i stamp : ℕ) (on : IsOn tells course graph (Some i) state now) (next : IsLawfulStep (task_of course.asked course.store) on.steps (Started i))
       (begun : HasNoRecord tells course.format course.own (edges_of course) i course.entry now) (act : Act) (is : act ≡ (edge_at (edges_of course) i).act)
-      (at : WritesAt tells act.response_path now mid) (written : act.response_path ≢ [] → Writes tells act.response_path (Some act.response_content) now mid) (ticks : Ticks tells tick stamp mid new) where
-    abbrev pub response : List ℕ
+      (removes : WritesOrNot tells act.depfile None now gone) (removed : act.depfile ≢ [] → Writes tells act.depfile None now gone)
+      (at : WritesAt tells act.response_path gone mid) (written : act.response_path ≢ [] → Writes tells act.response_path (Some act.response_content) gone mid) (ticks : Ticks tells tick stamp mid new) where
+    abbrev depfile : List ℕ
+    depfile = (edge_at (edges_of course) i).act.depfile
+
+    abbrev response : List ℕ
     response = (edge_at (edges_of course) i).act.response_path
 
-    pub response_at : WritesAt tells response now mid
-    response_at = subst (λ (a : Act). WritesAt tells a.response_path now mid) is at
+    depfile_removes : WritesOrNot tells depfile None now gone
+    depfile_removes = subst (λ (a : Act). WritesOrNot tells a.depfile None now gone) is removes
 
-    response_written : response ≢ [] → Writes tells response (Some (edge_at (edges_of course) i).act.response_content) now mid
-    response_written = subst (λ (a : Act). a.response_path ≢ [] → Writes tells a.response_path (Some a.response_content) now mid) is written
+    depfile_gone : depfile ≢ [] → Writes tells depfile None now gone
+    depfile_gone = subst (λ (a : Act). a.depfile ≢ [] → Writes tells a.depfile None now gone) is removed
+
+    response_at : WritesAt tells response gone mid
+    response_at = subst (λ (a : Act). WritesAt tells a.response_path gone mid) is at
+
+    response_written : response ≢ [] → Writes tells response (Some (edge_at (edges_of course) i).act.response_content) gone mid
+    response_written = subst (λ (a : Act). a.response_path ≢ [] → Writes tells a.response_path (Some a.response_content) gone mid) is written
+
+    abbrev on_gone : IsOn tells course graph (Some i) state gone
+    on_gone = on_depfile tells course graph stays (Some i) state now gone on i next.1.stale depfile_removes
 
     carried_mid : Carried tells course graph on.steps (Some i) mid
-    carried_mid = response_carried tells course graph stays (Some i) state now mid on i next.1.stale response_at
-
-    command : IsCommand (edges_of course) i
-    command = stale_is_command tells course graph on.steps (Some i) now on.carried i next.1.stale
-
-    other : (log : List ℕ) → (files : OwnFilesApart course.own (edges_of course)) → course.own.files log ≡ true → response ≢ log
-    other log files mine same = false≢true (sym (files.responses i command).1 ∙ (ap course.own.files same ∙ mine))
+    carried_mid = response_carried tells course graph stays (Some i) state gone mid on_gone i next.1.stale response_at
 
     tick_grew : IsTrue tells → GrewAt tick (IsRunning mid.events) mid.history new.history
     tick_grew = ticks_grew tells tick stamp mid new ticks
 
+    -- what one of its two files holds behind the tick
+    holds_ticked : (q : List ℕ) → IsPrivate (edges_of course) i q → (held : Option (List ℕ)) → HoldsStill tells course.own (edges_of course) q held course.entry mid → HoldsStill tells course.own (edges_of course) q held course.entry new
+    holds_ticked q private held =
+        holds_over_own tells course.behaviour course.format course.own course.asked course.store course.entry on.steps (Some i) mid new carried_mid i next.1.stale next.1.once q private held tick suits.owned tick_grew
+
+    depfile_holds : depfile ≢ [] → HoldsStill tells course.own (edges_of course) depfile None course.entry mid
+    depfile_holds named =
+        depfile_over_response tells course.behaviour course.format course.own course.asked course.store course.entry on.steps (Some i) gone mid on_gone.carried i next.1.stale next.1.once named None response_at
+        (holds_written tells course.behaviour course.format course.own course.asked course.store course.entry on.steps (Some i) now gone on.carried i next.1.stale next.1.once depfile
+        (record { named = named; is = inl refl }) None (depfile_gone named))
+
     pub ready_to_start : IsReadyToStart tells course.format course.own (edges_of course) i course.entry new
     ready_to_start = record {
       ticked = tick_given tells course.behaviour course.format course.own course.asked course.store course.entry on.steps (Some i) mid new carried_mid tick stamp ticks;
-      depfile = λ named. absurd (named (suits.bare i command).0);
-      response = λ named.
-          holds_over_own tells course.behaviour course.format course.own course.asked course.store course.entry on.steps (Some i) mid new carried_mid i next.1.stale next.1.once response
-          (record { named = named; is = inr refl }) (Some (edge_at (edges_of course) i).act.response_content) tick suits.owned tick_grew
-          (holds_written tells course.behaviour course.format course.own course.asked course.store course.entry on.steps (Some i) now mid on.carried i next.1.stale next.1.once response
+      depfile = λ named. holds_ticked depfile (record { named = named; is = inl refl }) None (depfile_holds named);
+      response = λ named. holds_ticked response (record { named = named; is = inr refl }) (Some (edge_at (edges_of course) i).act.response_content)
+          (holds_written tells course.behaviour course.format course.own course.asked course.store course.entry on.steps (Some i) gone mid on_gone.carried i next.1.stale next.1.once response
           (record { named = named; is = inr refl }) (Some (edge_at (edges_of course) i).act.response_content) (response_written named));
       begun = no_record_apart tells course.behaviour course.format course.own course.asked course.store course.entry on.steps (Some i) mid new carried_mid i next.1.stale next.1.once tick
-          (λ files. (suits.no_build_log, suits.no_deps_log)) tick_grew
-          (no_record_apart tells course.behaviour course.format course.own course.asked course.store course.entry on.steps (Some i) now mid on.carried i next.1.stale next.1.once response
-          (λ files. (other course.own.build_log files.own_files files.own_files.build_log, other course.own.deps_log files.own_files files.own_files.deps_log)) response_at.history begun);
+          (λ files. (suits.no_build_log, suits.no_deps_log)) tick_grew (begun_over gone mid on_gone.carried response response_at (λ files. files.responses i command)
+          (begun_over now gone on.carried depfile (depfile_at tells course graph stays (Some i) state now gone on i next.1.stale depfile_removes) (λ files. files.depfiles i command) begun));
     }
+      where
+        command : IsCommand (edges_of course) i
+        command = stale_is_command tells course graph on.steps (Some i) now on.carried i next.1.stale
+
+        -- over a write at one of the two
+        begun_over : (old last : World) → Carried tells course graph on.steps (Some i) old → (path : List ℕ) → WritesAt tells path old last → (OwnFilesApart course.own (edges_of course) → LiesIn course.own path)
+            → HasNoRecord tells course.format course.own (edges_of course) i course.entry old → HasNoRecord tells course.format course.own (edges_of course) i course.entry last
+        begun_over old last carried path writes lies = no_record_apart tells course.behaviour course.format course.own course.asked course.store course.entry on.steps (Some i) old last carried i next.1.stale next.1.once path
+            (λ files. (other course.own.build_log files.own_files files.own_files.build_log, other course.own.deps_log files.own_files files.own_files.deps_log)) writes.history
+          where
+            other : (log : List ℕ) → OwnFilesApart course.own (edges_of course) → course.own.files log ≡ true → path ≢ log
+            other log files mine same = false≢true (sym (lies files).1 ∙ (ap course.own.files same ∙ mine))

@@ -13,6 +13,7 @@ pub mod Begins
 pub mod Counting
 pub mod Running
 pub mod Ends
+pub mod Depfiles
 pub mod Finishing
 pub mod Noting
 pub mod Recording

@@ -12,7 +12,7 @@ use Rattle.paths.specs.Commands.{no_action}
 use Rattle.paths.specs.Told.{edge_of, edges_of}
 use Rattle.links.specs.declared.graph.Graph.{Graph}
 use Rattle.links.specs.Held.{maker_in}
-use Rattle.links.specs.Links.{links_of}
+use Rattle.links.specs.Links.{is_alias, links_of}
 use Rattle.links.specs.Told.{declared_by}
 
 -- ---- edges by number
@@ -43,6 +43,16 @@ module _ (graph : Graph) (e : ℕ) (command : IsCommand (declared_by graph).edge
 
   pub act_is : (what : Order) → get_or graph.manifest.actions e no_action ≡ Command what → what.act ≡ (edge_at (declared_by graph).edges (suc e)).act
   act_is what is = sym (ap (λ (x : Edge). x.act) (read ∙ ap (edge_of graph.manifest.paths (line_at graph.manifest.lines e)) is))
+
+  pub deps_is : (what : Order) → get_or graph.manifest.actions e no_action ≡ Command what → what.deps ≡ (edge_at (declared_by graph).edges (suc e)).deps
+  deps_is what is = sym (ap (λ (x : Edge). x.deps) (read ∙ ap (edge_of graph.manifest.paths (line_at graph.manifest.lines e)) is))
+
+  pub phony_is : (links_of graph).phony e ≡ false
+  phony_is = by_action (get_or graph.manifest.actions e no_action) refl
+    where
+      by_action : (what : Action) → get_or graph.manifest.actions e no_action ≡ what → is_alias what ≡ false
+      by_action Alias is = absurd (no_alias is)
+      by_action (Command what) is = refl
 
 maker_within : (makers : List (Option ℕ)) (p e : ℕ) → maker_in makers p ≡ Some e → p < length makers
 maker_within [] p e is = cc

@@ -191,6 +191,10 @@ module _ (tells : Bool) (own : OwnFiles) (edges : List Edge) (steps : List Done)
     pub quiet_response : (i : ℕ) → IsCommand edges i → (IsTrue tells → GrewAt (edge_at edges i).act.response_path (IsRunning now.events) now.history new.history) → KeepsQuiet tells own edges steps first now new
     quiet_response i command grew = quiet_at (edge_at edges i).act.response_path (λ tell kept is. (quiet_parts own edges steps (edge_at edges i).act.response_path is).private i command (inr refl)) grew
 
+    -- the depfile of a command
+    pub quiet_depfile : (i : ℕ) → IsCommand edges i → (IsTrue tells → GrewAt (edge_at edges i).act.depfile (IsRunning now.events) now.history new.history) → KeepsQuiet tells own edges steps first now new
+    quiet_depfile i command grew = quiet_at (edge_at edges i).act.depfile (λ tell kept is. (quiet_parts own edges steps (edge_at edges i).act.depfile is).private i command (inl refl)) grew
+
     -- calls that only look
     pub quiet_looks : OnlyLooks tells now new → KeepsQuiet tells own edges steps first now new
     quiet_looks looks tell kept =

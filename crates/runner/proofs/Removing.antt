@@ -1,5 +1,5 @@
 -- The response files of commands that ended well stay removed, and how the end of a command removes one.
-use Rattle.std.proofs.Common.{◌≡◌, ◌≢◌, inl, inr, ℕ, ◌==◌, Bool, true, IsTrue, List, [], ◌∷◌, ◌++◌, Option, Some, None, refl, sym, ◌∙◌, ap, subst, append_assoc}
+use Rattle.std.proofs.Common.{◌≡◌, ◌≢◌, ◌⊎◌, inl, inr, ℕ, ◌==◌, Bool, true, false, IsTrue, List, [], ◌∷◌, ◌++◌, Option, Some, None, refl, sym, ◌∙◌, ap, subst, append_assoc}
 use Rattle.std.specs.List.{AllByRecursion}
 use Rattle.std.proofs.lemmas.Bool.{false≢true, cases_Bool, eqb-true, eq-eqb}
 use Rattle.model.specs.declared.act.Act.{Act}
@@ -14,13 +14,14 @@ use Rattle.model.specs.Calls.{IsByOthers, AllByOthers, Adds, OnlyLooks, Writes, 
 use Rattle.model.specs.Graph.{has_number, edge_at, IsCommand}
 use Rattle.model.specs.Records.{OwnFiles}
 use Rattle.model.specs.Schedule.{Step as Done, well_in}
-use Rattle.model.specs.Premises.{FilesAreKept, IsWithinEdge, IsNoEdit}
+use Rattle.model.specs.Premises.{FilesAreKept, OwnFilesApart, IsWithinEdge, IsNoEdit}
 use Rattle.build_theory.proofs.Lists.{same_rest, all_parts, all_append}
 use Rattle.build_theory.proofs.Files.{IsElsewhere, file_stays}
 use Rattle.build_theory.proofs.Looks.{kept_before}
 use Rattle.build_theory.proofs.Starting.{IsPrivate, OthersRun, since, private_elsewhere, private_written}
 use Rattle.log_theory.specs.Writes.{GrewAt, WritesAt}
 use Rattle.log_theory.specs.Ledger.{HoldsStill}
+use Rattle.log_theory.proofs.Growing.{longer}
 use Rattle.log_theory.proofs.Writing.{at_elsewhere, looks_at}
 use Rattle.runner.specs.Removing.{EndsByRemoving, AreRemoved}
 
@@ -97,6 +98,17 @@ module _ (tells : Bool) (own : OwnFiles) (edges : List Edge) (steps : List Done)
     pub removed_own : (path : List ℕ) → own.files path ≡ true → (IsTrue tells → GrewAt path (IsRunning now.events) now.history new.history) → Removed hand new
     removed_own path mine grew = removed_at path (λ i well free named files same. false≢true (sym (files.own_files.responses i (rest i well).0).1 ∙ (ap own.files (sym same) ∙ mine))) grew
 
+    -- it removes the depfile of a command
+    pub removed_depfile : (j : ℕ) → IsCommand edges j → (IsTrue tells → GrewAt (edge_at edges j).act.depfile (IsRunning now.events) now.history new.history) → Removed hand new
+    removed_depfile j command grew = removed_at (edge_at edges j).act.depfile (λ i well free named files same. no_response i j command (rest i well).0 named files.own_files (cases_Bool (j == i)) same) grew
+      where
+        no_response : (i j : ℕ) → IsCommand edges j → IsCommand edges i → (edge_at edges i).act.response_path ≢ [] → OwnFilesApart own edges → (j == i ≡ true) ⊎ (j == i ≡ false) → (edge_at edges j).act.depfile ≢ (edge_at edges i).act.response_path
+        no_response i j command theirs named files (inl here) same =
+            let one : j ≡ i = eqb-true j i here in
+            files.both i theirs (λ none. named (sym same ∙ (ap (λ (n : ℕ). (edge_at edges n).act.depfile) one ∙ none))) (ap (λ (n : ℕ). (edge_at edges n).act.depfile) (sym one) ∙ same)
+        no_response i j command theirs named files (inr apart) same =
+            (files.apart j i command theirs (λ one. false≢true (sym apart ∙ eq-eqb j i one))).2 (λ none. named (sym same ∙ none)) same
+
     -- it writes or removes the response file of the edge in hand
     pub removed_response : (j : ℕ) → hand ≡ Some j → IsCommand edges j → (IsTrue tells → GrewAt (edge_at edges j).act.response_path (IsRunning now.events) now.history new.history) → Removed hand new
     removed_response j is command grew = removed_at (edge_at edges j).act.response_path (λ i well free named files same.
@@ -138,19 +150,31 @@ removed_steps tells own edges steps many first now hand same removed i well free
 
 -- ---- the end of a command
 
--- it is recorded, and then its response file is removed
-pub ends_by_removing : (tells : Bool) (act : Act) (path : List ℕ) (old mid new : World) → WritesAt tells path old mid → (act.response_path ≢ [] → Writes tells act.response_path None mid new) → EndsByRemoving tells act old new
-ends_by_removing tells act path old mid new writes removed named tell =
-    let log = writes.history tell in
+-- the history grows over calls that write
+pub grew_thrice : (tells : Bool) (p q r : List ℕ) (a b c d : World) → WritesAt tells p a b → WritesAt tells q b c → WritesAt tells r c d → IsTrue tells → (more : List Moment) × (d.history ≡ a.history ++ more)
+grew_thrice tells p q r a b c d first second third tell =
+    let one = first.history tell in
+    let two = second.history tell in
+    let three = third.history tell in (
+      one.more ++ (two.more ++ three.more),
+      three.grows
+          ∙ (ap (λ (l : List Moment). l ++ three.more) (two.grows ∙ ap (λ (l : List Moment). l ++ two.more) one.grows)
+          ∙ (append_assoc (a.history ++ one.more) two.more three.more ∙ append_assoc a.history one.more (two.more ++ three.more))),
+    )
+
+-- the history grew, and then its response file is removed
+pub ends_by_removing : (tells : Bool) (act : Act) (old mid new : World) → (IsTrue tells → (more : List Moment) × (mid.history ≡ old.history ++ more)) → (act.response_path ≢ [] → Writes tells act.response_path None mid new) → EndsByRemoving tells act old new
+ends_by_removing tells act old mid new grew removed named tell =
+    let log = grew tell in
     let call = (removed named).history tell in
     record {
-      earlier = log.more ++ call.1.earlier;
+      earlier = log.0 ++ call.1.earlier;
       stamp = call.0;
       later = call.1.later;
       grows = call.1.grows
-          ∙ (ap (λ (l : List Moment). l ++ (call.1.earlier ++ Wrote Program act.response_path None call.0 ∷ call.1.later)) log.grows
-          ∙ (append_assoc old.history log.more (call.1.earlier ++ Wrote Program act.response_path None call.0 ∷ call.1.later)
-          ∙ ap (λ (l : List Moment). old.history ++ l) (sym (append_assoc log.more call.1.earlier (Wrote Program act.response_path None call.0 ∷ call.1.later)))));
+          ∙ (ap (λ (l : List Moment). l ++ (call.1.earlier ++ Wrote Program act.response_path None call.0 ∷ call.1.later)) log.1
+          ∙ (append_assoc old.history log.0 (call.1.earlier ++ Wrote Program act.response_path None call.0 ∷ call.1.later)
+          ∙ ap (λ (l : List Moment). old.history ++ l) (sym (append_assoc log.0 call.1.earlier (Wrote Program act.response_path None call.0 ∷ call.1.later)))));
       others = subst (λ (l : List Event). AllByOthers (IsRunning l) call.1.later) (sym (removed named).events) call.1.all_later;
     }
 
@@ -164,29 +188,46 @@ told_once before job i ok is = by_rest (same_rest before (Finish job ok ∷ []) 
         let oks : ok ≡ true = cc in
         (jobs, oks)
 
--- a command is taken in before that, and something shown behind it
-pub taken_by_removing : (tells : Bool) (edges : List Edge) (job : ℕ) (ok : Bool) (old mid last new : World) → Finishes tells job ok old mid → last.events ≡ mid.events → (ok ≡ true → EndsByRemoving tells (edge_at edges job).act mid last) → OnlyLooks tells last new
-    → (i : ℕ) → new.events ≡ old.events ++ Finish i true ∷ [] → EndsByRemoving tells (edge_at edges i).act old new
-taken_by_removing tells edges job ok old mid last new finish events ends looks i is named tell =
-    let told = told_once old.events job i ok (sym finish.events ∙ (sym events ∙ (sym looks.events ∙ is))) in
-    let removed = subst (λ (n : ℕ). EndsByRemoving tells (edge_at edges n).act mid last) told.0 (ends told.1) named tell in
-    let end = finish.history tell in
+-- behind it the site was only looked at
+pub removing_then : (tells : Bool) (act : Act) (old mid new : World) → EndsByRemoving tells act old mid → OnlyLooks tells mid new → EndsByRemoving tells act old new
+removing_then tells act old mid new ends looks named tell =
+    let removed = ends named tell in
     let shown = looks.history tell in
-    let removal = Wrote Program (edge_at edges i).act.response_path None removed.stamp in
-    let ending = end.earlier ++ Happened (Finish job ok) ∷ end.later in
+    let removal = Wrote Program act.response_path None removed.stamp in
     record {
-      earlier = ending ++ removed.earlier;
+      earlier = removed.earlier;
       stamp = removed.stamp;
       later = removed.later ++ shown.more;
-      grows = whole old.history mid.history last.history new.history ending removed.earlier removed.later shown.more removal end.grows removed.grows shown.grows;
+      grows = longer old.history removed.earlier removal removed.later shown.more mid.history new.history shown.grows removed.grows;
       others = all_append (IsByOthers (IsRunning new.events)) removed.later shown.more (subst (λ (l : List Event). AllByOthers (IsRunning l) removed.later) (sym looks.events) removed.others)
           (subst (λ (l : List Event). AllByOthers (IsRunning l) shown.more) (sym looks.events) shown.all);
     }
+
+-- before it the history grew
+pub removing_after : (tells : Bool) (act : Act) (old mid new : World) → (IsTrue tells → (more : List Moment) × (mid.history ≡ old.history ++ more)) → EndsByRemoving tells act mid new → EndsByRemoving tells act old new
+removing_after tells act old mid new grew ends named tell =
+    let removed = ends named tell in
+    let first = grew tell in
+    let behind = removed.earlier ++ Wrote Program act.response_path None removed.stamp ∷ removed.later in
+    record {
+      earlier = first.0 ++ removed.earlier;
+      stamp = removed.stamp;
+      later = removed.later;
+      grows = removed.grows
+          ∙ (ap (λ (l : List Moment). l ++ behind) first.1
+          ∙ (append_assoc old.history first.0 behind ∙ ap (λ (l : List Moment). old.history ++ l) (sym (append_assoc first.0 removed.earlier (Wrote Program act.response_path None removed.stamp ∷ removed.later)))));
+      others = removed.others;
+    }
+
+-- a command is taken in before that, and its depfile read
+pub taken_by_removing : (tells : Bool) (edges : List Edge) (job : ℕ) (ok : Bool) (old mid last new : World) → Finishes tells job ok old mid → OnlyLooks tells mid last → new.events ≡ last.events → (ok ≡ true → EndsByRemoving tells (edge_at edges job).act last new)
+    → (i : ℕ) → new.events ≡ old.events ++ Finish i true ∷ [] → EndsByRemoving tells (edge_at edges i).act old new
+taken_by_removing tells edges job ok old mid last new finish looks events ends i is =
+    let told = told_once old.events job i ok (sym finish.events ∙ (sym looks.events ∙ (sym events ∙ is))) in
+    removing_after tells (edge_at edges i).act old last new grew (subst (λ (n : ℕ). EndsByRemoving tells (edge_at edges n).act last new) told.0 (ends told.1))
   where
-    whole : (first mid last exit b c d e : List Moment) (m : Moment) → mid ≡ first ++ b → last ≡ mid ++ (c ++ m ∷ d) → exit ≡ last ++ e → exit ≡ first ++ ((b ++ c) ++ m ∷ (d ++ e))
-    whole first mid last exit b c d e m was more rest =
-        rest ∙ (ap (λ (l : List Moment). l ++ e) (grown was more) ∙ (append_assoc first ((b ++ c) ++ m ∷ d) e ∙ ap (λ (l : List Moment). first ++ l) (append_assoc (b ++ c) (m ∷ d) e)))
-      where
-        grown : mid ≡ first ++ b → last ≡ mid ++ (c ++ m ∷ d) → last ≡ first ++ ((b ++ c) ++ m ∷ d)
-        grown was more =
-            more ∙ (ap (λ (l : List Moment). l ++ (c ++ m ∷ d)) was ∙ (append_assoc first b (c ++ m ∷ d) ∙ ap (λ (l : List Moment). first ++ l) (sym (append_assoc b c (m ∷ d)))))
+    grew : IsTrue tells → (more : List Moment) × (last.history ≡ old.history ++ more)
+    grew tell =
+        let end = finish.history tell in
+        let read = looks.history tell in
+        (end.earlier ++ Happened (Finish job ok) ∷ (end.later ++ read.more), longer old.history end.earlier (Happened (Finish job ok)) end.later read.more mid.history last.history read.grows end.grows)

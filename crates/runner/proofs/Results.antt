@@ -6,6 +6,10 @@ pub ok_then : {T E : Type 0} {P Q : Type 0} (r : Result T E) → OnOk r P → (P
 ok_then (Ok x) p f = f p
 ok_then (Err e) p f = tt
 
+pub ok_both : {T E : Type 0} {P Q R : Type 0} (r : Result T E) → OnOk r P → OnOk r Q → (P → Q → R) → OnOk r R
+ok_both (Ok x) p q f = f p q
+ok_both (Err e) p q f = tt
+
 pub on_ok : {T E : Type 0} {P : Type 0} (r : Result T E) → P → OnOk r P
 on_ok (Ok x) p = p
 on_ok (Err e) p = tt

@@ -3,6 +3,7 @@ use Rattle.std.specs.Prelude.{◌≡◌, ◌≢◌, ◌<◌, ℕ, suc, ◌&&◌,
 use Rattle.std.specs.List.{list_any}
 use Rattle.model.specs.declared.graph.Edge.{Edge}
 use Rattle.model.specs.declared.record.Record.{Record}
+use Rattle.model.specs.declared.record.DepsRecord.{DepsRecord}
 use Rattle.model.specs.World.{World, IsIdle}
 use Rattle.model.specs.Graph.{has, has_number, edge_at, maker, outputs, IsCommand, IsMadeOnce}
 use Rattle.model.specs.Outcome.{Behaviour}
@@ -14,10 +15,11 @@ use Rattle.model.specs.SingleBuild.{Asked, task_of}
 use Rattle.paths.specs.Told.{text_at}
 use Rattle.links.specs.declared.graph.Graph.{Graph}
 use Rattle.links.specs.Told.{declared_by, recorded_by, AreSameInputs}
+use Rattle.depfile.specs.Depfile.{IsReading}
 use Rattle.lowest.specs.Flags as flags
 use Rattle.plan.specs.Planned.{IsPlanned}
 use Rattle.looks.specs.Seen.{AreSeenOf}
-use Rattle.records.specs.Known.{IsOf}
+use Rattle.records.specs.Known.{AreKnown}
 use Rattle.records.specs.Logging.{IsLogging}
 use Rattle.log_theory.specs.Ledger.{IsCarried}
 use Rattle.runner.specs.Removing.{AreRemoved}
@@ -37,15 +39,17 @@ abbrev pub edges_of : Course → List Edge
 edges_of course = course.asked.graph.edges
 
 -- The graph declares what was asked, with the recorded inputs that are in use; each path is made once; a command has outputs, and
--- names no depfile and no `restat`; the build log is a file of the program's own; ticks touch another such file, that is no log; no
--- command ran at the entry.
+-- names no `restat`; depfiles are read as their grammar says; both logs are files of the program's own; ticks touch another such
+-- file, that is no log; no command ran at the entry.
 pub record Suits (course : Course) (tick : List ℕ) (graph : Graph) : Type 0 where
   pub same : course.asked.graph ≡ declared_by graph
   pub recorded : AreSameInputs (recorded_inputs course.store (edges_of course)) (recorded_by graph)
   pub once : IsMadeOnce (edges_of course)
   pub some : (i : ℕ) → IsCommand (edges_of course) i → outputs (edge_at (edges_of course) i) ≢ []
-  pub bare : (i : ℕ) → IsCommand (edges_of course) i → ((edge_at (edges_of course) i).act.depfile ≡ []) × ((edge_at (edges_of course) i).restat ≡ false)
+  pub bare : (i : ℕ) → IsCommand (edges_of course) i → (edge_at (edges_of course) i).restat ≡ false
+  pub depfiles : IsReading course.behaviour.depfile
   pub log_owned : course.own.files course.own.build_log ≡ true
+  pub deps_owned : course.own.files course.own.deps_log ≡ true
   pub owned : course.own.files tick ≡ true
   pub no_build_log : tick ≢ course.own.build_log
   pub no_deps_log : tick ≢ course.own.deps_log
@@ -86,11 +90,12 @@ AreAnew course graph steps state =
 
 -- ---- where a run stands
 
--- the records in memory are those of the store at the entry, where files are kept
+-- the records in memory, of both logs, are those of the store at the entry, where files are kept
 pub record AreTold (tells : Bool) (course : Course) (graph : Graph) (state : State) (now : World) : Type 0 where
   pub records : List Record
-  pub known : IsOf records graph.manifest.paths state.records
-  pub same : IsTrue tells → FilesAreKept course.own (edges_of course) course.entry.history now.history → course.store.records ≡ records
+  pub deps : List DepsRecord
+  pub known : AreKnown graph records deps state.records
+  pub same : IsTrue tells → FilesAreKept course.own (edges_of course) course.entry.history now.history → (course.store.records ≡ records) × (course.store.deps ≡ deps)
 
 -- each command that runs was started under the stamp that is noted for it
 abbrev pub AreStarted : Course → List Done → State → World → Type 0
@@ -107,7 +112,7 @@ pub record IsOn (tells : Bool) (course : Course) (graph : Graph) (hand : Option 
   pub steps : List Done
   pub planned : IsPlanned (task_of course.asked course.store) graph state.plan steps
   pub carried : IsCarried tells course.behaviour course.format course.own course.asked course.store steps hand course.entry now
-  pub logging : IsLogging tells course.behaviour course.format course.own (edges_of course) steps hand course.store course.entry now state.records.file
+  pub logging : IsLogging tells course.behaviour course.format course.own (edges_of course) steps hand course.store course.entry now state.records.logs
   pub told : AreTold tells course graph state now
   pub seen : IsSeenStill tells course graph steps state now
   pub anew : AreAnew course graph steps state

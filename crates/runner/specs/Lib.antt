@@ -5,3 +5,4 @@ pub mod Going
 pub mod Starting
 pub mod Ran
 pub mod Cutting
+pub mod Telling

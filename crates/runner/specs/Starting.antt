@@ -7,6 +7,8 @@ use Rattle.links.specs.declared.graph.Graph.{Graph}
 use Rattle.log_theory.specs.Ledger.{HasNoRecord}
 use Rattle.records.specs.Logging.{EndedWell}
 use Rattle.runner.specs.Course.{Course, edges_of, IsOn}
+use Rattle.runner.specs.Telling.{WentWell}
+use Rattle.runner.specs.declared.reported.Told.{Told}
 use Rattle.runner.specs.declared.state.State.{State}
 
 -- the edge may be started, and none of its outputs has a record in force any more
@@ -19,9 +21,16 @@ pub record IsBegun (tells : Bool) (course : Course) (graph : Graph) (i : ℕ) (s
 abbrev pub in_hand_after : ℕ → Bool → Option ℕ
 in_hand_after i ok = if ok then Some i else None
 
--- the command of the edge was taken in, by the last of the steps; where it ended well that may be recorded
-pub record IsTakenIn (tells : Bool) (course : Course) (graph : Graph) (i stamp : ℕ) (ok : Bool) (state : State) (now : World) : Type 0 where
+-- the command of the edge was taken in, by the last of the steps; where it ended well, it told this
+pub record IsTakenIn (tells : Bool) (course : Course) (graph : Graph) (i stamp : ℕ) (ok : Bool) (told : Told) (state : State) (now : World) : Type 0 where
   pub on : IsOn tells course graph (in_hand_after i ok) state now
   pub before : List Done
   pub last : on.steps ≡ before ++ Ended i ok ∷ []
-  pub well : ok ≡ true → EndedWell tells course.behaviour (edges_of course) on.steps i stamp course.entry now
+  pub well : ok ≡ true → WentWell tells course on.steps i stamp told now
+
+-- it ended well, and what it told is recorded: that it is done may be recorded too
+pub record MayBeDone (tells : Bool) (course : Course) (graph : Graph) (i stamp : ℕ) (state : State) (now : World) : Type 0 where
+  pub on : IsOn tells course graph (Some i) state now
+  pub before : List Done
+  pub last : on.steps ≡ before ++ Ended i true ∷ []
+  pub well : EndedWell tells course.behaviour course.format course.own (edges_of course) on.steps i stamp course.entry now

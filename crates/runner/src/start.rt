@@ -17,19 +17,20 @@ ghost use Rattle.runner.specs.Starting.{IsBegun};
 
 use crate::counts::progress;
 use crate::folders::{make_folder, make_output_folders};
+use crate::reported::remove_old_depfile;
 use crate::response::write_response;
 use crate::setting::Setting;
 use crate::state::State;
 use display::has_terminal;
 use links::Graph;
 use model::{Act, SiteFault};
-use paths::{Action, EdgeId};
+use paths::{Action, Command, EdgeId};
 use plan::Plan;
 use records::log_stays;
 use site::Site;
 
 /// Starts the command of an edge: makes the folders that it writes into, shows what is shown at a start, says in the log that it
-/// is begun, writes its response file, takes a stamp, and starts it.
+/// is begun, removes its old depfile, writes its response file, takes a stamp, and starts it.
 ///
 /// Where that fails, the plan has the edge as running if its command was started all the same.
 pub fn start_edge<S: Site>(
@@ -59,7 +60,7 @@ pub fn start_edge<S: Site>(
     launch(site, setting, state, edge)
 }
 
-/// Makes the folder of the logs, and those of what the edge makes and of its response file.
+/// Makes the folder of the logs, and those of what the edge makes, of its depfile and of its response file.
 fn make_folders<S: Site>(site: &mut S, setting: Setting<'_>, edge: EdgeId) -> Result<(), SiteFault>
     requires running { (S.world site.old).stopped ≡ false }
     requires within { edge < length setting.graph.now.manifest.lines }
@@ -69,7 +70,9 @@ fn make_folders<S: Site>(site: &mut S, setting: Setting<'_>, edge: EdgeId) -> Re
 {
     make_folder(site, setting.tick)?;
     make_output_folders(site, setting.graph, edge)?;
-    make_folder(site, act(setting.graph, edge).response_path.as_str())
+    let act = act(setting.graph, edge);
+    make_folder(site, act.depfile.as_str())?;
+    make_folder(site, act.response_path.as_str())
 }
 
 /// Starts the command of an edge that is begun.
@@ -91,6 +94,7 @@ fn launch<S: Site>(
 {
     log_stays();
     let act = act(setting.graph, edge);
+    remove_old_depfile(site, act)?;
     write_response(site, act)?;
     let stamp = site.tick(setting.tick)?;
     note_stamp(&mut state.starts, edge, stamp);
@@ -106,9 +110,18 @@ pub fn act(graph: &Graph, edge: EdgeId) -> &Act
     requires { IsCommand (declared_by graph.now).edges (suc edge) }
     ensures { result.now ≡ (edge_at (declared_by graph.now).edges (suc edge)).act }
 {
+    &command(graph, edge).act
+}
+
+/// The command of an edge.
+pub fn command(graph: &Graph, edge: EdgeId) -> &Command
+    requires { IsCommand (declared_by graph.now).edges (suc edge) }
+    ensures act { result.now.act ≡ (edge_at (declared_by graph.now).edges (suc edge)).act }
+    ensures deps { result.now.deps ≡ (edge_at (declared_by graph.now).edges (suc edge)).deps }
+{
     match graph.manifest.action(edge) {
         Action::Alias => unreachable!(),
-        Action::Command(command) => &command.act,
+        Action::Command(command) => command,
     }
 }
 

@@ -4,7 +4,7 @@ ghost use Rattle.std.specs.Prelude.{◌≡◌, ◌<◌, ◌++◌, ◌∷◌, [],
 ghost use Rattle.model.specs.declared.event.Event.TheVariants.{Finish};
 ghost use Rattle.model.specs.Calls.{HasCause};
 ghost use Rattle.model.specs.Graph.{edge_at};
-ghost use Rattle.model.specs.Schedule.{Ended as Finished};
+ghost use Rattle.model.specs.Schedule.{Ended};
 ghost use Rattle.model.specs.SingleBuild.{task_of};
 ghost use Rattle.links.specs.Told.{declared_by};
 ghost use Rattle.plan.specs.declared.step.Standing.{Standing};
@@ -15,18 +15,22 @@ ghost use Rattle.runner.specs.Course.{Course, Suits, IsOn};
 ghost use Rattle.runner.specs.Going.{IsGoing, IsCut, AreSet, HasEnded, failed_after, work_left};
 ghost use Rattle.runner.specs.Removing.{EndsByRemoving};
 ghost use Rattle.runner.specs.Starting.{IsTakenIn};
-ghost use Rattle.runner.specs.Cutting.{Cuts, IsOfWait};
+ghost use Rattle.runner.specs.Cutting.{Cuts, IfWaiting, IsOfWait};
+ghost use Rattle.runner.specs.Telling.{IsEnding, ended_well};
 
 use crate::counts::progress;
 use crate::cut::Cut;
+use crate::reported::{Told, ended, read_told, remove_read_depfile, report};
 use crate::response::remove_response;
 use crate::setting::Setting;
-use crate::start::act;
+use crate::shown::show_end;
+use crate::start::{act, command};
 use crate::state::State;
+use depfile::one_answer;
 use links::lists_stand;
-use model::SiteFault;
+use model::{Finished, SiteFault};
 use paths::EdgeId;
-use records::log_stays;
+use records::{log_stays, none_while_running};
 use site::Site;
 use std::alloc::AllocError;
 
@@ -43,24 +47,79 @@ pub fn take_in<S: Site>(
     ensures of_wait { IfErr result (IsOfWait (S.world site.old) (S.world site.new)) }
     ensures nearer { OnOk result (work_left state.new.plan.standings.items < work_left state.old.plan.standings.items) }
     ensures set { state.new.set ≡ state.old.set }
-    ensures removed { OnOk result ((i : ℕ) → (S.world site.new).events ≡ (S.world site.old).events ++ Finish i true ∷ [] → EndsByRemoving S.tells (edge_at (declared_by setting.entry.graph.now).edges i).act (S.world site.old) (S.world site.new)) }
+    ensures removed { OnOk result ((i : ℕ) → (S.world site.new).events ≡ (S.world site.old).events ++ Finish i true ∷ [] → state.new.failed ≡ state.old.failed → EndsByRemoving S.tells (edge_at (declared_by setting.entry.graph.now).edges i).act (S.world site.old) (S.world site.new)) }
     ensures on { OnOk result ((course : Course) → Suits course setting.entry.tick.now setting.entry.graph.now → (on : IsOn S.tells course setting.entry.graph.now None state.old (S.world site.old)) → IsNextOf (task_of course.asked course.store) on.steps step.Wait → IsOn S.tells course setting.entry.graph.now None state.new (S.world site.new)) }
     ensures cut { OnErr result ((course : Course) → Suits course setting.entry.tick.now setting.entry.graph.now → (on : IsOn S.tells course setting.entry.graph.now None state.old (S.world site.old)) → IsNextOf (task_of course.asked course.store) on.steps step.Wait → IsCut S.tells course setting.entry.graph.now state.new.plan (S.world site.new)) }
 {
     match site.wait_any() {
         Ok(finished) => {
-            lists_stand(setting.graph);
-            log_stays();
             let edge = setting.graph.manifest.edge(finished.job - 1);
-            note_end(setting, state, edge, finished.ok)?;
-            record_end(site, setting, state, edge, finished.ok).map_err(Cut::Other)?;
-            state
-                .display
-                .end(site, setting.graph, edge, &finished, progress(&state.plan))
-                .map_err(Cut::Other)
+            match read_told(setting.alloc, site, act(setting.graph, edge), finished.ok) {
+                Ok(told) => take_in_told(site, setting, state, edge, finished, told),
+                Err(fault) => {
+                    note_unread(setting, state, edge);
+                    Err(Cut::Other(fault))
+                }
+            }
         }
         Err(fault) => Err(Cut::Waiting(fault)),
     }
+}
+
+/// Takes in a command that has ended so and whose depfile says this: a refused one makes it a failed one.
+fn take_in_told<S: Site>(
+    site: &mut S,
+    setting: Setting<'_>,
+    state: &mut State<'_>,
+    edge: EdgeId,
+    finished: Finished,
+    told: Told,
+) -> Result<(), Cut>
+    requires running { (S.world site.old).stopped ≡ false }
+    requires ending { (course : Course) × Suits course setting.tick.now setting.graph.now × IsEnding S.tells course setting.graph.now (suc edge) finished.ok told state.old (S.world site.old) }
+    requires enough { AreSet setting.graph.now state.old.set.items }
+    ensures cuts { Cuts (S.world site.old) (S.world site.new) result }
+    ensures events { (S.world site.new).events ≡ (S.world site.old).events }
+    ensures of_wait { IfErr result (λ cut. IfWaiting cut ⊥) }
+    ensures nearer { OnOk result (work_left state.new.plan.standings.items < work_left state.old.plan.standings.items) }
+    ensures set { state.new.set ≡ state.old.set }
+    ensures noted { OnOk result (state.new.failed.items ≡ failed_after state.old.failed.items edge (ended_well finished.ok told)) }
+    ensures removed { OnOk result (ended_well finished.ok told ≡ true → EndsByRemoving S.tells (edge_at (declared_by setting.entry.graph.now).edges (suc edge)).act (S.world site.old) (S.world site.new)) }
+    ensures on { OnOk result ((course : Course) → Suits course setting.entry.tick.now setting.entry.graph.now → IsEnding S.tells course setting.entry.graph.now (suc edge) finished.ok told state.old (S.world site.old) → IsOn S.tells course setting.entry.graph.now None state.new (S.world site.new)) }
+    ensures cut { OnErr result ((course : Course) → Suits course setting.entry.tick.now setting.entry.graph.now → IsEnding S.tells course setting.entry.graph.now (suc edge) finished.ok told state.old (S.world site.old) → IsCut S.tells course setting.entry.graph.now state.new.plan (S.world site.new)) }
+{
+    lists_stand(setting.graph);
+    log_stays();
+    none_while_running();
+    one_answer();
+    let finished = ended(finished, &told);
+    note_end(setting, state, edge, finished.ok)?;
+    record_end(site, setting, state, edge, finished.ok, &told).map_err(Cut::Other)?;
+    let progress = progress(&state.plan);
+    show_end(
+        site,
+        setting,
+        &mut state.display,
+        progress,
+        edge,
+        &finished,
+        told.fault(),
+    )
+    .map_err(Cut::Other)
+}
+
+/// Notes in the plan that the command of a running edge has ended, of which a fault keeps what it told: it counts as failed.
+fn note_unread(setting: Setting<'_>, state: &mut State<'_>, edge: EdgeId)
+    requires over { IsPlanOver setting.graph.now state.old.plan }
+    requires running { standing_at state.old.plan.standings.items edge ≡ Standing.Running }
+    requires enough { AreSet setting.graph.now state.old.set.items }
+    ensures planned { TakesStep setting.entry.graph.now state.old.plan state.new.plan (Ended (suc edge) false) }
+    ensures set { state.new.set ≡ state.old.set }
+{
+    let outputs = setting.graph.outputs(edge);
+    state
+        .plan
+        .finished(setting.graph, edge, false, &state.set[..outputs.len()]);
 }
 
 /// Notes how the command of a running edge ended: in the plan, that its outputs may be new, and that it failed where it did.
@@ -75,7 +134,7 @@ fn note_end(
     requires enough { AreSet setting.graph.now state.old.set.items }
     ensures nearer { work_left state.new.plan.standings.items < work_left state.old.plan.standings.items }
     ensures ended { HasEnded setting.entry.graph.now edge state.old state.new }
-    ensures planned { TakesStep setting.entry.graph.now state.old.plan state.new.plan (Finished (suc edge) ok) }
+    ensures planned { TakesStep setting.entry.graph.now state.old.plan state.new.plan (Ended (suc edge) ok) }
     ensures noted { OnOk result (state.new.failed.items ≡ failed_after state.old.failed.items edge ok) }
 {
     let outputs = setting.graph.outputs(edge);
@@ -89,33 +148,37 @@ fn note_end(
     Ok(())
 }
 
-/// Records a command that ended well, and then removes its response file; one that failed is not recorded, and its response file
-/// stays.
+/// Records a command that ended well: what it told first, then that it is done; and then removes its depfile, where that is not to
+/// stay, and its response file. One that failed is not recorded, and its files stay.
 fn record_end<S: Site>(
     site: &mut S,
     setting: Setting<'_>,
     state: &mut State<'_>,
     edge: EdgeId,
     ok: bool,
+    told: &Told,
 ) -> Result<(), SiteFault>
     requires running { (S.world site.old).stopped ≡ false }
-    requires taken_in { (course : Course) × Suits course setting.tick.now setting.graph.now × IsTakenIn S.tells course setting.graph.now (suc edge) (get_or state.old.starts.items edge 0) ok state.old (S.world site.old) }
+    requires taken_in { (course : Course) × Suits course setting.tick.now setting.graph.now × IsTakenIn S.tells course setting.graph.now (suc edge) (get_or state.old.starts.items edge 0) ok told.now state.old (S.world site.old) }
     ensures cause { HasCause (S.world site.old) (S.world site.new) result }
     ensures events { (S.world site.new).events ≡ (S.world site.old).events }
     ensures at_start { (S.world site.new).failures_at_start ≡ (S.world site.old).failures_at_start }
     ensures plan { state.new.plan ≡ state.old.plan }
     ensures set { state.new.set ≡ state.old.set }
+    ensures failed { state.new.failed ≡ state.old.failed }
     ensures removed { OnOk result (ok ≡ true → EndsByRemoving S.tells (edge_at (declared_by setting.entry.graph.now).edges (suc edge)).act (S.world site.old) (S.world site.new)) }
-    ensures on { OnOk result ((course : Course) → Suits course setting.entry.tick.now setting.entry.graph.now → IsTakenIn S.tells course setting.entry.graph.now (suc edge) (get_or state.old.starts.items edge 0) ok state.old (S.world site.old) → IsOn S.tells course setting.entry.graph.now None state.new (S.world site.new)) }
-    ensures cut { OnErr result ((course : Course) → Suits course setting.entry.tick.now setting.entry.graph.now → IsTakenIn S.tells course setting.entry.graph.now (suc edge) (get_or state.old.starts.items edge 0) ok state.old (S.world site.old) → IsCut S.tells course setting.entry.graph.now state.new.plan (S.world site.new)) }
+    ensures on { OnOk result ((course : Course) → Suits course setting.entry.tick.now setting.entry.graph.now → IsTakenIn S.tells course setting.entry.graph.now (suc edge) (get_or state.old.starts.items edge 0) ok told.now state.old (S.world site.old) → IsOn S.tells course setting.entry.graph.now None state.new (S.world site.new)) }
+    ensures cut { OnErr result ((course : Course) → Suits course setting.entry.tick.now setting.entry.graph.now → IsTakenIn S.tells course setting.entry.graph.now (suc edge) (get_or state.old.starts.items edge 0) ok told.now state.old (S.world site.old) → IsCut S.tells course setting.entry.graph.now state.new.plan (S.world site.new)) }
 {
     if !ok {
         return Ok(());
     }
     log_stays();
     let start = state.starts[edge.index()];
+    report(site, setting, state, edge, start, told)?;
     state
         .records
         .done(setting.alloc, site, setting.graph, edge, start)?;
+    remove_read_depfile(site, command(setting.graph, edge))?;
     remove_response(site, act(setting.graph, edge))
 }

@@ -26,6 +26,13 @@ rule args
   command = args $out
   rspfile = $out.rsp
   rspfile_content = $in $flags
+rule scan
+  command = scan $out $out.d $in
+  depfile = $out.d
+  deps = gcc
+rule stay
+  command = scan $out $out.d $in
+  depfile = $out.d
 ";
 
 /// What went wrong in a build.

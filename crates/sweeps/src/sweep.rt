@@ -71,22 +71,25 @@ fn built_anew(
     last(alloc, site, options, row.outputs)
 }
 
-/// How long the longest line is that the history puts behind its log.
+/// How long the longest line is that the history puts behind a log.
 fn longest(alloc: Global, row: Row<'_>) -> Result<usize, AllocError> {
     let options = options(alloc, 1, 1)?;
     let mut site = Sim::new(alloc, Toy);
     let made = make_all(alloc, &mut site, row.moves, &options);
-    let longest = longest_line(log(&site));
+    let longest = longest_line_of(&site);
     made?;
     Ok(longest)
 }
 
-/// The log, which stands beside the build file or in the folder `logs`.
-fn log(site: &Sim<Toy>) -> &[u8] {
-    match site.content(".nj_log").or(site.content("logs/.nj_log")) {
-        Some(content) => content.as_slice(),
-        None => &[],
+/// How many bytes the longest line of the logs has, which stand beside the build file, or of the build log in the folder `logs`.
+fn longest_line_of(site: &Sim<Toy>) -> usize {
+    let mut longest = 0;
+    for path in [".nj_log", ".nj_deps", "logs/.nj_log"] {
+        if let Some(content) = site.content(path) {
+            longest = longest.max(longest_line(content.as_slice()));
+        }
     }
+    longest
 }
 
 /// How many bytes the longest line has, with its end.

@@ -1,15 +1,17 @@
 -- The facts that were taken in give the answer for an edge.
-use Rattle.std.proofs.Common.{◌≡◌, ◌⊎◌, inl, inr, ℕ, suc, ◌<◌, not, Bool, true, false, List, [], ◌++◌, Option, Some, None, IsSome, map, length, refl, sym, ◌∙◌, ap, subst}
+use Rattle.std.proofs.Common.{◌≡◌, ◌≢◌, ◌⊎◌, inl, inr, ℕ, suc, ◌<◌, not, Bool, true, false, List, [], ◌++◌, Option, Some, None, IsSome, map, length, refl, sym, ◌∙◌, ap, subst}
 use Rattle.std.specs.Prelude.{is_some}
 use Rattle.std.specs.List.{flat_map}
 use Rattle.std.proofs.lemmas.Bool.{false≢true, or_cases, or_left, or_right}
 use Rattle.std.proofs.lemmas.List.{map-append}
 use Rattle.model.specs.declared.act.Act.{Act}
 use Rattle.model.specs.declared.graph.Deps.{Deps}
+use Rattle.model.specs.declared.graph.Deps.TheVariants.{Unset}
 use Rattle.model.specs.declared.reason.Reason.{Reason}
 use Rattle.model.specs.declared.graph.Edge.{Edge}
 use Rattle.model.specs.declared.event.Moment.{Moment}
 use Rattle.model.specs.declared.record.Record.{Record}
+use Rattle.model.specs.declared.record.DepsRecord.{DepsRecord}
 use Rattle.model.specs.World.{File, file_at, stamp_of, content_of, view_of}
 use Rattle.model.specs.Graph.{has, has_number, edge_at, outputs}
 use Rattle.model.specs.Records.{Store}
@@ -29,9 +31,9 @@ use Rattle.links.specs.Told.{declared_by}
 use Rattle.dirty.specs.declared.inputs.Inputs.{Inputs}
 use Rattle.dirty.specs.declared.outputs.Outputs.{Outputs}
 use Rattle.dirty.specs.Summaries.{AreOutputs, AreInputs}
-use Rattle.verdict.specs.Facts.{flag_at, output_at, stamp_at, all_inputs, AreIn, HasOutputs, HasInputs}
+use Rattle.verdict.specs.Facts.{flag_at, output_at, stamp_at, all_inputs, AreIn, HasOutputs, HasInputs, HasDepfile}
 use Rattle.verdict.specs.Judged.{HasPathsOf, AreRecordedOf, MayBeJudgedBy, IsAnswer, everything}
-use Rattle.verdict.proofs.Reasons.{Alike, reason_same, outputs_alike, takes, taken, taken_inputs, taken_has, has_taken, flat_has, has_flat, has_text, number_of, are_in}
+use Rattle.verdict.proofs.Reasons.{reason_same, outputs_same, takes, taken, taken_inputs, taken_has, has_taken, flat_has, has_flat, has_text, number_of, are_in}
 
 there : (file : Option File) → is_some (stamp_of file) ≡ true → IsSome (content_of file)
 there None is = absurd (false≢true is)
@@ -51,17 +53,17 @@ not_false b is = ap not is
 abbrev with_all : Act → Bool → Deps → Bool → List OutputFacts → List InputFacts → AllFacts
 with_all act restat deps depfile outputs inputs = record { act = act; restat = restat; deps = deps; depfile = depfile; outputs = outputs; inputs = inputs }
 
--- the same facts have the same reason, also where a depfile that the act does not name counts as there
-same_reason : (a b : Act) → a ≡ b → (r s : Bool) → r ≡ s → (d f : Deps) → d ≡ f → (one two : Bool) → b.depfile ≡ [] → (xs : List OutputFacts) (ts us : List (List ℕ)) → ts ≡ us
-    → (of_text : List ℕ → OutputFacts) → Alike xs (map of_text ts) → (ins outs : List InputFacts) → ins ≡ outs
-    → reason_of (with_all a r d one xs ins) ≡ reason_of (with_all b s f two (map of_text us) outs)
-same_reason a b act r s restat d f deps one two none xs ts us texts of_text alike ins outs inputs =
+-- the same facts have the same reason, whether the depfile is there where that counts for nothing
+same_reason : (a b : Act) → a ≡ b → (r s : Bool) → r ≡ s → (d f : Deps) → d ≡ f → (one two : Bool) → (b.depfile ≢ [] → f ≡ Unset → one ≡ two) → (xs ys : List OutputFacts) → xs ≡ ys
+    → (ins outs : List InputFacts) → ins ≡ outs
+    → reason_of (with_all a r d one xs ins) ≡ reason_of (with_all b s f two ys outs)
+same_reason a b act r s restat d f deps one two same xs ys outputs ins outs inputs =
     ap (λ (l : List InputFacts). reason_of (with_all a r d one xs l)) inputs
     ∙ (ap (λ (act : Act). reason_of (with_all act r d one xs outs)) act
     ∙ (ap (λ (restat : Bool). reason_of (with_all b restat d one xs outs)) restat
     ∙ (ap (λ (deps : Deps). reason_of (with_all b s deps one xs outs)) deps
-    ∙ (reason_same b s f one two xs (map of_text ts) outs alike none
-    ∙ ap (λ (l : List (List ℕ)). reason_of (with_all b s f two (map of_text l) outs)) texts))))
+    ∙ (ap (λ (l : List OutputFacts). reason_of (with_all b s f one l outs)) outputs
+    ∙ reason_same b s f one two ys outs same))))
 
 module _ (graph : Graph) (stands : StandFor (declared_by graph).edges graph.manifest.paths (links_of graph)) (e : ℕ) (es : List ℕ) (reading : IsReadingOf graph e es) where
   abbrev regs : List ℕ
@@ -149,7 +151,7 @@ module _ (graph : Graph) (stands : StandFor (declared_by graph).edges graph.mani
     recs_in = are_in set graph.manifest.paths recs (λ n h. has_paths.recorded (text_at graph.manifest.paths n) (in_use (text_at graph.manifest.paths n) ∙ has_text graph.manifest.paths recs n h))
 
   -- the paths that are taken in, in the words of the model
-  module _ (rs : List Record) (flags : List Bool) (store : Store) (ran : List ℕ) (old files : List Moment) (set : List ℕ → Bool) (may : MayBeJudgedBy graph rs flags store ran old files (suc e) set) where
+  module _ (rs : List Record) (ds : List DepsRecord) (flags : List Bool) (store : Store) (ran : List ℕ) (old files : List Moment) (set : List ℕ → Bool) (may : MayBeJudgedBy graph rs ds flags store ran old files (suc e) set) where
     abbrev edges : List Edge
     edges = (declared_by graph).edges
 
@@ -159,10 +161,11 @@ module _ (graph : Graph) (stands : StandFor (declared_by graph).edges graph.mani
     abbrev outs : List ℕ
     outs = (links_of graph).outputs e
 
-    alike : Alike (map (output_at paths rs files) outs) (map (output_facts store old) (texts_at paths outs))
-    alike =
-        outputs_alike paths rs store old files may.records outs
+    outs_are : map (output_at paths rs ds files) outs ≡ map (output_facts store old) (outputs (edge_at edges (suc e)))
+    outs_are =
+        outputs_same paths rs ds store old files may.records may.deps outs
         (λ n h. may.untouched (text_at paths n) (ap (λ (l : List (List ℕ)). has l (text_at paths n)) (sym (stands.outputs_are e)) ∙ has_text paths outs n h))
+        ∙ ap (map (output_facts store old)) (stands.outputs_are e)
 
     -- a path that is taken in counts, so that its flag is right
     flagged : (n : ℕ) → n < length paths → has_number (both files) n ≡ true → flag_at flags n ≡ (input_facts edges ran old files (text_at paths n)).changed
@@ -180,22 +183,29 @@ module _ (graph : Graph) (stands : StandFor (declared_by graph).edges graph.mani
         ∙ ap (map (input_facts edges ran old files)) (sym (map-append (text_at paths) (taken graph files false regs) (taken graph files true recs)))))
 
   -- the edge is that of a line with this command, and these outputs and inputs were taken in
-  module _ (line : Line) (command : Commanded) (edge_is : edge_at (declared_by graph).edges (suc e) ≡ edge_of graph.manifest.paths line (Command command))
-      (no_depfile : (edge_at (declared_by graph).edges (suc e)).act.depfile ≡ []) where
-    pub is_answer : (rs : List Record) (flags : List Bool) (made : Outputs) (inputs : Inputs) (depfile : Bool) (reason : Option Reason) (set : List ℕ → Bool) (files : List Moment)
-        → HasOutputs graph command.act rs ((links_of graph).outputs e) made set files → HasInputs graph flags es e inputs set files
+  module _ (line : Line) (command : Commanded) (edge_is : edge_at (declared_by graph).edges (suc e) ≡ edge_of graph.manifest.paths line (Command command)) where
+    abbrev edge : Edge
+    edge = edge_at (declared_by graph).edges (suc e)
+
+    pub is_answer : (rs : List Record) (ds : List DepsRecord) (flags : List Bool) (made : Outputs) (inputs : Inputs) (depfile : Bool) (reason : Option Reason) (set : List ℕ → Bool) (files : List Moment)
+        → HasOutputs graph command.act rs ds ((links_of graph).outputs e) made set files → HasInputs graph flags es e inputs set files → HasDepfile command.act command.deps depfile files
         → ((outs : List OutputFacts) (ins : List InputFacts) → AreOutputs command.act outs made → AreInputs ins inputs → reason ≡ reason_of (with_all command.act command.restat command.deps depfile outs ins))
-        → IsAnswer graph rs flags e reason set files
-    is_answer rs flags made inputs depfile reason set files of_outputs of_inputs judged store ran old may = record {
+        → IsAnswer graph rs ds flags e reason set files
+    is_answer rs ds flags made inputs depfile reason set files of_outputs of_inputs of_depfile judged store ran old may = record {
       read = texts_at graph.manifest.paths (both files);
       counted = counted files store may.recorded;
       is =
-          judged (map (output_at graph.manifest.paths rs files) ((links_of graph).outputs e)) (all_inputs graph flags false files regs ++ all_inputs graph flags true files recs)
+          judged (map (output_at graph.manifest.paths rs ds files) ((links_of graph).outputs e)) (all_inputs graph flags false files regs ++ all_inputs graph flags true files recs)
           (of_outputs (outputs_in store may.recorded set may.paths)) (of_inputs (regs_in store may.recorded set may.paths) (recs_in store may.recorded set may.paths))
-          ∙ same_reason command.act (edge_at (declared_by graph).edges (suc e)).act (sym (ap (λ (edge : Edge). edge.act) edge_is)) command.restat (edge_at (declared_by graph).edges (suc e)).restat
-          (sym (ap (λ (edge : Edge). edge.restat) edge_is)) command.deps (edge_at (declared_by graph).edges (suc e)).deps (sym (ap (λ (edge : Edge). edge.deps) edge_is)) depfile
-          (is_some (file_at old (edge_at (declared_by graph).edges (suc e)).act.depfile)) no_depfile (map (output_at graph.manifest.paths rs files) ((links_of graph).outputs e))
-          (texts_at graph.manifest.paths ((links_of graph).outputs e)) (outputs (edge_at (declared_by graph).edges (suc e))) (stands.outputs_are e) (output_facts store old) (alike rs flags store ran old files set may)
+          ∙ same_reason command.act edge.act (sym (ap (λ (edge : Edge). edge.act) edge_is)) command.restat edge.restat (sym (ap (λ (edge : Edge). edge.restat) edge_is))
+          command.deps edge.deps (sym (ap (λ (edge : Edge). edge.deps) edge_is)) depfile (is_some (file_at old edge.act.depfile)) there
+          (map (output_at graph.manifest.paths rs ds files) ((links_of graph).outputs e)) (map (output_facts store old) (outputs edge)) (outs_are rs ds flags store ran old files set may)
           (all_inputs graph flags false files regs ++ all_inputs graph flags true files recs)
-          (map (input_facts (declared_by graph).edges ran old files) (texts_at graph.manifest.paths (both files))) (all_are rs flags store ran old files set may);
+          (map (input_facts (declared_by graph).edges ran old files) (texts_at graph.manifest.paths (both files))) (all_are rs ds flags store ran old files set may);
     }
+      where
+        seen : HasDepfile edge.act edge.deps depfile files
+        seen = subst (λ (e : Edge). HasDepfile e.act e.deps depfile files) (sym edge_is) of_depfile
+
+        there : edge.act.depfile ≢ [] → edge.deps ≡ Unset → depfile ≡ is_some (file_at old edge.act.depfile)
+        there named unset = seen named unset ∙ ap (λ (f : Option File). is_some f) (may.depfile named)

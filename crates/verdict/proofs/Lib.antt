@@ -1,3 +1,5 @@
 pub mod Taking
 pub mod Reasons
 pub mod Answering
+pub mod Known
+pub mod Depfiles

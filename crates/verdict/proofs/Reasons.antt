@@ -1,20 +1,22 @@
 -- The reason by numbers is the reason in the words of paths.
-use Rattle.std.proofs.Common.{◌≡◌, inl, inr, ℕ, suc, ◌<◌, ◌==◌, ◌&&◌, ◌||◌, not, cond, Bool, true, false, List, [], ◌∷◌, ◌++◌, Option, Some, map, bytes_eq, length, get_or, zero, arith, refl, sym, ◌∙◌, ap, subst}
-use Rattle.std.specs.Prelude.{find, is_some, is_none}
+use Rattle.std.proofs.Common.{◌≡◌, ◌≢◌, inl, inr, ℕ, suc, ◌<◌, ◌==◌, ◌&&◌, ◌||◌, not, cond, Bool, true, false, List, [], ◌∷◌, ◌++◌, Option, Some, map, bytes_eq, length, get_or, zero, arith, refl, sym, ◌∙◌, ap, subst}
+use Rattle.std.specs.Prelude.{find, is_some}
 use Rattle.std.specs.List.{flat_map, list_any}
 use Rattle.std.proofs.lemmas.Bool.{false≢true, eqb-true, eq-eqb, or_cases, or_left, or_right}
 use Rattle.model.specs.declared.act.Act.{Act}
 use Rattle.model.specs.declared.graph.Deps.{Deps}
+use Rattle.model.specs.declared.graph.Deps.TheVariants.{Unset, Gcc}
 use Rattle.model.specs.declared.reason.Reason.{Reason}
 use Rattle.model.specs.declared.reason.Reason.TheVariants.{OutputAbsent, NoRecord, OtherAct, InputAbsent, InputChanged, InputLater, OutputOlder, DepsUnknown}
 use Rattle.model.specs.declared.event.Moment.{Moment}
 use Rattle.model.specs.declared.graph.Edge.{Edge}
 use Rattle.model.specs.declared.record.Record.{Record}
+use Rattle.model.specs.declared.record.DepsRecord.{DepsRecord}
 use Rattle.model.specs.World.{file_at, stamp_of}
 use Rattle.model.specs.Graph.{has, has_number}
-use Rattle.model.specs.Records.{Store, Made, in_force}
-use Rattle.model.specs.OutOfDate.{output_facts, input_facts}
-use Rattle.model.specs.Judgement.{OutputFacts, InputFacts, Facts, holds, has_other_act, is_later, start_of, is_empty_text, is_unset, is_same_number, reason_of, all_reasons}
+use Rattle.model.specs.Records.{Store, in_force, deps_in_force}
+use Rattle.model.specs.OutOfDate.{deps_start, output_facts, input_facts}
+use Rattle.model.specs.Judgement.{OutputFacts, InputFacts, Facts, holds, start_of, is_empty_text, is_unset, is_same_number, reason_of, all_reasons}
 use Rattle.build_theory.proofs.Lists.{same_bytes, bytes_same, has_number-left, has_number-right, has_number-cases}
 use Rattle.paths.specs.Told.{text_at, texts_at}
 use Rattle.links.specs.declared.graph.Graph.{Graph}
@@ -22,61 +24,52 @@ use Rattle.links.specs.Links.{links_of}
 use Rattle.links.specs.Alias.{counts_if_present}
 use Rattle.verdict.specs.Facts.{flag_at, output_at, stamp_at, all_inputs, AreIn}
 
--- ---- deps records count for nothing without a depfile
+-- ---- whether the depfile is there counts where the command is to leave one
 
-abbrev pub Alike : List OutputFacts → List OutputFacts → Type 0
-Alike [] [] = Unit {0}
-Alike [] (y ∷ ys) = ⊥
-Alike (x ∷ xs) [] = ⊥
-Alike (x ∷ xs) (y ∷ ys) = (x.stamp ≡ y.stamp) × (x.made ≡ y.made) × Alike xs ys
-
-any_alike : (t : Option ℕ → Option Made → Bool) (xs ys : List OutputFacts) → Alike xs ys → list_any (λ o. t o.stamp o.made) xs ≡ list_any (λ o. t o.stamp o.made) ys
-any_alike t [] [] alike = refl
-any_alike t [] (y ∷ ys) alike = absurd alike
-any_alike t (x ∷ xs) [] alike = absurd alike
-any_alike t (x ∷ xs) (y ∷ ys) alike =
-    ap (λ (s : Option ℕ). t s x.made || list_any (λ o. t o.stamp o.made) xs) alike.0
-    ∙ (ap (λ (m : Option Made). t y.stamp m || list_any (λ o. t o.stamp o.made) xs) alike.1
-    ∙ ap (λ (b : Bool). t y.stamp y.made || b) (any_alike t xs ys alike.2))
+unknown_same : (depfile : List ℕ) (deps : Deps) (any one two : Bool) → (depfile ≢ [] → deps ≡ Unset → one ≡ two)
+    → (not (is_empty_text depfile) && (any || (is_unset deps && not one))) ≡ (not (is_empty_text depfile) && (any || (is_unset deps && not two)))
+unknown_same [] deps any one two same = refl
+unknown_same (c ∷ cs) Unset any one two same = ap (λ (b : Bool). any || not b) (same (λ none. cc) refl)
+unknown_same (c ∷ cs) Gcc any one two same = refl
 
 find_same : (f g : Reason → Bool) (reasons : List Reason) → ((r : Reason) → f r ≡ g r) → find f reasons ≡ find g reasons
 find_same f g [] same = refl
 find_same f g (r ∷ rs) same = ap (λ (b : Bool). cond b (Some r) (find f rs)) (same r) ∙ ap (λ (o : Option Reason). cond (g r) (Some r) o) (find_same f g rs same)
 
-module _ (act : Act) (restat : Bool) (deps : Deps) (one two : Bool) (xs ys : List OutputFacts) (inputs : List InputFacts) (alike : Alike xs ys) (none : act.depfile ≡ []) where
+module _ (act : Act) (restat : Bool) (deps : Deps) (one two : Bool) (outputs : List OutputFacts) (inputs : List InputFacts) (same : act.depfile ≢ [] → deps ≡ Unset → one ≡ two) where
   abbrev first : Facts
-  first = record { act = act; restat = restat; deps = deps; depfile = one; outputs = xs; inputs = inputs }
+  first = record { act = act; restat = restat; deps = deps; depfile = one; outputs = outputs; inputs = inputs }
 
   abbrev second : Facts
-  second = record { act = act; restat = restat; deps = deps; depfile = two; outputs = ys; inputs = inputs }
+  second = record { act = act; restat = restat; deps = deps; depfile = two; outputs = outputs; inputs = inputs }
 
   holds_same : (r : Reason) → holds first r ≡ holds second r
-  holds_same OutputAbsent = any_alike (λ s m. is_none s) xs ys alike
-  holds_same NoRecord = any_alike (λ s m. is_none m) xs ys alike
-  holds_same OtherAct = any_alike (λ s m. has_other_act act m) xs ys alike
+  holds_same OutputAbsent = refl
+  holds_same NoRecord = refl
+  holds_same OtherAct = refl
   holds_same InputAbsent = refl
   holds_same InputChanged = refl
-  holds_same InputLater = any_alike (λ s m. list_any (λ p. is_later p.stamp (start_of m)) inputs) xs ys alike
-  holds_same OutputOlder = ap (λ (b : Bool). not restat && b) (any_alike (λ s m. list_any (λ p. is_later p.stamp s) inputs) xs ys alike)
-  holds_same DepsUnknown =
-      ap (λ (t : List ℕ). not (is_empty_text t) && (list_any (λ o. not (is_same_number (start_of o.made) o.deps_start)) xs || (is_unset deps && not one))) none
-      ∙ sym (ap (λ (t : List ℕ). not (is_empty_text t) && (list_any (λ o. not (is_same_number (start_of o.made) o.deps_start)) ys || (is_unset deps && not two))) none)
+  holds_same InputLater = refl
+  holds_same OutputOlder = refl
+  holds_same DepsUnknown = unknown_same act.depfile deps (list_any (λ o. not (is_same_number (start_of o.made) o.deps_start)) outputs) one two same
 
   pub reason_same : reason_of first ≡ reason_of second
   reason_same = find_same (λ r. holds first r) (λ r. holds second r) all_reasons holds_same
 
 -- ---- numbers and their paths
 
--- outputs with the same stamps at the entry and now are alike, whatever deps records they have
-module _ (paths : List (List ℕ)) (rs : List Record) (store : Store) (old new : List Moment) (records : store.records ≡ rs) where
-  pub outputs_alike : (ns : List ℕ) → ((n : ℕ) → has_number ns n ≡ true → stamp_of (file_at new (text_at paths n)) ≡ stamp_of (file_at old (text_at paths n)))
-      → Alike (map (output_at paths rs new) ns) (map (output_facts store old) (texts_at paths ns))
-  outputs_alike [] untouched = tt
-  outputs_alike (n ∷ ns) untouched = (
-    untouched n (or_left (n == n) (has_number ns n) (eq-eqb n n refl)),
-    ap (λ (l : List Record). in_force l (text_at paths n)) (sym records),
-    outputs_alike ns (λ m h. untouched m (or_right (n == m) (has_number ns m) h)),
-  )
+-- outputs with the same stamps at the entry and now have the same facts, by the records of the store
+module _ (paths : List (List ℕ)) (rs : List Record) (ds : List DepsRecord) (store : Store) (old new : List Moment) (records : store.records ≡ rs) (told : store.deps ≡ ds) where
+  pub outputs_same : (ns : List ℕ) → ((n : ℕ) → has_number ns n ≡ true → stamp_of (file_at new (text_at paths n)) ≡ stamp_of (file_at old (text_at paths n)))
+      → map (output_at paths rs ds new) ns ≡ map (output_facts store old) (texts_at paths ns)
+  outputs_same [] untouched = refl
+  outputs_same (n ∷ ns) untouched =
+      let o = text_at paths n in
+      let rest = map (output_at paths rs ds new) ns in
+      ap (λ (s : Option ℕ). record { stamp = s; made = in_force rs o; deps_start = deps_start (deps_in_force ds o) } ∷ rest) (untouched n (or_left (n == n) (has_number ns n) (eq-eqb n n refl)))
+      ∙ (ap (λ (l : List Record). record { stamp = stamp_of (file_at old o); made = in_force l o; deps_start = deps_start (deps_in_force ds o) } ∷ rest) (sym records)
+      ∙ (ap (λ (l : List DepsRecord). record { stamp = stamp_of (file_at old o); made = in_force store.records o; deps_start = deps_start (deps_in_force l o) } ∷ rest) (sym told)
+      ∙ ap (λ (l : List OutputFacts). output_facts store old o ∷ l) (outputs_same ns (λ m h. untouched m (or_right (n == m) (has_number ns m) h)))))
 
 module _ (graph : Graph) (files : List Moment) where
   -- the path is taken in: always, or where it counts

@@ -1,11 +1,16 @@
 -- What the judgement of an edge reads, by the numbers of paths.
-use Rattle.std.specs.Prelude.{◌≡◌, ◌||◌, not, ℕ, Bool, true, false, List, [], ◌∷◌, ◌++◌, if◌then◌else◌, map, get_or, Option, None, is_some}
+use Rattle.std.specs.Prelude.{◌≡◌, ◌≢◌, ◌<◌, ◌||◌, not, ℕ, Bool, true, false, List, [], ◌∷◌, ◌++◌, if◌then◌else◌, map, length, get_or, Option, is_some}
 use Rattle.std.specs.List.{AllByRecursion, flat_map}
 use Rattle.model.specs.declared.act.Act.{Act}
 use Rattle.model.specs.declared.event.Moment.{Moment}
+use Rattle.model.specs.declared.graph.Deps.{Deps}
+use Rattle.model.specs.declared.graph.Deps.TheVariants.{Unset}
 use Rattle.model.specs.declared.record.Record.{Record}
+use Rattle.model.specs.declared.record.DepsRecord.{DepsRecord}
 use Rattle.model.specs.World.{World, file_at, stamp_of}
-use Rattle.model.specs.Records.{in_force}
+use Rattle.model.specs.Graph.{has_number}
+use Rattle.model.specs.OutOfDate.{deps_start}
+use Rattle.model.specs.Records.{in_force, deps_in_force}
 use Rattle.model.specs.Judgement.{OutputFacts, InputFacts}
 use Rattle.paths.specs.Told.{text_at}
 use Rattle.links.specs.declared.graph.Graph.{Graph}
@@ -17,14 +22,26 @@ use Rattle.looks.specs.Seen.{IfKept}
 use Rattle.dirty.specs.declared.inputs.Inputs.{Inputs}
 use Rattle.dirty.specs.declared.outputs.Outputs.{Outputs}
 use Rattle.dirty.specs.Summaries.{AreOutputs, AreInputs}
+use Rattle.records.specs.declared.records.Records.{Records}
+use Rattle.records.specs.Known.{IsOf, IsOfDeps}
 
 -- a path past the end of the list was not made anew
 abbrev pub flag_at : List Bool → ℕ → Bool
 flag_at flags p = get_or flags p false
 
--- an output, as these records and files have it; no deps record is taken, since an edge without a depfile is judged by none
-abbrev pub output_at : List (List ℕ) → List Record → List Moment → ℕ → OutputFacts
-output_at paths rs files p = record { stamp = stamp_of (file_at files (text_at paths p)); made = in_force rs (text_at paths p); deps_start = None }
+-- an output, as these records and files have it
+abbrev pub output_at : List (List ℕ) → List Record → List DepsRecord → List Moment → ℕ → OutputFacts
+output_at paths rs ds files p =
+    record { stamp = stamp_of (file_at files (text_at paths p)); made = in_force rs (text_at paths p); deps_start = deps_start (deps_in_force ds (text_at paths p)) }
+
+-- the records are these for the paths in front, among which are those of these numbers
+pub record AreKnownOf (paths : List (List ℕ)) (numbers : List ℕ) (rs : List Record) (ds : List DepsRecord) (records : Records) : Type 0 where
+  pub first : List (List ℕ)
+  pub more : List (List ℕ)
+  pub grown : paths ≡ first ++ more
+  pub within : (p : ℕ) → has_number numbers p ≡ true → p < length first
+  pub known : IsOf rs first records
+  pub told : IsOfDeps ds first records
 
 -- the stamp of the file at the path of this number
 abbrev pub stamp_at : List (List ℕ) → List Moment → ℕ → Option ℕ
@@ -46,9 +63,13 @@ AreIn set paths numbers = AllByRecursion (λ p. set (text_at paths p) ≡ true) 
 -- ---- what calls answer, for each set of paths that keep their files
 
 -- these outputs were taken in
-abbrev pub HasOutputs : Graph → Act → List Record → List ℕ → Outputs → (List ℕ → Bool) → List Moment → Type 0
-HasOutputs graph act rs numbers outputs set files =
-    AreIn set graph.manifest.paths numbers → AreOutputs act (map (output_at graph.manifest.paths rs files) numbers) outputs
+abbrev pub HasOutputs : Graph → Act → List Record → List DepsRecord → List ℕ → Outputs → (List ℕ → Bool) → List Moment → Type 0
+HasOutputs graph act rs ds numbers outputs set files =
+    AreIn set graph.manifest.paths numbers → AreOutputs act (map (output_at graph.manifest.paths rs ds files) numbers) outputs
+
+-- it was seen whether the depfile is there, where the command names one and is to leave it
+abbrev pub HasDepfile : Act → Deps → Bool → List Moment → Type 0
+HasDepfile act deps is files = act.depfile ≢ [] → deps ≡ Unset → is ≡ is_some (file_at files act.depfile)
 
 -- the path of this stamp was taken in, after others
 abbrev pub TakesOne : Graph → List Bool → Bool → ℕ → Option ℕ → Inputs → Inputs → Type 0

@@ -1,10 +1,11 @@
 -- Whether the command of an edge is out of date, by the files now and by the records of the entry.
-use Rattle.std.specs.Prelude.{◌≡◌, ◌<◌, ℕ, suc, Bool, true, List, [], length, Option, Some}
+use Rattle.std.specs.Prelude.{◌≡◌, ◌≢◌, ◌<◌, ℕ, suc, Bool, true, IsTrue, List, [], length, Option, Some, bytes_eq}
 use Rattle.model.specs.declared.event.Moment.{Moment}
 use Rattle.model.specs.declared.graph.Edge.{Edge}
 use Rattle.model.specs.declared.reason.Reason.{Reason}
 use Rattle.model.specs.declared.record.Record.{Record}
-use Rattle.model.specs.World.{View, file_at, stamp_of}
+use Rattle.model.specs.declared.record.DepsRecord.{DepsRecord}
+use Rattle.model.specs.World.{World, View, file_at, stamp_of}
 use Rattle.model.specs.Graph.{has, edge_at, outputs}
 use Rattle.model.specs.Reading.{IsRead}
 use Rattle.model.specs.Records.{Store, recorded_inputs}
@@ -13,6 +14,7 @@ use Rattle.model.specs.Judgement.{reason_of}
 use Rattle.paths.specs.Told.{text_at}
 use Rattle.links.specs.declared.graph.Graph.{Graph}
 use Rattle.links.specs.Told.{declared_by, recorded_by}
+use Rattle.looks.specs.Seen.{AreKept}
 use Rattle.verdict.specs.Facts.{flag_at}
 
 -- why the command of edge i has to run, if it has to: the reason of the table, by all that the judgement reads
@@ -40,6 +42,15 @@ AreRecordedOf graph store i = (p : List ℕ) → has (recorded_inputs store (dec
 abbrev pub AreUntouched : List Edge → List Moment → List Moment → ℕ → Type 0
 AreUntouched edges old new i = (o : List ℕ) → has (outputs (edge_at edges i)) o ≡ true → stamp_of (file_at new o) ≡ stamp_of (file_at old o)
 
+-- nor its depfile, where it names one
+abbrev pub HasOldDepfile : List Edge → List Moment → List Moment → ℕ → Type 0
+HasOldDepfile edges old new i = (edge_at edges i).act.depfile ≢ [] → file_at new (edge_at edges i).act.depfile ≡ file_at old (edge_at edges i).act.depfile
+
+-- the depfile of edge i, where it names one, keeps its file between these worlds
+abbrev pub KeepsDepfile : Bool → List Edge → World → World → ℕ → Type 0
+KeepsDepfile tells edges old new i =
+    IsTrue tells → (edge_at edges i).act.depfile ≢ [] → AreKept (bytes_eq (edge_at edges i).act.depfile) old.history new.history
+
 -- of each path that counts for edge i the flag says whether this build made it anew
 abbrev pub AreFlagsOf : Graph → Store → List Bool → List ℕ → List Moment → List Moment → ℕ → Type 0
 AreFlagsOf graph store flags ran old new i =
@@ -48,16 +59,18 @@ AreFlagsOf graph store flags ran old new i =
 
 -- Edge i may be judged by these records, flags and files, where just these edges ran well since the entry, and as long as the paths
 -- of the set keep their files.
-pub record MayBeJudgedBy (graph : Graph) (rs : List Record) (flags : List Bool) (store : Store) (ran : List ℕ) (old new : List Moment) (i : ℕ) (set : List ℕ → Bool) : Type 0 where
+pub record MayBeJudgedBy (graph : Graph) (rs : List Record) (ds : List DepsRecord) (flags : List Bool) (store : Store) (ran : List ℕ) (old new : List Moment) (i : ℕ) (set : List ℕ → Bool) : Type 0 where
   pub records : store.records ≡ rs
+  pub deps : store.deps ≡ ds
   pub recorded : AreRecordedOf graph store i
   pub untouched : AreUntouched (declared_by graph).edges old new i
+  pub depfile : HasOldDepfile (declared_by graph).edges old new i
   pub flagged : AreFlagsOf graph store flags ran old new i
   pub paths : HasPathsOf (declared_by graph).edges store i set
 
 -- the answer for the edge that counts as e in the code, by these records and flags, for each set of paths that keep their files,
 -- whatever the store, the edges that ran and the files at the entry were
-abbrev pub IsAnswer : Graph → List Record → List Bool → ℕ → Option Reason → (List ℕ → Bool) → List Moment → Type 0
-IsAnswer graph rs flags e reason set files =
-    (store : Store) (ran : List ℕ) (old : List Moment) → MayBeJudgedBy graph rs flags store ran old files (suc e) set
+abbrev pub IsAnswer : Graph → List Record → List DepsRecord → List Bool → ℕ → Option Reason → (List ℕ → Bool) → List Moment → Type 0
+IsAnswer graph rs ds flags e reason set files =
+    (store : Store) (ran : List ℕ) (old : List Moment) → MayBeJudgedBy graph rs ds flags store ran old files (suc e) set
     → IsReasonBy (declared_by graph).edges store ran old files (suc e) reason

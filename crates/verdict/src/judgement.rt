@@ -1,7 +1,8 @@
 //! Why a command has to run.
 
-ghost use Rattle.std.specs.Prelude.{◌≡◌, ◌<◌, List, IfOk, [], false, suc, length};
+ghost use Rattle.std.specs.Prelude.{◌≡◌, ◌<◌, List, IfOk, false, suc, length};
 ghost use Rattle.model.specs.declared.record.Record.{Record};
+ghost use Rattle.model.specs.declared.record.DepsRecord.{DepsRecord};
 ghost use Rattle.model.specs.Calls.{HasCause};
 ghost use Rattle.model.specs.Graph.{edge_at};
 ghost use Rattle.paths.specs.Lists.{line_at};
@@ -10,9 +11,10 @@ ghost use Rattle.links.specs.Told.{declared_by};
 ghost use Rattle.links.specs.Links.{links_of};
 ghost use Rattle.looks.specs.Looking.{HasLooked};
 ghost use Rattle.looks.specs.Seen.{IfKept};
-ghost use Rattle.records.specs.Known.{IsOf};
-ghost use Rattle.verdict.specs.Judged.{IsAnswer};
+ghost use Rattle.records.specs.Known.{AreKnown};
+ghost use Rattle.verdict.specs.Judged.{IsAnswer, KeepsDepfile};
 
+use crate::depfile::has_depfile;
 use crate::inputs::inputs_of;
 use crate::outputs::outputs_of;
 use dirty::{Facts, judge};
@@ -26,11 +28,12 @@ use std::alloc::Global;
 
 /// Why the command of the edge has to run, if it has to: by its outputs and their records, by the paths that it reads, through
 /// phony edges too, and by its recorded inputs, as their files are now. `changed` says of each path whether this build made it
-/// anew; one past its end was not. The edge has no depfile.
+/// anew; one past its end was not.
 ///
-/// What was seen of a path is not asked for again. The answer is right for each set of paths that has all these and whose
-/// files stay as they are during the call, whatever commands write elsewhere. It takes time for the outputs and inputs that
-/// are met, and memory only for the phony edges that are read through.
+/// What was seen of a path is not asked for again, but for the depfile that the command is to leave. The answer is right for
+/// each set of paths that has all these and whose files stay as they are during the call, as that of the depfile does, whatever
+/// commands write elsewhere. It takes time for the outputs and inputs that are met, and memory only for the phony edges that are
+/// read through.
 pub fn reason<S: Site>(
     alloc: Global,
     site: &mut S,
@@ -44,14 +47,14 @@ pub fn reason<S: Site>(
     requires fits { length looks.old.seen.items ≡ length graph.now.manifest.paths }
     requires within { edge < length graph.now.manifest.lines }
     requires command { (links_of graph.now).phony edge ≡ false }
-    requires depfile { (edge_at (declared_by graph.now).edges (suc edge)).act.depfile ≡ [] }
     ensures looked { HasLooked S.tells graph.now (S.world site.old) (S.world site.new) looks.old looks.new }
     ensures cause { HasCause (S.world site.old) (S.world site.new) result }
-    ensures reason { IfOk result (λ reason. (rs : List Record) → IsOf rs graph.now.manifest.paths records.now → IfKept S.tells graph.now.manifest.paths (S.world site.old) (S.world site.new) looks.old.seen.items (IsAnswer graph.now rs changed.now edge reason)) }
+    ensures reason { IfOk result (λ reason. (rs : List Record) (ds : List DepsRecord) → AreKnown graph.now rs ds records.now → KeepsDepfile S.tells (declared_by graph.now).edges (S.world site.old) (S.world site.new) (suc edge) → IfKept S.tells graph.now.manifest.paths (S.world site.old) (S.world site.new) looks.old.seen.items (IsAnswer graph.now rs ds changed.now edge reason)) }
 {
     looks_follow();
     lists_stand(graph);
     let command = command_of(graph, edge);
+    let depfile = has_depfile(site, command)?;
     let outputs = outputs_of(
         site,
         graph,
@@ -65,7 +68,7 @@ pub fn reason<S: Site>(
         act: &command.act,
         restat: command.restat,
         deps: command.deps,
-        depfile: false,
+        depfile,
         outputs,
         inputs,
     }))

@@ -1,9 +1,9 @@
 use Rattle.std.proofs.Common.{refl}
 use Rattle.model.specs.SingleBuild.{task_of}
-use Rattle.links.specs.Told.{declared_by, recorded_by}
+use Rattle.links.specs.Told.{declared_by}
 use Rattle.builder.specs.Build.{asked_of}
 use Rattle.builder.proofs.Slices.{if_ok_and}
-use Rattle.builder.proofs.Telling.{same_nothing}
+use Rattle.builder.proofs.Telling.{none_of_phony}
 use Rattle.builder.proofs.one_build.plan_of.Goals as goal
 
 pub returns : goal.returns
@@ -12,13 +12,13 @@ returns c =
     if_ok_and c.new.result c.new.ensures.flags c.new.ensures.planned
     (λ plan flags planned. record {
       flags = flags;
-      planned = λ folder targets store none cone.
+      planned = λ folder targets store in_use cone.
           let task = task_of (asked_of (declared_by graph) folder c.args.limits targets) store in
           planned task
           (c.task_of.ensures task record {
             declared = refl;
-            recorded = same_nothing store (declared_by graph).edges (recorded_by graph) none c.requires.unrecorded;
-            bare = λ i phony. c.requires.unrecorded i;
+            recorded = in_use;
+            bare = none_of_phony graph store in_use;
           })
           refl refl cone.listed;
     })

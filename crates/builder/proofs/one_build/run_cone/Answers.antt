@@ -7,7 +7,7 @@ use Rattle.builder.specs.declared.report.Report.{Report}
 use Rattle.builder.specs.Reports.{IsPlanFor, run_answer}
 use Rattle.model.specs.SingleBuild.{PassesNoFault}
 use Rattle.builder.proofs.Beginning.{ran_nothing, suits, begins}
-use Rattle.builder.proofs.Stages.{told_by, passes_untold, passes_told}
+use Rattle.builder.proofs.Stages.{told_by, passes_untold, passes_told, shows_end}
 use Rattle.builder.proofs.one_build.run_cone.Goals as goal
 
 pub returns-in_err-tick-clause-ran : goal.returns-in_err-tick-clause-ran
@@ -37,7 +37,7 @@ run_plan-requires-clause-going g c =
     let may = c.requires.ready.1 in
     record {
       course = course;
-      suits = (suits g.S.Texts.tells c.args.graph.now c.args.asked.now c.args.cone.now c.args.records c.args.known.looks course (g.S.Texts.world c.args.site.now) may c.requires.formed c.requires.taken c.requires.once c.requires.unrecorded _ (c.as_str-2.ensures.value ∙ (c.in_ok-tick.ensures ∙ ap (λ folder. file_in folder tick_name) c.as_str.ensures)));
+      suits = (suits g.S.Texts.tells c.args.graph.now c.args.asked.now c.args.cone.now c.args.records c.args.known.looks course (g.S.Texts.world c.args.site.now) may c.requires.formed c.requires.taken c.requires.once _ (c.as_str-2.ensures.value ∙ (c.in_ok-tick.ensures ∙ ap (λ folder. file_in folder tick_name) c.as_str.ensures)));
       on = (begins g.S.Texts.tells c.args.graph.now c.args.asked.now c.args.cone.now c.args.records c.args.known.looks course (g.S.Texts.world c.args.site.now) may c.in_ok-state.state (subst (IsPlanFor c.args.graph.now c.args.cone.now c.args.asked.now.limits) (sym {A = Plan} c.in_ok-state.ensures.plan) c.in_ok-plan.ensures)
           c.in_ok-state.ensures.looks c.in_ok-state.ensures.records c.in_ok-state.ensures.failed c.in_ok-state.ensures.starts c.requires.fits);
     }
@@ -49,7 +49,7 @@ pub returns-in_err-summary-clause-ran : goal.returns-in_err-summary-clause-ran
 returns-in_err-summary-clause-ran g c course may = record {
   result = Err c.in_err-summary.field-0.0;
   ran = c.in_err-summary.ensures.ran course
-      (suits g.S.Texts.tells c.args.graph.now c.args.asked.now c.args.cone.now c.args.records c.args.known.looks course (g.S.Texts.world c.args.site.now) may c.requires.formed c.requires.taken c.requires.once c.requires.unrecorded _ (c.as_str-2.ensures.value ∙ (c.in_ok-tick.ensures ∙ ap (λ folder. file_in folder tick_name) c.as_str.ensures)))
+      (suits g.S.Texts.tells c.args.graph.now c.args.asked.now c.args.cone.now c.args.records c.args.known.looks course (g.S.Texts.world c.args.site.now) may c.requires.formed c.requires.taken c.requires.once _ (c.as_str-2.ensures.value ∙ (c.in_ok-tick.ensures ∙ ap (λ folder. file_in folder tick_name) c.as_str.ensures)))
       (begins g.S.Texts.tells c.args.graph.now c.args.asked.now c.args.cone.now c.args.records c.args.known.looks course (g.S.Texts.world c.args.site.now) may c.in_ok-state.state (subst (IsPlanFor c.args.graph.now c.args.cone.now c.args.asked.now.limits) (sym {A = Plan} c.in_ok-state.ensures.plan) c.in_ok-plan.ensures)
       c.in_ok-state.ensures.looks c.in_ok-state.ensures.records c.in_ok-state.ensures.failed c.in_ok-state.ensures.starts c.requires.fits);
   says = inr (told_by _ c.from_residual-in_err-summary.result c.from_residual-in_err-summary.ensures.1);
@@ -59,7 +59,7 @@ pub returns-in_err-report-clause-ran : goal.returns-in_err-report-clause-ran
 returns-in_err-report-clause-ran g c course may = record {
   result = Ok c.in_ok-summary.summary;
   ran = c.in_ok-summary.ensures.ran course
-      (suits g.S.Texts.tells c.args.graph.now c.args.asked.now c.args.cone.now c.args.records c.args.known.looks course (g.S.Texts.world c.args.site.now) may c.requires.formed c.requires.taken c.requires.once c.requires.unrecorded _ (c.as_str-2.ensures.value ∙ (c.in_ok-tick.ensures ∙ ap (λ folder. file_in folder tick_name) c.as_str.ensures)))
+      (suits g.S.Texts.tells c.args.graph.now c.args.asked.now c.args.cone.now c.args.records c.args.known.looks course (g.S.Texts.world c.args.site.now) may c.requires.formed c.requires.taken c.requires.once _ (c.as_str-2.ensures.value ∙ (c.in_ok-tick.ensures ∙ ap (λ folder. file_in folder tick_name) c.as_str.ensures)))
       (begins g.S.Texts.tells c.args.graph.now c.args.asked.now c.args.cone.now c.args.records c.args.known.looks course (g.S.Texts.world c.args.site.now) may c.in_ok-state.state (subst (IsPlanFor c.args.graph.now c.args.cone.now c.args.asked.now.limits) (sym {A = Plan} c.in_ok-state.ensures.plan) c.in_ok-plan.ensures)
       c.in_ok-state.ensures.looks c.in_ok-state.ensures.records c.in_ok-state.ensures.failed c.in_ok-state.ensures.starts c.requires.fits);
   says = inl (told_by _ c.from_residual-in_err-report.result c.from_residual-in_err-report.ensures.1);
@@ -69,7 +69,7 @@ pub returns-clause-ran : goal.returns-clause-ran
 returns-clause-ran g c course may = record {
   result = Ok c.in_ok-summary.summary;
   ran = c.in_ok-summary.ensures.ran course
-      (suits g.S.Texts.tells c.args.graph.now c.args.asked.now c.args.cone.now c.args.records c.args.known.looks course (g.S.Texts.world c.args.site.now) may c.requires.formed c.requires.taken c.requires.once c.requires.unrecorded _ (c.as_str-2.ensures.value ∙ (c.in_ok-tick.ensures ∙ ap (λ folder. file_in folder tick_name) c.as_str.ensures)))
+      (suits g.S.Texts.tells c.args.graph.now c.args.asked.now c.args.cone.now c.args.records c.args.known.looks course (g.S.Texts.world c.args.site.now) may c.requires.formed c.requires.taken c.requires.once _ (c.as_str-2.ensures.value ∙ (c.in_ok-tick.ensures ∙ ap (λ folder. file_in folder tick_name) c.as_str.ensures)))
       (begins g.S.Texts.tells c.args.graph.now c.args.asked.now c.args.cone.now c.args.records c.args.known.looks course (g.S.Texts.world c.args.site.now) may c.in_ok-state.state (subst (IsPlanFor c.args.graph.now c.args.cone.now c.args.asked.now.limits) (sym {A = Plan} c.in_ok-state.ensures.plan) c.in_ok-plan.ensures)
       c.in_ok-state.ensures.looks c.in_ok-state.ensures.records c.in_ok-state.ensures.failed c.in_ok-state.ensures.starts c.requires.fits);
   says = inr c.in_ok-report.ensures;
@@ -88,3 +88,6 @@ returns-in_err-report-clause-faults g c =
 
 pub returns-clause-faults : goal.returns-clause-faults
 returns-clause-faults g c = passes_told c.args.graph.now (g.S.Texts.world c.args.site.now) (g.S.Texts.world c.run_plan.new.site) c.in_ok-summary.summary _ c.in_ok-report.ensures c.in_ok-summary.ensures.faults
+
+pub returns-clause-cause : goal.returns-clause-cause
+returns-clause-cause g c = shows_end c.args.graph.now (g.S.Texts.world c.args.site.now) (g.S.Texts.world c.run_plan.new.site) c.in_ok-summary.summary _ c.in_ok-report.ensures

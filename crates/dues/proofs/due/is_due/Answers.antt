@@ -1,4 +1,4 @@
-use Rattle.std.proofs.Common.{◌≡◌, true, false, suc, sym, ◌∙◌, rules}
+use Rattle.std.proofs.Common.{◌≡◌, true, sym, ◌∙◌, rules}
 use Rattle.links.specs.Links.{links_of}
 use Rattle.links.specs.Told.{declared_by}
 use Rattle.dues.proofs.AliasDues.{alias_due}
@@ -13,8 +13,3 @@ returns-then-is_phony-clause-due g c =
     let same = said told files stays seen in
     let decided = alias_due (declared_by graph).edges graph.manifest.paths (links_of graph) files c.lists_stand.ensures store c.args.due.now c.args.edge (sym (c.lists_stand.ensures.phony_is c.args.edge) ∙ phony) known in
     ((λ so. decided.0 (sym same ∙ so)), (λ due. same ∙ decided.1 due)))
-
-pub is_command_due-requires-clause-depfile : goal.is_command_due-requires-clause-depfile
-is_command_due-requires-clause-depfile g c =
-    let command : (links_of c.args.graph.now).phony c.args.edge ≡ false = search rules in
-    c.requires.depfiles (suc c.args.edge) (sym (c.lists_stand.ensures.phony_is c.args.edge) ∙ command)

@@ -1,16 +1,15 @@
 use Rattle.std.proofs.Common.{◌≡◌, ◌↔◌, List, ℕ, length, subst}
+use Rattle.build_log.specs.declared.form.Version.TheVariants.{Two}
 use Rattle.build_log.specs.Kept.{WantsCompaction}
-use Rattle.build_log.specs.Text.{IsRead}
-use Rattle.build_log.specs.Record.{forms}
-use Rattle.build_log.specs.Log.{IsLog, compaction}
+use Rattle.build_log.specs.Text.{IsRead, IsLogOf}
 use Rattle.records.specs.declared.file.State.TheVariants.{Usable}
 use Rattle.records.proofs.file.log_of.Goals as goal
 
 pub returns : goal.returns
-returns c =
+returns g c =
     let read = c.in_ok-log.ensures in (
       read.0,
-      (c.in_ok-log.tail, subst (λ (text : List ℕ). IsRead forms text read.0 c.in_ok-log.tail) c.bytes_in-text.ensures read.1),
+      (c.in_ok-log.tail, subst (λ (text : List ℕ). IsRead g.L.Records.forms text read.0 c.in_ok-log.tail) c.bytes_in-text.ensures read.1),
       read.2,
-      subst (λ (text : List ℕ). (c.state_of-state.result ≡ Usable) ↔ (IsLog text read.0 × (WantsCompaction (length read.0) (length (compaction read.0)) → ⊥))) c.bytes_in-text.ensures (c.state_of-state.ensures read.0 read.1 read.2),
+      subst (λ (text : List ℕ). (c.state_of-state.result ≡ Usable) ↔ (IsLogOf (g.L.Records.forms Two) text read.0 × (WantsCompaction (length read.0) (length (g.L.Records.compaction read.0)) → ⊥))) c.bytes_in-text.ensures (c.state_of-state.ensures read.0 read.1 read.2),
     )

@@ -1,7 +1,7 @@
 use Rattle.std.proofs.Common.{sym, ap, subst, ◌∙◌, ℕ, List, map, suc}
 use Rattle.build_log.specs.Kept.{AreDistinct}
 use Rattle.links.specs.Told.{declared_by}
-use Rattle.records.proofs.Standing.{distinct}
+use Rattle.records.proofs.Distinct.{distinct}
 use Rattle.records.proofs.lines.begun_line_of.Goals as goal
 
 pub begun_line-requires-clause-once : goal.begun_line-requires-clause-once

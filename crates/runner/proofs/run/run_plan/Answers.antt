@@ -1,5 +1,7 @@
 use Rattle.model.specs.SingleBuild.{task_of}
+use Rattle.build_theory.proofs.Calls.{unrefused_call}
 use Rattle.runner.proofs.Counting.{many_by_steps}
+use Rattle.runner.proofs.Cutting.{passes_whole}
 use Rattle.runner.proofs.Ends.{ran_cut}
 use Rattle.runner.proofs.run.run_plan.Goals as goal
 
@@ -14,3 +16,8 @@ pub returns-in-Err-clause-ran : goal.returns-in-Err-clause-ran
 returns-in-Err-clause-ran g c course suits on =
     ran_cut g.S.Texts.tells course c.args.setting.graph.now (g.S.Texts.world c.run.new.site) c.run.new.state.plan (g.S.Texts.world c.take_in_rest.new.site) c.take_in_rest.result (c.in-Err.ensures.cut course suits on)
     (λ steps met. c.take_in_rest.ensures.rest course steps met)
+
+pub returns-in-Ok-clause-faults : goal.returns-in-Ok-clause-faults
+returns-in-Ok-clause-faults g c =
+    passes_whole (g.S.Texts.world c.args.site.now) (g.S.Texts.world c.run.new.site) _ c.in-Ok.ensures.cuts.starts
+    (unrefused_call (g.S.Texts.world c.args.site.now) (g.S.Texts.world c.run.new.site) _ c.in-Ok.ensures.cuts.cause)

@@ -2,42 +2,49 @@ use Rattle.std.proofs.Common.{ℕ, ◌<◌, List, slice_set, Err, subst, ap, sym
 use Rattle.std.specs.Vec.{with_items}
 use Rattle.std.proofs.lemmas.Result.{err_from_is_err_and}
 use Rattle.model.specs.World.{runs}
-use Rattle.build_theory.proofs.Calls.{unrefused_call, cause_then}
+use Rattle.build_theory.proofs.Calls.{unrefused_call, unrefused_then, cause_then}
 use Rattle.plan.specs.declared.step.Standing.{Standing}
 use Rattle.runner.specs.Going.{work_left}
 use Rattle.runner.proofs.Cutting.{cause_err}
 use Rattle.runner.proofs.Results.{on_err, ok_then}
 use Rattle.runner.proofs.Work.{started_less}
-use Rattle.runner.proofs.Launched.{err_then, one_set, start_told, cut_writing, cut_ticking, starts_idle, launch_on, launch_cut}
+use Rattle.runner.proofs.Launched.{err_then, one_set, start_told, cut_clearing, cut_writing, cut_ticking, starts_idle, launch_on, launch_cut}
 use Rattle.runner.proofs.start.launch.Goals as goal
 
--- src/start.rt:94:5
+pub returns-in_err-remove_old_depfile-clause-cut : goal.returns-in_err-remove_old_depfile-clause-cut
+returns-in_err-remove_old_depfile-clause-cut g c =
+    on_err c.from_residual.result (λ course suits begun.
+    cut_clearing g.S.Texts.tells course c.args.setting.graph.now c.log_stays.ensures c.args.setting.tick.now suits c.args.state.now (g.S.Texts.world c.args.site.now) (g.S.Texts.world c.remove_old_depfile.new.site) c.args.edge c.act-act.result.now
+    c.act-act.ensures begun c.remove_old_depfile.ensures.at)
+
 pub returns-in_err-write_response-clause-cut : goal.returns-in_err-write_response-clause-cut
 returns-in_err-write_response-clause-cut g c =
-    on_err c.from_residual.result (λ course suits begun.
-    cut_writing g.S.Texts.tells course c.args.setting.graph.now c.log_stays.ensures c.args.setting.tick.now suits c.args.state.now (g.S.Texts.world c.args.site.now) (g.S.Texts.world c.write_response.new.site) c.args.edge c.act-act.result.now
-    c.act-act.ensures begun c.write_response.ensures.at)
+    on_err c.from_residual-in_err-write_response.result (λ course suits begun.
+    cut_writing g.S.Texts.tells course c.args.setting.graph.now c.log_stays.ensures c.args.setting.tick.now suits c.args.state.now (g.S.Texts.world c.args.site.now) (g.S.Texts.world c.remove_old_depfile.new.site) c.args.edge c.act-act.result.now
+    c.act-act.ensures begun c.remove_old_depfile.ensures.at (g.S.Texts.world c.write_response.new.site) c.write_response.ensures.at)
 
 pub returns-in_err-stamp-clause-cause : goal.returns-in_err-stamp-clause-cause
 returns-in_err-stamp-clause-cause g c =
     let failed = err_from_is_err_and c.from_residual-in_err-stamp.result c.from_residual-in_err-stamp.ensures.1 in
     rw (failed.1, failed.2)
     (cause_then (g.S.Texts.world c.args.site.now) (g.S.Texts.world c.write_response.new.site) (g.S.Texts.world c.tick.new.self) (Err c.in_err-stamp.field-0.0)
-    (unrefused_call (g.S.Texts.world c.args.site.now) (g.S.Texts.world c.write_response.new.site) _ c.in_ok-write_response.ensures.cause)
+    (unrefused_then (g.S.Texts.world c.args.site.now) (g.S.Texts.world c.remove_old_depfile.new.site) (g.S.Texts.world c.write_response.new.site)
+    (unrefused_call (g.S.Texts.world c.args.site.now) (g.S.Texts.world c.remove_old_depfile.new.site) _ c.in_ok-remove_old_depfile.ensures.cause)
+    (unrefused_call (g.S.Texts.world c.remove_old_depfile.new.site) (g.S.Texts.world c.write_response.new.site) _ c.in_ok-write_response.ensures.cause))
     (cause_err (g.S.Texts.world c.write_response.new.site) (g.S.Texts.world c.tick.new.self) c.in_err-stamp.field-0.0 c.in_err-stamp.ensures.cause))
 
 pub returns-in_err-stamp-clause-cut : goal.returns-in_err-stamp-clause-cut
 returns-in_err-stamp-clause-cut g c =
     on_err c.from_residual-in_err-stamp.result (λ course suits begun.
-    cut_ticking g.S.Texts.tells course c.args.setting.graph.now c.log_stays.ensures c.args.setting.tick.now suits c.args.state.now (g.S.Texts.world c.args.site.now) (g.S.Texts.world c.write_response.new.site) c.args.edge c.act-act.result.now
-    c.act-act.ensures begun c.write_response.ensures.at (g.S.Texts.world c.tick.new.self) c.in_err-stamp.ensures.err)
+    cut_ticking g.S.Texts.tells course c.args.setting.graph.now c.log_stays.ensures c.args.setting.tick.now suits c.args.state.now (g.S.Texts.world c.args.site.now) (g.S.Texts.world c.remove_old_depfile.new.site) c.args.edge c.act-act.result.now
+    c.act-act.ensures begun c.remove_old_depfile.ensures.at (g.S.Texts.world c.write_response.new.site) c.write_response.ensures.at (g.S.Texts.world c.tick.new.self) c.in_err-stamp.ensures.err)
 
 pub start-result-requires : goal.start-result-requires
 start-result-requires g c =
     let course = c.requires.begun.0 in
     ap (λ (n : ℕ). runs n (g.S.Texts.world c.tick.new.self).events) c.job.ensures
-    ∙ starts_idle g.S.Texts.tells course c.args.setting.graph.now c.log_stays.ensures c.args.setting.tick.now c.requires.begun.1 c.args.state.now (g.S.Texts.world c.args.site.now) (g.S.Texts.world c.write_response.new.site) c.args.edge c.act-act.result.now
-    c.act-act.ensures c.requires.begun.2 c.write_response.ensures.at (g.S.Texts.world c.tick.new.self) c.in_ok-stamp.stamp c.in_ok-stamp.ensures.ticks
+    ∙ starts_idle g.S.Texts.tells course c.args.setting.graph.now c.log_stays.ensures c.args.setting.tick.now c.requires.begun.1 c.args.state.now (g.S.Texts.world c.args.site.now) (g.S.Texts.world c.remove_old_depfile.new.site) c.args.edge c.act-act.result.now
+    c.act-act.ensures c.requires.begun.2 c.remove_old_depfile.ensures.at (g.S.Texts.world c.write_response.new.site) c.write_response.ensures.at (g.S.Texts.world c.tick.new.self) c.in_ok-stamp.stamp c.in_ok-stamp.ensures.ticks
 
 pub returns-clause-nearer : goal.returns-clause-nearer
 returns-clause-nearer g c =
@@ -49,15 +56,15 @@ returns-clause-nearer g c =
 pub returns-clause-on : goal.returns-clause-on
 returns-clause-on g c =
     ok_then c.start-result.result c.start-result.ensures.starts (λ made course suits begun.
-    launch_on g.S.Texts.tells course c.args.setting.graph.now c.log_stays.ensures c.args.setting.tick.now suits c.args.state.now (g.S.Texts.world c.args.site.now) (g.S.Texts.world c.write_response.new.site) c.args.edge c.act-act.result.now
-    c.act-act.ensures begun c.write_response.ensures.at (g.S.Texts.world c.tick.new.self) c.in_ok-stamp.stamp c.in_ok-stamp.ensures.ticks
-    (g.S.Texts.world c.start-result.new.self) c.job.result c.job.ensures (with_items c.args.state.now.starts c.note_stamp.new.starts) (one_set c.args.state.now.starts c.note_stamp.new.starts c.args.edge c.in_ok-stamp.stamp (c.note_stamp.ensures ∙ ap (λ (l : List ℕ). slice_set l c.args.edge c.in_ok-stamp.stamp) c.deref_mut.ensures.value)) c.note_start.new.plan c.in_ok-write_response.ensures.written
+    launch_on g.S.Texts.tells course c.args.setting.graph.now c.log_stays.ensures c.args.setting.tick.now suits c.args.state.now (g.S.Texts.world c.args.site.now) (g.S.Texts.world c.remove_old_depfile.new.site) c.args.edge c.act-act.result.now
+    c.act-act.ensures begun c.remove_old_depfile.ensures.at (g.S.Texts.world c.write_response.new.site) c.write_response.ensures.at (g.S.Texts.world c.tick.new.self) c.in_ok-stamp.stamp c.in_ok-stamp.ensures.ticks
+    (g.S.Texts.world c.start-result.new.self) c.job.result c.job.ensures (with_items c.args.state.now.starts c.note_stamp.new.starts) (one_set c.args.state.now.starts c.note_stamp.new.starts c.args.edge c.in_ok-stamp.stamp (c.note_stamp.ensures ∙ ap (λ (l : List ℕ). slice_set l c.args.edge c.in_ok-stamp.stamp) c.deref_mut.ensures.value)) c.note_start.new.plan c.in_ok-remove_old_depfile.ensures.removed c.in_ok-write_response.ensures.written
     c.events-known.result.now c.events.result.now c.events-known.ensures c.events.ensures c.start-result.ensures.cause.earlier c.note_start.ensures.still c.note_start.ensures.planned c.note_start.ensures.flags made)
 
 pub returns-clause-cut : goal.returns-clause-cut
 returns-clause-cut g c =
     err_then c.start-result.result c.start-result.ensures.err (λ made course suits begun.
-    launch_cut g.S.Texts.tells course c.args.setting.graph.now c.log_stays.ensures c.args.setting.tick.now suits c.args.state.now (g.S.Texts.world c.args.site.now) (g.S.Texts.world c.write_response.new.site) c.args.edge c.act-act.result.now
-    c.act-act.ensures begun c.write_response.ensures.at (g.S.Texts.world c.tick.new.self) c.in_ok-stamp.stamp c.in_ok-stamp.ensures.ticks
-    (g.S.Texts.world c.start-result.new.self) c.job.result c.job.ensures (with_items c.args.state.now.starts c.note_stamp.new.starts) (one_set c.args.state.now.starts c.note_stamp.new.starts c.args.edge c.in_ok-stamp.stamp (c.note_stamp.ensures ∙ ap (λ (l : List ℕ). slice_set l c.args.edge c.in_ok-stamp.stamp) c.deref_mut.ensures.value)) c.note_start.new.plan c.in_ok-write_response.ensures.written
+    launch_cut g.S.Texts.tells course c.args.setting.graph.now c.log_stays.ensures c.args.setting.tick.now suits c.args.state.now (g.S.Texts.world c.args.site.now) (g.S.Texts.world c.remove_old_depfile.new.site) c.args.edge c.act-act.result.now
+    c.act-act.ensures begun c.remove_old_depfile.ensures.at (g.S.Texts.world c.write_response.new.site) c.write_response.ensures.at (g.S.Texts.world c.tick.new.self) c.in_ok-stamp.stamp c.in_ok-stamp.ensures.ticks
+    (g.S.Texts.world c.start-result.new.self) c.job.result c.job.ensures (with_items c.args.state.now.starts c.note_stamp.new.starts) (one_set c.args.state.now.starts c.note_stamp.new.starts c.args.edge c.in_ok-stamp.stamp (c.note_stamp.ensures ∙ ap (λ (l : List ℕ). slice_set l c.args.edge c.in_ok-stamp.stamp) c.deref_mut.ensures.value)) c.note_start.new.plan c.in_ok-remove_old_depfile.ensures.removed c.in_ok-write_response.ensures.written
     c.events-known.result.now c.events.result.now c.events-known.ensures c.events.ensures c.start-result.ensures.cause.earlier c.note_start.ensures.still c.note_start.ensures.planned c.note_start.ensures.flags made)

@@ -45,7 +45,7 @@ launch-requires-clause-begun g c =
       begun_now g.S.Texts.tells going.course c.args.setting.graph.now c.args.setting.tick.now going.suits c.log_stays.ensures c.args.state.now (g.S.Texts.world c.args.site.now) c.args.edge going.on c.requires.going.1
           (g.S.Texts.world c.start.new.site) (g.S.Texts.world c.begin.new.site)
           (looks_then g.S.Texts.tells (g.S.Texts.world c.args.site.now) (g.S.Texts.world c.make_folders.new.site) (g.S.Texts.world c.start.new.site) c.make_folders.ensures.looks c.start.ensures.looks)
-          c.begin.ensures.writes c.begin.new.self c.start.new.self c.begin.ensures.same c.begin.ensures.places c.in_ok-begin.ensures.ok,
+          c.begin.ensures.writes c.begin.new.self c.start.new.self c.begin.ensures.same c.begin.ensures.places c.begin.ensures.deps_places c.in_ok-begin.ensures.ok,
     )
 
 pub returns-clause-on : goal.returns-clause-on
@@ -55,7 +55,7 @@ returns-clause-on g c =
     (begun_now g.S.Texts.tells course c.args.setting.graph.now c.args.setting.tick.now suits c.log_stays.ensures c.args.state.now (g.S.Texts.world c.args.site.now) c.args.edge on next
     (g.S.Texts.world c.start.new.site) (g.S.Texts.world c.begin.new.site)
     (looks_then g.S.Texts.tells (g.S.Texts.world c.args.site.now) (g.S.Texts.world c.make_folders.new.site) (g.S.Texts.world c.start.new.site) c.make_folders.ensures.looks c.start.ensures.looks)
-    c.begin.ensures.writes c.begin.new.self c.start.new.self c.begin.ensures.same c.begin.ensures.places c.in_ok-begin.ensures.ok))
+    c.begin.ensures.writes c.begin.new.self c.start.new.self c.begin.ensures.same c.begin.ensures.places c.begin.ensures.deps_places c.in_ok-begin.ensures.ok))
 
 pub returns-clause-cut : goal.returns-clause-cut
 returns-clause-cut g c =
@@ -64,4 +64,4 @@ returns-clause-cut g c =
     (begun_now g.S.Texts.tells course c.args.setting.graph.now c.args.setting.tick.now suits c.log_stays.ensures c.args.state.now (g.S.Texts.world c.args.site.now) c.args.edge on next
     (g.S.Texts.world c.start.new.site) (g.S.Texts.world c.begin.new.site)
     (looks_then g.S.Texts.tells (g.S.Texts.world c.args.site.now) (g.S.Texts.world c.make_folders.new.site) (g.S.Texts.world c.start.new.site) c.make_folders.ensures.looks c.start.ensures.looks)
-    c.begin.ensures.writes c.begin.new.self c.start.new.self c.begin.ensures.same c.begin.ensures.places c.in_ok-begin.ensures.ok))
+    c.begin.ensures.writes c.begin.new.self c.start.new.self c.begin.ensures.same c.begin.ensures.places c.begin.ensures.deps_places c.in_ok-begin.ensures.ok))

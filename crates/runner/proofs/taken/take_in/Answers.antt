@@ -1,14 +1,17 @@
-use Rattle.std.proofs.Common.{◌≡◌, ℕ, suc, ◌∙◌, None, inl, ap, refl, subst, arith}
-use Rattle.model.specs.Calls.{Finishes}
-use Rattle.plan.specs.Standing.{standing_at}
-use Rattle.runner.proofs.Cutting.{some_still, cause_err}
-use Rattle.runner.proofs.Ends.{cut_looking}
-use Rattle.runner.proofs.Finishing.{end_cut, end_taken_in}
-use Rattle.runner.proofs.Keeping.{on_looks}
-use Rattle.runner.proofs.Recording.{on_shown}
+use Rattle.std.proofs.Common.{◌≡◌, ℕ, suc, None, Vec, Global, inl, refl, sym, ◌∙◌, ap, subst, arith}
 use Rattle.links.specs.Told.{declared_by}
+use Rattle.model.specs.declared.act.Act.{Act}
+use Rattle.model.specs.declared.graph.BuildGraph.{BuildGraph}
+use Rattle.model.specs.Calls.{Finishes}
+use Rattle.model.specs.Graph.{edge_at}
+use Rattle.build_theory.proofs.Calls.{unrefused_call, unrefused_then}
+use Rattle.plan.specs.Standing.{standing_at}
+use Rattle.runner.proofs.Cutting.{some_still, cause_err, cuts_then}
+use Rattle.runner.proofs.Ends.{cut_looking}
+use Rattle.runner.proofs.Finishing.{end_unread, ending_of, not_failed}
+use Rattle.runner.proofs.Launched.{err_then}
 use Rattle.runner.proofs.Removing.{taken_by_removing}
-use Rattle.runner.proofs.Results.{on_ok, on_err, ok_by, err_by}
+use Rattle.runner.proofs.Results.{ok_then, ok_both}
 use Rattle.runner.proofs.Running.{some_runs, running_edge}
 use Rattle.runner.proofs.taken.take_in.Goals as goal
 
@@ -17,78 +20,70 @@ wait_any-requires g c =
     let going = c.requires.waits.0 in
     some_runs g.S.Texts.tells going.course c.args.setting.graph.now None c.args.state.now (g.S.Texts.world c.args.site.now) going.on c.requires.waits.1.2
 
-pub note_end-requires-clause-running : goal.note_end-requires-clause-running
-note_end-requires-clause-running g c =
+pub edge-edge-requires : goal.edge-edge-requires
+edge-edge-requires g c =
+    let going = c.requires.waits.0 in
+    let runs = running_edge g.S.Texts.tells going.course c.args.setting.graph.now None c.args.state.now (g.S.Texts.world c.args.site.now) going.on c.in-Ok.finished.job c.in-Ok.ensures.finishes.ran in
+    omega (arith, runs.is, runs.within)
+
+pub take_in_told-requires-clause-ending : goal.take_in_told-requires-clause-ending
+take_in_told-requires-clause-ending g c =
+    let going = c.requires.waits.0 in
+    let runs = running_edge g.S.Texts.tells going.course c.args.setting.graph.now None c.args.state.now (g.S.Texts.world c.args.site.now) going.on c.in-Ok.finished.job c.in-Ok.ensures.finishes.ran in
+    let job_is : c.in-Ok.finished.job ≡ suc c.edge-edge.result = omega (arith, runs.is, c.edge-edge.ensures) in (
+      going.course,
+      going.suits,
+      ending_of g.S.Texts.tells going.course c.args.setting.tick.now c.args.setting.graph.now going.suits c.args.state.now (g.S.Texts.world c.args.site.now) (g.S.Texts.world c.wait_any.new.self) (g.S.Texts.world c.read_told.new.site) c.in-Ok.finished.job c.edge-edge.result c.in-Ok.finished.ok c.in-Ok-read_told.told c.act.result.now job_is going.on c.requires.waits.1 c.in-Ok.ensures.finishes c.read_told.ensures.looks
+          c.act.ensures c.in-Ok-read_told.ensures.read,
+    )
+
+pub note_unread-requires-clause-running : goal.note_unread-requires-clause-running
+note_unread-requires-clause-running g c =
     let going = c.requires.waits.0 in
     let runs = running_edge g.S.Texts.tells going.course c.args.setting.graph.now None c.args.state.now (g.S.Texts.world c.args.site.now) going.on c.in-Ok.finished.job c.in-Ok.ensures.finishes.ran in
     let same : c.edge-edge.result ≡ runs.edge = omega (arith, runs.is, c.edge-edge.ensures) in
     ap (standing_at c.args.state.now.plan.standings.items) same ∙ runs.stands
 
-pub returns-in_err-note_end-in-Ok-clause-cut : goal.returns-in_err-note_end-in-Ok-clause-cut
-returns-in_err-note_end-in-Ok-clause-cut g c = on_err c.from_residual.result (λ course suits on turn.
-    let runs = running_edge g.S.Texts.tells course c.args.setting.graph.now None c.args.state.now (g.S.Texts.world c.args.site.now) on c.in-Ok.finished.job c.in-Ok.ensures.finishes.ran in
-    let job_is : c.in-Ok.finished.job ≡ suc c.edge-edge.result = omega (arith, runs.is, c.edge-edge.ensures) in
-    let finish = subst (λ (n : ℕ). Finishes g.S.Texts.tells n c.in-Ok.finished.ok (g.S.Texts.world c.args.site.now) (g.S.Texts.world c.wait_any.new.self)) job_is c.in-Ok.ensures.finishes in
-    end_cut g.S.Texts.tells course c.args.setting.tick.now c.args.setting.graph.now suits c.args.state.now (g.S.Texts.world c.args.site.now) (g.S.Texts.world c.wait_any.new.self) c.edge-edge.result c.in-Ok.finished.ok on turn finish
-    c.note_end.new.state.plan c.note_end.ensures.planned)
+pub returns-in-Ok-read_told-clause-cuts : goal.returns-in-Ok-read_told-clause-cuts
+returns-in-Ok-read_told-clause-cuts g c =
+    cuts_then (g.S.Texts.world c.args.site.now) (g.S.Texts.world c.read_told.new.site) (g.S.Texts.world c.take_in_told.new.site) c.take_in_told.result
+    (unrefused_then (g.S.Texts.world c.args.site.now) (g.S.Texts.world c.wait_any.new.self) (g.S.Texts.world c.read_told.new.site) (unrefused_call (g.S.Texts.world c.args.site.now) (g.S.Texts.world c.wait_any.new.self) _ c.in-Ok.ensures.cause) (unrefused_call (g.S.Texts.world c.wait_any.new.self) (g.S.Texts.world c.read_told.new.site) _ c.in-Ok-read_told.ensures.cause))
+    (c.read_told.ensures.looks.at_start ∙ c.in-Ok.ensures.finishes.at_start) c.take_in_told.ensures.cuts
 
-pub record_end-requires-clause-taken_in : goal.record_end-requires-clause-taken_in
-record_end-requires-clause-taken_in g c =
+pub returns-in-Ok-read_told-clause-removed : goal.returns-in-Ok-read_told-clause-removed
+returns-in-Ok-read_told-clause-removed g c =
     let going = c.requires.waits.0 in
     let runs = running_edge g.S.Texts.tells going.course c.args.setting.graph.now None c.args.state.now (g.S.Texts.world c.args.site.now) going.on c.in-Ok.finished.job c.in-Ok.ensures.finishes.ran in
     let job_is : c.in-Ok.finished.job ≡ suc c.edge-edge.result = omega (arith, runs.is, c.edge-edge.ensures) in
-    let finish = subst (λ (n : ℕ). Finishes g.S.Texts.tells n c.in-Ok.finished.ok (g.S.Texts.world c.args.site.now) (g.S.Texts.world c.wait_any.new.self)) job_is c.in-Ok.ensures.finishes in (
-      going.course,
-      going.suits,
-      end_taken_in g.S.Texts.tells going.course c.args.setting.tick.now c.args.setting.graph.now going.suits c.args.state.now (g.S.Texts.world c.args.site.now) (g.S.Texts.world c.wait_any.new.self) c.edge-edge.result c.in-Ok.finished.ok going.on c.requires.waits.1 finish
-          c.lists_stand.ensures c.note_end.new.state c.note_end.ensures.ended c.log_stays.ensures c.note_end.ensures.planned c.in_ok-note_end-in-Ok.ensures.noted,
-    )
+    ok_both c.take_in_told.result c.take_in_told.ensures.noted c.take_in_told.ensures.removed (λ noted removed i is failed.
+    taken_by_removing g.S.Texts.tells (declared_by c.args.setting.graph.now).edges (suc c.edge-edge.result) c.in-Ok.finished.ok (g.S.Texts.world c.args.site.now) (g.S.Texts.world c.wait_any.new.self) (g.S.Texts.world c.read_told.new.site) (g.S.Texts.world c.take_in_told.new.site)
+    (subst (λ (n : ℕ). Finishes g.S.Texts.tells n c.in-Ok.finished.ok (g.S.Texts.world c.args.site.now) (g.S.Texts.world c.wait_any.new.self)) job_is c.in-Ok.ensures.finishes) c.read_told.ensures.looks c.take_in_told.ensures.events
+    (λ went. removed (not_failed c.args.state.now.failed.items c.edge-edge.result _ (sym (ap (λ (v : Vec ℕ Global). v.items) failed) ∙ noted))) i is)
 
-pub returns-in_err-map_err-in-Ok-clause-cut : goal.returns-in_err-map_err-in-Ok-clause-cut
-returns-in_err-map_err-in-Ok-clause-cut g c = on_err c.from_residual-in_err-map_err-in-Ok.result (λ course suits on turn.
+pub returns-in-Ok-read_told-clause-on : goal.returns-in-Ok-read_told-clause-on
+returns-in-Ok-read_told-clause-on g c =
+    ok_then c.take_in_told.result c.take_in_told.ensures.on (λ so course suits on turn.
     let runs = running_edge g.S.Texts.tells course c.args.setting.graph.now None c.args.state.now (g.S.Texts.world c.args.site.now) on c.in-Ok.finished.job c.in-Ok.ensures.finishes.ran in
     let job_is : c.in-Ok.finished.job ≡ suc c.edge-edge.result = omega (arith, runs.is, c.edge-edge.ensures) in
-    let finish = subst (λ (n : ℕ). Finishes g.S.Texts.tells n c.in-Ok.finished.ok (g.S.Texts.world c.args.site.now) (g.S.Texts.world c.wait_any.new.self)) job_is c.in-Ok.ensures.finishes in
-    err_by c.record_end.result c.map_err.result _ c.map_err.ensures.variant c.in_err-map_err-in-Ok.was c.record_end.ensures.cut course suits
-    (end_taken_in g.S.Texts.tells course c.args.setting.tick.now c.args.setting.graph.now suits c.args.state.now (g.S.Texts.world c.args.site.now) (g.S.Texts.world c.wait_any.new.self) c.edge-edge.result c.in-Ok.finished.ok on turn finish
-    c.lists_stand.ensures c.note_end.new.state c.note_end.ensures.ended c.log_stays.ensures c.note_end.ensures.planned c.in_ok-note_end-in-Ok.ensures.noted))
+    so course suits (ending_of g.S.Texts.tells course c.args.setting.tick.now c.args.setting.graph.now suits c.args.state.now (g.S.Texts.world c.args.site.now) (g.S.Texts.world c.wait_any.new.self) (g.S.Texts.world c.read_told.new.site) c.in-Ok.finished.job c.edge-edge.result c.in-Ok.finished.ok c.in-Ok-read_told.told c.act.result.now job_is on turn c.in-Ok.ensures.finishes c.read_told.ensures.looks
+    c.act.ensures c.in-Ok-read_told.ensures.read))
 
-pub end-requires-clause-within : goal.end-requires-clause-within
-end-requires-clause-within g c =
-    let going = c.requires.waits.0 in
-    let runs = running_edge g.S.Texts.tells going.course c.args.setting.graph.now None c.args.state.now (g.S.Texts.world c.args.site.now) going.on c.in-Ok.finished.job c.in-Ok.ensures.finishes.ran in
-    omega (arith, runs.is, runs.within, c.edge-edge.ensures)
-
-pub returns-in_ok-map_err-in-Ok-clause-removed : goal.returns-in_ok-map_err-in-Ok-clause-removed
-returns-in_ok-map_err-in-Ok-clause-removed g c = on_ok c.map_err-in-Ok.result (
-    let going = c.requires.waits.0 in
-    let runs = running_edge g.S.Texts.tells going.course c.args.setting.graph.now None c.args.state.now (g.S.Texts.world c.args.site.now) going.on c.in-Ok.finished.job c.in-Ok.ensures.finishes.ran in
-    let job_is : c.in-Ok.finished.job ≡ suc c.edge-edge.result = omega (arith, runs.is, c.edge-edge.ensures) in
-    let finish = subst (λ (n : ℕ). Finishes g.S.Texts.tells n c.in-Ok.finished.ok (g.S.Texts.world c.args.site.now) (g.S.Texts.world c.wait_any.new.self)) job_is c.in-Ok.ensures.finishes in
-    taken_by_removing g.S.Texts.tells (declared_by c.args.setting.graph.now).edges (suc c.edge-edge.result) c.in-Ok.finished.ok (g.S.Texts.world c.args.site.now) (g.S.Texts.world c.wait_any.new.self) (g.S.Texts.world c.record_end.new.site) (g.S.Texts.world c.end.new.site)
-    finish c.record_end.ensures.events (ok_by c.record_end.result c.map_err.result _ c.map_err.ensures.variant c.in_ok-map_err-in-Ok.was c.record_end.ensures.removed) c.end.ensures.looks)
-
-pub returns-in_ok-map_err-in-Ok-clause-on : goal.returns-in_ok-map_err-in-Ok-clause-on
-returns-in_ok-map_err-in-Ok-clause-on g c = on_ok c.map_err-in-Ok.result (λ course suits on turn.
+pub returns-in-Ok-read_told-clause-cut : goal.returns-in-Ok-read_told-clause-cut
+returns-in-Ok-read_told-clause-cut g c =
+    err_then c.take_in_told.result c.take_in_told.ensures.cut (λ so course suits on turn.
     let runs = running_edge g.S.Texts.tells course c.args.setting.graph.now None c.args.state.now (g.S.Texts.world c.args.site.now) on c.in-Ok.finished.job c.in-Ok.ensures.finishes.ran in
     let job_is : c.in-Ok.finished.job ≡ suc c.edge-edge.result = omega (arith, runs.is, c.edge-edge.ensures) in
-    let finish = subst (λ (n : ℕ). Finishes g.S.Texts.tells n c.in-Ok.finished.ok (g.S.Texts.world c.args.site.now) (g.S.Texts.world c.wait_any.new.self)) job_is c.in-Ok.ensures.finishes in
-    on_shown g.S.Texts.tells course c.args.setting.graph.now None c.record_end.new.state c.end.new.self (g.S.Texts.world c.end.new.site)
-    (on_looks g.S.Texts.tells course c.args.setting.graph.now c.log_stays.ensures None c.record_end.new.state (g.S.Texts.world c.record_end.new.site) (g.S.Texts.world c.end.new.site)
-    (ok_by c.record_end.result c.map_err.result _ c.map_err.ensures.variant c.in_ok-map_err-in-Ok.was c.record_end.ensures.on course suits
-    (end_taken_in g.S.Texts.tells course c.args.setting.tick.now c.args.setting.graph.now suits c.args.state.now (g.S.Texts.world c.args.site.now) (g.S.Texts.world c.wait_any.new.self) c.edge-edge.result c.in-Ok.finished.ok on turn finish
-    c.lists_stand.ensures c.note_end.new.state c.note_end.ensures.ended c.log_stays.ensures c.note_end.ensures.planned c.in_ok-note_end-in-Ok.ensures.noted))
-    c.end.ensures.looks))
+    so course suits (ending_of g.S.Texts.tells course c.args.setting.tick.now c.args.setting.graph.now suits c.args.state.now (g.S.Texts.world c.args.site.now) (g.S.Texts.world c.wait_any.new.self) (g.S.Texts.world c.read_told.new.site) c.in-Ok.finished.job c.edge-edge.result c.in-Ok.finished.ok c.in-Ok-read_told.told c.act.result.now job_is on turn c.in-Ok.ensures.finishes c.read_told.ensures.looks
+    c.act.ensures c.in-Ok-read_told.ensures.read))
 
-pub returns-in_ok-map_err-in-Ok-clause-cut : goal.returns-in_ok-map_err-in-Ok-clause-cut
-returns-in_ok-map_err-in-Ok-clause-cut g c = on_err c.map_err-in-Ok.result (λ course suits on turn.
+pub returns-in-Err-read_told-clause-cut : goal.returns-in-Err-read_told-clause-cut
+returns-in-Err-read_told-clause-cut g c course suits on turn =
     let runs = running_edge g.S.Texts.tells course c.args.setting.graph.now None c.args.state.now (g.S.Texts.world c.args.site.now) on c.in-Ok.finished.job c.in-Ok.ensures.finishes.ran in
     let job_is : c.in-Ok.finished.job ≡ suc c.edge-edge.result = omega (arith, runs.is, c.edge-edge.ensures) in
-    let finish = subst (λ (n : ℕ). Finishes g.S.Texts.tells n c.in-Ok.finished.ok (g.S.Texts.world c.args.site.now) (g.S.Texts.world c.wait_any.new.self)) job_is c.in-Ok.ensures.finishes in
-    cut_looking g.S.Texts.tells course c.args.setting.graph.now (g.S.Texts.world c.record_end.new.site) c.record_end.new.state c.record_end.new.state.plan (g.S.Texts.world c.end.new.site) refl c.end.ensures.looks
-    (ok_by c.record_end.result c.map_err.result _ c.map_err.ensures.variant c.in_ok-map_err-in-Ok.was c.record_end.ensures.on course suits
-    (end_taken_in g.S.Texts.tells course c.args.setting.tick.now c.args.setting.graph.now suits c.args.state.now (g.S.Texts.world c.args.site.now) (g.S.Texts.world c.wait_any.new.self) c.edge-edge.result c.in-Ok.finished.ok on turn finish
-    c.lists_stand.ensures c.note_end.new.state c.note_end.ensures.ended c.log_stays.ensures c.note_end.ensures.planned c.in_ok-note_end-in-Ok.ensures.noted)))
+    end_unread g.S.Texts.tells course c.args.setting.tick.now c.args.setting.graph.now suits c.args.state.now (g.S.Texts.world c.args.site.now) (g.S.Texts.world c.wait_any.new.self) (g.S.Texts.world c.read_told.new.site) c.edge-edge.result c.in-Ok.finished.ok on turn
+    (subst (λ (n : ℕ). Finishes g.S.Texts.tells n c.in-Ok.finished.ok (g.S.Texts.world c.args.site.now) (g.S.Texts.world c.wait_any.new.self)) job_is c.in-Ok.ensures.finishes) c.read_told.ensures.looks
+    (λ none. c.in-Err-read_told.ensures.named (ap (λ (a : Act). a.depfile) c.act.ensures ∙ (ap (λ (b : BuildGraph). (edge_at b.edges (suc c.edge-edge.result)).act.depfile) (sym suits.same) ∙ none)))
+    c.note_unread.new.state.plan c.note_unread.ensures.planned
 
 pub returns-in-Err-clause-cuts : goal.returns-in-Err-clause-cuts
 returns-in-Err-clause-cuts g c =

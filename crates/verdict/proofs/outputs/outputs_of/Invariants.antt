@@ -1,16 +1,16 @@
 use Rattle.std.proofs.Common.{List, take}
 use Rattle.model.specs.declared.record.Record.{Record}
+use Rattle.model.specs.declared.record.DepsRecord.{DepsRecord}
 use Rattle.build_theory.specs.Seen.{Unrefused}
 use Rattle.looks.specs.Looking.{HasLooked}
 use Rattle.looks.specs.Seen.{IfKept}
-use Rattle.records.specs.Known.{IsOf}
-use Rattle.verdict.specs.Facts.{HasOutputs}
+use Rattle.verdict.specs.Facts.{AreKnownOf, HasOutputs}
 use Rattle.verdict.proofs.outputs.outputs_of.Given as goal
 
 abbrev pub invariant-loop-path : goal.invariant-loop-path
 invariant-loop-path g l = record {
   looked : HasLooked g.S.Texts.tells l.graph (g.S.Texts.world l.fn.site) (g.S.Texts.world l.site) l.fn.looks l.looks;
   unrefused : Unrefused (g.S.Texts.world l.fn.site) (g.S.Texts.world l.site);
-  outputs : (rs : List Record) → IsOf rs l.graph.manifest.paths l.records
-      → IfKept g.S.Texts.tells l.graph.manifest.paths (g.S.Texts.world l.fn.site) (g.S.Texts.world l.site) l.fn.looks.seen.items (HasOutputs l.graph l.act rs (take l.path-index l.paths) l.outputs);
+  outputs : (rs : List Record) (ds : List DepsRecord) → AreKnownOf l.graph.manifest.paths l.paths rs ds l.records
+      → IfKept g.S.Texts.tells l.graph.manifest.paths (g.S.Texts.world l.fn.site) (g.S.Texts.world l.site) l.fn.looks.seen.items (HasOutputs l.graph l.act rs ds (take l.path-index l.paths) l.outputs);
 }

@@ -4,7 +4,7 @@ use Rattle.build_log.proofs.Lookups.{told_place, got, tolds}
 use Rattle.build_log.proofs.kept.Kept.lookup.Goals as goal
 
 pub returns-in_err-find : goal.returns-in_err-find
-returns-in_err-find g c = λ all is. ap option_copied c.from_residual.ensures ∙ (ap (got (tolds all)) (c.in_err-find.ensures all is) ∙ sym (told_place all c.args.output.now))
+returns-in_err-find g c = λ all is. ap option_copied c.from_residual.ensures ∙ (ap (got (tolds all)) (c.in_err-find.ensures.place all is) ∙ sym (told_place all c.args.output.now))
 
 pub returns : goal.returns
-returns g c = λ all is. c.at.ensures all is ∙ (ap (got (tolds all)) (c.in_ok-find.ensures all is) ∙ sym (told_place all c.args.output.now))
+returns g c = λ all is. c.at.ensures all is ∙ (ap (got (tolds all)) (c.in_ok-find.ensures.place all is) ∙ sym (told_place all c.args.output.now))

@@ -6,7 +6,8 @@ use Rattle.build_log.specs.Form.{IsLineOf}
 use Rattle.build_log.specs.Record.{forms}
 use Rattle.links.specs.Told.{declared_by}
 use Rattle.records.proofs.Results.{on_err}
-use Rattle.records.proofs.Standing.{begun_may_stand, none_in_force}
+use Rattle.records.proofs.Putting.{build_carried}
+use Rattle.records.proofs.Standing.{begun_ok, begun_err}
 use Rattle.records.proofs.records.Records.begin.Goals as goal
 
 pub returns-in_err-append-clause-err : goal.returns-in_err-append-clause-err
@@ -16,7 +17,11 @@ returns-in_err-append-clause-err g c = on_err c.from_residual-in_err-append.resu
     let i = suc c.args.edge in
     let r = Begun (outputs (edge_at edges i)) in
     let is_line = subst (IsLineOf (forms Two) r) (sym c.as_slice.ensures.value) c.in_ok-begun_line_of.ensures in
-    c.in_err-append.ensures.err B format own edges steps (Some i) entry first r is_line (begun_may_stand tells B edges steps i entry first (g.S.Texts.world c.args.site.now) c.args.self.now.file.path c.requires.once) l)
+    let now = g.S.Texts.world c.args.site.now in
+    let new = g.S.Texts.world c.append.new.site in
+    let logs = c.args.self.now.logs in
+    let one = build_carried tells B format own edges steps (Some i) entry first now new logs l in
+    begun_err tells B format own edges steps i entry first now new logs l c.requires.once c.append.ensures.writes (c.in_err-append.ensures.err own edges first r is_line one))
 
 pub returns-clause-ok : goal.returns-clause-ok
 returns-clause-ok g c B format own steps entry first l =
@@ -25,5 +30,8 @@ returns-clause-ok g c B format own steps entry first l =
     let i = suc c.args.edge in
     let r = Begun (outputs (edge_at edges i)) in
     let is_line = subst (IsLineOf (forms Two) r) (sym c.as_slice.ensures.value) c.in_ok-begun_line_of.ensures in
-    let put = c.in_ok-append.ensures.ok B format own edges steps (Some i) (Some i) entry first r is_line (begun_may_stand tells B edges steps i entry first (g.S.Texts.world c.args.site.now) c.args.self.now.file.path c.requires.once) l in
-    (put.0, none_in_force tells B entry format own edges i first (g.S.Texts.world c.append.new.site) put.1)
+    let now = g.S.Texts.world c.args.site.now in
+    let new = g.S.Texts.world c.append.new.site in
+    let logs = c.args.self.now.logs in
+    let one = build_carried tells B format own edges steps (Some i) entry first now new logs l in
+    begun_ok tells B format own edges steps i entry first now new logs l c.requires.once c.append.ensures.writes c.append.new.self c.append.ensures.same.path (c.in_ok-append.ensures.carried own edges first r is_line one) (c.in_ok-append.ensures.ok own edges first r is_line one)

@@ -1,4 +1,4 @@
-use Rattle.std.proofs.Common.{Some, None, sym, subst, suc}
+use Rattle.std.proofs.Common.{Some, sym, subst, suc}
 use Rattle.model.specs.declared.record.Record.TheVariants.{Done}
 use Rattle.model.specs.Graph.{edge_at, outputs}
 use Rattle.build_log.specs.declared.form.Version.TheVariants.{Two}
@@ -6,7 +6,8 @@ use Rattle.build_log.specs.Form.{IsLineOf}
 use Rattle.build_log.specs.Record.{forms}
 use Rattle.links.specs.Told.{declared_by}
 use Rattle.records.proofs.Results.{on_err}
-use Rattle.records.proofs.Standing.{done_may_stand, done_may_stay}
+use Rattle.records.proofs.Putting.{build_carried}
+use Rattle.records.proofs.Standing.{done_ok, done_err}
 use Rattle.records.proofs.records.Records.done.Goals as goal
 
 pub returns-in_err-append-clause-err : goal.returns-in_err-append-clause-err
@@ -16,7 +17,11 @@ returns-in_err-append-clause-err g c = on_err c.from_residual-in_err-append.resu
     let i = suc c.args.edge in
     let r = Done (outputs (edge_at edges i)) c.args.start (edge_at edges i).act in
     let is_line = subst (IsLineOf (forms Two) r) (sym c.as_slice.ensures.value) c.in_ok-done_line_of.ensures in
-    c.in_err-append.ensures.err B format own edges steps (Some i) entry first r is_line (done_may_stay tells B edges steps i entry first (g.S.Texts.world c.args.site.now) c.args.self.now.file.path c.requires.once c.args.start ended) l)
+    let now = g.S.Texts.world c.args.site.now in
+    let new = g.S.Texts.world c.append.new.site in
+    let logs = c.args.self.now.logs in
+    let one = build_carried tells B format own edges steps (Some i) entry first now new logs l in
+    done_err tells B format own edges steps i entry first now new logs l c.append.ensures.writes c.args.start ended (c.in_err-append.ensures.err own edges first r is_line one))
 
 pub returns-clause-ok : goal.returns-clause-ok
 returns-clause-ok g c B format own steps entry first ended l =
@@ -25,4 +30,8 @@ returns-clause-ok g c B format own steps entry first ended l =
     let i = suc c.args.edge in
     let r = Done (outputs (edge_at edges i)) c.args.start (edge_at edges i).act in
     let is_line = subst (IsLineOf (forms Two) r) (sym c.as_slice.ensures.value) c.in_ok-done_line_of.ensures in
-    (c.in_ok-append.ensures.ok B format own edges steps (Some i) None entry first r is_line (done_may_stand tells B edges steps i entry first (g.S.Texts.world c.args.site.now) c.args.self.now.file.path c.requires.once c.args.start ended) l).0
+    let now = g.S.Texts.world c.args.site.now in
+    let new = g.S.Texts.world c.append.new.site in
+    let logs = c.args.self.now.logs in
+    let one = build_carried tells B format own edges steps (Some i) entry first now new logs l in
+    done_ok tells B format own edges steps i entry first now new logs l c.append.ensures.writes c.args.start ended c.append.new.self c.append.ensures.same.path (c.in_ok-append.ensures.carried own edges first r is_line one) (c.in_ok-append.ensures.ok own edges first r is_line one)

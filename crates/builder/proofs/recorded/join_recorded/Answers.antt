@@ -1,0 +1,39 @@
+use Rattle.std.proofs.Common.{ℕ, ◌+◌, length, ap, subst, arith}
+use Rattle.builder.specs.Recorded.{AreJoined, texts_of}
+use Rattle.builder.proofs.Joining.{joined_none, numbered_none, known_more, has_joined}
+use Rattle.builder.proofs.Numbering.{more_none, more_then}
+use Rattle.builder.proofs.recorded.join_recorded.Goals as goal
+
+pub loop-place-init : goal.loop-place-init
+loop-place-init c =
+    let graph = c.args.graph.now in
+    record {
+      grown = more_none graph;
+      numbered = numbered_none graph (texts_of c.args.records.now) c.new-numbers.result.items c.new-numbers.ensures.items;
+      joined = λ rs ds known none. joined_none graph rs ds none;
+    }
+
+pub join_edge-requires-clause-known : goal.join_edge-requires-clause-known
+join_edge-requires-clause-known c =
+    let known = c.requires.known in
+    (known.0, known.1, known_more c.args.graph.now c.loop-place.graph c.loop-place.invariant.grown known.0 known.1 c.args.records.now known.2)
+
+pub loop-place-preserved : goal.loop-place-preserved
+loop-place-preserved c =
+    let first = c.args.graph.now in
+    let now = c.loop-place.graph in
+    let new = c.join_edge.new.graph in
+    record {
+      grown = more_then first now new c.loop-place.invariant.grown c.in_ok-join_edge.ensures.grown;
+      numbered = c.in_ok-join_edge.ensures.numbered;
+      joined = λ rs ds known none.
+          subst (λ (e : ℕ). AreJoined now rs ds e → AreJoined new rs ds (e + 1)) c.edge-edge.ensures (c.in_ok-join_edge.ensures.joined rs ds (known_more first now c.loop-place.invariant.grown rs ds c.args.records.now known))
+          (c.loop-place.invariant.joined rs ds known none);
+    }
+
+pub returns : goal.returns
+returns c rs ds known none =
+    let past = c.loop-place-test.false in
+    let all = c.edges-place-end.ensures in
+    let same = ap length c.loop-place.invariant.grown.lines in
+    has_joined c.args.graph.now c.loop-place.graph rs ds c.args.records.now c.loop-place.place (omega (arith, past, all, same)) c.loop-place.invariant.grown known (c.loop-place.invariant.joined rs ds known none)

@@ -1,0 +1,43 @@
+//! Both logs of a build.
+
+ghost use Rattle.std.specs.Prelude.{◌≡◌, List, IfOk, false, string_bytes};
+ghost use Rattle.model.specs.World.{World};
+ghost use Rattle.model.specs.Calls.{OnlyLooks, HasCause};
+ghost use Rattle.model.specs.declared.record.DepsRecord.{DepsRecord};
+ghost use Rattle.records.specs.Laws.{WereRead};
+
+use crate::file::LogFile;
+use model::{Record, SiteFault};
+use site::Site;
+use std::alloc::Global;
+
+/// The files of both logs.
+#[derive(Drop)]
+pub struct Logs {
+    pub build_log: LogFile<build_log::Log>,
+    pub deps_log: LogFile<deps_log::Log>,
+}
+
+impl Logs {
+    /// Reads the logs at these paths, that of the build first. It only looks.
+    pub(crate) fn read<S: Site>(
+        alloc: Global,
+        site: &mut S,
+        build_log: String,
+        deps_log: String,
+    ) -> Result<Logs, SiteFault>
+        requires running { (S.world site.old).stopped ≡ false }
+        ensures looks { OnlyLooks S.tells (S.world site.old) (S.world site.new) }
+        ensures cause { HasCause (S.world site.old) (S.world site.new) result }
+        ensures build_log { IfOk result (λ logs. logs.build_log.path ≡ string_bytes build_log) }
+        ensures deps_log { IfOk result (λ logs. logs.deps_log.path ≡ string_bytes deps_log) }
+        ensures read { IfOk result (λ logs. (rs : List Record) × (ds : List DepsRecord) × WereRead S.tells (S.world site.old) (S.world site.new) rs ds logs) }
+    {
+        let build_log = LogFile::read(alloc, site, build_log)?;
+        let deps_log = LogFile::read(alloc, site, deps_log)?;
+        Ok(Logs {
+            build_log,
+            deps_log,
+        })
+    }
+}

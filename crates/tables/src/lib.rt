@@ -1,0 +1,11 @@
+//! Tables of tests: a program reads rows from standard input, and prints each with its answer behind it, so that what it
+//! prints is a table of what is expected.
+//!
+//! Only programs of tests stand on this crate.
+#![tactic(auto)]
+
+mod escapes;
+mod rows;
+
+pub use escapes::{push_escaped, unescaped};
+pub use rows::{Table, push_word, run, word};
