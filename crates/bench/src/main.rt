@@ -7,7 +7,7 @@ mod one_file;
 
 use crate::one_file::OneFile;
 use anyhow::{Result, bail};
-use build_log::{Log, Tail};
+use build_log::{Log, Records, Tail};
 use lexer::{Statement, statements};
 use links::{ConeFault, Graph};
 use manifest::Manifest;

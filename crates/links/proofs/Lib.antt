@@ -1,5 +1,6 @@
 pub mod Walking
 pub mod Rounds
+pub mod Rounded
 pub mod ConesOf
 pub mod Repeats
 pub mod Lists

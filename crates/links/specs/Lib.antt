@@ -1,6 +1,7 @@
 pub mod Links
 pub mod Held
 pub mod Spans
+pub mod Marked
 pub mod Rooms
 pub mod Told
 pub mod Linked

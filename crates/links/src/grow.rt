@@ -1,12 +1,12 @@
 //! Recorded inputs join an edge.
 
-ghost use Rattle.std.specs.Prelude.{◌≡◌, ◌<◌, ◌++◌, ℕ, List, All, take, slice_set, ◌≤◌, length, IfOk, OnOk, OnErr, nat_eq};
+ghost use Rattle.std.specs.Prelude.{◌≡◌, ◌<◌, ◌++◌, [], ℕ, List, All, take, slice_set, ◌≤◌, length, IfOk, OnOk, OnErr, nat_eq};
 ghost use Rattle.indexmap.specs.IndexSet.{insert_all};
 ghost use Rattle.links.specs.Held.{list_at, StandOnce};
 ghost use Rattle.links.specs.Grown.{HasNumbered, HasGained};
 
 use crate::graph::Graph;
-use indexmap::IndexSet;
+use crate::path_set::PathSet;
 use paths::{EdgeId, PathId};
 use std::alloc::{AllocError, Global};
 
@@ -39,10 +39,23 @@ impl Graph {
         ensures gained { OnOk result (HasGained self.old self.new edge inputs.now) }
         ensures err { OnErr result (self.new ≡ self.old) }
     {
-        let mut all = IndexSet::new(alloc);
-        add_all(&mut all, self.recorded.at(edge))?;
+        let mut all = self.recorded.take_room(alloc);
+        let gained = self.gain(edge, inputs, &mut all);
+        self.recorded.put_room(all);
+        gained
+    }
+
+    /// Records these inputs of the edge, each once, beside those that were recorded before. The set lends its room.
+    fn gain(&mut self, edge: EdgeId, inputs: &[PathId], all: &mut PathSet) -> Result<(), AllocError>
+        requires edge { edge < length self.old.manifest.lines }
+        requires inputs { All (λ p. p < length self.old.manifest.paths) inputs.now }
+        requires empty { all.old ≡ [] }
+        ensures gained { OnOk result (HasGained self.old self.new edge inputs.now) }
+        ensures err { OnErr result (self.new ≡ self.old) }
+    {
+        add_all(all, self.recorded.at(edge))?;
         let held = all.len();
-        add_all(&mut all, inputs)?;
+        add_all(all, inputs)?;
         self.record(edge, all.as_slice(), held)
     }
 
@@ -69,8 +82,8 @@ impl Graph {
 }
 
 /// Adds these paths, each once.
-fn add_all(all: &mut IndexSet<PathId>, paths: &[PathId]) -> Result<(), AllocError>
-    ensures { OnOk result (all.new.keys ≡ insert_all nat_eq all.old.keys paths.now) }
+fn add_all(all: &mut PathSet, paths: &[PathId]) -> Result<(), AllocError>
+    ensures { OnOk result (all.new ≡ insert_all nat_eq all.old paths.now) }
 {
     for path in paths {
         all.insert(*path)?;

@@ -10,6 +10,7 @@ mod graph;
 mod grow;
 mod laws;
 mod makers;
+mod path_set;
 mod reading;
 mod recorded;
 mod targets;

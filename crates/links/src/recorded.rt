@@ -4,9 +4,11 @@ ghost use Rattle.std.specs.Prelude.{◌≡◌, ◌<◌, ◌++◌, [], length, sl
 ghost use Rattle.std.proofs.Math.ListN.{replicate};
 ghost use Rattle.links.specs.Held.{list_at};
 
+use crate::path_set::PathSet;
 use paths::{EdgeId, PathId};
 use std::alloc::{AllocError, Global};
 use std::marker::Model;
+use std::mem;
 
 /// Where the recorded inputs of an edge stand.
 #[derive(Clone, Copy)]
@@ -21,6 +23,8 @@ pub struct Span {
 pub struct Recorded {
     numbers: Vec<PathId>,
     spans: Vec<Span>,
+    /// Lends its room to what gains inputs. What it holds counts for nothing.
+    room: PathSet,
 }
 
 impl Model for Recorded {
@@ -43,6 +47,7 @@ impl Recorded {
         Ok(Recorded {
             numbers: Vec::new(alloc),
             spans: vec![in alloc; Span { start: 0, stop: 0 }; edges]?,
+            room: PathSet::new(alloc),
         })
     }
 
@@ -68,5 +73,22 @@ impl Recorded {
             stop: self.numbers.len(),
         };
         Ok(())
+    }
+
+    /// A set without paths, with the room that is lent.
+    pub(crate) fn take_room(&mut self, alloc: Global) -> PathSet
+        ensures room { result ≡ [] }
+        ensures same { self.new ≡ self.old }
+    {
+        let mut room = mem::replace(&mut self.room, PathSet::new(alloc));
+        room.clear();
+        room
+    }
+
+    /// Gives the room back.
+    pub(crate) fn put_room(&mut self, room: PathSet)
+        ensures { self.new ≡ self.old }
+    {
+        self.room = room;
     }
 }

@@ -3,4 +3,4 @@ use Rattle.indexmap.specs.IndexSet.{insert_all}
 use Rattle.links.proofs.grow.add_all.Given as goal
 
 abbrev pub invariant-loop-path : goal.invariant-loop-path
-invariant-loop-path l = l.all.keys ≡ insert_all nat_eq l.initial.all.keys (take l.path-index l.paths)
+invariant-loop-path l = l.all ≡ insert_all nat_eq l.initial.all (take l.path-index l.paths)
