@@ -1,7 +1,7 @@
 //! Scripts whose builds keep and read their log, with what they print. Each ends with status 0.
 
 /// Builds after builds, behind `rows::RULES`.
-pub const RECORDS: [(&str, &str); 24] = [
+pub const RECORDS: [(&str, &str); 26] = [
     // What was built is not built again.
     (
         "|build b: cat a
@@ -620,7 +620,7 @@ success 3
 write a x
 -j 1
 build
-write a x
+write a
 lines
 build
 ",
@@ -642,6 +642,7 @@ success 2
     (
         "|build b: keep a
 |  depfile = b.d
+|  deps = gcc
 |build c: cat b
 |build d: scan s
 |  restat = 1
@@ -675,6 +676,67 @@ start cat e d
 end cat e d
 success 2
 success 0
+",
+    ),
+    // What is read through a phony edge is judged so too, and a path that is named for order alone counts for nothing.
+    (
+        "|build b: keep a
+|build p: phony b
+|build c: cat i | p
+|build d: cat i || b
+write a x
+write i z
+-j 1
+build
+write a x
+build
+write a y
+build
+",
+        "start keep b a
+end keep b a
+start cat c i
+end cat c i
+start cat d i
+end cat d i
+success 3
+start keep b a
+end keep b a
+success 1
+start keep b a
+end keep b a
+start cat c i
+end cat c i
+success 2
+",
+    ),
+    // Without `restat` an output counts as changed where its command has run, and may not be older than what it is made of.
+    (
+        "|build b: keep a
+|  restat =
+|build c: cat b
+write a x
+-j 1
+build
+write a
+build
+build
+",
+        "start keep b a
+end keep b a
+start cat c b
+end cat c b
+success 2
+start keep b a
+end keep b a
+start cat c b
+end cat c b
+success 2
+start keep b a
+end keep b a
+start cat c b
+end cat c b
+success 2
 ",
     ),
 ];

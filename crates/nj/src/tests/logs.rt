@@ -238,6 +238,28 @@ holds r/o.rsp 3 a^d/b",
     )
 }
 
+/// What lies below an output that its command left as it was is not started, and totals are counted before that is seen.
+#[test]
+fn builds_nothing_below_what_stays(rt: HostRuntime) -> Result<(), Fail> {
+    follow(
+        &rt,
+        Folder::new(&rt, "restat", ""),
+        "write rules rule keep^  command = cmp -s $in $out || cat $in > $out^  restat = 1^rule cp^  command = cat $in > $out^
+write build.ninja include rules^build b: keep a^build c: cp b^build d: cp c^build e: cp a^
+write a x
+runs [1/4] cmp -s a b || cat a > b^[2/4] cat b > c^[3/4] cat c > d^[4/4] cat a > e^
+later a x
+runs [1/4] cmp -s a b || cat a > b^[2/2] cat a > e^
+runs nj: no work to do.^
+remove b
+runs [1/3] cmp -s a b || cat a > b^[2/3] cat b > c^[3/3] cat c > d^
+later a y
+runs [1/4] cmp -s a b || cat a > b^[2/4] cat b > c^[3/4] cat c > d^[4/4] cat a > e^
+holds d y
+runs nj: no work to do.^",
+    )
+}
+
 /// A folder in the place of the log, and one in the place of the file that is to be the log.
 #[test]
 fn tells_where_its_log_cannot_be(rt: HostRuntime) -> Result<(), Fail> {
