@@ -1,8 +1,8 @@
 -- Each call leaves the depfiles and response files of running commands alone.
-use Rattle.std.proofs.Common.{◌≡◌, ◌≢◌, ◌⊎◌, inl, inr, ℕ, true, false, List, [], ◌∷◌, ◌++◌, Option, refl, sym, ◌∙◌, ap, subst, append_assoc}
+use Rattle.std.proofs.Common.{◌≡◌, ◌≢◌, inl, inr, ℕ, true, false, List, [], ◌∷◌, ◌++◌, Option, sym, ◌∙◌, ap, subst, append_assoc}
 use Rattle.std.specs.List.{AllByRecursion}
 use Rattle.std.proofs.lemmas.List.{append-nil}
-use Rattle.std.proofs.lemmas.Bool.{false≢true}
+use Rattle.std.proofs.lemmas.Bool.{false≢true, false_from_ne_true}
 use Rattle.model.specs.declared.event.Event.{Event}
 use Rattle.model.specs.declared.event.Moment.{Moment}
 use Rattle.model.specs.declared.event.Moment.TheVariants.{Wrote, Happened}
@@ -10,13 +10,15 @@ use Rattle.model.specs.declared.event.Writer.TheVariants.{Program, Command, Some
 use Rattle.model.specs.declared.graph.Edge.{Edge}
 use Rattle.model.specs.World.{runs, runs_from, IsIdle}
 use Rattle.model.specs.Calls.{IsByOthers, AllByOthers, OthersWrote, Adds}
-use Rattle.model.specs.Graph.{edge_at, IsCommand}
+use Rattle.model.specs.Graph.{has_number, edge_at, IsCommand}
 use Rattle.model.specs.Records.{OwnFiles}
+use Rattle.model.specs.Schedule.{Step, started_in, ended_in, running_in}
 use Rattle.model.specs.Premises.{LiesIn, OwnFilesApart}
 use Rattle.build_theory.specs.Run.{events_in}
 use Rattle.build_theory.proofs.Lists.{same_rest, all_parts, all_append, all_weaker, place_in}
 use Rattle.build_theory.proofs.Events.{runs_from-append}
 use Rattle.build_theory.proofs.Moments.{events_in-append}
+use Rattle.build_theory.proofs.Steps.{running_parts}
 use Rattle.log_theory.specs.Writes.{IsAtOrByOthers, GrewAt}
 use Rattle.log_theory.specs.Alone.{IsNoFileOf, AreLeftAlone}
 use Rattle.log_theory.proofs.Writing.{no_events_at}
@@ -26,6 +28,14 @@ use Rattle.log_theory.proofs.Writing.{no_events_at}
 -- on a site that was idle, those that its later events say
 pub runs_idle : (j : ℕ) (old events : List Event) → IsIdle old → runs j (old ++ events) ≡ runs j events
 runs_idle j old events idle = runs_from-append j false old events ∙ ap (λ b. runs_from j b events) (idle j)
+
+-- one that was not started does not run
+pub rests_unstarted : (steps : List Step) (i : ℕ) → has_number (started_in steps) i ≡ false → has_number (running_in steps) i ≡ false
+rests_unstarted steps i unstarted = false_from_ne_true (has_number (running_in steps) i) (λ running. false≢true (sym unstarted ∙ (running_parts steps i running).0))
+
+-- nor does one that has ended
+pub rests_ended : (steps : List Step) (i : ℕ) → has_number (ended_in steps) i ≡ true → has_number (running_in steps) i ≡ false
+rests_ended steps i ended = false_from_ne_true (has_number (running_in steps) i) (λ running. false≢true (sym (running_parts steps i running).1 ∙ ended))
 
 -- ---- moments without a write of the program
 
