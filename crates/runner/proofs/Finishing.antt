@@ -24,7 +24,6 @@ use Rattle.build_theory.proofs.Makers.{maker_has, maker_is}
 use Rattle.build_theory.proofs.Calls.{looks_none, looks_then}
 use Rattle.build_theory.proofs.Steps.{IsKept, kept_lawful, running_is, running_parts, started-append, ended-append, well-append, failed-append, out_of_date-append, in_left, in_right, in_either}
 use Rattle.build_theory.proofs.Runs.{run_looks, run_takes_in}
-use Rattle.build_theory.proofs.Starting.{OthersRun}
 use Rattle.log_theory.specs.Ledger.{IsCutOff}
 use Rattle.log_theory.proofs.Ledger.{SaysAtEnd, command_of, running_of, carried_well, carried_failed, cut_in_reading, cut_off, cut_looks, cut_finishes}
 use Rattle.log_theory.proofs.TakenIn.{ended_here, depfile_since}

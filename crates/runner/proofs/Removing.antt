@@ -1,7 +1,5 @@
--- The response files of commands that ended well stay removed, and how the end of a command removes one.
-use Rattle.std.proofs.Common.{◌≡◌, ◌≢◌, ◌⊎◌, inl, inr, ℕ, ◌==◌, Bool, true, false, IsTrue, List, [], ◌∷◌, ◌++◌, Option, Some, None, refl, sym, ◌∙◌, ap, subst, append_assoc}
-use Rattle.std.specs.List.{AllByRecursion}
-use Rattle.std.proofs.lemmas.Bool.{false≢true, cases_Bool, eqb-true, eq-eqb}
+-- How the end of a command removes its response file.
+use Rattle.std.proofs.Common.{◌≡◌, ◌≢◌, ℕ, Bool, true, IsTrue, List, [], ◌∷◌, ◌++◌, None, sym, ◌∙◌, ap, subst, append_assoc}
 use Rattle.model.specs.declared.act.Act.{Act}
 use Rattle.model.specs.declared.event.Event.{Event}
 use Rattle.model.specs.declared.event.Event.TheVariants.{Finish}
@@ -9,21 +7,13 @@ use Rattle.model.specs.declared.event.Moment.{Moment}
 use Rattle.model.specs.declared.event.Moment.TheVariants.{Wrote, Happened}
 use Rattle.model.specs.declared.event.Writer.TheVariants.{Program}
 use Rattle.model.specs.declared.graph.Edge.{Edge}
-use Rattle.model.specs.World.{World, file_at, content_of, IsRunning}
-use Rattle.model.specs.Calls.{IsByOthers, AllByOthers, Adds, OnlyLooks, Writes, Finishes}
-use Rattle.model.specs.Graph.{has_number, edge_at, IsCommand}
-use Rattle.model.specs.Records.{OwnFiles}
-use Rattle.model.specs.Schedule.{Step as Done, well_in}
-use Rattle.model.specs.Premises.{FilesAreKept, OwnFilesApart, IsWithinEdge, IsNoEdit}
-use Rattle.build_theory.proofs.Lists.{same_rest, all_parts, all_append}
-use Rattle.build_theory.proofs.Files.{IsElsewhere, file_stays}
-use Rattle.build_theory.proofs.Looks.{kept_before}
-use Rattle.build_theory.proofs.Starting.{IsPrivate, OthersRun, since, private_elsewhere, private_written}
-use Rattle.log_theory.specs.Writes.{GrewAt, WritesAt}
-use Rattle.log_theory.specs.Ledger.{HoldsStill}
+use Rattle.model.specs.World.{World, IsRunning}
+use Rattle.model.specs.Calls.{IsByOthers, AllByOthers, OnlyLooks, Writes, Finishes}
+use Rattle.model.specs.Graph.{edge_at}
+use Rattle.build_theory.proofs.Lists.{same_rest, all_append}
+use Rattle.log_theory.specs.Writes.{WritesAt}
 use Rattle.log_theory.proofs.Growing.{longer}
-use Rattle.log_theory.proofs.Writing.{at_elsewhere, looks_at}
-use Rattle.runner.specs.Removing.{EndsByRemoving, AreRemoved}
+use Rattle.runner.specs.Removing.{EndsByRemoving}
 
 -- ---- the end of a command
 
