@@ -1,0 +1,59 @@
+-- What the command gives, and what it tells.
+use Rattle.std.proofs.Common.{◌≡◌, inl, inr, ℕ, zero, suc, ◌<◌, if◌then◌else◌, Bool, true, false, List, [], ◌∷◌, ◌++◌, Option, Some, None, Result, Ok, Err, refl, sym, ◌∙◌, ap, subst, arith}
+use Rattle.std.proofs.lemmas.Bool.{false≢true, cases_Bool, ltb-true}
+use Rattle.std.proofs.Math.Dec.{ltb}
+use Rattle.std.specs.Prelude.{codes}
+use Rattle.std.specs.List.{AllByRecursion}
+use Rattle.std.specs.Str.{is_utf8, IsUtf8, IsAscii}
+use Rattle.std.proofs.lemmas.Str.{is_utf8-from_IsUtf8, IsUtf8-from_ascii}
+use Rattle.model.specs.declared.outcome.Outcome.{Outcome}
+use Rattle.model.specs.World.{View}
+use Rattle.model.specs.Calls.{AgreeOn}
+use Rattle.model.specs.Graph.{Addition, edge_at, outputs}
+use Rattle.model.specs.Outcome.{Behaviour, left, depfile_in, is_accepted, listed, ends_well, reports_of, given, GivesTheSame}
+use Rattle.lexer.specs.Path.{IsCanonical, Rewrites, IsFinal, Step, Folds, Climbs, parent}
+use Rattle.lexer.specs.Path.Rewrites.{done as no_step}
+use Rattle.depfile.specs.Depfile.{IsRead, IsReading, accepted, inputs, AreInputs}
+use Rattle.depfile.specs.declared.fault.DepFault.{DepFault}
+use Rattle.depfile.specs.Signs.Sign.{letter}
+use Rattle.sim.specs.Toy.{toy_outcome, named, named_in, gathered_from, contents, joined}
+use Rattle.sim.specs.Toy as toy
+use Rattle.met.specs.Scanning.{scan, edges, naming, telling, toys}
+
+-- ---- texts
+
+-- each byte is ASCII
+abbrev pub low : List ℕ → Bool
+low [] = true
+low (b ∷ bs) = if ltb b 128 then low bs else false
+
+low_at : (bs : List ℕ) → low bs ≡ true → IsAscii bs
+low_at [] is i = omega arith
+low_at (b ∷ bs) is i = elim (cases_Bool (ltb b 128)) [
+  | inl here ↦ low_of b bs (ltb-true b 128 here) (low_at bs (rw here at is)) i
+  | inr other ↦ absurd (false≢true (rw other at is))
+]
+  where
+    low_of : (b : ℕ) (bs : List ℕ) → b < 128 → IsAscii bs → IsAscii (b ∷ bs)
+    low_of b bs here rest zero = here
+    low_of b bs here rest (suc i) = rest i
+
+pub text_of : (bs : List ℕ) → low bs ≡ true → IsUtf8 bs
+text_of bs is = IsUtf8-from_ascii bs (low_at bs is)
+
+text_naming : is_utf8 naming ≡ true
+text_naming = is_utf8-from_IsUtf8 naming (text_of naming refl)
+
+names_h : named_in (Some naming) ≡ Some (codes "h" ∷ [])
+names_h = rw text_naming refl
+
+-- ---- what the command gives
+
+-- where `a` holds its name: what `h` holds, and that it was read; nothing where there is no `h`
+abbrev pub giving : Option (List ℕ) → Outcome
+giving held = toy.told (codes "b") (codes "b.d") (codes "h" ∷ []) (joined held (Some []))
+
+pub outcome_is : (view : View) → view (codes "a") ≡ Some naming → toy_outcome scan view ≡ giving (view (codes "h"))
+outcome_is view is =
+    ap (λ (held : Option (List ℕ)). gathered_from (codes "b") (codes "b.d") (named_in held) view) is
+    ∙ ap (λ (paths : Option (List (List ℕ))). gathered_from (codes "b") (codes "b.d") paths view) names_h

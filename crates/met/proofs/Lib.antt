@@ -1,0 +1,4 @@
+pub mod Lists
+pub mod Given
+pub mod Called
+pub mod Visits
