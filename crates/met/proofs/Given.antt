@@ -57,3 +57,24 @@ pub outcome_is : (view : View) → view (codes "a") ≡ Some naming → toy_outc
 outcome_is view is =
     ap (λ (held : Option (List ℕ)). gathered_from (codes "b") (codes "b.d") (named_in held) view) is
     ∙ ap (λ (paths : Option (List (List ℕ))). gathered_from (codes "b") (codes "b.d") paths view) names_h
+
+-- ---- what depfiles say
+
+no_plain_step : (next : List (List ℕ)) → Step false (codes "h" ∷ []) next → ⊥
+no_plain_step next (inl folds) = no_pair folds.front folds.part folds.back folds.before
+  where
+    no_pair : (front : List (List ℕ)) (part : List ℕ) (back : List (List ℕ)) → codes "h" ∷ [] ≡ front ++ part ∷ parent ∷ back → ⊥
+    no_pair [] part back is = cc
+    no_pair (x ∷ []) part back is = cc
+    no_pair (x ∷ y ∷ front) part back is = cc
+no_plain_step next (inr climbs) = false≢true climbs.root
+
+is_canonical : IsCanonical (codes "h") (codes "h")
+is_canonical = record { parts = codes "h" ∷ []; rewritten = no_step; final = no_plain_step; text_is = refl }
+
+is_read : IsRead telling (Ok (codes "h" ∷ []))
+is_read = (text_of telling refl, (letter 104 ∷ []) ∷ [], refl, record { all = codes "h" ∷ []; canonical = (is_canonical, tt); once = refl })
+
+-- a reading by the grammar reads that `h` was told
+pub tells_h : ((bytes : List ℕ) (a b : Result (List (List ℕ)) DepFault) → IsRead bytes a → IsRead bytes b → a ≡ b) → (depfile : List ℕ → Option (List (List ℕ))) → IsReading depfile → depfile telling ≡ Some (codes "h" ∷ [])
+tells_h one depfile reading = (reading telling).2 ∙ ap accepted (one telling (reading telling).0 (Ok (codes "h" ∷ [])) (reading telling).1 is_read)

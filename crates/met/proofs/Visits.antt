@@ -1,5 +1,7 @@
 -- The law.
-use Rattle.met.proofs.Called.{called}
-use Rattle.met.specs.Worlds.{first}
+use Rattle.met.proofs.Given.{tells_h}
+use Rattle.met.proofs.Logs.{store_is}
+use Rattle.met.proofs.OneEdge.{first_ended}
+use Rattle.met.proofs.Outcomes.{left_outcome}
 pub x : Unit {0}
 x = tt
