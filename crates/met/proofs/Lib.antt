@@ -4,4 +4,5 @@ pub mod Called
 pub mod Logs
 pub mod OneEdge
 pub mod Outcomes
+pub mod OneBuild
 pub mod Visits
