@@ -5,4 +5,5 @@ pub mod Logs
 pub mod OneEdge
 pub mod Outcomes
 pub mod OneBuild
+pub mod Builds
 pub mod Visits

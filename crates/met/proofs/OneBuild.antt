@@ -210,7 +210,7 @@ module _ (reading : List ℕ → Option (List (List ℕ))) (dyndep : List ℕ �
     depfiles = λ i at ended h unmet. (ended_in_build (EndsTelling old steps) old more ends i at ended).0 ∙ sym (ap is_accepted (told_at steps old more ends i at ended));
   }
 
-  pub in_one_phase : (texts : View) (steps : List Step) → IsLawfulFrom (task_of asked store) [] steps → IsLawfulBuild dyndep texts edges (task_of asked store) store steps
+  abbrev pub in_one_phase : (texts : View) (steps : List Step) → IsLawfulFrom (task_of asked store) [] steps → IsLawfulBuild dyndep texts edges (task_of asked store) store steps
   in_one_phase texts steps lawful = record {
     earlier = [];
     last = steps;
