@@ -1,4 +1,4 @@
--- The four builds of the history, and their premises.
+-- The four builds of the history.
 use Rattle.std.proofs.Common.{◌≡◌, inl, inr, ℕ, ◌==◌, Bool, true, false, List, [], ◌∷◌, ◌++◌, Option, Some, None, take, refl, sym, ◌∙◌, subst, arith}
 use Rattle.std.proofs.lemmas.Bool.{false≢true, cases_Bool}
 use Rattle.std.specs.Prelude.{codes}
@@ -28,6 +28,7 @@ use Rattle.met.proofs.Logs.{begun_line, done_line, told_line, log_read, deps_rea
 use Rattle.met.proofs.OneEdge.{in_cone, counts_all, no_load, judged_once, started_once, first_judged, first_started, first_ended}
 use Rattle.met.proofs.Outcomes.{left_outcome}
 use Rattle.met.proofs.OneBuild.{AtEach, written_in, EndsIn, VerdictAt, EndsTelling, LeavesAt, ready_scan, b_is, untouched_first, frame_of, judged_of, in_one_phase, in_order, was_in_order, premises_of}
+use Rattle.met.proofs.Between.{no_store, once_begun, twice_begun, first_store, at_named, at_edited, at_stopped, at_edited_again, failing_steps, stopping_steps, good_steps, no_ends, no_stopping_ends, succeeding_ends, again_ends}
 
 pub some_none : {A : Type 0} (x : A) → Some x ≡ None → ⊥
 some_none x e = cc
@@ -42,74 +43,6 @@ ended act stamp ok job = elim (cases_Bool (1 == job)) [ inl here ↦ rw here ref
 
 pub ended_twice : (stamp later : ℕ) → IsIdle (Start 1 scan stamp ∷ Finish 1 true ∷ Start 1 scan later ∷ Finish 1 true ∷ [])
 ended_twice stamp later job = elim (cases_Bool (1 == job)) [ inl here ↦ rw here refl | inr other ↦ rw other refl ]
-
--- ---- what the logs tell between the moves
-
-abbrev pub no_store : Store
-no_store = store_of [] []
-
-abbrev pub once_begun : Store
-once_begun = store_of (begun ∷ []) []
-
-abbrev pub twice_begun : Store
-twice_begun = store_of (begun ∷ begun ∷ []) []
-
-abbrev pub first_done : List Record
-first_done = begun ∷ begun ∷ begun ∷ done 15 ∷ []
-
-abbrev pub first_store : Store
-first_store = store_of first_done (told 15 ∷ [])
-
-abbrev pub second_done : List Record
-second_done = begun ∷ begun ∷ begun ∷ done 15 ∷ begun ∷ done 25 ∷ []
-
-abbrev pub second_store : Store
-second_store = store_of second_done (told 15 ∷ told 25 ∷ [])
-
-first_lines : HaveLines (record_forms Two) first_done
-first_lines = (begun_line, (begun_line, (begun_line, (done_line 15 (omega arith), tt))))
-
-second_lines : HaveLines (record_forms Two) second_done
-second_lines = (begun_line, (begun_line, (begun_line, (done_line 15 (omega arith), (begun_line, (done_line 25 (omega arith), tt))))))
-
-module _ (format : LogFormat) (reads_logs : ReadsLogs format) (all : OwnFiles) (fits : IsOwnIn all []) where
-  pub at_named : no_store ≡ store_in format all (view_of named.history)
-  at_named = store_is format all fits (view_of named.history) [] [] refl refl
-
-  pub at_failed : once_begun ≡ store_in format all (view_of failed.history)
-  at_failed = store_is format all fits (view_of failed.history) (begun ∷ []) [] (log_read format reads_logs (begun ∷ []) (begun_line, tt)) refl
-
-  pub at_edited : once_begun ≡ store_in format all (view_of edited.history)
-  at_edited = store_is format all fits (view_of edited.history) (begun ∷ []) [] (log_read format reads_logs (begun ∷ []) (begun_line, tt)) refl
-
-  pub at_stopped : twice_begun ≡ store_in format all (view_of stopped.history)
-  at_stopped = store_is format all fits (view_of stopped.history) (begun ∷ begun ∷ []) [] (log_read format reads_logs (begun ∷ begun ∷ []) (begun_line, (begun_line, tt))) refl
-
-  pub at_built : first_store ≡ store_in format all (view_of built.history)
-  at_built =
-      store_is format all fits (view_of built.history) first_done (told 15 ∷ []) (log_read format reads_logs first_done first_lines)
-      (deps_read format reads_logs (told 15 ∷ []) (told_line 15 (omega arith), tt))
-
-  pub at_edited_again : first_store ≡ store_in format all (view_of edited_again.history)
-  at_edited_again =
-      store_is format all fits (view_of edited_again.history) first_done (told 15 ∷ []) (log_read format reads_logs first_done first_lines)
-      (deps_read format reads_logs (told 15 ∷ []) (told_line 15 (omega arith), tt))
-
-  pub at_last : second_store ≡ store_in format all (view_of last.history)
-  at_last =
-      store_is format all fits (view_of last.history) second_done (told 15 ∷ told 25 ∷ []) (log_read format reads_logs second_done second_lines)
-      (deps_read format reads_logs (told 15 ∷ told 25 ∷ []) (told_line 15 (omega arith), (told_line 25 (omega arith), tt)))
-
--- ---- steps
-
-abbrev pub failing_steps : List Step
-failing_steps = Judged 1 true ∷ Started 1 ∷ Ended 1 false ∷ []
-
-abbrev pub stopping_steps : List Step
-stopping_steps = Judged 1 true ∷ Started 1 ∷ []
-
-abbrev pub good_steps : List Step
-good_steps = Judged 1 true ∷ Started 1 ∷ Ended 1 true ∷ []
 
 -- ---- who writes what
 
@@ -186,9 +119,6 @@ module _ (reading : List ℕ → Option (List (List ℕ))) (dyndep : List ℕ �
   abbrev B : Behaviour
   B = toys reading dyndep
 
-  pub no_ends : AtEach (EndsIn (EndsTelling reading dyndep reads no_store [] refl tt named.history failing_steps)) [] failing
-  no_ends = (tt, (tt, (tt, (tt, (tt, (tt, tt))))))
-
   abbrev pub failing_build : (all : OwnFiles) → IsOwnIn all asked.folder → SingleBuild true B format all asked named failed (Failed (codes "b" ∷ []))
   failing_build all fits = record {
     store = no_store;
@@ -209,7 +139,7 @@ module _ (reading : List ℕ → Option (List (List ℕ))) (dyndep : List ℕ �
     };
     met = None;
     met_fault = λ i is. absurd (none_some i is);
-    judged = λ tells kept apart known. judged_of reading dyndep reads no_store [] refl tt failing_steps named.history failing (absent, (tt, (tt, tt))) no_ends;
+    judged = λ tells kept apart known. judged_of reading dyndep reads no_store [] refl tt failing_steps named.history failing (absent, (tt, (tt, tt))) (no_ends reading dyndep reads);
     answers = (
       in_order reading dyndep reads no_store [] refl tt all named failed (λ none. some_none _ none),
       record {
@@ -231,9 +161,6 @@ module _ (reading : List ℕ → Option (List (List ℕ))) (dyndep : List ℕ �
     from_nothing = λ tells success. absurd success;
   }
 
-  pub no_stopping_ends : AtEach (EndsIn (EndsTelling reading dyndep reads once_begun [] refl tt edited.history stopping_steps)) [] stopping
-  no_stopping_ends = (tt, (tt, (tt, (tt, (tt, (tt, tt))))))
-
   abbrev pub stopping_build : (all : OwnFiles) → IsOwnIn all asked.folder → SingleBuild true B format all asked edited stopped (Fault Stopped)
   stopping_build all fits = record {
     store = once_begun;
@@ -253,7 +180,7 @@ module _ (reading : List ℕ → Option (List (List ℕ))) (dyndep : List ℕ �
     };
     met = None;
     met_fault = λ i is. absurd (none_some i is);
-    judged = λ tells kept apart known. judged_of reading dyndep reads once_begun [] refl tt stopping_steps edited.history stopping (absent_still, (tt, tt)) no_stopping_ends;
+    judged = λ tells kept apart known. judged_of reading dyndep reads once_begun [] refl tt stopping_steps edited.history stopping (absent_still, (tt, tt)) (no_stopping_ends reading dyndep reads);
     answers = refl;
     in_order = inr (was_in_order reading dyndep reads once_begun [] refl tt all edited stopped (λ none. some_none _ none) stopping_steps);
     faults = record { refused = λ none. refl; starts = inl refl; stopped = λ stop. refl; earlier = refl };
@@ -264,9 +191,6 @@ module _ (reading : List ℕ → Option (List (List ℕ))) (dyndep : List ℕ �
         (untouched_first edited.history stopping 1 true, (tt, tt));
     from_nothing = λ tells success. absurd success;
   }
-
-  pub succeeding_ends : AtEach (EndsIn (EndsTelling reading dyndep reads twice_begun [] refl tt restarted_world.history good_steps)) [] succeeding
-  succeeding_ends = (tt, (tt, (tt, (tt, (tt, (tt, ((refl, reads), (tt, (tt, (tt, (tt, tt)))))))))))
 
   abbrev pub succeeding_build : (all : OwnFiles) → IsOwnIn all asked.folder → SingleBuild true B format all asked restarted_world built (Success 1)
   succeeding_build all fits = record {
@@ -288,7 +212,7 @@ module _ (reading : List ℕ → Option (List (List ℕ))) (dyndep : List ℕ �
     };
     met = None;
     met_fault = λ i is. absurd (none_some i is);
-    judged = λ tells kept apart known. judged_of reading dyndep reads twice_begun [] refl tt good_steps restarted_world.history succeeding (unknown, (tt, (tt, tt))) succeeding_ends;
+    judged = λ tells kept apart known. judged_of reading dyndep reads twice_begun [] refl tt good_steps restarted_world.history succeeding (unknown, (tt, (tt, tt))) (succeeding_ends reading dyndep reads);
     answers = (
       in_order reading dyndep reads twice_begun [] refl tt all restarted_world built (λ none. some_none _ none),
       record {
@@ -312,9 +236,6 @@ module _ (reading : List ℕ → Option (List (List ℕ))) (dyndep : List ℕ �
         absurd (some_none _ (subst (λ (p : List ℕ). view_of restarted_world.history p ≡ None) fits.build_log nothing.build_log));
   }
 
-  pub again_ends : AtEach (EndsIn (EndsTelling reading dyndep reads first_store (codes "h" ∷ []) refl (refl, tt) edited_again.history good_steps)) [] again
-  again_ends = (tt, (tt, (tt, (tt, (tt, (tt, ((refl, reads), (tt, (tt, (tt, tt))))))))))
-
   abbrev pub building_again : (all : OwnFiles) → IsOwnIn all asked.folder → SingleBuild true B format all asked edited_again last (Success 1)
   building_again all fits = record {
     store = first_store;
@@ -335,7 +256,7 @@ module _ (reading : List ℕ → Option (List (List ℕ))) (dyndep : List ℕ �
     };
     met = None;
     met_fault = λ i is. absurd (none_some i is);
-    judged = λ tells kept apart known. judged_of reading dyndep reads first_store (codes "h" ∷ []) refl (refl, tt) good_steps edited_again.history again (later, (tt, (tt, tt))) again_ends;
+    judged = λ tells kept apart known. judged_of reading dyndep reads first_store (codes "h" ∷ []) refl (refl, tt) good_steps edited_again.history again (later, (tt, (tt, tt))) (again_ends reading dyndep reads);
     answers = (
       in_order reading dyndep reads first_store (codes "h" ∷ []) refl (refl, tt) all edited_again last (λ none. some_none _ none),
       record {
@@ -358,42 +279,3 @@ module _ (reading : List ℕ → Option (List (List ℕ))) (dyndep : List ℕ �
     from_nothing = λ tells success nothing premises.
         absurd (some_none _ (subst (λ (p : List ℕ). view_of edited_again.history p ≡ None) fits.build_log nothing.build_log));
   }
-
-  -- ---- their premises
-
-  pub failing_keeps : Premises B own edges edges (recorded_inputs no_store edges) failing_steps named.history failed.history
-  failing_keeps =
-      premises_of reading dyndep reads no_store [] refl tt failing_steps named.history failing refl refl
-      (tt, (tt, (tt, (tt, (tt, (tt, tt)))))) (tt, (tt, (tt, (tt, (tt, (tt, tt)))))) (omega arith, (omega arith, (omega arith, (omega arith, tt)))) no_ends
-      (tt, (tt, (tt, (tt, (tt, (tt, tt))))))
-
-  pub stopping_keeps : Premises B own edges edges (recorded_inputs once_begun edges) stopping_steps edited.history stopped.history
-  stopping_keeps =
-      premises_of reading dyndep reads once_begun [] refl tt stopping_steps edited.history stopping refl refl
-      (tt, (tt, (tt, (tt, (inl refl, (inr refl, tt)))))) (tt, (tt, (tt, (tt, (tt, (tt, tt))))))
-      (omega arith, (omega arith, (omega arith, (omega arith, (omega arith, tt))))) no_stopping_ends
-      (tt, (tt, (tt, (tt, (tt, (tt, tt))))))
-
-  leaves_x : LeavesAt reading dyndep reads twice_begun [] refl tt restarted_world.history built.history 1 (take 6 succeeding)
-  leaves_x = left_outcome reading dyndep reads (view_of built.history) (view_of (restarted_world.history ++ take 6 succeeding)) (codes "x") refl refl refl refl
-
-  pub succeeding_keeps : Premises B own edges edges (recorded_inputs twice_begun edges) good_steps restarted_world.history built.history
-  succeeding_keeps =
-      premises_of reading dyndep reads twice_begun [] refl tt good_steps restarted_world.history succeeding refl refl
-      (tt, (tt, (tt, (tt, (inl refl, (inr refl, (tt, (tt, (tt, (tt, (tt, tt)))))))))))
-      (tt, (tt, (tt, (tt, (tt, (tt, (tt, (tt, (tt, (tt, (tt, tt)))))))))))
-      (omega arith, (omega arith, (omega arith, (omega arith, (omega arith, (omega arith, (omega arith, (omega arith, (omega arith, tt)))))))))
-      succeeding_ends
-      (tt, (tt, (tt, (tt, (tt, (tt, (leaves_x, (tt, (tt, (tt, (tt, tt)))))))))))
-
-  leaves_y : LeavesAt reading dyndep reads first_store (codes "h" ∷ []) refl (refl, tt) edited_again.history last.history 1 (take 6 again)
-  leaves_y = left_outcome reading dyndep reads (view_of last.history) (view_of (edited_again.history ++ take 6 again)) (codes "y") refl refl refl refl
-
-  pub again_keeps : Premises B own edges edges (recorded_inputs first_store edges) good_steps edited_again.history last.history
-  again_keeps =
-      premises_of reading dyndep reads first_store (codes "h" ∷ []) refl (refl, tt) good_steps edited_again.history again refl refl
-      (tt, (tt, (tt, (tt, (inl refl, (inr refl, (tt, (tt, (tt, (tt, tt))))))))))
-      (tt, (tt, (tt, (tt, (tt, (tt, (tt, (tt, (tt, (tt, tt))))))))))
-      (omega arith, (omega arith, (omega arith, (omega arith, (omega arith, (omega arith, (omega arith, (omega arith, tt))))))))
-      again_ends
-      (tt, (tt, (tt, (tt, (tt, (tt, (leaves_y, (tt, (tt, (tt, tt))))))))))

@@ -5,5 +5,7 @@ pub mod Logs
 pub mod OneEdge
 pub mod Outcomes
 pub mod OneBuild
+pub mod Between
 pub mod Builds
+pub mod KeptLogs
 pub mod Visits
