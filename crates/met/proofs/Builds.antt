@@ -1,33 +1,24 @@
 -- The four builds of the history.
-use Rattle.std.proofs.Common.{◌≡◌, inl, inr, ℕ, ◌==◌, Bool, true, false, List, [], ◌∷◌, ◌++◌, Option, Some, None, take, refl, sym, ◌∙◌, subst, arith}
+use Rattle.std.proofs.Common.{◌≡◌, inl, inr, ℕ, ◌==◌, Bool, true, false, List, [], ◌∷◌, ◌++◌, Option, Some, None, take, refl, sym, subst}
 use Rattle.std.proofs.lemmas.Bool.{false≢true, cases_Bool}
 use Rattle.std.specs.Prelude.{codes}
 use Rattle.std.specs.List.{AllByRecursion}
 use Rattle.model.specs.declared.act.Act.{Act}
 use Rattle.model.specs.declared.event.Event.TheVariants.{Start, Finish}
-use Rattle.model.specs.declared.event.Moment.{Moment}
 use Rattle.model.specs.declared.fault.SiteFault.TheVariants.{Stopped}
-use Rattle.model.specs.declared.record.Record.{Record}
-use Rattle.model.specs.World.{World, view_of, latest, IsIdle}
+use Rattle.model.specs.World.{view_of, IsIdle}
 use Rattle.model.specs.Graph.{Addition}
 use Rattle.model.specs.Outcome.{Behaviour}
-use Rattle.model.specs.Records.{Store, LogFormat, OwnFiles, IsOwnIn, store_in, recorded_inputs}
+use Rattle.model.specs.Records.{Store, LogFormat, OwnFiles, IsOwnIn, recorded_inputs}
 use Rattle.model.specs.OutOfDate.{IsVerdict}
-use Rattle.model.specs.Schedule.{Step, Judged, Started, Ended, IsSettled, Done, done_in}
-use Rattle.model.specs.Premises.{Premises, Increases, IsWithinEdge, IsNoEdit}
+use Rattle.model.specs.Schedule.{IsSettled, Done, done_in}
 use Rattle.model.specs.SingleBuild.{SingleBuild, Success, Failed, Fault, InCone, IsOfBuild, MayChange}
-use Rattle.build_log.specs.declared.form.Version.TheVariants.{Two}
-use Rattle.build_log.specs.Form.{HaveLines}
-use Rattle.build_log.specs.Record.{forms as record_forms}
-use Rattle.deps_log.specs.Record.{forms as deps_forms}
 use Rattle.deps_log.specs.Format.{ReadsLogs}
-use Rattle.met.specs.Scanning.{scan, edges, asked, naming, telling, toys, own, begun, done, told, store_of}
+use Rattle.met.specs.Scanning.{scan, edges, asked, telling, toys}
 use Rattle.met.specs.Worlds.{failing, stopping, succeeding, again, named, failed_events, failed, edited, stopped, restarted_world, built_events, built, edited_again, last}
 use Rattle.met.proofs.Lists.{none_some}
-use Rattle.met.proofs.Logs.{begun_line, done_line, told_line, log_read, deps_read, store_is}
 use Rattle.met.proofs.OneEdge.{in_cone, counts_all, no_load, judged_once, started_once, first_judged, first_started, first_ended}
-use Rattle.met.proofs.Outcomes.{left_outcome}
-use Rattle.met.proofs.OneBuild.{AtEach, written_in, EndsIn, VerdictAt, EndsTelling, LeavesAt, ready_scan, b_is, untouched_first, frame_of, judged_of, in_one_phase, in_order, was_in_order, premises_of}
+use Rattle.met.proofs.OneBuild.{written_in, ready_scan, b_is, untouched_first, frame_of, judged_of, in_one_phase, in_order, was_in_order}
 use Rattle.met.proofs.Between.{no_store, once_begun, twice_begun, first_store, at_named, at_edited, at_stopped, at_edited_again, failing_steps, stopping_steps, good_steps, no_ends, no_stopping_ends, succeeding_ends, again_ends}
 
 pub some_none : {A : Type 0} (x : A) → Some x ≡ None → ⊥
@@ -115,7 +106,7 @@ settled store extra recorded_is all_h i within = subst (λ (n : ℕ). IsSettled 
 -- ---- the builds
 
 module _ (reading : List ℕ → Option (List (List ℕ))) (dyndep : List ℕ → Option (List Addition)) (reads : reading telling ≡ Some (codes "h" ∷ []))
-  (format : LogFormat) (reads_logs : ReadsLogs format) where
+    (format : LogFormat) (reads_logs : ReadsLogs format) where
   abbrev B : Behaviour
   B = toys reading dyndep
 

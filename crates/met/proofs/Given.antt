@@ -1,24 +1,20 @@
 -- What the command gives, and what it tells.
-use Rattle.std.proofs.Common.{◌≡◌, inl, inr, ℕ, zero, suc, ◌<◌, if◌then◌else◌, Bool, true, false, List, [], ◌∷◌, ◌++◌, Option, Some, None, Result, Ok, Err, refl, sym, ◌∙◌, ap, subst, arith}
+use Rattle.std.proofs.Common.{◌≡◌, inl, inr, ℕ, zero, suc, ◌<◌, if◌then◌else◌, Bool, true, false, List, [], ◌∷◌, ◌++◌, Option, Some, Result, Ok, refl, ◌∙◌, ap, arith}
 use Rattle.std.proofs.lemmas.Bool.{false≢true, cases_Bool, ltb-true}
 use Rattle.std.proofs.Math.Dec.{ltb}
 use Rattle.std.specs.Prelude.{codes}
-use Rattle.std.specs.List.{AllByRecursion}
 use Rattle.std.specs.Str.{is_utf8, IsUtf8, IsAscii}
 use Rattle.std.proofs.lemmas.Str.{is_utf8-from_IsUtf8, IsUtf8-from_ascii}
 use Rattle.model.specs.declared.outcome.Outcome.{Outcome}
 use Rattle.model.specs.World.{View}
-use Rattle.model.specs.Calls.{AgreeOn}
-use Rattle.model.specs.Graph.{Addition, edge_at, outputs}
-use Rattle.model.specs.Outcome.{Behaviour, left, depfile_in, is_accepted, listed, ends_well, reports_of, given, GivesTheSame}
-use Rattle.lexer.specs.Path.{IsCanonical, Rewrites, IsFinal, Step, Folds, Climbs, parent}
+use Rattle.lexer.specs.Path.{IsCanonical, Step, parent}
 use Rattle.lexer.specs.Path.Rewrites.{done as no_step}
-use Rattle.depfile.specs.Depfile.{IsRead, IsReading, accepted, inputs, AreInputs}
+use Rattle.depfile.specs.Depfile.{IsRead, IsReading, accepted}
 use Rattle.depfile.specs.declared.fault.DepFault.{DepFault}
 use Rattle.depfile.specs.Signs.Sign.{letter}
 use Rattle.sim.specs.Toy.{toy_outcome, named, named_in, gathered_from, contents, joined}
 use Rattle.sim.specs.Toy as toy
-use Rattle.met.specs.Scanning.{scan, edges, naming, telling, toys}
+use Rattle.met.specs.Scanning.{scan, naming, telling}
 
 -- ---- texts
 

@@ -1,5 +1,5 @@
 -- What each build leaves in the logs, and that a success leaves nothing to do.
-use Rattle.std.proofs.Common.{◌≡◌, ◌≢◌, inl, inr, ℕ, Bool, true, false, List, [], ◌∷◌, ◌++◌, Option, Some, None, refl, sym, ◌∙◌, subst}
+use Rattle.std.proofs.Common.{◌≡◌, ◌≢◌, inl, inr, ℕ, true, false, List, [], ◌∷◌, ◌++◌, Option, Some, None, refl, sym, ◌∙◌, subst}
 use Rattle.std.proofs.lemmas.Bool.{false≢true, cases_Bool}
 use Rattle.std.proofs.lemmas.List.{append_cancel_left}
 use Rattle.std.specs.Prelude.{codes}
@@ -8,11 +8,10 @@ use Rattle.model.specs.declared.event.Event.{Event}
 use Rattle.model.specs.declared.event.Event.TheVariants.{Start, Finish}
 use Rattle.model.specs.declared.event.Moment.{Moment}
 use Rattle.model.specs.World.{World, view_of}
-use Rattle.model.specs.Graph.{Addition, has, has_number, edge_at, outputs, StandsTwice}
+use Rattle.model.specs.Graph.{Addition, has, edge_at, outputs, StandsTwice}
 use Rattle.model.specs.Outcome.{Behaviour, depfile_in, listed}
 use Rattle.model.specs.Records.{Store, ListsOnce, in_force, deps_in_force}
 use Rattle.model.specs.OutOfDate.{IsVerdict}
-use Rattle.model.specs.Schedule.{Step}
 use Rattle.model.specs.Kept.{KeepsRecords, KeepsDeps, StartedUnder, IsRecorded, IsLeftAlone, LeavesNothing}
 use Rattle.met.specs.Scanning.{scan, edges, asked, telling, toys, begun}
 use Rattle.met.specs.Worlds.{succeeding, again, named, failed, edited, stopped, restarted_world, built_events, built, edited_again, last}

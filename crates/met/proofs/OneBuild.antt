@@ -12,7 +12,7 @@ use Rattle.model.specs.Graph.{Addition, has, has_number, edge_at, maker, inputs,
 use Rattle.model.specs.Outcome.{Behaviour, depfile_in, is_accepted, listed}
 use Rattle.model.specs.Records.{Store, OwnFiles, IsOwnIn, output_name, recorded_inputs}
 use Rattle.model.specs.OutOfDate.{IsVerdict, IsMissing}
-use Rattle.model.specs.Schedule.{Step, Judged, Started, Ended, judged_in, ended_in, well_in, IsLawfulFrom}
+use Rattle.model.specs.Schedule.{Step, Judged, Started, Ended, judged_in, well_in, IsLawfulFrom}
 use Rattle.model.specs.Phases.{IsLawfulBuild, AreUnloadedFrom, IsPointAfter, WasNothingMissingIn}
 use Rattle.model.specs.Premises.{HasOneOutcome, LeftOutcome, EndedAt, Increases, IsWithinEdge, IsNoEdit, OwnFilesApart, LiesIn, SharesNone, FilesAreKept, Premises}
 use Rattle.model.specs.SingleBuild.{IsJudged, IsInOrder, WasInOrder, IsOfBuild, MayChange, IsReadyFor, IsMadeBy, IsFrame, task_of}
@@ -187,7 +187,7 @@ kept_of old more within edits = record {
 -- ---- where depfiles are read by their grammar, and nothing is recorded but `h`
 
 module _ (reading : List ℕ → Option (List (List ℕ))) (dyndep : List ℕ → Option (List Addition)) (reads : reading telling ≡ Some (codes "h" ∷ []))
-  (store : Store) (extra : List (List ℕ)) (recorded_is : recorded_inputs store edges 1 ≡ extra) (all_h : AllByRecursion (λ p. p ≡ codes "h") extra) where
+    (store : Store) (extra : List (List ℕ)) (recorded_is : recorded_inputs store edges 1 ≡ extra) (all_h : AllByRecursion (λ p. p ≡ codes "h") extra) where
   abbrev B : Behaviour
   B = toys reading dyndep
 

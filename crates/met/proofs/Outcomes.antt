@@ -1,11 +1,11 @@
 -- That the command is a function of what it declares and tells, where depfiles are read by their grammar.
-use Rattle.std.proofs.Common.{◌≡◌, inl, inr, ℕ, ◌&&◌, if◌then◌else◌, Bool, true, false, List, [], ◌∷◌, ◌++◌, Option, Some, None, refl, sym, ◌∙◌, ap, subst}
+use Rattle.std.proofs.Common.{◌≡◌, inl, ℕ, ◌&&◌, if◌then◌else◌, Bool, true, List, [], ◌∷◌, ◌++◌, Option, Some, None, refl, sym, ◌∙◌, ap, subst}
 use Rattle.std.proofs.lemmas.Bool.{false≢true}
 use Rattle.std.specs.Prelude.{codes}
 use Rattle.model.specs.declared.outcome.Outcome.{Outcome}
 use Rattle.model.specs.World.{View}
 use Rattle.model.specs.Calls.{AgreeOn}
-use Rattle.model.specs.Graph.{Addition, edge_at, outputs}
+use Rattle.model.specs.Graph.{Addition}
 use Rattle.model.specs.Outcome.{Behaviour, left, depfile_in, is_accepted, listed, ends_well, reports_of, given, GivesTheSame}
 use Rattle.model.specs.Reading.{Itself}
 use Rattle.model.specs.Premises.{HasOneOutcome, LeftOutcome}

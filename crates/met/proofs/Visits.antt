@@ -1,5 +1,5 @@
 -- The history of the site in memory meets the premises of the headline.
-use Rattle.std.proofs.Common.{◌≡◌, ◌≢◌, inl, inr, ℕ, Bool, true, false, List, [], ◌∷◌, ◌++◌, Option, Some, None, Result, refl, sym, ◌∙◌, ap, subst, bytes_eq, arith}
+use Rattle.std.proofs.Common.{◌≡◌, inl, inr, ℕ, true, false, List, [], ◌∷◌, ◌++◌, Option, Some, None, Result, refl, sym, ◌∙◌, ap, subst, bytes_eq, arith}
 use Rattle.std.proofs.lemmas.Bool.{false≢true}
 use Rattle.std.proofs.lemmas.List.{append_cancel_left}
 use Rattle.std.specs.Prelude.{codes}
@@ -18,7 +18,7 @@ use Rattle.model.specs.SingleBuild.{Success, Failed, Fault}
 use Rattle.model.specs.Faithful.{IsFaithfulStore}
 use Rattle.model.specs.History.{Visit, Edited, Built, Unread, Restarted, IsEdit, LeavesOutputs, Keeps}
 use Rattle.model.specs.Driven.{CarriesOut, HasLogs}
-use Rattle.depfile.specs.Depfile.{IsRead, IsReading}
+use Rattle.depfile.specs.Depfile.{IsRead}
 use Rattle.depfile.specs.declared.fault.DepFault.{DepFault}
 use Rattle.deps_log.specs.Format.{ReadsLogs}
 use Rattle.met.specs.Scanning.{scan, edges, asked, file_text, naming, telling, toys, own}
@@ -28,7 +28,7 @@ use Rattle.met.proofs.Lists.{none_some, bytes_same}
 use Rattle.met.proofs.Given.{tells_h}
 use Rattle.met.proofs.Called.{called}
 use Rattle.met.proofs.OneBuild.{own_fits}
-use Rattle.met.proofs.Between.{no_store, once_begun, twice_begun, first_store, second_store, at_failed, at_stopped, at_built, at_edited_again, at_last, failing_steps, stopping_steps, good_steps, failing_keeps, stopping_keeps, succeeding_keeps, again_keeps}
+use Rattle.met.proofs.Between.{no_store, once_begun, twice_begun, first_store, at_failed, at_stopped, at_built, at_edited_again, at_last, failing_steps, stopping_steps, good_steps, failing_keeps, stopping_keeps, succeeding_keeps, again_keeps}
 use Rattle.met.proofs.Builds.{ended, failing_build, stopping_build, succeeding_build, building_again}
 use Rattle.met.proofs.KeptLogs.{failing_logs, stopping_logs, succeeding_logs, again_logs, nothing_left, nothing_left_again}
 
@@ -75,7 +75,7 @@ one_folder (Restarted others old new restart) is kept = is
 -- ---- the history
 
 module _ (reading : List ℕ → Option (List (List ℕ))) (dyndep : List ℕ → Option (List Addition)) (reads : reading telling ≡ Some (codes "h" ∷ []))
-  (format : LogFormat) (reads_logs : ReadsLogs format) where
+    (format : LogFormat) (reads_logs : ReadsLogs format) where
   abbrev B : Behaviour
   B = toys reading dyndep
 

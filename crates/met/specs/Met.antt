@@ -2,10 +2,10 @@
 use Rattle.std.specs.Prelude.{◌≡◌, ℕ, true, false, List, [], ◌∷◌, Option, Some, map, codes}
 use Rattle.std.specs.List.{AllByRecursion}
 use Rattle.model.specs.declared.fault.SiteFault.TheVariants.{Stopped}
-use Rattle.model.specs.World.{World, view_of}
+use Rattle.model.specs.World.{view_of}
 use Rattle.model.specs.Graph.{Addition}
 use Rattle.model.specs.Outcome.{Behaviour}
-use Rattle.model.specs.Records.{LogFormat, store_in, recorded_inputs, build_log_name}
+use Rattle.model.specs.Records.{LogFormat, store_in, recorded_inputs}
 use Rattle.model.specs.SingleBuild.{Success, Failed, Fault}
 use Rattle.model.specs.Faithful.{IsFaithfulStore}
 use Rattle.model.specs.History.{Visit, Edited, Built, Unread, Restarted, IsHistory, Keeps, exit_of}

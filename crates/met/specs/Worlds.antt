@@ -1,7 +1,6 @@
 -- What happens on a site in memory: which calls are made on it for each move, and what they leave. That the program makes just these calls
 -- for these moves is shown by a test (`checks`, `history`).
-use Rattle.std.specs.Prelude.{ℕ, Bool, true, false, List, [], ◌∷◌, ◌++◌, Option, Some, None, codes}
-use Rattle.model.specs.declared.act.Act.{Act}
+use Rattle.std.specs.Prelude.{ℕ, Bool, true, false, List, [], ◌∷◌, ◌++◌, Some, None, codes}
 use Rattle.model.specs.declared.event.Event.{Event}
 use Rattle.model.specs.declared.event.Event.TheVariants.{Start, Finish}
 use Rattle.model.specs.declared.event.Moment.{Moment}
@@ -18,7 +17,7 @@ use Rattle.build_log.specs.Text.{header}
 use Rattle.build_log.specs.Record.{forms as record_forms}
 use Rattle.deps_log.specs.Record.{forms as deps_forms}
 use Rattle.sim.specs.Toy.{toy_outcome}
-use Rattle.sim.specs.World.{wrote, ticked, appended, started, happened, worked, restarted}
+use Rattle.sim.specs.World.{wrote, ticked, appended, started, happened, worked}
 use Rattle.met.specs.Scanning.{scan, file_text, naming, telling, begun, done, told, log_text, deps_text}
 
 -- ---- calls, as the contracts of the site in memory have them
