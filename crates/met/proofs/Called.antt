@@ -14,11 +14,11 @@ use Rattle.build_log.specs.Form.{Form, record_line, lines_text}
 use Rattle.build_log.specs.Text.{header}
 use Rattle.build_log.specs.Record.{forms as record_forms}
 use Rattle.deps_log.specs.Record.{forms as deps_forms}
-use Rattle.sim.specs.World.{ticked, appended, started, happened, worked}
-use Rattle.met.specs.Scanning.{scan, naming, begun, done, told, log_text, deps_text}
-use Rattle.met.specs.Worlds.{Call, now_given, waits, stops, after, starting, recording, writes, removes, failing_calls, stopping_calls, first_calls, second_calls, named, failed, edited, stopped, restarted_world, built, edited_again, last}
+use Rattle.sim.specs.World.{ticked, started, happened, worked}
+use Rattle.met.specs.Scanning.{cat, scan, naming, begun, copied, scanned, told, log_text, deps_text}
+use Rattle.met.specs.Worlds.{Call, now_given, waits, stops, after, logs, tells, copying, scanning, recording, writes, removes, failing_calls, stopping_calls, first_calls, second_calls, failed_log, stopped_log, built_log, named, failed, edited, stopped, restarted_world, built, edited_again, last}
 use Rattle.met.specs.Met.{AreCalled}
-use Rattle.met.proofs.Given.{giving, outcome_is}
+use Rattle.met.proofs.Given.{IsName, h_is_name, k_is_name, giving, outcome_is}
 
 -- ---- a line behind a log
 
@@ -31,93 +31,114 @@ text_grows form rs r = append_assoc (header form) (lines_text form rs) (record_l
 
 -- ---- waiting
 
-given_by : (world : World) (held : Option (List ℕ)) → view_of world.history (codes "a") ≡ Some naming → view_of world.history (codes "h") ≡ held → now_given world ≡ giving held
-given_by world held naming_is held_is = outcome_is (view_of world.history) naming_is ∙ ap giving held_is
+given_by : (name : List ℕ) → IsName name → (world : World) (held : Option (List ℕ)) → view_of world.history (codes "a") ≡ Some (naming name) → view_of world.history name ≡ held
+    → now_given scan world ≡ giving name held
+given_by name is_name world held naming_is held_is = outcome_is name is_name (view_of world.history) naming_is ∙ ap (giving name) held_is
 
-waits_giving : (world : World) (held : Option (List ℕ)) → view_of world.history (codes "a") ≡ Some naming → view_of world.history (codes "h") ≡ held
-    → waits world ≡ happened (Finish 1 (giving held).ok) (worked 1 (giving held) world)
-waits_giving world held naming_is held_is = ap (λ (o : Outcome). happened (Finish 1 o.ok) (worked 1 o world)) (given_by world held naming_is held_is)
+-- ---- one call and what follows
 
-stops_giving : (world : World) (held : Option (List ℕ)) → view_of world.history (codes "a") ≡ Some naming → view_of world.history (codes "h") ≡ held
-    → stops world ≡ record (worked 1 (giving held) world) { stopped = true }
-stops_giving world held naming_is held_is = ap (λ (o : Outcome). record (worked 1 o world) { stopped = true }) (given_by world held naming_is held_is)
+waits_then : (call : Call) (world : World) (given : Outcome) → now_given scan world ≡ given → call (waits 2 scan world) ≡ call (happened (Finish 2 given.ok) (worked 2 given world))
+waits_then call world given is = ap (λ (o : Outcome). call (happened (Finish 2 o.ok) (worked 2 o world))) is
 
--- ---- logs
+stops_giving : (world : World) (given : Outcome) → now_given scan world ≡ given → stops 2 scan world ≡ record (worked 2 given world) { stopped = true }
+stops_giving world given is = ap (λ (o : Outcome). record (worked 2 o world) { stopped = true }) is
 
-begins_more : (rs : List Record) (world : World) → content_or_empty (file_at world.history build_log_name) ≡ log_text rs
-    → appended build_log_name (record_line (record_forms Two) begun) world ≡ writes build_log_name (log_text (rs ++ begun ∷ [])) world
-begins_more rs world is =
-    ap (λ (held : List ℕ). writes build_log_name (held ++ record_line (record_forms Two) begun) world) is
-    ∙ ap (λ (text : List ℕ). writes build_log_name text world) (text_grows (record_forms Two) rs begun)
+logs_then : (call : Call) (rs : List Record) (r : Record) (world : World) → content_or_empty (file_at world.history build_log_name) ≡ log_text rs
+    → call (logs r world) ≡ call (writes build_log_name (log_text (rs ++ r ∷ [])) world)
+logs_then call rs r world is =
+    ap (λ (held : List ℕ). call (writes build_log_name (held ++ record_line (record_forms Two) r) world)) is
+    ∙ ap (λ (text : List ℕ). call (writes build_log_name text world)) (text_grows (record_forms Two) rs r)
 
-ends_more : (rs : List Record) (start : ℕ) (world : World) → content_or_empty (file_at world.history build_log_name) ≡ log_text rs
-    → appended build_log_name (record_line (record_forms Two) (done start)) world ≡ writes build_log_name (log_text (rs ++ done start ∷ [])) world
-ends_more rs start world is =
-    ap (λ (held : List ℕ). writes build_log_name (held ++ record_line (record_forms Two) (done start)) world) is
-    ∙ ap (λ (text : List ℕ). writes build_log_name text world) (text_grows (record_forms Two) rs (done start))
+tells_then : (call : Call) (rs : List DepsRecord) (r : DepsRecord) (world : World) → content_or_empty (file_at world.history deps_log_name) ≡ deps_text rs
+    → call (tells r world) ≡ call (writes deps_log_name (deps_text (rs ++ r ∷ [])) world)
+tells_then call rs r world is =
+    ap (λ (held : List ℕ). call (writes deps_log_name (held ++ record_line (deps_forms Two) r) world)) is
+    ∙ ap (λ (text : List ℕ). call (writes deps_log_name text world)) (text_grows (deps_forms Two) rs r)
 
-tells_more : (rs : List DepsRecord) (start : ℕ) (world : World) → content_or_empty (file_at world.history deps_log_name) ≡ deps_text rs
-    → appended deps_log_name (record_line (deps_forms Two) (told start)) world ≡ writes deps_log_name (deps_text (rs ++ told start ∷ [])) world
-tells_more rs start world is =
-    ap (λ (held : List ℕ). writes deps_log_name (held ++ record_line (deps_forms Two) (told start)) world) is
-    ∙ ap (λ (text : List ℕ). writes deps_log_name text world) (text_grows (deps_forms Two) rs (told start))
+-- ---- parts of a build, where the log has these records before
+
+abbrev copies : List Record → World → World
+copies rs world = waits 1 cat (started 1 cat (ticked tick_name (writes build_log_name (log_text (rs ++ begun (codes "h") ∷ [])) world)))
+
+abbrev copies_all : List Record → ℕ → World → World
+copies_all rs start world = writes build_log_name (log_text (rs ++ begun (codes "h") ∷ copied start ∷ [])) (copies rs world)
+
+copies_then : (call : Call) (rs : List Record) (start : ℕ) (world : World) → content_or_empty (file_at world.history build_log_name) ≡ log_text rs
+    → content_or_empty (file_at (copies rs world).history build_log_name) ≡ log_text (rs ++ begun (codes "h") ∷ [])
+    → call (after (copying start) world) ≡ call (copies_all rs start world)
+copies_then call rs start world is then_is =
+    logs_then (λ w. call (logs (copied start) (waits 1 cat (started 1 cat (ticked tick_name w))))) rs (begun (codes "h")) world is
+    ∙ logs_then call (rs ++ begun (codes "h") ∷ []) (copied start) (copies rs world) then_is
+    ∙ ap (λ (all : List Record). call (writes build_log_name (log_text all) (copies rs world))) (append_assoc rs (begun (codes "h") ∷ []) (copied start ∷ []))
+
+abbrev scans : List Record → World → World
+scans rs world = started 2 scan (ticked tick_name (removes (codes "b.d") (writes build_log_name (log_text (rs ++ begun (codes "b") ∷ [])) world)))
+
+scans_then : (call : Call) (rs : List Record) (world : World) → content_or_empty (file_at world.history build_log_name) ≡ log_text rs
+    → call (after scanning world) ≡ call (scans rs world)
+scans_then call rs world is = logs_then (λ w. call (started 2 scan (ticked tick_name (removes (codes "b.d") w)))) rs (begun (codes "b")) world is
+
+-- the second command has ended well
+abbrev ended : List ℕ → World → World
+ended content world = happened (Finish 2 true) (worked 2 (giving (codes "h") (Some content)) world)
+
+records_then : (ds : List DepsRecord) (rs : List Record) (start : ℕ) (world : World) → content_or_empty (file_at world.history deps_log_name) ≡ deps_text ds
+    → content_or_empty (file_at (writes deps_log_name (deps_text (ds ++ told start ∷ [])) world).history build_log_name) ≡ log_text rs
+    → after (recording start) world ≡ removes (codes "b.d") (writes build_log_name (log_text (rs ++ scanned start ∷ [])) (writes deps_log_name (deps_text (ds ++ told start ∷ [])) world))
+records_then ds rs start world deps_are logs_are =
+    tells_then (λ w. removes (codes "b.d") (logs (scanned start) w)) ds (told start) world deps_are
+    ∙ logs_then (removes (codes "b.d")) rs (scanned start) (writes deps_log_name (deps_text (ds ++ told start ∷ [])) world) logs_are
 
 -- ---- the builds
-
--- what follows the begun record
-abbrev launching : List Call
-launching = removes (codes "b.d") ∷ ticked tick_name ∷ started 1 scan ∷ []
-
-abbrev running : List Record → World → World
-running rs world = after launching (writes build_log_name (log_text rs) world)
-
-runs_then : (call : Call) (rs : List Record) (world : World) → content_or_empty (file_at world.history build_log_name) ≡ log_text rs
-    → call (after starting world) ≡ call (running (rs ++ begun ∷ []) world)
-runs_then call rs world is = ap (λ (begun_world : World). call (after launching begun_world)) (begins_more rs world is)
 
 abbrev with_log : World
 with_log = writes build_log_name (header (record_forms Two)) named
 
+abbrev first_copied : World
+first_copied = copies_all [] 6 with_log
+
+abbrev first_scanned : World
+first_scanned = scans (begun (codes "h") ∷ copied 6 ∷ []) first_copied
+
 fails : failed ≡ after failing_calls named
-fails = sym (runs_then waits [] with_log refl ∙ waits_giving (running (begun ∷ []) with_log) None refl refl)
+fails =
+    sym (copies_then (λ w. waits 2 scan (after scanning w)) [] 6 with_log refl refl
+    ∙ scans_then (waits 2 scan) (begun (codes "h") ∷ copied 6 ∷ []) first_copied refl
+    ∙ waits_then (λ w. w) first_scanned (giving (codes "k") None) (given_by (codes "k") k_is_name first_scanned None refl refl))
 
 stops_so : stopped ≡ after stopping_calls edited
-stops_so = sym (runs_then stops (begun ∷ []) edited refl ∙ stops_giving (running (begun ∷ begun ∷ []) edited) (Some (codes "x")) refl refl)
+stops_so =
+    sym (scans_then (stops 2 scan) failed_log edited refl
+    ∙ stops_giving (scans failed_log edited) (giving (codes "h") (Some (codes "x"))) (given_by (codes "h") h_is_name (scans failed_log edited) (Some (codes "x")) refl refl))
 
--- the command has ended well
-abbrev ended : List ℕ → World → World
-ended content world = happened (Finish 1 true) (worked 1 (giving (Some content)) world)
-
-abbrev third : List Record
-third = begun ∷ begun ∷ begun ∷ []
-
-abbrev first_ended : World
-first_ended = writes deps_log_name (header (deps_forms Two)) (ended (codes "x") (running third restarted_world))
+abbrev scanned_again : World
+scanned_again = scans stopped_log restarted_world
 
 builds : built ≡ after first_calls restarted_world
 builds =
-    sym (runs_then (λ world. after (recording 15) (writes deps_log_name (header (deps_forms Two)) (waits world))) (begun ∷ begun ∷ []) restarted_world refl
-    ∙ ap (λ (world : World). after (recording 15) (writes deps_log_name (header (deps_forms Two)) world)) (waits_giving (running third restarted_world) (Some (codes "x")) refl refl)
-    ∙ ap (λ (world : World). removes (codes "b.d") (appended build_log_name (record_line (record_forms Two) (done 15)) world)) (tells_more [] 15 first_ended refl)
-    ∙ ap (removes (codes "b.d")) (ends_more third 15 (writes deps_log_name (deps_text (told 15 ∷ [])) first_ended) refl))
+    sym (scans_then (λ w. after (recording 20) (writes deps_log_name (header (deps_forms Two)) (waits 2 scan w))) stopped_log restarted_world refl
+    ∙ waits_then (λ w. after (recording 20) (writes deps_log_name (header (deps_forms Two)) w)) scanned_again (giving (codes "h") (Some (codes "x")))
+        (given_by (codes "h") h_is_name scanned_again (Some (codes "x")) refl refl)
+    ∙ records_then [] (stopped_log ++ begun (codes "b") ∷ []) 20 (writes deps_log_name (header (deps_forms Two)) (ended (codes "x") scanned_again)) refl refl)
 
-abbrev fourth : List Record
-fourth = third ++ done 15 ∷ begun ∷ []
+abbrev copied_again : World
+copied_again = copies_all built_log 29 edited_again
 
-abbrev second_ended : World
-second_ended = ended (codes "y") (running fourth edited_again)
+abbrev scanned_last : World
+scanned_last = scans (built_log ++ begun (codes "h") ∷ copied 29 ∷ []) copied_again
 
 builds_again : last ≡ after second_calls edited_again
 builds_again =
-    sym (runs_then (λ world. after (recording 25) (waits world)) (third ++ done 15 ∷ []) edited_again refl
-    ∙ ap (after (recording 25)) (waits_giving (running fourth edited_again) (Some (codes "y")) refl refl)
-    ∙ ap (λ (world : World). removes (codes "b.d") (appended build_log_name (record_line (record_forms Two) (done 25)) world)) (tells_more (told 15 ∷ []) 25 second_ended refl)
-    ∙ ap (removes (codes "b.d")) (ends_more fourth 25 (writes deps_log_name (deps_text (told 15 ∷ told 25 ∷ [])) second_ended) refl))
+    sym (copies_then (λ w. after (recording 34) (waits 2 scan (after scanning w))) built_log 29 edited_again refl refl
+    ∙ scans_then (λ w. after (recording 34) (waits 2 scan w)) (built_log ++ begun (codes "h") ∷ copied 29 ∷ []) copied_again refl
+    ∙ waits_then (after (recording 34)) scanned_last (giving (codes "h") (Some (codes "y"))) (given_by (codes "h") h_is_name scanned_last (Some (codes "y")) refl refl)
+    ∙ records_then (told 20 ∷ []) (built_log ++ begun (codes "h") ∷ copied 29 ∷ begun (codes "b") ∷ []) 34 (ended (codes "y") scanned_last) refl refl)
 
 pub called : AreCalled
 called = record {
   begins = refl;
   declares = refl;
+  sources = refl;
   names = refl;
   fails = fails;
   edits = refl;

@@ -2,10 +2,7 @@ pub mod Lists
 pub mod Given
 pub mod Called
 pub mod Logs
-pub mod OneEdge
+pub mod TwoEdges
 pub mod Outcomes
-pub mod OneBuild
-pub mod Between
-pub mod Builds
-pub mod KeptLogs
+pub mod TwoBuilt
 pub mod Visits

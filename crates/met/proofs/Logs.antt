@@ -17,29 +17,41 @@ use Rattle.build_log.specs.Form.{HasLine, HaveLines}
 use Rattle.build_log.specs.Record.{forms as record_forms}
 use Rattle.deps_log.specs.Record.{forms as deps_forms}
 use Rattle.deps_log.specs.Format.{ReadsLogs}
-use Rattle.met.specs.Scanning.{begun, done, told, log_text, deps_text, store_of}
-use Rattle.met.proofs.Given.{text_of}
+use Rattle.met.specs.Scanning.{begun, copied, scanned, told, log_text, deps_text, store_of}
+use Rattle.met.proofs.Given.{low, text_of}
 
 number_text : (n : ℕ) → n < 2 ^ 64 → IsUtf8 (decimal n)
 number_text n below = IsUtf8-from_ascii (decimal n) (IsAscii-decimal n below)
 
-one_output : AreDistinct (codes "b" ∷ [])
-one_output p twice = none_twice twice.before twice.after twice.splits twice.earlier
+one_output : (o : List ℕ) → AreDistinct (o ∷ [])
+one_output o p twice = none_twice twice.before twice.after twice.splits twice.earlier
   where
-    none_twice : (before after : List (List ℕ)) → codes "b" ∷ [] ≡ before ++ p ∷ after → has before p ≡ true → ⊥
+    none_twice : (before after : List (List ℕ)) → o ∷ [] ≡ before ++ p ∷ after → has before p ≡ true → ⊥
     none_twice [] after is h = false≢true h
     none_twice (x ∷ []) after is h = cc
     none_twice (x ∷ y ∷ before) after is h = cc
 
-pub begun_line : HasLine (record_forms Two) begun
-begun_line = record {
-  fits = record { room = (omega arith, omega arith); once = one_output; start = tt };
-  texts = (text_of (codes "b") refl, (number_text 1 (omega arith), (text_of (codes "b") refl, tt)));
+pub begun_line : (o : List ℕ) → low o ≡ true → HasLine (record_forms Two) (begun o)
+begun_line o is = record {
+  fits = record { room = (omega arith, omega arith); once = one_output o; start = tt };
+  texts = (text_of (codes "b") refl, (number_text 1 (omega arith), (text_of o is, tt)));
 }
 
-pub done_line : (start : ℕ) → start < 2 ^ 64 → HasLine (record_forms Two) (done start)
-done_line start below = record {
-  fits = record { room = (omega arith, omega arith); once = one_output; start = below };
+pub copied_line : (start : ℕ) → start < 2 ^ 64 → HasLine (record_forms Two) (copied start)
+copied_line start below = record {
+  fits = record { room = (omega arith, omega arith); once = one_output (codes "h"); start = below };
+  texts = (
+    text_of (codes "d") refl,
+    (
+      number_text 1 (omega arith),
+      (text_of (codes "h") refl, (number_text start below, (text_of (codes "cat h g") refl, (text_of [] refl, (text_of [] refl, (text_of [] refl, tt)))))),
+    ),
+  );
+}
+
+pub scanned_line : (start : ℕ) → start < 2 ^ 64 → HasLine (record_forms Two) (scanned start)
+scanned_line start below = record {
+  fits = record { room = (omega arith, omega arith); once = one_output (codes "b"); start = below };
   texts = (
     text_of (codes "d") refl,
     (
@@ -51,7 +63,7 @@ done_line start below = record {
 
 pub told_line : (start : ℕ) → start < 2 ^ 64 → HasLine (deps_forms Two) (told start)
 told_line start below = record {
-  fits = record { room = (omega arith, omega arith); once = one_output; start = below; paths = omega arith };
+  fits = record { room = (omega arith, omega arith); once = one_output (codes "b"); start = below; paths = omega arith };
   texts = (
     text_of (codes "r") refl,
     (number_text 1 (omega arith), (text_of (codes "b") refl, (number_text start below, (number_text 1 (omega arith), (text_of (codes "h") refl, tt))))),

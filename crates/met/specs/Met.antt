@@ -14,9 +14,9 @@ use Rattle.depfile.specs.Depfile.{IsReading}
 use Rattle.deps_log.specs.Format.{ReadsLogs}
 use Rattle.sim.specs.World.{fresh, restarted}
 use Rattle.met.specs.Scanning.{edges, asked, toys, own, file_text, naming}
-use Rattle.met.specs.Worlds.{writes, after, moves, failing_calls, stopping_calls, first_calls, second_calls, first, declared, named, failed, edited, stopped, restarted_world, built, edited_again, last, worlds}
+use Rattle.met.specs.Worlds.{writes, after, moves, failing_calls, stopping_calls, first_calls, second_calls, first, declared, sourced, named, failed, edited, stopped, restarted_world, built, edited_again, last, worlds}
 
--- each build reads the one edge, where the build file declares it
+-- each build reads the two edges, where the build file declares them
 abbrev pub one_graph : Reader
 one_graph = record { Reads = λ targets old new wanted. (view_of old.history (codes "build.ninja") ≡ Some file_text) × (wanted ≡ asked); Refuses = λ targets old new answer. ⊥ }
 
@@ -25,19 +25,20 @@ abbrev pub IsInFolder : {B : Behaviour} {format : LogFormat} → List ℕ → Vi
 IsInFolder folder (Edited path content old new change) = ⊥
 IsInFolder folder (Built wanted old new answer build) = wanted.folder ≡ folder
 IsInFolder folder (Unread old new answer cause) = ⊥
-IsInFolder folder (Restarted edges old new restart) = ⊥
+IsInFolder folder (Restarted others old new restart) = ⊥
 
 -- The worlds are those that the calls leave on a site in memory, from one on which nothing has happened.
 pub record AreCalled : Type 0 where
   pub begins : first ≡ fresh
   pub declares : declared ≡ writes (codes "build.ninja") file_text first
-  pub names : named ≡ writes (codes "a") naming declared
+  pub sources : sourced ≡ writes (codes "g") (codes "x") declared
+  pub names : named ≡ writes (codes "a") (naming (codes "k")) sourced
   pub fails : failed ≡ after failing_calls named
-  pub edits : edited ≡ writes (codes "h") (codes "x") failed
+  pub edits : edited ≡ writes (codes "a") (naming (codes "h")) failed
   pub stops : stopped ≡ after stopping_calls edited
   pub restarts : restarted_world ≡ restarted stopped
   pub builds : built ≡ after first_calls restarted_world
-  pub edits_again : edited_again ≡ writes (codes "h") (codes "y") built
+  pub edits_again : edited_again ≡ writes (codes "g") (codes "y") built
   pub builds_again : last ≡ after second_calls edited_again
 
 -- These visits carry out the moves, with these answers, by these worlds, from a faithful store, and keep all premises of the headline;
@@ -48,12 +49,12 @@ pub record Meets (B : Behaviour) (format : LogFormat) : Type 0 where
   pub history : IsHistory visits first last
   pub carries : CarriesOut one_graph moves visits
   pub restarts : RestartsFrom false visits
-  pub answers : answers_in visits ≡ Failed (codes "b" ∷ []) ∷ Fault Stopped ∷ Success 1 ∷ Success 1 ∷ []
+  pub answers : answers_in visits ≡ Failed (codes "b" ∷ []) ∷ Fault Stopped ∷ Success 1 ∷ Success 2 ∷ []
   pub exits : map exit_of visits ≡ worlds
   pub faithful : IsFaithfulStore B format own [] first
   pub keeps : AllByRecursion (λ v. Keeps own v) visits
   pub logs : AllByRecursion HasLogs visits
-  pub recorded : recorded_inputs (store_in format own (view_of edited_again.history)) edges 1 ≡ codes "h" ∷ []
+  pub recorded : recorded_inputs (store_in format own (view_of edited_again.history)) edges 2 ≡ codes "h" ∷ []
   -- a build whose folder is another has other logs, and does not keep the premises
   pub one_folder : (build : Visit true B format) → IsInFolder (codes "out") build → Keeps own build → ⊥
 

@@ -1,8 +1,9 @@
--- One toy command that tells in a depfile which files its input names; the program's own files in the working folder; what its
--- logs hold.
+-- Two toy commands: one makes a file, and the other tells in a depfile that it read it, as its input names it. The program's own
+-- files in the working folder, and what its logs hold.
 use Rattle.std.specs.Prelude.{ℕ, ◌==◌, ◌&&◌, ◌||◌, Bool, true, false, List, [], ◌∷◌, ◌++◌, Option, None, codes}
 use Rattle.model.specs.declared.act.Act.{Act}
-use Rattle.model.specs.declared.graph.Deps.TheVariants.{Gcc}
+use Rattle.model.specs.declared.graph.Deps.{Deps}
+use Rattle.model.specs.declared.graph.Deps.TheVariants.{Unset, Gcc}
 use Rattle.model.specs.declared.graph.Edge.{Edge}
 use Rattle.model.specs.declared.record.DepsRecord.{DepsRecord}
 use Rattle.model.specs.declared.record.Record.{Record}
@@ -22,27 +23,35 @@ use Rattle.sim.specs.Toy.{toy_outcome}
 
 -- the build file that declares it
 abbrev pub file_text : List ℕ
-file_text = codes "rule scan\n  command = scan $out $out.d $in\n  depfile = $out.d\n  deps = gcc\nbuild b: scan a\n"
+file_text =
+    codes "rule cat\n  command = cat $out $in\nrule scan\n  command = scan $out $out.d $in\n  depfile = $out.d\n  deps = gcc\nbuild h: cat g\nbuild b: scan a || h\n"
+
+abbrev pub cat : Act
+cat = record { command = codes "cat h g"; depfile = []; response_path = []; response_content = [] }
 
 abbrev pub scan : Act
 scan = record { command = codes "scan b b.d a"; depfile = codes "b.d"; response_path = []; response_content = [] }
 
-abbrev pub edges : List Edge
-edges = record {
-  explicit_outputs = codes "b" ∷ [];
+-- an edge with one output, one explicit input and these order-only inputs
+abbrev pub edge_with : List ℕ → List ℕ → List (List ℕ) → Act → Deps → Edge
+edge_with output input order_only act deps = record {
+  explicit_outputs = output ∷ [];
   implicit_outputs = [];
-  explicit_inputs = codes "a" ∷ [];
+  explicit_inputs = input ∷ [];
   implicit_inputs = [];
-  order_only_inputs = [];
+  order_only_inputs = order_only;
   validations = [];
-  act = scan;
+  act = act;
   description = [];
-  deps = Gcc;
+  deps = deps;
   restat = false;
   pool = None;
   dyndep = None;
   phony = false;
-} ∷ []
+}
+
+abbrev pub edges : List Edge
+edges = edge_with (codes "h") (codes "g") [] cat Unset ∷ edge_with (codes "b") (codes "a") (codes "h" ∷ []) scan Gcc ∷ []
 
 -- all of it is built; one command at a time, and nothing is started after a failure
 abbrev pub asked : Asked
@@ -59,13 +68,13 @@ asked = record {
 abbrev pub toys : (List ℕ → Option (List (List ℕ))) → (List ℕ → Option (List Addition)) → Behaviour
 toys depfile dyndep = record { outcome = toy_outcome; depfile = depfile; dyndep = dyndep }
 
--- what `a` holds: it names `h`
-abbrev pub naming : List ℕ
-naming = codes "use h"
+-- what `a` holds where it names this file
+abbrev pub naming : List ℕ → List ℕ
+naming name = codes "use " ++ name
 
--- what the command then tells
-abbrev pub telling : List ℕ
-telling = codes "b: h\n"
+-- what the second command then tells
+abbrev pub telling : List ℕ → List ℕ
+telling name = codes "b: " ++ name ++ codes "\n"
 
 -- ---- the program's own files, in the working folder
 
@@ -88,11 +97,14 @@ own = record {
 
 -- ---- logs
 
-abbrev pub begun : Record
-begun = Begun (codes "b" ∷ [])
+abbrev pub begun : List ℕ → Record
+begun output = Begun (output ∷ [])
 
-abbrev pub done : ℕ → Record
-done start = Done (codes "b" ∷ []) start scan
+abbrev pub copied : ℕ → Record
+copied start = Done (codes "h" ∷ []) start cat
+
+abbrev pub scanned : ℕ → Record
+scanned start = Done (codes "b" ∷ []) start scan
 
 abbrev pub told : ℕ → DepsRecord
 told start = record { outputs = codes "b" ∷ []; start = start; paths = codes "h" ∷ [] }
