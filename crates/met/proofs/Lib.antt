@@ -5,4 +5,6 @@ pub mod Logs
 pub mod TwoEdges
 pub mod Outcomes
 pub mod TwoBuilt
+pub mod Between
+pub mod Builds
 pub mod Visits
