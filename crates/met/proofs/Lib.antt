@@ -7,4 +7,5 @@ pub mod Outcomes
 pub mod TwoBuilt
 pub mod Between
 pub mod Builds
+pub mod KeptLogs
 pub mod Visits
