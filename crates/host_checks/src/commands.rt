@@ -1,23 +1,35 @@
-//! Tests of commands.
+//! Real commands, on sites of their own.
 
 ghost use Rattle.std.specs.Prelude.{◌≡◌, true, false, OnOk};
-ghost use Rattle.host.specs.World.{world_of};
+ghost use Rattle.host.specs.World.{world_of, fresh};
 ghost use Rattle.model.specs.World.{runs};
 
-use crate::place::{act, go_to, leave};
 use host::Host;
-use model::Act;
+use model::{Act, Finished};
 use site::{Site, SiteFault};
+use std::alloc::{AllocError, Global};
 use std::fs;
 use std::io::Write;
-use std::test::Fail;
+use tables::push_word;
+use text::Text;
 
-/// Waits up to twenty seconds for a file, and fails where it does not come.
-const FIRST: &str =
-    "n=0; while test ! -e one && test $n -lt 2000; do sleep 0.01; n=$((n+1)); done; test -e one";
+/// An act with this command.
+fn act(alloc: Global, command: &str) -> Result<Act, AllocError> {
+    Ok(Act {
+        command: Text::from_str(alloc, command)?,
+        depfile: Text::new(alloc),
+        response_path: Text::new(alloc),
+        response_content: Text::new(alloc),
+    })
+}
 
-const SECOND: &str =
-    "n=0; while test ! -e two && test $n -lt 2000; do sleep 0.01; n=$((n+1)); done; test -e two";
+/// A command that waits up to twenty seconds for a file, and fails where it does not come.
+fn waiting_for(alloc: Global, path: &str) -> Result<Act, AllocError> {
+    let command = format!(in alloc;
+        "n=0; while test ! -e {path} && test $n -lt 2000; do sleep 0.01; n=$((n+1)); done; test -e {path}"
+    )?;
+    act(alloc, command.as_str())
+}
 
 /// Starts the command of this job, which then runs.
 fn start<W: Write>(host: &mut Host<'_, W>, job: usize, act: &Act) -> Result<(), SiteFault>
@@ -28,66 +40,67 @@ fn start<W: Write>(host: &mut Host<'_, W>, job: usize, act: &Act) -> Result<(), 
     Ok(())
 }
 
-/// Of two commands the one is taken in that has ended, be it the first or the second: no fixed order of waiting ends here
-/// with both well.
-#[test]
-fn takes_in_whichever_has_ended(rt: HostRuntime) -> Result<(), Fail> {
+/// `whichever EARLY LATE`: two commands wait for the files `one` and `two`, of which the early one comes before the wait for
+/// the site, and the late one behind it. Told is what was taken in, and how many starts and ends there are once both have ended.
+pub fn whichever(rt: &HostRuntime, early: &str, late: &str) -> Result<String, SiteFault> {
     let alloc = rt.alloc();
-    let path = go_to(&rt, "whichever")?;
-    for (early, late, job) in [("one", "two", 1), ("two", "one", 2)] {
-        let mut screen: Vec<u8> = Vec::new(alloc);
-        let mut host = Host::new(alloc, &rt, &mut screen);
-        let first = act(alloc, FIRST)?;
-        let second = act(alloc, SECOND)?;
-        host.start(1, &first, false)?;
-        start(&mut host, 2, &second)?;
-        fs::write(&rt, early, "")?;
-        let finished = host.wait_any()?;
-        assert_eq!(rt; finished.job, job);
-        assert!(rt; finished.ok, "{early} came");
-        fs::write(&rt, late, "")?;
-        host.restart();
-        assert_eq!(rt; host.events().len(), 3);
-        fs::remove_file(&rt, early)?;
-        fs::remove_file(&rt, late)?;
-    }
-    leave(&rt, path)?;
-    Ok(())
-}
-
-/// What a command prints is its output and its errors in one text, its input is empty, and its file is gone afterwards.
-#[test]
-fn takes_what_is_printed(rt: HostRuntime) -> Result<(), Fail> {
-    let alloc = rt.alloc();
-    let path = go_to(&rt, "printed")?;
-    let mut screen: Vec<u8> = Vec::new(alloc);
-    let mut host = Host::new(alloc, &rt, &mut screen);
-    let command = act(alloc, "echo one; echo two >&2; cat; ls .nj_out.7; exit 5")?;
-    start(&mut host, 7, &command)?;
-    let finished = host.wait_any()?;
-    assert_eq!(rt; finished.job, 7);
-    assert!(rt; !finished.ok);
-    assert_eq!(rt;
-        finished.output.as_slice(),
-        b"one\ntwo\n.nj_out.7\n".as_slice()
-    );
-    assert!(rt; !fs::exists(&rt, ".nj_out.7")?);
-    leave(&rt, path)?;
-    Ok(())
-}
-
-/// A console command has the program's own output, and starting again waits for commands.
-#[test]
-fn starts_again_once_commands_have_ended(rt: HostRuntime) -> Result<(), Fail> {
-    let alloc = rt.alloc();
-    let path = go_to(&rt, "restart")?;
-    let mut screen: Vec<u8> = Vec::new(alloc);
-    let mut host = Host::new(alloc, &rt, &mut screen);
-    let command = act(alloc, "test ! -e .nj_out.1 && sleep 0.3 && echo x > late")?;
-    host.start(1, &command, true)?;
+    let mut host = Host::new(alloc, rt, Vec::new(alloc));
+    let finished = first_ended(rt, &mut host, early)?;
+    put(rt, late, "")?;
     host.restart();
-    assert!(rt; fs::exists(&rt, "late")?);
-    assert_eq!(rt; host.events().len(), 1);
-    leave(&rt, path)?;
-    Ok(())
+    told(alloc, &finished, host.events().len())
+}
+
+/// What the site takes in of two commands, once the early file is there.
+fn first_ended<W: Write>(
+    rt: &HostRuntime,
+    host: &mut Host<'_, W>,
+    early: &str,
+) -> Result<Finished, SiteFault>
+    requires { (world_of host.old) ≡ fresh }
+{
+    let first = waiting_for(rt.alloc(), "one")?;
+    let second = waiting_for(rt.alloc(), "two")?;
+    host.start(1, &first, false)?;
+    start(host, 2, &second)?;
+    put(rt, early, "")?;
+    host.wait_any()
+}
+
+/// Somebody writes a file.
+fn put(rt: &HostRuntime, path: &str, text: &str) -> Result<(), SiteFault> {
+    fs::write(rt, path, text).map_err(|_| SiteFault::Device)
+}
+
+/// `printed COMMAND`: runs the command as job 7, and tells what was taken in.
+pub fn printed(rt: &HostRuntime, command: &str) -> Result<String, SiteFault> {
+    let alloc = rt.alloc();
+    let mut host = Host::new(alloc, rt, Vec::new(alloc));
+    let act = act(alloc, command)?;
+    start(&mut host, 7, &act)?;
+    let finished = host.wait_any()?;
+    told(alloc, &finished, host.events().len())
+}
+
+/// `restarted PATH COMMAND`: runs the command with the terminal, starts the site again while it runs, and tells whether the file
+/// is there then, and how many events.
+pub fn restarted(rt: &HostRuntime, path: &str, command: &str) -> Result<String, SiteFault> {
+    let alloc = rt.alloc();
+    let mut host = Host::new(alloc, rt, Vec::new(alloc));
+    let act = act(alloc, command)?;
+    host.start(1, &act, true)?;
+    host.restart();
+    let is_there = fs::exists(rt, path).map_err(|_| SiteFault::Device)?;
+    let found = if is_there { "there" } else { "none" };
+    Ok(format!(in alloc; "{found}, {} events", host.events().len())?)
+}
+
+fn told(alloc: Global, finished: &Finished, events: usize) -> Result<String, SiteFault> {
+    let end = if finished.ok { "well" } else { "failed" };
+    let mut told = format!(in alloc; "job {} {end}, {events} events", finished.job)?;
+    if !finished.output.as_slice().is_empty() {
+        let output = String::from_utf8_lossy(alloc, finished.output.as_slice())?;
+        push_word(&mut told, output.as_str())?;
+    }
+    Ok(told)
 }

@@ -1,83 +1,186 @@
-//! Tests of files.
+//! The calls of a site of real files.
 
-use crate::place::{go_to, leave};
+use crate::commands::{printed, restarted, whichever};
+use crate::place::enter;
 use host::Host;
-use site::{Site, Texts};
+use site::{Site, SiteFault, Texts};
+use std::alloc::{AllocError, Global};
 use std::fs;
-use std::test::Fail;
+use tables::{Table, word};
 
-/// An append after a replacement goes behind the new content, and what was left of a replacement is not read.
-#[test]
-fn appends_behind_what_replaced(rt: HostRuntime) -> Result<(), Fail> {
-    let alloc = rt.alloc();
-    let path = go_to(&rt, "appends")?;
-    let mut screen: Vec<u8> = Vec::new(alloc);
-    let mut host = Host::new(alloc, &rt, &mut screen);
-    fs::write(&rt, "log.new", "left behind")?;
-    host.append("log", b"1")?;
-    host.append("log", b"2")?;
-    host.append("other", b"a")?;
-    assert_eq!(rt; fs::read_to_string(&rt, "log")?.as_str(), "12");
-    host.replace("log", b"new")?;
-    host.append("log", b"3")?;
-    host.append("other", b"b")?;
-    assert_eq!(rt; fs::read_to_string(&rt, "log")?.as_str(), "new3");
-    assert_eq!(rt; fs::read_to_string(&rt, "other")?.as_str(), "ab");
-    assert!(rt; !fs::exists(&rt, "log.new")?);
-    host.remove("log")?;
-    host.remove("log")?;
-    host.append("log", b"4")?;
-    host.write("other", b"c")?;
-    host.append("other", b"d")?;
-    assert_eq!(rt; fs::read_to_string(&rt, "log")?.as_str(), "4");
-    assert_eq!(rt; fs::read_to_string(&rt, "other")?.as_str(), "cd");
-    assert_eq!(rt; host.failures(), 0);
-    leave(&rt, path)?;
-    Ok(())
+/// A site, and the runtime in whose folder it is.
+#[derive(Drop)]
+pub struct Calls<'a> {
+    rt: &'a HostRuntime,
+    host: Host<'a, Vec<u8>>,
 }
 
-/// A tick is no earlier than what was written before it, and no later than what is written after it.
-#[test]
-fn ticks_between_writes(rt: HostRuntime) -> Result<(), Fail> {
-    let alloc = rt.alloc();
-    let path = go_to(&rt, "ticks")?;
-    let mut screen: Vec<u8> = Vec::new(alloc);
-    let mut host = Host::new(alloc, &rt, &mut screen);
-    for _ in 0..100 {
-        fs::write(&rt, "before", "x")?;
-        let tick = host.tick(".nj_tick")?;
-        fs::write(&rt, "after", "x")?;
-        let before = host.stat("before")?.ok_or("absent")?;
-        let after = host.stat("after")?.ok_or("absent")?;
-        assert!(rt; before <= tick && tick <= after, "{before} {tick} {after}");
+impl<'a> Calls<'a> {
+    pub fn new(rt: &'a HostRuntime) -> Calls<'a> {
+        Calls {
+            rt,
+            host: fresh(rt),
+        }
     }
-    leave(&rt, path)?;
-    Ok(())
+
+    /// `append PATH TEXT`, `replace PATH TEXT`, `write PATH TEXT`, `remove PATH` and `make_dirs PATH`; `None` for another row.
+    fn change(&mut self, first: &str, rest: &str) -> Option<Result<(), SiteFault>> {
+        let (path, text) = word(rest);
+        match first {
+            "append" => Some(self.host.append(path, text.as_bytes())),
+            "replace" => Some(self.host.replace(path, text.as_bytes())),
+            "write" => Some(self.host.write(path, text.as_bytes())),
+            "remove" => Some(self.host.remove(path)),
+            "make_dirs" => Some(self.host.make_dirs(path)),
+            _ => None,
+        }
+    }
+
+    /// `read PATH` and `stat PATH`: whether there is a file.
+    fn push_look(
+        &mut self,
+        alloc: Global,
+        first: &str,
+        rest: &str,
+        told: &mut String,
+    ) -> Result<(), AllocError> {
+        match first {
+            "read" => push_found(self.host.read(rest).map(|content| content.is_some()), told),
+            "stat" => push_found(self.host.stat(rest).map(|stamp| stamp.is_some()), told),
+            "failures" => push_number(alloc, self.host.failures(), told),
+            "trouble" => self.push_trouble(told),
+            _ => self.push_run(alloc, first, rest, told),
+        }
+    }
+
+    /// `whichever EARLY LATE`, `printed COMMAND` and `restarted PATH COMMAND`, as `commands` says, and `ticks COUNT`.
+    fn push_run(
+        &mut self,
+        alloc: Global,
+        first: &str,
+        rest: &str,
+        told: &mut String,
+    ) -> Result<(), AllocError> {
+        let (one, other) = word(rest);
+        match first {
+            "whichever" => push_text(whichever(self.rt, one, other), told),
+            "printed" => push_text(printed(self.rt, rest), told),
+            "restarted" => push_text(restarted(self.rt, one, other), told),
+            "ticks" => self.push_ticks(alloc, rest, told),
+            _ => self.push_beside(alloc, first, rest, told),
+        }
+    }
+
+    /// `holds PATH` and `exists PATH`: what others see.
+    fn push_beside(
+        &mut self,
+        alloc: Global,
+        first: &str,
+        rest: &str,
+        told: &mut String,
+    ) -> Result<(), AllocError> {
+        match first {
+            "holds" => match fs::read_to_string(self.rt, rest) {
+                Ok(text) => told.push_str(text.as_str()),
+                Err(_) => told.push_str("no file"),
+            },
+            "exists" => push_found(
+                fs::exists(self.rt, rest).map_err(|_| SiteFault::Device),
+                told,
+            ),
+            _ => told.push_str("no such row"),
+        }
+    }
+
+    /// `trouble`: which path the last refused call named. The site begins again.
+    fn push_trouble(&mut self, told: &mut String) -> Result<(), AllocError> {
+        let host = std::mem::replace(&mut self.host, fresh(self.rt));
+        match host.into_trouble() {
+            Some(trouble) => told.push_str(trouble.path.as_str()),
+            None => told.push_str("no trouble"),
+        }
+    }
+
+    /// `ticks COUNT`: how many ticks were no earlier than what was written before them, and no later than what was written
+    /// after them.
+    fn push_ticks(
+        &mut self,
+        alloc: Global,
+        count: &str,
+        told: &mut String,
+    ) -> Result<(), AllocError> {
+        let mut between = 0u64;
+        for _ in 0..count.parse::<u64>().unwrap_or(0) {
+            if self.ticks_between() == Some(true) {
+                between = between.saturating_add(1);
+            }
+        }
+        push_number(alloc, between, told)
+    }
+
+    fn ticks_between(&mut self) -> Option<bool> {
+        fs::write(self.rt, "before", "x").ok()?;
+        let tick = self.host.tick(".nj_tick").ok()?;
+        fs::write(self.rt, "after", "x").ok()?;
+        let before = self.host.stat("before").ok()??;
+        let after = self.host.stat("after").ok()??;
+        Some(before <= tick && tick <= after)
+    }
+
+    /// `folder PATH`: begins again in an empty folder. `put PATH TEXT`: somebody writes a file, and `delete PATH` deletes one.
+    fn prepare(&mut self, first: &str, rest: &str) -> Option<bool> {
+        let (path, text) = word(rest);
+        match first {
+            "folder" => {
+                self.host = fresh(self.rt);
+                Some(enter(self.rt, path).is_ok())
+            }
+            "put" => Some(fs::write(self.rt, path, text).is_ok()),
+            "delete" => Some(fs::remove_file(self.rt, path).is_ok()),
+            _ => None,
+        }
+    }
 }
 
-/// Files that are absent, and calls that the device refuses, which are counted.
-#[test]
-fn counts_refused_calls(rt: HostRuntime) -> Result<(), Fail> {
-    let alloc = rt.alloc();
-    let path = go_to(&rt, "refused")?;
-    let mut screen: Vec<u8> = Vec::new(alloc);
-    let mut host = Host::new(alloc, &rt, &mut screen);
-    host.write("file", b"x")?;
-    assert!(rt; host.read("none")?.is_none());
-    assert!(rt; host.read("file/none")?.is_none());
-    assert!(rt; host.stat("file/none")?.is_none());
-    assert_eq!(rt; host.failures(), 0);
-    host.make_dirs("a/b")?;
-    host.make_dirs("a/b")?;
-    assert!(rt; host.read("a").is_err());
-    assert!(rt; host.make_dirs("file/b").is_err());
-    assert!(rt; host.replace("a", b"x").is_err());
-    assert!(rt; host.append("a", b"x").is_err());
-    assert!(rt; host.write("none/file", b"x").is_err());
-    assert!(rt; host.remove("a").is_err());
-    assert_eq!(rt; host.failures(), 6);
-    let trouble = host.into_trouble().ok_or("no trouble")?;
-    assert_eq!(rt; trouble.path.as_str(), "a");
-    leave(&rt, path)?;
-    Ok(())
+/// A site on which nothing has happened.
+fn fresh(rt: &HostRuntime) -> Host<'_, Vec<u8>> {
+    Host::new(rt.alloc(), rt, Vec::new(rt.alloc()))
+}
+
+impl Table for Calls<'_> {
+    fn answer(&mut self, alloc: Global, row: &str, told: &mut String) -> Result<bool, AllocError> {
+        let (first, rest) = word(row);
+        if let Some(done) = self.prepare(first, rest) {
+            if !done {
+                told.push_str("refused")?;
+            }
+            return Ok(!done);
+        }
+        match self.change(first, rest) {
+            Some(Ok(())) => told.push_str("done")?,
+            Some(Err(_)) => told.push_str("refused")?,
+            None => self.push_look(alloc, first, rest, told)?,
+        }
+        Ok(true)
+    }
+}
+
+fn push_found(found: Result<bool, SiteFault>, told: &mut String) -> Result<(), AllocError> {
+    match found {
+        Ok(true) => told.push_str("there"),
+        Ok(false) => told.push_str("none"),
+        Err(_) => told.push_str("refused"),
+    }
+}
+
+fn push_number(alloc: Global, number: u64, told: &mut String) -> Result<(), AllocError> {
+    let number = format!(in alloc; "{number}")?;
+    told.push_str(number.as_str())
+}
+
+fn push_text(text: Result<String, SiteFault>, told: &mut String) -> Result<(), AllocError> {
+    match text {
+        Ok(text) => told.push_str(text.as_str()),
+        Err(_) => told.push_str("refused"),
+    }
 }

@@ -1,17 +1,21 @@
 //! Files in memory, and what is told of a read of them.
 
-use crate::told::told_by;
-use indexmap::IndexMap;
+use crate::told::push_declared;
 use manifest::{ReadError, read};
 use site::{SiteFault, Texts};
 use std::alloc::{AllocError, Global};
-use std::process::Abort;
-use text::Bytes;
+use text::{Bytes, Items, Path};
+
+#[derive(Drop)]
+struct File {
+    name: Path,
+    content: Bytes,
+}
 
 /// Files in memory, on a device that refuses each call after so many.
 #[derive(Drop)]
 pub struct Files {
-    pub contents: IndexMap<String, Bytes>,
+    files: Items<File>,
     pub passing: u64,
     pub failures: u64,
 }
@@ -19,29 +23,47 @@ pub struct Files {
 impl Files {
     pub fn new(alloc: Global) -> Files {
         Files {
-            contents: IndexMap::new(alloc),
+            files: Items::new(alloc),
             passing: u64::MAX,
             failures: 0,
         }
     }
 
+    /// A file that is not there yet.
     pub fn put(&mut self, alloc: Global, name: &str, content: &[u8]) -> Result<(), AllocError> {
-        let name = String::from_str(alloc, name)?;
-        let content = Bytes::from_slice(alloc, content)?;
-        self.contents.insert(name, content)?;
+        let file = File {
+            name: Path::from_str(alloc, name)?,
+            content: Bytes::from_slice(alloc, content)?,
+        };
+        self.files.push(file)?;
         Ok(())
     }
 
-    /// What is told of a read that begins with `build.ninja`: what it declares, or the refusal.
-    pub fn told(&mut self, alloc: Global) -> Result<String, AllocError> {
-        match read(alloc, self, "build.ninja") {
-            Ok(manifest) => told_by(alloc, &manifest),
-            Err(ReadError::Refused(fault)) => {
-                format!(in alloc; "N{}: {}", fault.kind.number(), fault)
+    pub fn content(&self, name: &str) -> Option<&Bytes> {
+        for file in self.files.as_slice() {
+            if file.name.as_str() == name {
+                return Some(&file.content);
             }
-            Err(error) => format!(in alloc; "{}", error),
+        }
+        None
+    }
+
+    /// Puts what a read that begins with `build.ninja` tells: what it declares, or the refusal.
+    pub fn push_told(&mut self, alloc: Global, told: &mut String) -> Result<(), AllocError> {
+        match read(alloc, self, "build.ninja") {
+            Ok(manifest) => push_declared(alloc, &manifest, told),
+            Err(error) => push_error(alloc, &error, told),
         }
     }
+}
+
+fn push_error(alloc: Global, error: &ReadError, told: &mut String) -> Result<(), AllocError> {
+    if let ReadError::Refused(fault) = error {
+        let number = format!(in alloc; "N{}: ", fault.kind.number())?;
+        told.push_str(number.as_str())?;
+    }
+    let error = format!(in alloc; "{error}")?;
+    told.push_str(error.as_str())
 }
 
 impl Texts for Files {
@@ -60,7 +82,7 @@ impl Texts for Files {
             return Err(SiteFault::Device);
         }
         self.passing -= 1;
-        match self.contents.get(path) {
+        match self.content(path) {
             Some(content) => Ok(Some(content.clone()?)),
             None => Ok(None),
         }
@@ -69,37 +91,4 @@ impl Texts for Files {
     fn failures(&self) -> u64 {
         self.failures
     }
-}
-
-/// The files `build.ninja`, `sub`, and `folder/sub`, which includes `sub`.
-pub fn files_of(alloc: Global, main: &[u8], sub: &[u8]) -> Result<Files, AllocError> {
-    let mut files = Files::new(alloc);
-    files.put(alloc, "build.ninja", main)?;
-    files.put(alloc, "sub", sub)?;
-    files.put(alloc, "folder/sub", b"include sub\n")?;
-    Ok(files)
-}
-
-/// Reads each text as the only file, and compares what is told.
-pub fn check(rt: &impl Abort, alloc: Global, rows: &[(&str, &str)]) -> Result<(), AllocError> {
-    for (text, wanted) in rows {
-        let mut files = Files::new(alloc);
-        files.put(alloc, "build.ninja", text.as_bytes())?;
-        let told = files.told(alloc)?;
-        assert_eq!(rt; told.as_str(), *wanted, "at {text}");
-    }
-    Ok(())
-}
-
-/// Reads each text with its other file `sub`, and compares what is told.
-pub fn check_two(
-    rt: &impl Abort,
-    alloc: Global,
-    rows: &[(&str, &str, &str)],
-) -> Result<(), AllocError> {
-    for (text, sub, wanted) in rows {
-        let told = files_of(alloc, text.as_bytes(), sub.as_bytes())?.told(alloc)?;
-        assert_eq!(rt; told.as_str(), *wanted, "at {text} with {sub}");
-    }
-    Ok(())
 }

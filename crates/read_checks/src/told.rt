@@ -1,89 +1,121 @@
 //! What a manifest declares, in short.
 
 use manifest::Manifest;
-use model::{Act, Deps, Edge};
+use model::{Act, Deps, Edge, Pool};
 use std::alloc::{AllocError, Global};
+use tables::push_word;
 use text::{Items, Path};
 
-/// The edges, pools, defaults and the folder of the logs, each with `; ` behind it. What is not set is left out.
-pub fn told_by(alloc: Global, manifest: &Manifest) -> Result<String, AllocError> {
+/// The edges, pools, defaults and the folder of the logs, each with `;` behind it. What is not set is left out.
+pub fn push_declared(
+    alloc: Global,
+    manifest: &Manifest,
+    told: &mut String,
+) -> Result<(), AllocError> {
     let manifest = manifest.texts(alloc)?;
-    let mut told = String::new(alloc);
-    for edge in manifest.edges.as_slice() {
-        push_edge(&mut told, edge)?;
+    push_edges(manifest.edges.as_slice(), told)?;
+    push_pools(alloc, manifest.pools.as_slice(), told)?;
+    push_defaults(manifest.defaults.as_slice(), told)?;
+    push_named(told, "builddir", manifest.builddir.as_str())
+}
+
+fn push_edges(edges: &[Edge], told: &mut String) -> Result<(), AllocError> {
+    for edge in edges {
+        push_edge(told, edge)?;
     }
-    for pool in manifest.pools.as_slice() {
-        let line = format!(in alloc; "pool {} {}; ", pool.name.as_str(), pool.depth)?;
-        told.push_str(line.as_str())?;
+    Ok(())
+}
+
+fn push_pools(alloc: Global, pools: &[Pool], told: &mut String) -> Result<(), AllocError> {
+    for pool in pools {
+        let line = format!(in alloc; "{} {}", pool.name.as_str(), pool.depth)?;
+        push_named(told, "pool", line.as_str())?;
     }
-    for path in manifest.defaults.as_slice() {
-        push_set(&mut told, "default ", path.as_str(), "; ")?;
+    Ok(())
+}
+
+fn push_defaults(paths: &[Path], told: &mut String) -> Result<(), AllocError> {
+    for path in paths {
+        push_named(told, "default", path.as_str())?;
     }
-    push_set(&mut told, "builddir ", manifest.builddir.as_str(), "; ")?;
-    Ok(told)
+    Ok(())
+}
+
+/// Puts a name and a text with `;` behind it, if that is not empty.
+fn push_named(told: &mut String, name: &str, text: &str) -> Result<(), AllocError> {
+    if text.is_empty() {
+        return Ok(());
+    }
+    push_word(told, name)?;
+    push_word(told, text)?;
+    told.push(';')
 }
 
 /// `outputs | implicit outputs : inputs | implicit inputs || order-only inputs |@ validations {command}` and what else is set.
 fn push_edge(told: &mut String, edge: &Edge) -> Result<(), AllocError> {
-    push_paths(told, "", &edge.explicit_outputs)?;
-    push_paths(told, "| ", &edge.implicit_outputs)?;
-    told.push_str(": ")?;
-    push_paths(told, "", &edge.explicit_inputs)?;
-    push_paths(told, "| ", &edge.implicit_inputs)?;
-    push_paths(told, "|| ", &edge.order_only_inputs)?;
-    push_paths(told, "|@ ", &edge.validations)?;
+    push_lists(told, edge)?;
     push_flag(told, "phony", edge.phony)?;
     push_act(told, &edge.act, !edge.phony)?;
     push_settings(told, edge)?;
-    told.push_str("; ")
+    told.push(';')
+}
+
+fn push_lists(told: &mut String, edge: &Edge) -> Result<(), AllocError> {
+    push_paths(told, &edge.explicit_outputs)?;
+    push_marked(told, "|", &edge.implicit_outputs)?;
+    push_word(told, ":")?;
+    push_paths(told, &edge.explicit_inputs)?;
+    push_marked(told, "|", &edge.implicit_inputs)?;
+    push_marked(told, "||", &edge.order_only_inputs)?;
+    push_marked(told, "|@", &edge.validations)
 }
 
 fn push_act(told: &mut String, act: &Act, is_command: bool) -> Result<(), AllocError> {
     if is_command || !act.command.is_empty() {
-        told.push_str("{")?;
+        push_word(told, "{")?;
         told.push_str(act.command.as_str())?;
-        told.push_str("}")?;
+        told.push('}')?;
     }
-    push_set(told, " depfile=", act.depfile.as_str(), "")?;
-    push_set(told, " rspfile=", act.response_path.as_str(), "")?;
-    push_set(told, " content=", act.response_content.as_str(), "")
+    push_set(told, "depfile=", act.depfile.as_str())?;
+    push_set(told, "rspfile=", act.response_path.as_str())?;
+    push_set(told, "content=", act.response_content.as_str())
 }
 
 fn push_settings(told: &mut String, edge: &Edge) -> Result<(), AllocError> {
-    push_set(told, " description=", edge.description.as_str(), "")?;
-    push_flag(told, " deps", edge.deps == Deps::Gcc)?;
-    push_flag(told, " restat", edge.restat)?;
+    push_set(told, "description=", edge.description.as_str())?;
+    push_flag(told, "deps", edge.deps == Deps::Gcc)?;
+    push_flag(told, "restat", edge.restat)?;
     if let Some(pool) = &edge.pool {
-        push_set(told, " pool=", pool.as_str(), "")?;
+        push_set(told, "pool=", pool.as_str())?;
     }
     if let Some(file) = &edge.dyndep {
-        push_set(told, " dyndep=", file.as_str(), "")?;
+        push_set(told, "dyndep=", file.as_str())?;
     }
     Ok(())
 }
 
-fn push_paths(told: &mut String, mark: &str, paths: &Items<Path>) -> Result<(), AllocError> {
-    push_flag(told, mark, !paths.is_empty())?;
+fn push_paths(told: &mut String, paths: &Items<Path>) -> Result<(), AllocError> {
     for path in paths.as_slice() {
-        told.push_str(path.as_str())?;
-        told.push(' ')?;
+        push_word(told, path.as_str())?;
     }
     Ok(())
 }
 
-/// Puts a text that is not empty between two marks.
-fn push_set(told: &mut String, before: &str, text: &str, behind: &str) -> Result<(), AllocError> {
-    if text.is_empty() {
-        return Ok(());
-    }
-    told.push_str(before)?;
-    told.push_str(text)?;
-    told.push_str(behind)
+/// A mark before the paths, if there are any.
+fn push_marked(told: &mut String, mark: &str, paths: &Items<Path>) -> Result<(), AllocError> {
+    push_flag(told, mark, !paths.is_empty())?;
+    push_paths(told, paths)
+}
+
+/// Puts a text behind its name, if it is not empty.
+fn push_set(told: &mut String, name: &str, text: &str) -> Result<(), AllocError> {
+    push_flag(told, name, !text.is_empty())?;
+    told.push_str(text)
 }
 
 fn push_flag(told: &mut String, mark: &str, is_set: bool) -> Result<(), AllocError> {
     if is_set {
-        return told.push_str(mark);
+        return push_word(told, mark);
     }
     Ok(())
 }
