@@ -273,7 +273,7 @@ def limits(place):
 
 def much_output(place):
     case = Case(place, "4 MB from each of 200 commands")
-    case.fan(200, CAT.replace("cat $in >", "yes $in-$in-$in-$in-$in-$in | head -c 4000000; cat $in >"))
+    case.fan(200, CAT.replace("cat $in >", "yes ${in}-${in}-${in}-${in}-${in}-$in | head -c 4000000; cat $in >"))
     shown = os.path.join(case.folder, "shown")
     with open(shown, "wb") as it:
         done = subprocess.run([case.place.nj, "-j", "8"], cwd=case.folder, stdout=it, stderr=subprocess.STDOUT, check=False)
