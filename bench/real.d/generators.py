@@ -7,7 +7,7 @@ import projects
 from ground import Pair, in_short, is_idle, must_run, only_in, replace, touch, write, differences
 
 # What a generator notes of its own runs, and precompiled headers, which differ each time.
-NOTES = re.compile(r"(^|/)(CMakeFiles/CMake(Output|Error|Configure)[^/]*|meson-logs/.*|meson-private/.*\.(dat|pickle)(\.prev)?|\.cmake/.*|.*\.gch)$")
+NOTES = re.compile(r"(^|/)(CMakeFiles/CMake(Output|Error|Configure)[^/]*|Testing/.*|meson-logs/.*|meson-private/.*\.(dat|pickle)(\.prev)?|\.cmake/.*|.*\.gch)$")
 
 
 def run(place):
@@ -50,6 +50,12 @@ def one(place, project):
     for path in project.deleted:
         pair.edit(lambda it, path=path: os.remove(os.path.join(it, path)))
         pair.step(f"{path} is deleted", *project.words, passed_over=NOTES)
+        rest(pair, project)
+    for target in project.targets:
+        pair.step(f"target {target}", *project.words, target, passed_over=NOTES)
+        place.expect(target != "clean" or not os.path.exists(os.path.join(pair.copy_of("nj"), "build/app")), project.name, "clean deletes nothing")
+    if project.targets:
+        pair.step("what is left", *project.words, passed_over=NOTES)
         rest(pair, project)
     if project.regenerates:
         regenerated(pair, project)

@@ -15,6 +15,7 @@ class Project:
     build: str = "build"
     words: tuple = ()
     deleted: tuple = ()
+    targets: tuple = ()
     rests: bool = True
     regenerates: tuple = ()
     runs: tuple = ()
@@ -108,7 +109,8 @@ FORTRAN = {
 WHOLE = CMAKE_MADE + CMAKE_LIBRARIES + CMAKE_MAIN
 CMAKES = [
     cmake("cmake", WHOLE + CMAKE_TESTS, files={
-        **SOURCES, "make_header": MAKE_HEADER, "version.h.in": "#define VERSION @CMAKE_VERSION@\n", "CMakeLists.txt": CMAKE_HEAD + WHOLE + CMAKE_TESTS}),
+        **SOURCES, "make_header": MAKE_HEADER, "version.h.in": "#define VERSION @CMAKE_VERSION@\n", "CMakeLists.txt": CMAKE_HEAD + WHOLE + CMAKE_TESTS},
+          targets=("test", "help", "clean", "module", "app")),
     cmake("cmake-unity", WHOLE, "-DCMAKE_UNITY_BUILD=ON"),
     cmake("cmake-responses", WHOLE, "-DCMAKE_NINJA_FORCE_RESPONSE_FILE=ON"),
     cmake("cmake-precompiled", WHOLE + "target_precompile_headers(some PRIVATE <vector> parts.h)\n"),
@@ -166,7 +168,7 @@ def meson(name, text, *flags, **how):
 
 
 MESONS = [
-    meson("meson", MESON_MADE + MESON_REST + MESON_TESTS),
+    meson("meson", MESON_MADE + MESON_REST + MESON_TESTS, targets=("test", "clean", "app", "listed.txt")),
     meson("meson-unity", MESON_MADE + MESON_REST, "--unity", "on"),
     meson("meson-again", MESON_MADE + MESON_REST, regenerates=("meson.build", "some = static", "add_project_arguments('-DAGAIN', language: 'cpp')\nsome = static")),
     meson("meson-optimized", MESON_MADE + MESON_REST, "--buildtype", "release", "-Db_lto=true", "-Dcpp_args=-frandom-seed=1"),
