@@ -263,7 +263,7 @@ told_is i p h = elim (cases_Bool (i == 2)) [
 -- ---- where depfiles are read by their grammar, and nothing is recorded but `h`
 
 module _ (reading : List ℕ → Option (List (List ℕ))) (dyndep : List ℕ → Option (List Addition)) (store : Store) (extra : List (List ℕ))
-  (first_none : recorded_inputs store edges 1 ≡ []) (recorded_is : recorded_inputs store edges 2 ≡ extra) (all_h : AllByRecursion (λ p. p ≡ codes "h") extra) where
+    (first_none : recorded_inputs store edges 1 ≡ []) (recorded_is : recorded_inputs store edges 2 ≡ extra) (all_h : AllByRecursion (λ p. p ≡ codes "h") extra) where
   abbrev B : Behaviour
   B = toys reading dyndep
 
