@@ -25,7 +25,9 @@ use Rattle.met.specs.Scanning.{edges, asked, file_text, naming, toys, own}
 use Rattle.met.specs.Worlds.{put, moves, first, declared, sourced, named, failed, edited, stopped, restarted_world, built, edited_again, last}
 use Rattle.met.specs.Met.{one_graph, IsInFolder, Meets, HistoryIsMet}
 use Rattle.met.proofs.Lists.{none_some, bytes_same}
-use Rattle.met.proofs.Given.{ReadsNames, reads_names}
+use Rattle.met.proofs.Given.{ReadsNames, reads_names, h_is_name}
+use Rattle.met.proofs.Outcomes.{reports_view}
+use Rattle.met.proofs.OfSim.{of_sim}
 use Rattle.met.proofs.Called.{called}
 use Rattle.met.proofs.TwoBuilt.{own_fits}
 use Rattle.met.proofs.Between.{no_store, failed_store, stopped_store, built_store, at_failed, at_stopped, at_built, at_edited_again, at_last, failing_steps, stopping_steps, good_steps, all_steps, failing_keeps, stopping_keeps, succeeding_keeps, again_keeps}
@@ -148,9 +150,11 @@ module _ (reading : List ℕ → Option (List (List ℕ))) (dyndep : List ℕ �
     faithful = faithful;
     keeps = keeps;
     logs = logs;
+    reports = reports_view reading dyndep (codes "h") h_is_name reads.h (view_of last.history) (codes "y") refl refl;
+    above = refl;
     recorded = subst (λ (s : Store). recorded_inputs s edges 2 ≡ codes "h" ∷ []) (at_edited_again format reads_logs own own_fits) refl;
     one_folder = one_folder;
   }
 
 pub history_met : ((bytes : List ℕ) (a b : Result (List (List ℕ)) DepFault) → IsRead bytes a → IsRead bytes b → a ≡ b) → HistoryIsMet
-history_met one = record { called = called; meets = λ depfile dyndep format is_reading reads_logs. meets depfile dyndep (reads_names one depfile is_reading) format reads_logs }
+history_met one = record { of_sim = of_sim; called = called; meets = λ depfile dyndep format is_reading reads_logs. meets depfile dyndep (reads_names one depfile is_reading) format reads_logs }
