@@ -19,10 +19,11 @@ use std::test::Fail;
 use text::{Bytes, Items, Path, Text};
 
 const FILE: &str =
-    "rule scan\n  command = scan $out $out.d $in\n  depfile = $out.d\n  deps = gcc\nbuild b: scan a\n";
+    "rule cat\n  command = cat $out $in\nrule scan\n  command = scan $out $out.d $in\n  depfile = $out.d\n  deps = gcc\nbuild h: cat g\nbuild b: scan a || h\n";
 
 const PATHS: &[&str] = &[
     "build.ninja",
+    "g",
     "a",
     "h",
     "b",
@@ -32,58 +33,48 @@ const PATHS: &[&str] = &[
     ".nj_tick",
 ];
 
-/// The calls of the first three moves: `h` is absent.
+/// The calls of the first four moves: what `a` names is absent.
 const FAILING: &[&str] = &[
     "write build.ninja:",
     FILE,
-    "|write a:use h|",
-    "replace .nj_log:nj-log 2\n|append .nj_log:b\t1\tb\t.\n|remove b.d:|tick .nj_tick:|under 6:|",
+    "|write g:x|write a:use k|",
+    "replace .nj_log:nj-log 2\n|append .nj_log:b\t1\th\t.\n|tick .nj_tick:|under 6:|",
+    "start cat h g:|wait well:|append .nj_log:d\t1\th\t6\tcat h g\t\t\t\t.\n|",
+    "append .nj_log:b\t1\tb\t.\n|remove b.d:|tick .nj_tick:|under 11:|",
     "start scan b b.d a:b.d|wait failed:|",
 ];
 
 /// Of the next two: the site stops in the wait.
 const STOPPING: &[&str] = &[
-    "write h:x|append .nj_log:b\t1\tb\t.\n|remove b.d:|tick .nj_tick:|under 10:|",
+    "write a:use h|append .nj_log:b\t1\tb\t.\n|remove b.d:|tick .nj_tick:|under 15:|",
     "start scan b b.d a:b.d|wait fault:|",
 ];
 
 /// Of the next one.
 const SUCCEEDING: &[&str] = &[
-    "restart :|append .nj_log:b\t1\tb\t.\n|remove b.d:|tick .nj_tick:|under 15:|",
+    "restart :|append .nj_log:b\t1\tb\t.\n|remove b.d:|tick .nj_tick:|under 20:|",
     "start scan b b.d a:b.d|wait well:|",
-    "replace .nj_deps:nj-deps 2\n|append .nj_deps:r\t1\tb\t15\t1\th\t.\n|",
-    "append .nj_log:d\t1\tb\t15\tscan b b.d a\tb.d\t\t\t.\n|remove b.d:|",
+    "replace .nj_deps:nj-deps 2\n|append .nj_deps:r\t1\tb\t20\t1\th\t.\n|",
+    "append .nj_log:d\t1\tb\t20\tscan b b.d a\tb.d\t\t\t.\n|remove b.d:|",
 ];
 
 /// Of the last two: what was recorded counts.
 const AGAIN: &[&str] = &[
-    "write h:y|append .nj_log:b\t1\tb\t.\n|remove b.d:|tick .nj_tick:|under 25:|",
-    "start scan b b.d a:b.d|wait well:|",
-    "append .nj_deps:r\t1\tb\t25\t1\th\t.\n|",
-    "append .nj_log:d\t1\tb\t25\tscan b b.d a\tb.d\t\t\t.\n|remove b.d:|",
+    "write g:y|append .nj_log:b\t1\th\t.\n|tick .nj_tick:|under 29:|",
+    "start cat h g:|wait well:|append .nj_log:d\t1\th\t29\tcat h g\t\t\t\t.\n|",
+    "append .nj_log:b\t1\tb\t.\n|remove b.d:|tick .nj_tick:|under 34:|",
+    "start scan b b.d a:b.d|wait well:|append .nj_deps:r\t1\tb\t34\t1\th\t.\n|",
+    "append .nj_log:d\t1\tb\t34\tscan b b.d a\tb.d\t\t\t.\n|remove b.d:|",
 ];
 
-/// The sources.
-const SOURCES: &[&str] = &["build.ninja 1:", FILE, "|a 2:use h|"];
+/// The build file as it stands.
+const DECLARED: &[&str] = &["build.ninja 1:", FILE, "|"];
 
-const AFTER_FAILING: &[&str] = &[".nj_log 4:nj-log 2\nb\t1\tb\t.\n|.nj_tick 6:|"];
+/// The build log, from the first build on.
+const LOG: &[&str] = &["nj-log 2\nb\t1\th\t.\nd\t1\th\t6\tcat h g\t\t\t\t.\nb\t1\tb\t.\n"];
 
-const AFTER_STOPPING: &[&str] = &[
-    "h 7:x|b 11:x|b.d 12:b: h\n|.nj_log 8:nj-log 2\nb\t1\tb\t.\nb\t1\tb\t.\n|.nj_tick 10:|",
-];
-
-const AFTER_SUCCEEDING: &[&str] = &[
-    "h 7:x|b 16:x|",
-    ".nj_log 20:nj-log 2\nb\t1\tb\t.\nb\t1\tb\t.\nb\t1\tb\t.\nd\t1\tb\t15\tscan b b.d a\tb.d\t\t\t.\n|",
-    ".nj_deps 19:nj-deps 2\nr\t1\tb\t15\t1\th\t.\n|.nj_tick 15:|",
-];
-
-const AFTER_AGAIN: &[&str] = &[
-    "h 22:y|b 26:y|",
-    ".nj_log 29:nj-log 2\nb\t1\tb\t.\nb\t1\tb\t.\nb\t1\tb\t.\nd\t1\tb\t15\tscan b b.d a\tb.d\t\t\t.\n",
-    "b\t1\tb\t.\nd\t1\tb\t25\tscan b b.d a\tb.d\t\t\t.\n|",
-    ".nj_deps 28:nj-deps 2\nr\t1\tb\t15\t1\th\t.\nr\t1\tb\t25\t1\th\t.\n|.nj_tick 25:|",
-];
+/// The lines that the third build puts behind it.
+const MORE: &[&str] = &["b\t1\tb\t.\nb\t1\tb\t.\nd\t1\tb\t20\tscan b b.d a\tb.d\t\t\t.\n"];
 
 fn options(alloc: Global) -> Result<Options, AllocError> {
     Ok(Options {
@@ -111,22 +102,23 @@ fn building(alloc: Global) -> Move {
 fn moves(alloc: Global) -> Result<Vec<Move>, AllocError> {
     let mut moves = Vec::new(alloc);
     moves.push(writing(alloc, "build.ninja", FILE)?)?;
+    moves.push(writing(alloc, "g", "x")?)?;
+    moves.push(writing(alloc, "a", "use k")?)?;
+    moves.push(building(alloc))?;
     moves.push(writing(alloc, "a", "use h")?)?;
     moves.push(building(alloc))?;
-    moves.push(writing(alloc, "h", "x")?)?;
     moves.push(building(alloc))?;
-    moves.push(building(alloc))?;
-    moves.push(writing(alloc, "h", "y")?)?;
+    moves.push(writing(alloc, "g", "y")?)?;
     moves.push(building(alloc))?;
     Ok(moves)
 }
 
-/// A site on which nothing has happened, and which stops in its second wait.
+/// A site on which nothing has happened, and which stops in its third wait.
 fn fresh(alloc: Global) -> Result<Watched, AllocError>
     ensures { IfOk result (λ watched. IsIdle (world_of watched.site).events) }
 {
     let mut site = Sim::new(alloc, Toy);
-    site.stop_at(Call::WaitAny, 2, 0)?;
+    site.stop_at(Call::WaitAny, 3, 0)?;
     site.restart();
     Ok(Watched::new(alloc, site))
 }
@@ -172,18 +164,62 @@ fn are_told(rt: &impl Abort, alloc: Global, count: usize, parts: &[&[&str]]) -> 
 #[test]
 fn the_history_that_meets_the_premises(rt: HostRuntime) -> Result<(), Fail> {
     let alloc = rt.alloc();
-    are_told(&rt, alloc, 3, &[FAILING, SOURCES, AFTER_FAILING])?;
-    are_told(&rt, alloc, 5, &[FAILING, STOPPING, SOURCES, AFTER_STOPPING])?;
     are_told(
         &rt,
         alloc,
-        6,
-        &[FAILING, STOPPING, SUCCEEDING, SOURCES, AFTER_SUCCEEDING],
+        4,
+        &[
+            FAILING,
+            DECLARED,
+            &["g 2:x|a 3:use k|h 7:x|.nj_log 9:"],
+            LOG,
+            &["|.nj_tick 11:|"],
+        ],
     )?;
     are_told(
         &rt,
         alloc,
-        8,
-        &[FAILING, STOPPING, SUCCEEDING, AGAIN, SOURCES, AFTER_AGAIN],
+        6,
+        &[
+            FAILING,
+            STOPPING,
+            DECLARED,
+            &["g 2:x|a 12:use h|h 7:x|b 16:x|b.d 17:b: h\n|.nj_log 13:"],
+            LOG,
+            &["b\t1\tb\t.\n|.nj_tick 15:|"],
+        ],
+    )?;
+    are_told(
+        &rt,
+        alloc,
+        7,
+        &[
+            FAILING,
+            STOPPING,
+            SUCCEEDING,
+            DECLARED,
+            &["g 2:x|a 12:use h|h 7:x|b 21:x|.nj_log 25:"],
+            LOG,
+            MORE,
+            &["|.nj_deps 24:nj-deps 2\nr\t1\tb\t20\t1\th\t.\n|.nj_tick 20:|"],
+        ],
+    )?;
+    are_told(
+        &rt,
+        alloc,
+        9,
+        &[
+            FAILING,
+            STOPPING,
+            SUCCEEDING,
+            AGAIN,
+            DECLARED,
+            &["g 27:y|a 12:use h|h 30:y|b 35:y|.nj_log 38:"],
+            LOG,
+            MORE,
+            &["b\t1\th\t.\nd\t1\th\t29\tcat h g\t\t\t\t.\nb\t1\tb\t.\n"],
+            &["d\t1\tb\t34\tscan b b.d a\tb.d\t\t\t.\n|.nj_deps 37:nj-deps 2\n"],
+            &["r\t1\tb\t20\t1\th\t.\nr\t1\tb\t34\t1\th\t.\n|.nj_tick 34:|"],
+        ],
     )
 }

@@ -118,7 +118,7 @@ builds : built ≡ after first_calls restarted_world
 builds =
     sym (scans_then (λ w. after (recording 20) (writes deps_log_name (header (deps_forms Two)) (waits 2 scan w))) stopped_log restarted_world refl
     ∙ waits_then (λ w. after (recording 20) (writes deps_log_name (header (deps_forms Two)) w)) scanned_again (giving (codes "h") (Some (codes "x")))
-        (given_by (codes "h") h_is_name scanned_again (Some (codes "x")) refl refl)
+    (given_by (codes "h") h_is_name scanned_again (Some (codes "x")) refl refl)
     ∙ records_then [] (stopped_log ++ begun (codes "b") ∷ []) 20 (writes deps_log_name (header (deps_forms Two)) (ended (codes "x") scanned_again)) refl refl)
 
 abbrev copied_again : World

@@ -1,5 +1,5 @@
 -- That waiting and stopping are what the contracts of the site in memory say.
-use Rattle.std.proofs.Common.{◌≡◌, ℕ, true, false, List, [], ◌∷◌, Option, Some, None, refl, ◌∙◌, ap}
+use Rattle.std.proofs.Common.{◌≡◌, ℕ, true, false, List, [], ◌∷◌, None, refl, ◌∙◌, ap}
 use Rattle.model.specs.declared.event.Event.TheVariants.{Finish}
 use Rattle.model.specs.declared.event.Finished.{Finished}
 use Rattle.model.specs.declared.event.Moment.{Moment}

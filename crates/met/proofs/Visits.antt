@@ -114,21 +114,51 @@ module _ (reading : List ℕ → Option (List (List ℕ))) (dyndep : List ℕ �
   keeps = ((λ job. refl, stamps [] (put (codes "build.ninja") file_text 1 ∷ []) (omega arith, tt), unedited [] (put (codes "build.ninja") file_text 1 ∷ []) (tt, tt), is_left format (codes "build.ninja") file_text first refl refl refl), ((λ job. refl, stamps declared.history (put (codes "g") (codes "x") 2 ∷ []) (omega arith, tt), unedited declared.history (put (codes "g") (codes "x") 2 ∷ []) (tt, tt), is_left format (codes "g") (codes "x") declared refl refl refl), ((λ job. refl, stamps sourced.history (put (codes "a") (naming (codes "k")) 3 ∷ []) (omega arith, tt), unedited sourced.history (put (codes "a") (naming (codes "k")) 3 ∷ []) (tt, tt), is_left format (codes "a") (naming (codes "k")) sourced refl refl refl), ((λ job. refl, (own_fits, failing_keeps reading dyndep reads)), ((both_ended 6 11 false, stamps failed.history (put (codes "a") (naming (codes "h")) 12 ∷ []) (omega arith, tt), unedited failed.history (put (codes "a") (naming (codes "h")) 12 ∷ []) (tt, tt), is_left format (codes "a") (naming (codes "h")) failed (none_in_force failed_store failed (codes "a") (at_failed format reads_logs own own_fits) refl) refl refl), ((both_ended 6 11 false, (own_fits, stopping_keeps reading dyndep reads)), ((stamps stopped.history [] tt, to_outputs stopped.history [] tt, unedited stopped.history [] tt), ((λ job. refl, (own_fits, succeeding_keeps reading dyndep reads)), ((ended 2 20 true, stamps built.history (put (codes "g") (codes "y") 27 ∷ []) (omega arith, tt), unedited built.history (put (codes "g") (codes "y") 27 ∷ []) (tt, tt), is_left format (codes "g") (codes "y") built (none_in_force built_store built (codes "g") (at_built format reads_logs own own_fits) refl) refl refl), ((ended 2 20 true, (own_fits, again_keeps reading dyndep reads)), tt))))))))))
 
   logs : AllByRecursion HasLogs visits
-  logs = (tt, (tt, (tt, (λ all fits. record {
-      records = λ tells kept. subst (λ (s : Store). KeepsRecords B asked no_store s failing_steps None named failed) (at_failed format reads_logs all fits) (failing_logs reading dyndep reads);
-      settled = λ tells success. absurd success;
-    }, (tt, (λ all fits. record {
-      records = λ tells kept. subst (λ (s : Store). KeepsRecords B asked failed_store s stopping_steps None edited stopped) (at_stopped format reads_logs all fits) (stopping_logs reading dyndep reads);
-      settled = λ tells success. absurd success;
-    }, (tt, (λ all fits. record {
-      records = λ tells kept. subst (λ (s : Store). KeepsRecords B asked stopped_store s good_steps None restarted_world built) (at_built format reads_logs all fits) (succeeding_logs reading dyndep reads);
-      settled = λ tells success start files.
-        subst (λ (s : Store). LeavesNothing asked stopped_store s good_steps restarted_world.history built.history) (at_built format reads_logs all fits) nothing_left;
-    }, (tt, (λ all fits. record {
-      records = λ tells kept. subst (λ (s : Store). KeepsRecords B asked built_store s all_steps None edited_again last) (at_last format reads_logs all fits) (again_logs reading dyndep reads);
-      settled = λ tells success start files.
-        subst (λ (s : Store). LeavesNothing asked built_store s all_steps edited_again.history last.history) (at_last format reads_logs all fits) nothing_left_again;
-    }, tt))))))))))
+  logs = (
+    tt,
+    (
+      tt,
+      (
+        tt,
+        (
+          λ all fits. record {
+            records = λ tells kept. subst (λ (s : Store). KeepsRecords B asked no_store s failing_steps None named failed) (at_failed format reads_logs all fits) (failing_logs reading dyndep reads);
+            settled = λ tells success. absurd success;
+          },
+          (
+            tt,
+            (
+              λ all fits. record {
+                records = λ tells kept. subst (λ (s : Store). KeepsRecords B asked failed_store s stopping_steps None edited stopped) (at_stopped format reads_logs all fits) (stopping_logs reading dyndep reads);
+                settled = λ tells success. absurd success;
+              },
+              (
+                tt,
+                (
+                  λ all fits. record {
+                    records = λ tells kept. subst (λ (s : Store). KeepsRecords B asked stopped_store s good_steps None restarted_world built) (at_built format reads_logs all fits) (succeeding_logs reading dyndep reads);
+                    settled = λ tells success start files.
+                        subst (λ (s : Store). LeavesNothing asked stopped_store s good_steps restarted_world.history built.history) (at_built format reads_logs all fits) nothing_left;
+                  },
+                  (
+                    tt,
+                    (
+                      λ all fits. record {
+                        records = λ tells kept. subst (λ (s : Store). KeepsRecords B asked built_store s all_steps None edited_again last) (at_last format reads_logs all fits) (again_logs reading dyndep reads);
+                        settled = λ tells success start files.
+                            subst (λ (s : Store). LeavesNothing asked built_store s all_steps edited_again.history last.history) (at_last format reads_logs all fits) nothing_left_again;
+                      },
+                      tt,
+                    ),
+                  ),
+                ),
+              ),
+            ),
+          ),
+        ),
+      ),
+    ),
+  )
 
   faithful : IsFaithfulStore B format own [] first
   faithful = record {
