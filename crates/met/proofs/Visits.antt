@@ -104,14 +104,112 @@ module _ (reading : List ℕ → Option (List (List ℕ))) (dyndep : List ℕ �
   second = Write (codes "g") (codes "x") ∷ Write (codes "a") (naming (codes "k")) ∷ Build [] ∷ fifth
 
   carries : CarriesOut one_graph moves visits
-  carries = inr (Write (codes "build.ninja") file_text, second, refl, (refl, refl), inr (Write (codes "g") (codes "x"), Write (codes "a") (naming (codes "k")) ∷ Build [] ∷ fifth, refl, (refl, refl), inr (Write (codes "a") (naming (codes "k")), Build [] ∷ fifth, refl, (refl, refl), inr (Build [], fifth, refl, (refl, refl), inr (Write (codes "a") (naming (codes "h")), Build [] ∷ Build [] ∷ eighth, refl, (refl, refl), inr (Build [], Build [] ∷ eighth, refl, (refl, refl), inl (refl, none_left (Build []) eighth, inr (Build [], eighth, refl, (refl, refl), inr (Write (codes "g") (codes "y"), Build [] ∷ [], refl, (refl, refl), inr (Build [], [], refl, (refl, refl), refl))))))))))
+  carries = inr (
+    Write (codes "build.ninja") file_text,
+    second,
+    refl,
+    (refl, refl),
+    inr (
+      Write (codes "g") (codes "x"),
+      Write (codes "a") (naming (codes "k")) ∷ Build [] ∷ fifth,
+      refl,
+      (refl, refl),
+      inr (
+        Write (codes "a") (naming (codes "k")),
+        Build [] ∷ fifth,
+        refl,
+        (refl, refl),
+        inr (
+          Build [],
+          fifth,
+          refl,
+          (refl, refl),
+          inr (
+            Write (codes "a") (naming (codes "h")),
+            Build [] ∷ Build [] ∷ eighth,
+            refl,
+            (refl, refl),
+            inr (
+              Build [],
+              Build [] ∷ eighth,
+              refl,
+              (refl, refl),
+              inl (
+                refl,
+                none_left (Build []) eighth,
+                inr (
+                  Build [],
+                  eighth,
+                  refl,
+                  (refl, refl),
+                  inr (Write (codes "g") (codes "y"), Build [] ∷ [], refl, (refl, refl), inr (Build [], [], refl, (refl, refl), refl)),
+                ),
+              ),
+            ),
+          ),
+        ),
+      ),
+    ),
+  )
 
   none_in_force : (store : Store) (old : World) (path : List ℕ) → store ≡ store_in format own (view_of old.history) → in_force store.records path ≡ None
       → in_force (store_in format own (view_of old.history)).records path ≡ None
   none_in_force store old path same none = subst (λ (s : Store). in_force s.records path ≡ None) same none
 
   keeps : AllByRecursion (λ (v : Visit true B format). Keeps own v) visits
-  keeps = ((λ job. refl, stamps [] (put (codes "build.ninja") file_text 1 ∷ []) (omega arith, tt), unedited [] (put (codes "build.ninja") file_text 1 ∷ []) (tt, tt), is_left format (codes "build.ninja") file_text first refl refl refl), ((λ job. refl, stamps declared.history (put (codes "g") (codes "x") 2 ∷ []) (omega arith, tt), unedited declared.history (put (codes "g") (codes "x") 2 ∷ []) (tt, tt), is_left format (codes "g") (codes "x") declared refl refl refl), ((λ job. refl, stamps sourced.history (put (codes "a") (naming (codes "k")) 3 ∷ []) (omega arith, tt), unedited sourced.history (put (codes "a") (naming (codes "k")) 3 ∷ []) (tt, tt), is_left format (codes "a") (naming (codes "k")) sourced refl refl refl), ((λ job. refl, (own_fits, failing_keeps reading dyndep reads)), ((both_ended 6 11 false, stamps failed.history (put (codes "a") (naming (codes "h")) 12 ∷ []) (omega arith, tt), unedited failed.history (put (codes "a") (naming (codes "h")) 12 ∷ []) (tt, tt), is_left format (codes "a") (naming (codes "h")) failed (none_in_force failed_store failed (codes "a") (at_failed format reads_logs own own_fits) refl) refl refl), ((both_ended 6 11 false, (own_fits, stopping_keeps reading dyndep reads)), ((stamps stopped.history [] tt, to_outputs stopped.history [] tt, unedited stopped.history [] tt), ((λ job. refl, (own_fits, succeeding_keeps reading dyndep reads)), ((ended 2 20 true, stamps built.history (put (codes "g") (codes "y") 27 ∷ []) (omega arith, tt), unedited built.history (put (codes "g") (codes "y") 27 ∷ []) (tt, tt), is_left format (codes "g") (codes "y") built (none_in_force built_store built (codes "g") (at_built format reads_logs own own_fits) refl) refl refl), ((ended 2 20 true, (own_fits, again_keeps reading dyndep reads)), tt))))))))))
+  keeps = (
+    (
+      λ job. refl,
+      stamps [] (put (codes "build.ninja") file_text 1 ∷ []) (omega arith, tt),
+      unedited [] (put (codes "build.ninja") file_text 1 ∷ []) (tt, tt),
+      is_left format (codes "build.ninja") file_text first refl refl refl,
+    ),
+    (
+      (
+        λ job. refl,
+        stamps declared.history (put (codes "g") (codes "x") 2 ∷ []) (omega arith, tt),
+        unedited declared.history (put (codes "g") (codes "x") 2 ∷ []) (tt, tt),
+        is_left format (codes "g") (codes "x") declared refl refl refl,
+      ),
+      (
+        (
+          λ job. refl,
+          stamps sourced.history (put (codes "a") (naming (codes "k")) 3 ∷ []) (omega arith, tt),
+          unedited sourced.history (put (codes "a") (naming (codes "k")) 3 ∷ []) (tt, tt),
+          is_left format (codes "a") (naming (codes "k")) sourced refl refl refl,
+        ),
+        (
+          (λ job. refl, (own_fits, failing_keeps reading dyndep reads)),
+          (
+            (
+              both_ended 6 11 false,
+              stamps failed.history (put (codes "a") (naming (codes "h")) 12 ∷ []) (omega arith, tt),
+              unedited failed.history (put (codes "a") (naming (codes "h")) 12 ∷ []) (tt, tt),
+              is_left format (codes "a") (naming (codes "h")) failed (none_in_force failed_store failed (codes "a") (at_failed format reads_logs own own_fits) refl) refl refl,
+            ),
+            (
+              (both_ended 6 11 false, (own_fits, stopping_keeps reading dyndep reads)),
+              (
+                (stamps stopped.history [] tt, to_outputs stopped.history [] tt, unedited stopped.history [] tt),
+                (
+                  (λ job. refl, (own_fits, succeeding_keeps reading dyndep reads)),
+                  (
+                    (
+                      ended 2 20 true,
+                      stamps built.history (put (codes "g") (codes "y") 27 ∷ []) (omega arith, tt),
+                      unedited built.history (put (codes "g") (codes "y") 27 ∷ []) (tt, tt),
+                      is_left format (codes "g") (codes "y") built (none_in_force built_store built (codes "g") (at_built format reads_logs own own_fits) refl) refl refl,
+                    ),
+                    ((ended 2 20 true, (own_fits, again_keeps reading dyndep reads)), tt),
+                  ),
+                ),
+              ),
+            ),
+          ),
+        ),
+      ),
+    ),
+  )
 
   logs : AllByRecursion HasLogs visits
   logs = (
