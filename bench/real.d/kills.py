@@ -238,6 +238,24 @@ def rounds(place, tree, name, count, kill, number):
     place.step(f"{name}: {turn} builds, {hits} of them killed while they ran")
 
 
+def edits_meanwhile(place, tree, count):
+    """Sources are edited while a build runs: the next one is right."""
+    for turn in range(count):
+        changed = tree.edit()
+        build = tree.start()
+        for _ in range(3):
+            time.sleep(tree.chance.uniform(0, 0.15))
+            changed += tree.edit()
+        build.wait()
+        wait_for_session(build.pid)
+        one = Round(tree, f"edits while a build runs {turn}")
+        tree.begun_and_ended()
+        one.finish(changed)
+        place.expect(is_idle(tree.build()), one.where, "the build behind that has something to do")
+        tree.begun_and_ended()
+    place.step(f"{count} builds during which sources were edited, each with one behind it")
+
+
 def torn(tree):
     """Cuts off a part of what was put last behind a log, as a kill within an append would have: of the build log a record of
     a good end, or of the deps log one whose command has no record of its end. Answers whether there was one."""
@@ -320,5 +338,6 @@ def run(place):
     for number in (signal.SIGINT, signal.SIGTERM):
         rounds(place, tree, f"{number.name} to all", some, kill_all, number)
         rounds(place, tree, f"{number.name} to nj alone", some, kill_alone, number)
+    edits_meanwhile(place, tree, some)
     appends(place, tree, some)
     calls(place, tree, 2 * some)

@@ -3,10 +3,13 @@
 import os
 import random
 import re
+import signal
+import subprocess
 
+from kills import kill_all
 from ground import Pair, differences, in_short, is_idle, only_in, touch, write
 
-TREES = 60
+TREES = 30
 STEPS = 16
 
 # A source whose text has BAD makes each command that has it as an input fail. A line `use PATH..` of a source names what a
@@ -35,7 +38,9 @@ rule args
   rspfile = $out.rsp
   rspfile_content = word$word $in
 """
-DEPFILES = re.compile(r"\.d$")
+
+# Depfiles of commands that failed, and what commands that were killed left.
+BESIDE = re.compile(r"\.(d|new|all)$")
 
 
 class Graph:
@@ -50,6 +55,7 @@ class Graph:
         self.texts = {it: self.text() for it in self.headers}
         self.groups = []
         self.unsettled = False
+        self.killed = False
         self.make()
         for it in self.sources:
             self.texts[it] = self.text(it)
@@ -149,15 +155,31 @@ def step(pair, graph, what, words):
     place.expect((nj.status == 0) == (ninja.status == 0), where, f"status {nj.status}, by ninja {ninja.status}: {nj.text[-600:]} {ninja.text[-600:]}")
     more, less = only_in(nj.commands, ninja.commands), only_in(ninja.commands, nj.commands)
     place.expect(graph.unsettled or not more, where, f"nj ran what ninja did not: {in_short(more)}")
-    place.expect(not less, where, f"ninja ran what nj did not: {in_short(less)}")
-    told = differences(*(pair.files(it, DEPFILES if failed or graph.unsettled else None) for it in Pair.TOOLS), Pair.TOOLS)
-    place.expect(not told, where, f"files: {in_short(told)}")
+    place.expect(graph.killed or not less, where, f"ninja ran what nj did not: {in_short(less)}")
+    # What a kill left by half stays so until it is built.
+    if not graph.killed or not (failed or words):
+        told = differences(*(pair.files(it, BESIDE if failed or graph.unsettled else None) for it in Pair.TOOLS), Pair.TOOLS)
+        place.expect(not told, where, f"files: {in_short(told)}")
     if failed:
         graph.unsettled = True
     else:
         again = pair.build("nj", *words)
         place.expect(is_idle(again), where, f"nj has something to do again: {again.text[-600:]}")
         graph.unsettled = graph.unsettled and bool(words)
+        graph.killed = graph.killed and bool(words)
+
+
+def cut_off(pair, graph):
+    """A build of nj alone that is killed with its commands. What it ran, the next one need not."""
+    with pair.at_home("nj") as folder:
+        build = subprocess.Popen([pair.ground.nj, "-j", "3", "-k", "0"], cwd=folder, stdin=subprocess.DEVNULL, stdout=subprocess.DEVNULL,
+                                 stderr=subprocess.DEVNULL, start_new_session=True)
+        try:
+            build.wait(graph.chance.uniform(0, 0.1))
+        except subprocess.TimeoutExpired:
+            kill_all(build, signal.SIGKILL)
+            pair.ground.counts["kills"] += 1
+    graph.killed = graph.unsettled = True
 
 
 def one(place, number):
@@ -170,6 +192,9 @@ def one(place, number):
             what, edit = graph.edit()
             pair.edit(edit)
             told.append(what)
+        if graph.chance.random() < 0.25:
+            cut_off(pair, graph)
+            told.append("a build is killed")
         words = graph.some(graph.made, 2) if graph.chance.random() < 0.3 else []
         step(pair, graph, f"step {turn}: {', '.join(told)}; builds {' '.join(words) or 'all'}", words)
 

@@ -1,7 +1,6 @@
 -- What the logs tell between the moves, what the commands told, and the premises of each build.
 use Rattle.std.proofs.Common.{◌≡◌, inl, inr, ℕ, true, false, List, [], ◌∷◌, ◌++◌, Option, take, refl, arith}
 use Rattle.std.specs.Prelude.{codes}
-use Rattle.model.specs.declared.record.Record.{Record}
 use Rattle.model.specs.World.{view_of}
 use Rattle.model.specs.Graph.{Addition}
 use Rattle.model.specs.Outcome.{Behaviour}

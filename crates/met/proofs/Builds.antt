@@ -1,5 +1,5 @@
 -- The four builds of the history.
-use Rattle.std.proofs.Common.{◌≡◌, ◌⊎◌, inl, inr, ℕ, ◌==◌, Bool, true, false, List, [], ◌∷◌, ◌++◌, Option, Some, None, take, drop, refl, sym, subst}
+use Rattle.std.proofs.Common.{◌≡◌, inl, inr, ℕ, ◌==◌, Bool, true, false, List, [], ◌∷◌, ◌++◌, Option, Some, None, take, drop, refl, sym, subst}
 use Rattle.std.proofs.lemmas.Bool.{false≢true, cases_Bool}
 use Rattle.std.specs.Prelude.{codes}
 use Rattle.std.specs.List.{AllByRecursion}
@@ -127,8 +127,19 @@ module _ (reading : List ℕ → Option (List (List ℕ))) (dyndep : List ℕ �
     held = λ tells kept file content is. absurd (none_some content is);
     steps = failing_steps;
     schedule = record {
-      lawful = in_one_phase reading dyndep no_store [] refl refl tt (λ p. None) failing_steps
-          (first_judged no_store [] refl refl tt true, (first_started no_store [] refl refl tt, (first_ended no_store [] refl refl tt, (second_judged no_store [] refl refl tt (Judged 1 true ∷ Started 1 ∷ Ended 1 true ∷ []) refl refl refl, (second_started no_store [] refl refl tt, (second_ended no_store [] refl refl tt false, tt))))));
+      lawful = in_one_phase reading dyndep no_store [] refl refl tt (λ p. None) failing_steps (
+        first_judged no_store [] refl refl tt true,
+        (
+          first_started no_store [] refl refl tt,
+          (
+            first_ended no_store [] refl refl tt,
+            (
+              second_judged no_store [] refl refl tt (Judged 1 true ∷ Started 1 ∷ Ended 1 true ∷ []) refl refl refl,
+              (second_started no_store [] refl refl tt, (second_ended no_store [] refl refl tt false, tt)),
+            ),
+          ),
+        ),
+      );
       first = failed_events;
       later = [];
       grows = refl;
@@ -155,9 +166,31 @@ module _ (reading : List ℕ → Option (List (List ℕ))) (dyndep : List ℕ �
     faults = record { refused = λ none. refl; starts = inl refl; stopped = λ stop. absurd (false≢true stop); earlier = refl };
     idle = λ none. both_ended 6 11 false;
     frame = λ tells.
-        frame_of all failing_steps named.history failing (failing_writes all fits) (failing_changes all fits)
-        (tt, (tt, (tt, ((h_is named.history (named.history ++ take 3 failing) refl, ready_cat _), (tt, (tt, (tt, (tt, (tt, (tt, ((b_is named.history (named.history ++ take 10 failing) refl, ready_scan _ refl), (tt, tt))))))))))))
-        (untouched_still named.history failing [] 1 true refl, (tt, (tt, (untouched_at named.history (take 6 failing) (drop 6 failing) (Judged 1 true ∷ Started 1 ∷ Ended 1 true ∷ []) refl (not_none 1) refl refl, (tt, (tt, tt))))));
+        frame_of all failing_steps named.history failing (failing_writes all fits) (failing_changes all fits) (
+          tt,
+          (
+            tt,
+            (
+              tt,
+              (
+                (h_is named.history (named.history ++ take 3 failing) refl, ready_cat _),
+                (tt, (tt, (tt, (tt, (tt, (tt, ((b_is named.history (named.history ++ take 10 failing) refl, ready_scan _ refl), (tt, tt)))))))),
+              ),
+            ),
+          ),
+        ) (
+          untouched_still named.history failing [] 1 true refl,
+          (
+            tt,
+            (
+              tt,
+              (
+                untouched_at named.history (take 6 failing) (drop 6 failing) (Judged 1 true ∷ Started 1 ∷ Ended 1 true ∷ []) refl (not_none 1) refl refl,
+                (tt, (tt, tt)),
+              ),
+            ),
+          ),
+        );
     from_nothing = λ tells success. absurd success;
   }
 
@@ -201,8 +234,13 @@ module _ (reading : List ℕ → Option (List (List ℕ))) (dyndep : List ℕ �
     held = λ tells kept file content is. absurd (none_some content is);
     steps = good_steps;
     schedule = record {
-      lawful = in_one_phase reading dyndep stopped_store [] refl refl tt (λ p. None) good_steps
-          (first_judged stopped_store [] refl refl tt false, (second_judged stopped_store [] refl refl tt (Judged 1 false ∷ []) refl refl refl, (alone_started stopped_store [] refl refl tt, (alone_ended stopped_store [] refl refl tt true, tt))));
+      lawful = in_one_phase reading dyndep stopped_store [] refl refl tt (λ p. None) good_steps (
+        first_judged stopped_store [] refl refl tt false,
+        (
+          second_judged stopped_store [] refl refl tt (Judged 1 false ∷ []) refl refl refl,
+          (alone_started stopped_store [] refl refl tt, (alone_ended stopped_store [] refl refl tt true, tt)),
+        ),
+      );
       first = built_events;
       later = [];
       grows = refl;
@@ -245,8 +283,22 @@ module _ (reading : List ℕ → Option (List (List ℕ))) (dyndep : List ℕ �
     held = λ tells kept file content is. absurd (none_some content is);
     steps = all_steps;
     schedule = record {
-      lawful = in_one_phase reading dyndep built_store (codes "h" ∷ []) refl refl (refl, tt) (λ p. None) all_steps
-          (first_judged built_store (codes "h" ∷ []) refl refl (refl, tt) true, (first_started built_store (codes "h" ∷ []) refl refl (refl, tt), (first_ended built_store (codes "h" ∷ []) refl refl (refl, tt), (second_judged built_store (codes "h" ∷ []) refl refl (refl, tt) (Judged 1 true ∷ Started 1 ∷ Ended 1 true ∷ []) refl refl refl, (second_started built_store (codes "h" ∷ []) refl refl (refl, tt), (second_ended built_store (codes "h" ∷ []) refl refl (refl, tt) true, tt))))));
+      lawful = in_one_phase reading dyndep built_store (codes "h" ∷ []) refl refl (refl, tt) (λ p. None) all_steps (
+        first_judged built_store (codes "h" ∷ []) refl refl (refl, tt) true,
+        (
+          first_started built_store (codes "h" ∷ []) refl refl (refl, tt),
+          (
+            first_ended built_store (codes "h" ∷ []) refl refl (refl, tt),
+            (
+              second_judged built_store (codes "h" ∷ []) refl refl (refl, tt) (Judged 1 true ∷ Started 1 ∷ Ended 1 true ∷ []) refl refl refl,
+              (
+                second_started built_store (codes "h" ∷ []) refl refl (refl, tt),
+                (second_ended built_store (codes "h" ∷ []) refl refl (refl, tt) true, tt),
+              ),
+            ),
+          ),
+        ),
+      );
       first = more_events;
       later = [];
       grows = refl;
@@ -274,9 +326,49 @@ module _ (reading : List ℕ → Option (List (List ℕ))) (dyndep : List ℕ �
     faults = record { refused = λ none. refl; starts = inl refl; stopped = λ stop. absurd (false≢true stop); earlier = refl };
     idle = λ none. all_ended 20 29 34;
     frame = λ tells.
-        frame_of all all_steps edited_again.history again (again_writes all fits) (again_changes all fits)
-        (tt, (tt, ((h_is edited_again.history (edited_again.history ++ take 2 again) refl, ready_cat _), (tt, (tt, (tt, (tt, (tt, (tt, ((b_is edited_again.history (edited_again.history ++ take 9 again) refl, ready_scan _ refl), (tt, (tt, (tt, (tt, (tt, (tt, tt))))))))))))))))
-        (untouched_still edited_again.history again [] 1 true refl, (tt, (tt, (untouched_at edited_again.history (take 5 again) (drop 5 again) (Judged 1 true ∷ Started 1 ∷ Ended 1 true ∷ []) refl (not_none 1) refl refl, (tt, (tt, tt))))));
+        frame_of all all_steps edited_again.history again (again_writes all fits) (again_changes all fits) (
+          tt,
+          (
+            tt,
+            (
+              (h_is edited_again.history (edited_again.history ++ take 2 again) refl, ready_cat _),
+              (
+                tt,
+                (
+                  tt,
+                  (
+                    tt,
+                    (
+                      tt,
+                      (
+                        tt,
+                        (
+                          tt,
+                          (
+                            (b_is edited_again.history (edited_again.history ++ take 9 again) refl, ready_scan _ refl),
+                            (tt, (tt, (tt, (tt, (tt, (tt, tt)))))),
+                          ),
+                        ),
+                      ),
+                    ),
+                  ),
+                ),
+              ),
+            ),
+          ),
+        ) (
+          untouched_still edited_again.history again [] 1 true refl,
+          (
+            tt,
+            (
+              tt,
+              (
+                untouched_at edited_again.history (take 5 again) (drop 5 again) (Judged 1 true ∷ Started 1 ∷ Ended 1 true ∷ []) refl (not_none 1) refl refl,
+                (tt, (tt, tt)),
+              ),
+            ),
+          ),
+        );
     from_nothing = λ tells success nothing premises.
         absurd (some_none _ (subst (λ (p : List ℕ). view_of edited_again.history p ≡ None) fits.build_log nothing.build_log));
   }

@@ -3,7 +3,7 @@ use Rattle.std.proofs.Common.{◌≡◌, inl, inr, ℕ, zero, suc, ◌<◌, if�
 use Rattle.std.proofs.lemmas.Bool.{false≢true, cases_Bool, ltb-true}
 use Rattle.std.proofs.Math.Dec.{ltb}
 use Rattle.std.specs.Prelude.{codes}
-use Rattle.std.specs.Str.{is_utf8, IsUtf8, IsAscii}
+use Rattle.std.specs.Str.{IsUtf8, IsAscii}
 use Rattle.std.proofs.lemmas.Str.{is_utf8-from_IsUtf8, IsUtf8-from_ascii}
 use Rattle.model.specs.declared.outcome.Outcome.{Outcome}
 use Rattle.model.specs.World.{View}

@@ -7,20 +7,20 @@ use Rattle.model.specs.declared.act.Act.{Act}
 use Rattle.model.specs.declared.event.Event.{Event}
 use Rattle.model.specs.declared.event.Event.TheVariants.{Start, Finish}
 use Rattle.model.specs.declared.event.Moment.{Moment}
-use Rattle.model.specs.World.{World, view_of}
+use Rattle.model.specs.World.{view_of}
 use Rattle.model.specs.Graph.{Addition, has, has_number, edge_at, outputs, StandsTwice}
 use Rattle.model.specs.Outcome.{Behaviour, depfile_in, listed}
 use Rattle.model.specs.Records.{Store, ListsOnce, in_force, deps_in_force}
 use Rattle.model.specs.OutOfDate.{IsVerdict}
 use Rattle.model.specs.Schedule.{Step, started_in}
-use Rattle.model.specs.Kept.{KeepsRecords, KeepsDeps, StartedUnder, IsRecorded, IsLeftAlone, LeavesNothing}
+use Rattle.model.specs.Kept.{KeepsRecords, KeepsDeps, IsRecorded, IsLeftAlone, LeavesNothing}
 use Rattle.met.specs.Scanning.{cat, scan, edges, asked, toys}
-use Rattle.met.specs.Worlds.{failing, succeeding, again, named, failed, edited, stopped, restarted_world, built_events, built, edited_again, more_events, last}
+use Rattle.met.specs.Worlds.{succeeding, again, named, failed, edited, stopped, restarted_world, built_events, built, edited_again, more_events, last}
 use Rattle.met.proofs.Lists.{none_some}
 use Rattle.met.proofs.Given.{ReadsNames}
-use Rattle.met.proofs.TwoEdges.{one_or_two, makes, is_one, is_two, is_either, counts_g, counts_all}
+use Rattle.met.proofs.TwoEdges.{one_or_two, makes, is_one, is_two, counts_g, counts_all}
 use Rattle.met.proofs.TwoBuilt.{told_by, told_at}
-use Rattle.met.proofs.Between.{no_store, failed_store, stopped_store, built_store, last_store, failing_steps, stopping_steps, good_steps, all_steps, failing_ends, succeeding_ends, again_ends}
+use Rattle.met.proofs.Between.{no_store, failed_store, stopped_store, built_store, last_store, failing_steps, stopping_steps, good_steps, all_steps, succeeding_ends, again_ends}
 
 not_two : (i : ℕ) → i ≡ 1 → i ≡ 2 → ⊥
 not_two i one two = omega (arith, one, two)

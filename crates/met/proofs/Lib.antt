@@ -1,5 +1,6 @@
 pub mod Lists
 pub mod Given
+pub mod OfSim
 pub mod Called
 pub mod Logs
 pub mod TwoEdges

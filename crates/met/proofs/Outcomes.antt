@@ -1,5 +1,5 @@
 -- That the commands are functions of what they declare and tell, where depfiles are read by their grammar.
-use Rattle.std.proofs.Common.{◌≡◌, inl, inr, ℕ, ◌&&◌, ◌==◌, if◌then◌else◌, Bool, true, false, List, [], ◌∷◌, ◌++◌, Option, Some, None, refl, sym, ◌∙◌, ap, subst}
+use Rattle.std.proofs.Common.{◌≡◌, inl, ℕ, ◌&&◌, if◌then◌else◌, Bool, true, List, [], ◌∷◌, ◌++◌, Option, Some, None, refl, sym, ◌∙◌, ap, subst}
 use Rattle.std.proofs.lemmas.Bool.{false≢true}
 use Rattle.std.specs.Prelude.{codes}
 use Rattle.model.specs.declared.act.Act.{Act}
@@ -12,7 +12,7 @@ use Rattle.model.specs.Reading.{Itself}
 use Rattle.model.specs.Premises.{HasOneOutcome, LeftOutcome}
 use Rattle.sim.specs.Toy.{toy_outcome, depfile}
 use Rattle.met.specs.Scanning.{cat, scan, edges, naming, toys}
-use Rattle.met.proofs.Given.{IsName, h_is_name, copying_of, giving, outcome_is}
+use Rattle.met.proofs.Given.{IsName, copying_of, giving, outcome_is}
 use Rattle.met.proofs.TwoEdges.{no_alias}
 
 agree_self : (paths : List (List ℕ)) (view : View) → AgreeOn paths view view

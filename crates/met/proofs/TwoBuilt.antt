@@ -8,7 +8,7 @@ use Rattle.model.specs.declared.event.Event.TheVariants.{Start, Finish}
 use Rattle.model.specs.declared.event.Moment.{Moment}
 use Rattle.model.specs.declared.event.Moment.TheVariants.{Wrote, Happened}
 use Rattle.model.specs.World.{World, File, View, file_after, file_from, file_at, view_of, latest}
-use Rattle.model.specs.Graph.{Addition, has, has_number, edge_at, maker, inputs, outputs, IsCommand}
+use Rattle.model.specs.Graph.{Addition, has, has_number, edge_at, maker, inputs, outputs}
 use Rattle.model.specs.Outcome.{Behaviour, depfile_in, is_accepted, listed}
 use Rattle.model.specs.Reading.{IsAbove, Direct, needs}
 use Rattle.model.specs.Records.{Store, OwnFiles, IsOwnIn, output_name, recorded_inputs}
@@ -19,7 +19,7 @@ use Rattle.model.specs.Premises.{HasOneOutcome, LeftOutcome, EndedAt, Increases,
 use Rattle.model.specs.SingleBuild.{IsJudged, IsInOrder, WasInOrder, IsOfBuild, MayChange, IsReadyFor, IsMadeBy, IsFrame, task_of}
 use Rattle.met.specs.Scanning.{cat, scan, edges, asked, toys, own, own_paths, begins_with}
 use Rattle.met.proofs.Lists.{all_has, all_from_has, none_some}
-use Rattle.met.proofs.TwoEdges.{makes, reads_these, no_dyndep, names_no_other, made_once, recorded_h, no_cycle, is_either}
+use Rattle.met.proofs.TwoEdges.{reads_these, no_dyndep, names_no_other, made_once, recorded_h, no_cycle, is_either}
 
 some_none : {A : Type 0} (x : A) → Some x ≡ None → ⊥
 some_none x e = cc

@@ -1,5 +1,5 @@
 -- The graph with two edges: what follows from its lists alone.
-use Rattle.std.proofs.Common.{◌≡◌, ◌≢◌, ◌⊎◌, inl, inr, ℕ, zero, suc, ◌<◌, ◌==◌, ◌||◌, Bool, true, false, List, [], ◌∷◌, ◌++◌, Some, None, bytes_eq, refl, sym, ◌∙◌, subst, arith}
+use Rattle.std.proofs.Common.{◌≡◌, ◌⊎◌, inl, inr, ℕ, zero, suc, ◌<◌, ◌==◌, ◌||◌, Bool, true, false, List, [], ◌∷◌, ◌++◌, Some, None, bytes_eq, refl, sym, ◌∙◌, subst, arith}
 use Rattle.std.proofs.lemmas.Bool.{false≢true, or_cases, or_left, or_right, cases_Bool, eqb-true}
 use Rattle.std.specs.Prelude.{codes}
 use Rattle.std.specs.List.{AllByRecursion}
@@ -8,7 +8,7 @@ use Rattle.model.specs.Graph.{has, has_number, edge_at, maker, outputs, inputs, 
 use Rattle.model.specs.Reading.{Itself, Through, IsAlias, IsAbove, Direct, Further, Wanted, Needed, Validating, needs}
 use Rattle.model.specs.Records.{Store, recorded_inputs}
 use Rattle.model.specs.OutOfDate.{Counted, ListsCounted}
-use Rattle.model.specs.Schedule.{Step, Judged, Started, Ended, IsSettled, Done, Alias, MayStart, MayBeJudged, NoneMayBeJudged, NoneMayStart, IsLawfulStep, judged_in, out_of_date_in, started_in, running_in, done_in}
+use Rattle.model.specs.Schedule.{Step, Judged, Started, Ended, IsSettled, Done, Alias, MayBeJudged, NoneMayBeJudged, NoneMayStart, IsLawfulStep, judged_in, out_of_date_in, started_in, done_in}
 use Rattle.model.specs.Phases.{NoLoadIsDue}
 use Rattle.model.specs.SingleBuild.{NamesOther, HasNoCycle, InCone, task_of}
 use Rattle.met.specs.Scanning.{edges, asked}

@@ -25,7 +25,9 @@ use Rattle.met.specs.Scanning.{edges, asked, file_text, naming, toys, own}
 use Rattle.met.specs.Worlds.{put, moves, first, declared, sourced, named, failed, edited, stopped, restarted_world, built, edited_again, last}
 use Rattle.met.specs.Met.{one_graph, IsInFolder, Meets, HistoryIsMet}
 use Rattle.met.proofs.Lists.{none_some, bytes_same}
-use Rattle.met.proofs.Given.{ReadsNames, reads_names}
+use Rattle.met.proofs.Given.{ReadsNames, reads_names, h_is_name}
+use Rattle.met.proofs.Outcomes.{reports_view}
+use Rattle.met.proofs.OfSim.{of_sim}
 use Rattle.met.proofs.Called.{called}
 use Rattle.met.proofs.TwoBuilt.{own_fits}
 use Rattle.met.proofs.Between.{no_store, failed_store, stopped_store, built_store, at_failed, at_stopped, at_built, at_edited_again, at_last, failing_steps, stopping_steps, good_steps, all_steps, failing_keeps, stopping_keeps, succeeding_keeps, again_keeps}
@@ -102,14 +104,112 @@ module _ (reading : List ℕ → Option (List (List ℕ))) (dyndep : List ℕ �
   second = Write (codes "g") (codes "x") ∷ Write (codes "a") (naming (codes "k")) ∷ Build [] ∷ fifth
 
   carries : CarriesOut one_graph moves visits
-  carries = inr (Write (codes "build.ninja") file_text, second, refl, (refl, refl), inr (Write (codes "g") (codes "x"), Write (codes "a") (naming (codes "k")) ∷ Build [] ∷ fifth, refl, (refl, refl), inr (Write (codes "a") (naming (codes "k")), Build [] ∷ fifth, refl, (refl, refl), inr (Build [], fifth, refl, (refl, refl), inr (Write (codes "a") (naming (codes "h")), Build [] ∷ Build [] ∷ eighth, refl, (refl, refl), inr (Build [], Build [] ∷ eighth, refl, (refl, refl), inl (refl, none_left (Build []) eighth, inr (Build [], eighth, refl, (refl, refl), inr (Write (codes "g") (codes "y"), Build [] ∷ [], refl, (refl, refl), inr (Build [], [], refl, (refl, refl), refl))))))))))
+  carries = inr (
+    Write (codes "build.ninja") file_text,
+    second,
+    refl,
+    (refl, refl),
+    inr (
+      Write (codes "g") (codes "x"),
+      Write (codes "a") (naming (codes "k")) ∷ Build [] ∷ fifth,
+      refl,
+      (refl, refl),
+      inr (
+        Write (codes "a") (naming (codes "k")),
+        Build [] ∷ fifth,
+        refl,
+        (refl, refl),
+        inr (
+          Build [],
+          fifth,
+          refl,
+          (refl, refl),
+          inr (
+            Write (codes "a") (naming (codes "h")),
+            Build [] ∷ Build [] ∷ eighth,
+            refl,
+            (refl, refl),
+            inr (
+              Build [],
+              Build [] ∷ eighth,
+              refl,
+              (refl, refl),
+              inl (
+                refl,
+                none_left (Build []) eighth,
+                inr (
+                  Build [],
+                  eighth,
+                  refl,
+                  (refl, refl),
+                  inr (Write (codes "g") (codes "y"), Build [] ∷ [], refl, (refl, refl), inr (Build [], [], refl, (refl, refl), refl)),
+                ),
+              ),
+            ),
+          ),
+        ),
+      ),
+    ),
+  )
 
   none_in_force : (store : Store) (old : World) (path : List ℕ) → store ≡ store_in format own (view_of old.history) → in_force store.records path ≡ None
       → in_force (store_in format own (view_of old.history)).records path ≡ None
   none_in_force store old path same none = subst (λ (s : Store). in_force s.records path ≡ None) same none
 
   keeps : AllByRecursion (λ (v : Visit true B format). Keeps own v) visits
-  keeps = ((λ job. refl, stamps [] (put (codes "build.ninja") file_text 1 ∷ []) (omega arith, tt), unedited [] (put (codes "build.ninja") file_text 1 ∷ []) (tt, tt), is_left format (codes "build.ninja") file_text first refl refl refl), ((λ job. refl, stamps declared.history (put (codes "g") (codes "x") 2 ∷ []) (omega arith, tt), unedited declared.history (put (codes "g") (codes "x") 2 ∷ []) (tt, tt), is_left format (codes "g") (codes "x") declared refl refl refl), ((λ job. refl, stamps sourced.history (put (codes "a") (naming (codes "k")) 3 ∷ []) (omega arith, tt), unedited sourced.history (put (codes "a") (naming (codes "k")) 3 ∷ []) (tt, tt), is_left format (codes "a") (naming (codes "k")) sourced refl refl refl), ((λ job. refl, (own_fits, failing_keeps reading dyndep reads)), ((both_ended 6 11 false, stamps failed.history (put (codes "a") (naming (codes "h")) 12 ∷ []) (omega arith, tt), unedited failed.history (put (codes "a") (naming (codes "h")) 12 ∷ []) (tt, tt), is_left format (codes "a") (naming (codes "h")) failed (none_in_force failed_store failed (codes "a") (at_failed format reads_logs own own_fits) refl) refl refl), ((both_ended 6 11 false, (own_fits, stopping_keeps reading dyndep reads)), ((stamps stopped.history [] tt, to_outputs stopped.history [] tt, unedited stopped.history [] tt), ((λ job. refl, (own_fits, succeeding_keeps reading dyndep reads)), ((ended 2 20 true, stamps built.history (put (codes "g") (codes "y") 27 ∷ []) (omega arith, tt), unedited built.history (put (codes "g") (codes "y") 27 ∷ []) (tt, tt), is_left format (codes "g") (codes "y") built (none_in_force built_store built (codes "g") (at_built format reads_logs own own_fits) refl) refl refl), ((ended 2 20 true, (own_fits, again_keeps reading dyndep reads)), tt))))))))))
+  keeps = (
+    (
+      λ job. refl,
+      stamps [] (put (codes "build.ninja") file_text 1 ∷ []) (omega arith, tt),
+      unedited [] (put (codes "build.ninja") file_text 1 ∷ []) (tt, tt),
+      is_left format (codes "build.ninja") file_text first refl refl refl,
+    ),
+    (
+      (
+        λ job. refl,
+        stamps declared.history (put (codes "g") (codes "x") 2 ∷ []) (omega arith, tt),
+        unedited declared.history (put (codes "g") (codes "x") 2 ∷ []) (tt, tt),
+        is_left format (codes "g") (codes "x") declared refl refl refl,
+      ),
+      (
+        (
+          λ job. refl,
+          stamps sourced.history (put (codes "a") (naming (codes "k")) 3 ∷ []) (omega arith, tt),
+          unedited sourced.history (put (codes "a") (naming (codes "k")) 3 ∷ []) (tt, tt),
+          is_left format (codes "a") (naming (codes "k")) sourced refl refl refl,
+        ),
+        (
+          (λ job. refl, (own_fits, failing_keeps reading dyndep reads)),
+          (
+            (
+              both_ended 6 11 false,
+              stamps failed.history (put (codes "a") (naming (codes "h")) 12 ∷ []) (omega arith, tt),
+              unedited failed.history (put (codes "a") (naming (codes "h")) 12 ∷ []) (tt, tt),
+              is_left format (codes "a") (naming (codes "h")) failed (none_in_force failed_store failed (codes "a") (at_failed format reads_logs own own_fits) refl) refl refl,
+            ),
+            (
+              (both_ended 6 11 false, (own_fits, stopping_keeps reading dyndep reads)),
+              (
+                (stamps stopped.history [] tt, to_outputs stopped.history [] tt, unedited stopped.history [] tt),
+                (
+                  (λ job. refl, (own_fits, succeeding_keeps reading dyndep reads)),
+                  (
+                    (
+                      ended 2 20 true,
+                      stamps built.history (put (codes "g") (codes "y") 27 ∷ []) (omega arith, tt),
+                      unedited built.history (put (codes "g") (codes "y") 27 ∷ []) (tt, tt),
+                      is_left format (codes "g") (codes "y") built (none_in_force built_store built (codes "g") (at_built format reads_logs own own_fits) refl) refl refl,
+                    ),
+                    ((ended 2 20 true, (own_fits, again_keeps reading dyndep reads)), tt),
+                  ),
+                ),
+              ),
+            ),
+          ),
+        ),
+      ),
+    ),
+  )
 
   logs : AllByRecursion HasLogs visits
   logs = (
@@ -178,9 +278,11 @@ module _ (reading : List ℕ → Option (List (List ℕ))) (dyndep : List ℕ �
     faithful = faithful;
     keeps = keeps;
     logs = logs;
+    reports = reports_view reading dyndep (codes "h") h_is_name reads.h (view_of last.history) (codes "y") refl refl;
+    above = refl;
     recorded = subst (λ (s : Store). recorded_inputs s edges 2 ≡ codes "h" ∷ []) (at_edited_again format reads_logs own own_fits) refl;
     one_folder = one_folder;
   }
 
 pub history_met : ((bytes : List ℕ) (a b : Result (List (List ℕ)) DepFault) → IsRead bytes a → IsRead bytes b → a ≡ b) → HistoryIsMet
-history_met one = record { called = called; meets = λ depfile dyndep format is_reading reads_logs. meets depfile dyndep (reads_names one depfile is_reading) format reads_logs }
+history_met one = record { of_sim = of_sim; called = called; meets = λ depfile dyndep format is_reading reads_logs. meets depfile dyndep (reads_names one depfile is_reading) format reads_logs }

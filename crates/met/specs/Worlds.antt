@@ -1,8 +1,9 @@
 -- What happens on a site in memory: which calls are made on it for each move, and what they leave. That the program makes just these calls
 -- for these moves is shown by a test (`checks`, `history`).
-use Rattle.std.specs.Prelude.{ℕ, Bool, true, false, List, [], ◌∷◌, ◌++◌, Some, None, codes}
+use Rattle.std.specs.Prelude.{◌≡◌, ℕ, Bool, true, false, List, [], ◌∷◌, ◌++◌, Some, None, codes}
 use Rattle.model.specs.declared.event.Event.{Event}
 use Rattle.model.specs.declared.event.Event.TheVariants.{Start, Finish}
+use Rattle.model.specs.declared.event.Finished.{Finished}
 use Rattle.model.specs.declared.event.Moment.{Moment}
 use Rattle.model.specs.declared.event.Moment.TheVariants.{Wrote, Happened}
 use Rattle.model.specs.declared.event.Writer.TheVariants.{Program, Command}
@@ -20,7 +21,12 @@ use Rattle.build_log.specs.Text.{header}
 use Rattle.build_log.specs.Record.{forms as record_forms}
 use Rattle.deps_log.specs.Record.{forms as deps_forms}
 use Rattle.sim.specs.Toy.{toy_outcome}
+use Rattle.sim.specs.Sim.{Ends, Halts}
 use Rattle.sim.specs.World.{wrote, ticked, appended, started, happened, worked}
+use Rattle.sim.specs.World.{world_of as world_of_sim}
+use Rattle.sim.specs.declared.jobs.Running.{Running}
+use Rattle.sim.specs.declared.sim.Sim.{Sim}
+use Rattle.sim.specs.declared.toy.Toy.{Toy}
 use Rattle.met.specs.Scanning.{cat, scan, file_text, naming, telling, begun, copied, scanned, told, log_text, deps_text}
 
 -- ---- calls, as the contracts of the site in memory have them
@@ -45,6 +51,13 @@ waits job act world = happened (Finish job (now_given act world).ok) (worked job
 -- the site stops in the wait: the command has made its writes
 abbrev pub stops : ℕ → Act → Call
 stops job act world = record (worked job (now_given act world) world) { stopped = true }
+
+-- Waiting and stopping are what the contracts of the site say, where the command that runs has not written yet.
+pub record AreOfSim : Type 0 where
+  pub waits : (old new : Sim Toy) (finished : Finished) (ends : Ends toy_outcome finished old new) → ends.one.done ≡ None
+      → world_of_sim new ≡ waits finished.job ends.one.act (world_of_sim old)
+  pub stops : (old new : Sim Toy) (job : ℕ) (one : Running) → Halts toy_outcome old new → one.done ≡ None → old.jobs.running ≡ (job, one) ∷ [] → new.lost ≡ false
+      → world_of_sim new ≡ stops job one.act (world_of_sim old)
 
 abbrev pub after : List Call → World → World
 after [] world = world

@@ -1,0 +1,15 @@
+//! Tests that cross crates.
+#![tactic(auto)]
+
+#[cfg(test)]
+mod builds;
+#[cfg(test)]
+mod clean_builds;
+#[cfg(test)]
+mod history;
+#[cfg(test)]
+mod large_builds;
+#[cfg(test)]
+mod moves;
+#[cfg(test)]
+mod watched;
