@@ -42,7 +42,7 @@ impl<'a> Field<'a> {
     }
 
     /// The field of a text, which borrows from it.
-    pub(crate) fn plain(text: &'a str) -> Field<'a>
+    pub fn plain(text: &'a str) -> Field<'a>
         ensures { result ≡ text.now }
     {
         Field {
@@ -116,6 +116,13 @@ pub fn field_text(alloc: Global, text: &str) -> Result<Vec<u8>, AllocError>
     let mut field = Vec::new(alloc);
     push_field(&mut field, text)?;
     Ok(field)
+}
+
+/// Whether no byte of a text is written as two.
+pub(crate) fn is_plain_text(text: &str) -> bool
+    ensures { IsTrue result → IsPlain text.now }
+{
+    cut_at_escape(text.as_bytes()).is_none()
 }
 
 /// Whether nothing in a line is escaped.

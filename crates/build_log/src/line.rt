@@ -9,6 +9,7 @@ ghost use Rattle.build_log.specs.Line.{field_and_tab, line_text, AreTexts, count
 use crate::field::{Field, field_of, is_plain, push_field};
 use itoa::Buffer;
 use std::alloc::{AllocError, Global};
+use std::str::from_utf8;
 use text::cut;
 
 /// As many fields as a record of one output has: room for them is made at once.
@@ -61,6 +62,31 @@ pub(crate) fn take_fields<'a>(
         rest = after;
     }
     Ok(rest.is_empty())
+}
+
+/// What stands before the dot that ends a line, where nothing in it is escaped.
+pub fn plain_front(line: &[u8]) -> Option<&[u8]>
+    requires { Lacks 10 line.now }
+    ensures found { IfSome result (λ front. line.now ≡ front.now ++ 46 ∷ []) }
+    ensures plain { IfSome result (λ front. Lacks 92 front.now) }
+    ensures line_feed { IfSome result (λ front. Lacks 10 front.now) }
+{
+    let front = without_dot(line)?;
+    if !is_plain(front) {
+        return None;
+    }
+    Some(front)
+}
+
+/// The text of the field in front of bytes in which nothing is escaped, and what stands behind its tab.
+pub fn plain_field(bytes: &[u8]) -> Option<(&str, &[u8])>
+    requires plain { Lacks 92 bytes.now }
+    requires line_feed { Lacks 10 bytes.now }
+    ensures { IfSome result (λ parts. bytes.now ≡ field_and_tab parts.0.now ++ parts.1.now) }
+{
+    let (field, after) = cut(bytes, b'\t')?;
+    let text = from_utf8(field).ok()?;
+    Some((text, after))
 }
 
 /// What stands before the dot that ends a line.
