@@ -1,9 +1,22 @@
--- What is noted of texts by number.
-use Rattle.std.specs.Prelude.{◌≡◌, ℕ, List, true, Some, length, slice_get}
+-- What is guessed of texts by number.
+use Rattle.std.specs.Prelude.{◌≡◌, ℕ, List, Option, Some, None, slice_get}
 use Rattle.build_log.specs.Line.{IsPlain}
 use Rattle.build_log.specs.declared.texts.Note.{Note}
+use Rattle.build_log.specs.declared.texts.Guess.{Guess}
 
--- there is a note of each text, and one that is noted as plain is so
-pub record AreNotesOf (texts : List (List ℕ)) (notes : List Note) : Type 0 where
-  pub fits : length notes ≡ length texts
-  pub plain : (n : ℕ) (note : Note) (text : List ℕ) → slice_get notes n ≡ Some note → note.is_plain ≡ true → slice_get texts n ≡ Some text → IsPlain text
+-- the number is that of a text of which no byte is written as two
+abbrev pub IsPlainAt : List (List ℕ) → ℕ → Type 0
+IsPlainAt texts number = (text : List ℕ) × (slice_get texts number ≡ Some text) × IsPlain text
+
+abbrev pub IsGuessIn : List (List ℕ) → Option Guess → Type 0
+IsGuessIn texts None = Unit {0}
+IsGuessIn texts (Some guess) = IsPlainAt texts guess.number
+
+-- the guesses of a note are of plain texts
+pub record IsNoteIn (texts : List (List ℕ)) (note : Note) : Type 0 where
+  pub next : IsGuessIn texts note.next
+  pub other : IsGuessIn texts note.other
+
+-- so are those of all notes
+abbrev pub AreNotesOf : List (List ℕ) → List Note → Type 0
+AreNotesOf texts notes = (n : ℕ) (note : Note) → slice_get notes n ≡ Some note → IsNoteIn texts note

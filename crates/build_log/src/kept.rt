@@ -112,8 +112,8 @@ impl<T: Drop> Kept<T> {
         Ok(Items::from_vec(numbers))
     }
 
-    /// The numbers of the texts whose fields, so many, stand in front of bytes in which nothing is escaped, and what stands
-    /// behind them. Texts that have no number get one. What is kept stands for the same records as before.
+    /// The numbers of the texts whose fields, so many, stand in front, and what stands behind them, where no byte of them is
+    /// written as two. Texts that have no number get one. What is kept stands for the same records as before.
     ///
     /// A text that came behind the one before it in an earlier call is compared, and neither searched for its tab nor hashed.
     pub fn take_numbers<'a>(
@@ -122,8 +122,7 @@ impl<T: Drop> Kept<T> {
         bytes: &'a [u8],
         count: usize,
     ) -> Result<Option<(Items<usize>, &'a [u8])>, AllocError>
-        requires plain { Lacks 92 bytes.now }
-        requires line_feed { Lacks 10 bytes.now }
+        requires { Lacks 10 bytes.now }
         ensures same { (all : List (Saying T)) → IsTableOf all self.old → IsTableOf all self.new }
         ensures records { self.new.records ≡ self.old.records }
         ensures grown { IsGrown self.old self.new }
@@ -146,15 +145,15 @@ impl<T: Drop> Kept<T> {
         Ok(Some((Items::from_vec(numbers), rest)))
     }
 
-    /// The number of the text whose field stands in front, behind that of `last`, and what stands behind its tab.
+    /// The number of the text whose field stands in front, behind that of `last`, and what stands behind its tab, where no byte
+    /// of it is written as two.
     fn take_number<'a>(
         &mut self,
         alloc: Global,
         last: usize,
         bytes: &'a [u8],
     ) -> Result<Option<(usize, &'a [u8])>, AllocError>
-        requires plain { Lacks 92 bytes.now }
-        requires line_feed { Lacks 10 bytes.now }
+        requires { Lacks 10 bytes.now }
         ensures same { (all : List (Saying T)) → IsTableOf all self.old → IsTableOf all self.new }
         ensures records { self.new.records ≡ self.old.records }
         ensures grown { IsGrown self.old self.new }
@@ -167,7 +166,7 @@ impl<T: Drop> Kept<T> {
             return Ok(None);
         };
         let number = self.number(alloc, text)?;
-        self.outputs.note(last, number);
+        self.outputs.note(last, number, text);
         Ok(Some((number, after)))
     }
 

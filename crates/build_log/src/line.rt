@@ -4,7 +4,7 @@ ghost use Rattle.std.specs.Prelude.{◌≡◌, [], ◌∷◌, ◌++◌, List, �
 ghost use Rattle.std.specs.List.{flat_map};
 ghost use Rattle.std.specs.Str.{IsUtf8};
 ghost use Rattle.text.specs.Marks.{Lacks};
-ghost use Rattle.build_log.specs.Line.{field_and_tab, line_text, AreTexts, counted};
+ghost use Rattle.build_log.specs.Line.{field_and_tab, line_text, AreTexts, counted, IsPlain};
 
 use crate::field::{Field, field_of, is_plain, push_field};
 use itoa::Buffer;
@@ -64,33 +64,23 @@ pub(crate) fn take_fields<'a>(
     Ok(rest.is_empty())
 }
 
-/// What stands before the dot that ends a line, where nothing in it is escaped.
-pub fn plain_front(line: &[u8]) -> Option<&[u8]>
-    requires { Lacks 10 line.now }
-    ensures found { IfSome result (λ front. line.now ≡ front.now ++ 46 ∷ []) }
-    ensures plain { IfSome result (λ front. Lacks 92 front.now) }
-    ensures line_feed { IfSome result (λ front. Lacks 10 front.now) }
-{
-    let front = without_dot(line)?;
-    if !is_plain(front) {
-        return None;
-    }
-    Some(front)
-}
-
-/// The text of the field in front of bytes in which nothing is escaped, and what stands behind its tab.
+/// The text of the field in front, and what stands behind its tab, where no byte of the text is written as two.
 pub fn plain_field(bytes: &[u8]) -> Option<(&str, &[u8])>
-    requires plain { Lacks 92 bytes.now }
-    requires line_feed { Lacks 10 bytes.now }
-    ensures { IfSome result (λ parts. bytes.now ≡ field_and_tab parts.0.now ++ parts.1.now) }
+    requires { Lacks 10 bytes.now }
+    ensures found { IfSome result (λ parts. bytes.now ≡ field_and_tab parts.0.now ++ parts.1.now) }
+    ensures plain { IfSome result (λ parts. IsPlain parts.0.now) }
+    ensures line_feed { IfSome result (λ parts. Lacks 10 parts.1.now) }
 {
     let (field, after) = cut(bytes, b'\t')?;
+    if !is_plain(field) {
+        return None;
+    }
     let text = from_utf8(field).ok()?;
     Some((text, after))
 }
 
 /// What stands before the dot that ends a line.
-fn without_dot(line: &[u8]) -> Option<&[u8]>
+pub fn without_dot(line: &[u8]) -> Option<&[u8]>
     ensures found { IfSome result (λ front. line.now ≡ front.now ++ 46 ∷ []) }
     ensures none { IfNone result ((front : List ℕ) → line.now ≡ front ++ 46 ∷ [] → ⊥) }
 {

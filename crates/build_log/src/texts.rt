@@ -1,12 +1,13 @@
 //! Texts by number, each once.
 
-ghost use Rattle.std.specs.Prelude.{◌≡◌, [], ◌∷◌, ◌++◌, List, ℕ, Some, false, IfOk, IfSome, IfNone, IsTrue, OnOk, OnErr, slice_get};
+ghost use Rattle.std.specs.Prelude.{◌≡◌, [], ◌∷◌, ◌++◌, List, ℕ, Some, false, IfOk, IfSome, IfNone, OnOk, OnErr, slice_get};
 ghost use Rattle.std.specs.Option.{option_map};
 ghost use Rattle.std.specs.Str.{IsUtf8};
 ghost use Rattle.model.specs.Graph.{has};
 ghost use Rattle.build_log.specs.Line.{field_and_tab, IsPlain};
+ghost use Rattle.build_log.specs.Noted.{IsPlainAt};
 
-use crate::field::is_plain_text;
+use bstr::ByteSlice;
 use indexmap::IndexSet;
 use std::alloc::{AllocError, Global};
 use std::marker::Model;
@@ -15,17 +16,25 @@ use std::marker::Model;
 #[derive(Drop)]
 pub struct Texts {
     texts: IndexSet<String>,
+    /// For each text what is guessed of the one behind it.
     notes: Vec<Note>,
 }
 
-/// What is noted of a text.
+/// Texts that came behind a text, none of which has a byte that is written as two. They are guesses: what stands there is
+/// compared each time.
 #[derive(Clone, Copy)]
 pub struct Note {
-    /// Whether no byte of it is written as two.
-    pub is_plain: bool,
-    /// Two texts that came behind it. They are guesses: what stands there is compared each time.
-    pub next: usize,
-    pub other: usize,
+    pub next: Option<Guess>,
+    pub other: Option<Guess>,
+}
+
+/// A text by its number, and how it is told from others at a glance: its length, and the byte that it has at one place.
+#[derive(Clone, Copy)]
+pub struct Guess {
+    pub number: usize,
+    pub len: usize,
+    pub place: usize,
+    pub byte: u8,
 }
 
 impl Model for Texts {
@@ -79,9 +88,8 @@ impl Texts {
         self.notes.reserve(1)?;
         let (number, _) = self.texts.insert_full(own)?;
         self.notes.push(Note {
-            is_plain: is_plain_text(text),
-            next: number,
-            other: number,
+            next: None,
+            other: None,
         })?;
         Ok(number)
     }
@@ -91,49 +99,77 @@ impl Texts {
     pub(crate) fn follow<'a>(&self, last: usize, bytes: &'a [u8]) -> Option<(usize, &'a [u8])>
         ensures { IfSome result (λ parts. (text : List ℕ) × (slice_get self.now parts.0 ≡ Some text) × IsUtf8 text × (bytes.now ≡ field_and_tab text ++ parts.1.now)) }
     {
-        let note = self.notes.get(last)?;
-        if let Some(after) = self.behind(note.next, bytes) {
-            return Some((note.next, after));
-        }
-        let after = self.behind(note.other, bytes)?;
-        Some((note.other, after))
+        let number = self.guess(last, bytes)?;
+        let after = self.behind(number, bytes)?;
+        Some((number, after))
     }
 
-    /// What stands behind the field of the text with this number and its tab, where they stand in front. It is looked for where
-    /// nothing in the field is escaped alone.
+    /// The number of a text that came behind `last` before, and of which it may be that it stands in front.
+    fn guess(&self, last: usize, bytes: &[u8]) -> Option<usize>
+        ensures { IfSome result (IsPlainAt self.now) }
+    {
+        let note = self.notes.get(last)?;
+        match note.next {
+            Some(guess) if may_stand(&guess, bytes) => Some(guess.number),
+            _ => match note.other {
+                Some(guess) if may_stand(&guess, bytes) => Some(guess.number),
+                _ => None,
+            },
+        }
+    }
+
+    /// What stands behind the field of the text with this number and its tab, where they stand in front.
     fn behind<'a>(&self, number: usize, bytes: &'a [u8]) -> Option<&'a [u8]>
+        requires { IsPlainAt self.now number }
         ensures { IfSome result (λ after. (text : List ℕ) × (slice_get self.now number ≡ Some text) × IsUtf8 text × (bytes.now ≡ field_and_tab text ++ after.now)) }
     {
         let text = self.at(number)?;
-        if !self.is_plain(number) {
-            return None;
-        }
         behind_text(text, bytes)
     }
 
-    /// Whether the text with this number is noted as plain.
-    fn is_plain(&self, number: usize) -> bool
-        ensures { IsTrue result → (text : List ℕ) → slice_get self.now number ≡ Some text → IsPlain text }
-    {
-        match self.notes.get(number) {
-            Some(note) => note.is_plain,
-            None => false,
-        }
-    }
-
-    /// Notes that a text came behind another.
-    pub(crate) fn note(&mut self, last: usize, number: usize)
+    /// Notes that a text with this number, of which no byte is written as two, came behind another.
+    pub(crate) fn note(&mut self, last: usize, number: usize, text: &str)
+        requires at { slice_get self.old number ≡ Some text.now }
+        requires plain { IsPlain text.now }
         ensures { self.new ≡ self.old }
     {
         if last < self.notes.len() {
             let note = self.notes[last];
             self.notes[last] = Note {
-                is_plain: note.is_plain,
-                next: number,
+                next: Some(guess_of(number, text)),
                 other: note.next,
             };
         }
     }
+}
+
+/// How a text with this number is told from others: texts that come in turn are often names of files that differ before the
+/// dot.
+fn guess_of(number: usize, text: &str) -> Guess
+    ensures { result.number ≡ number }
+{
+    let bytes = text.as_bytes();
+    let end = bytes.rfind_byte(b'.').unwrap_or(bytes.len());
+    let place = end.saturating_sub(1);
+    Guess {
+        number,
+        len: bytes.len(),
+        place,
+        byte: byte_at(bytes, place),
+    }
+}
+
+/// The byte at this place, or 0.
+fn byte_at(bytes: &[u8], place: usize) -> u8 {
+    match bytes.get(place) {
+        Some(byte) => *byte,
+        None => 0,
+    }
+}
+
+/// Whether a guess may be right. Any answer will do: what stands in front is compared.
+fn may_stand(guess: &Guess, bytes: &[u8]) -> bool {
+    byte_at(bytes, guess.len) == b'\t' && byte_at(bytes, guess.place) == guess.byte
 }
 
 /// What stands behind the field of a plain text and its tab, where they stand in front.

@@ -188,6 +188,6 @@ fn append_moved(
     edges.extend_from_within(start..stop)?;
     edges.push(edge)?;
     let end = edges.len();
-    edges.extend_from_within(start..stop)?;
+    edges.resize(end + (stop - start), edge)?;
     Ok(end)
 }
