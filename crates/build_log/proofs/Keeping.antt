@@ -12,7 +12,7 @@ use Rattle.build_log.proofs.Distinct.{same_bytes, bytes_same, bytes_differ, dist
 
 -- ---- numbers of outputs
 
-get_grown : (xs ys : List (List ℕ)) (n : ℕ) (t : List ℕ) → slice_get xs n ≡ Some t → slice_get (xs ++ ys) n ≡ Some t
+pub get_grown : (xs ys : List (List ℕ)) (n : ℕ) (t : List ℕ) → slice_get xs n ≡ Some t → slice_get (xs ++ ys) n ≡ Some t
 get_grown [] ys n t is = cc
 get_grown (x ∷ xs) ys zero t is = is
 get_grown (x ∷ xs) ys (suc n) t is = get_grown xs ys n t is

@@ -1,5 +1,5 @@
 -- What is noted of texts, and fields that stand in front of bytes.
-use Rattle.std.proofs.Common.{◌≡◌, ◌≢◌, ◌⊎◌, inl, inr, ℕ, ◌+◌, ◌<◌, ◌∷◌, ◌++◌, [], List, true, length, get_or, set, Option, Some, slice_get, refl, sym, ap, ◌∙◌, subst, arith}
+use Rattle.std.proofs.Common.{◌≡◌, ◌≢◌, ◌⊎◌, inl, inr, ℕ, ◌+◌, ◌<◌, ◌∷◌, ◌++◌, [], List, length, get_or, set, Option, Some, None, slice_get, refl, sym, ap, ◌∙◌, subst, arith}
 use Rattle.std.specs.List.{flat_map, AllByRecursion}
 use Rattle.std.specs.Str.{IsUtf8}
 use Rattle.std.proofs.lemmas.Bool.Decides.{eqb_tells}
@@ -8,49 +8,44 @@ use Rattle.std.proofs.lemmas.List.Concat.{flat_map-append}
 use Rattle.std.proofs.lemmas.Option.{slice_get_within, slice_get-get_or, get_or_from_slice_get}
 use Rattle.build_log.specs.Line.{field_text, field_and_tab, IsPlain, AreTexts}
 use Rattle.build_log.specs.Kept.{AreNumbersOf}
-use Rattle.build_log.specs.Noted.{AreNotesOf}
+use Rattle.build_log.specs.Noted.{IsPlainAt, IsGuessIn, IsNoteIn, AreNotesOf}
 use Rattle.build_log.specs.Taken.{AreTakenFrom}
 use Rattle.build_log.specs.declared.texts.Note.{Note}
+use Rattle.build_log.specs.declared.texts.Guess.{Guess}
 use Rattle.build_log.proofs.Escapes.{field_text-plain}
-use Rattle.build_log.proofs.Keeping.{get_push, numbers_push, numbers_grown}
+use Rattle.build_log.proofs.Keeping.{get_grown, get_push, numbers_push, numbers_grown}
 
-pub notes_none : AreNotesOf [] []
-notes_none = record { fits = refl; plain = λ n note text at is there. cc }
+pub notes_none : (texts : List (List ℕ)) → AreNotesOf texts []
+notes_none texts n note at = absurd (let clash : None ≡ Some note = at in cc)
 
--- one text more, with its note
-pub notes_push : (texts : List (List ℕ)) (notes : List Note) (text : List ℕ) (note : Note) → AreNotesOf texts notes → (note.is_plain ≡ true → IsPlain text) → AreNotesOf (texts ++ text ∷ []) (notes ++ note ∷ [])
-notes_push texts notes text note are plain = record {
-  fits = length-append notes (note ∷ []) ∙ (ap (λ (n : ℕ). n + 1) are.fits ∙ sym (length-append texts (text ∷ [])));
-  plain = λ n m t at is there. elim (get_push notes note n m at) [
-    | inl old ↦ elim (get_push texts text n t there) [
-      | inl known ↦ are.plain n m t old is known
-      | inr end ↦ absurd (let low = slice_get_within notes n m old in let fits = are.fits in let e = end.0 in omega arith)
+plain_grown : (texts more : List (List ℕ)) (n : ℕ) → IsPlainAt texts n → IsPlainAt (texts ++ more) n
+plain_grown texts more n is = (is.0, get_grown texts more n is.0 is.1, is.2)
+
+guess_grown : (texts more : List (List ℕ)) (guess : Option Guess) → IsGuessIn texts guess → IsGuessIn (texts ++ more) guess
+guess_grown texts more None is = tt
+guess_grown texts more (Some guess) is = plain_grown texts more guess.number is
+
+-- one text more, of which nothing is guessed
+pub notes_push : (texts : List (List ℕ)) (notes : List Note) (text : List ℕ) → AreNotesOf texts notes → AreNotesOf (texts ++ text ∷ []) (notes ++ record { next = None; other = None } ∷ [])
+notes_push texts notes text are n note at = elim (get_push notes (record { next = None; other = None }) n note at) [
+  | inl old ↦
+      let is = are n note old in
+      record { next = guess_grown texts (text ∷ []) note.next is.next; other = guess_grown texts (text ∷ []) note.other is.other }
+  | inr end ↦ subst (IsNoteIn (texts ++ text ∷ [])) end.1 (record { next = tt; other = tt })
+]
+
+-- another note in the place of one
+pub notes_set : (texts : List (List ℕ)) (notes : List Note) (k : ℕ) (new : Note) → AreNotesOf texts notes → k < length notes → IsNoteIn texts new → AreNotesOf texts (set notes k new)
+notes_set texts notes k new are within is n note at =
+    let read : get_or (set notes k new) n note ≡ note = get_or_from_slice_get (set notes k new) n note note at in
+    elim (eqb_tells n k) [
+      | inl here ↦
+          let mine : new ≡ note = sym (get_or-set_same notes k new note within) ∙ (ap (λ (i : ℕ). get_or (set notes k new) i note) (sym here.1) ∙ read) in
+          subst (IsNoteIn texts) mine is
+      | inr other ↦
+          let low : n < length notes = let len = length-set notes k new in let in_new = slice_get_within (set notes k new) n note at in omega arith in
+          are n note (slice_get-get_or notes n note low ∙ ap (λ (x : Note). Some x) (sym (get_or-set_other notes k n new note other.1) ∙ read))
     ]
-    | inr end ↦ elim (get_push texts text n t there) [
-      | inl known ↦ absurd (let low = slice_get_within texts n t known in let fits = are.fits in let e = end.0 in omega arith)
-      | inr new ↦ subst IsPlain new.1 (plain (ap (λ (m : Note). m.is_plain) end.1 ∙ is))
-    ]
-  ];
-}
-
--- another note of a text that is plain just where it was
-pub notes_set : (texts : List (List ℕ)) (notes : List Note) (k : ℕ) (old new : Note) → AreNotesOf texts notes → k < length notes → old ≡ get_or notes k old → new.is_plain ≡ old.is_plain → AreNotesOf texts (set notes k new)
-notes_set texts notes k old new are within was same = record {
-  fits = length-set notes k new ∙ are.fits;
-  plain = λ n m t at is there.
-      let read : get_or (set notes k new) n m ≡ m = get_or_from_slice_get (set notes k new) n m m at in
-      elim (eqb_tells n k) [
-        | inl here ↦
-            let mine : m ≡ new = sym read ∙ (ap (λ (i : ℕ). get_or (set notes k new) i m) here.1 ∙ get_or-set_same notes k new m within) in
-            let plain : old.is_plain ≡ true = sym same ∙ (ap (λ (x : Note). x.is_plain) (sym mine) ∙ is) in
-            let before : slice_get notes n ≡ Some old = ap (slice_get notes) here.1 ∙ (slice_get-get_or notes k old within ∙ ap (λ (x : Note). Some x) (sym was)) in
-            are.plain n old t before plain there
-        | inr other ↦
-            let low : n < length notes = let len = length-set notes k new in let in_new = slice_get_within (set notes k new) n m at in omega arith in
-            let before : slice_get notes n ≡ Some m = slice_get-get_or notes n m low ∙ ap (λ (x : Note). Some x) (sym (get_or-set_other notes k n new m other.1) ∙ read) in
-            are.plain n m t before is there
-      ];
-}
 
 -- a plain text and a tab are its field and the tab
 pub field_in_front : (text after : List ℕ) → IsPlain text → text ++ 9 ∷ after ≡ field_and_tab text ++ after

@@ -20,3 +20,7 @@ pub record IsNoteIn (texts : List (List ℕ)) (note : Note) : Type 0 where
 -- so are those of all notes
 abbrev pub AreNotesOf : List (List ℕ) → List Note → Type 0
 AreNotesOf texts notes = (n : ℕ) (note : Note) → slice_get notes n ≡ Some note → IsNoteIn texts note
+
+abbrev pub IsNumberOf : Option Guess → ℕ → Type 0
+IsNumberOf None number = ⊥
+IsNumberOf (Some guess) number = guess.number ≡ number

@@ -116,6 +116,7 @@ impl<T: Drop> Kept<T> {
     /// written as two. Texts that have no number get one. What is kept stands for the same records as before.
     ///
     /// A text that came behind the one before it in an earlier call is compared, and neither searched for its tab nor hashed.
+    #[inline(never)]
     pub fn take_numbers<'a>(
         &mut self,
         alloc: Global,
@@ -159,9 +160,26 @@ impl<T: Drop> Kept<T> {
         ensures grown { IsGrown self.old self.new }
         ensures number { IfOk result (λ found. IfSome found (λ parts. (text : List ℕ) × (slice_get self.new.outputs parts.0 ≡ Some text) × IsUtf8 text × (bytes.now ≡ field_and_tab text ++ parts.1.now))) }
     {
-        if let Some(found) = self.outputs.follow(last, bytes) {
-            return Ok(Some(found));
+        match self.outputs.follow(last, bytes) {
+            Some(found) => Ok(Some(found)),
+            None => self.take_unknown(alloc, last, bytes),
         }
+    }
+
+    /// The same, where it is not one that came behind `last` before.
+    #[inline(never)]
+    fn take_unknown<'a>(
+        &mut self,
+        alloc: Global,
+        last: usize,
+        bytes: &'a [u8],
+    ) -> Result<Option<(usize, &'a [u8])>, AllocError>
+        requires { Lacks 10 bytes.now }
+        ensures same { (all : List (Saying T)) → IsTableOf all self.old → IsTableOf all self.new }
+        ensures records { self.new.records ≡ self.old.records }
+        ensures grown { IsGrown self.old self.new }
+        ensures number { IfOk result (λ found. IfSome found (λ parts. (text : List ℕ) × (slice_get self.new.outputs parts.0 ≡ Some text) × IsUtf8 text × (bytes.now ≡ field_and_tab text ++ parts.1.now))) }
+    {
         let Some((text, after)) = plain_field(bytes) else {
             return Ok(None);
         };

@@ -5,7 +5,7 @@ ghost use Rattle.std.specs.Option.{option_map};
 ghost use Rattle.std.specs.Str.{IsUtf8};
 ghost use Rattle.model.specs.Graph.{has};
 ghost use Rattle.build_log.specs.Line.{field_and_tab, IsPlain};
-ghost use Rattle.build_log.specs.Noted.{IsPlainAt};
+ghost use Rattle.build_log.specs.Noted.{IsPlainAt, IsNumberOf};
 
 use bstr::ByteSlice;
 use indexmap::IndexSet;
@@ -31,9 +31,9 @@ pub struct Note {
 /// A text by its number, and how it is told from others at a glance: its length, and the byte that it has at one place.
 #[derive(Clone, Copy)]
 pub struct Guess {
-    pub number: usize,
-    pub len: usize,
-    pub place: usize,
+    pub number: u32,
+    pub len: u32,
+    pub place: u32,
     pub byte: u8,
 }
 
@@ -109,12 +109,9 @@ impl Texts {
         ensures { IfSome result (IsPlainAt self.now) }
     {
         let note = self.notes.get(last)?;
-        match note.next {
-            Some(guess) if may_stand(&guess, bytes) => Some(guess.number),
-            _ => match note.other {
-                Some(guess) if may_stand(&guess, bytes) => Some(guess.number),
-                _ => None,
-            },
+        match may_stand(note.next, bytes) {
+            Some(number) => Some(number),
+            None => may_stand(note.other, bytes),
         }
     }
 
@@ -136,7 +133,7 @@ impl Texts {
         if last < self.notes.len() {
             let note = self.notes[last];
             self.notes[last] = Note {
-                next: Some(guess_of(number, text)),
+                next: guess_of(number, text),
                 other: note.next,
             };
         }
@@ -144,19 +141,26 @@ impl Texts {
 }
 
 /// How a text with this number is told from others: texts that come in turn are often names of files that differ before the
-/// dot.
-fn guess_of(number: usize, text: &str) -> Guess
-    ensures { result.number ≡ number }
+/// dot. One that is too long, or whose number is too large, is not told.
+fn guess_of(number: usize, text: &str) -> Option<Guess>
+    ensures { IfSome result (λ guess. guess.number ≡ number) }
 {
     let bytes = text.as_bytes();
     let end = bytes.rfind_byte(b'.').unwrap_or(bytes.len());
     let place = end.saturating_sub(1);
-    Guess {
-        number,
-        len: bytes.len(),
-        place,
+    Some(Guess {
+        number: small(number)?,
+        len: small(bytes.len())?,
+        place: small(place)?,
         byte: byte_at(bytes, place),
-    }
+    })
+}
+
+/// The same number in 32 bits, where it has room there.
+fn small(number: usize) -> Option<u32>
+    ensures { IfSome result (λ same. same ≡ number) }
+{
+    u32::try_from(number).ok()
 }
 
 /// The byte at this place, or 0.
@@ -167,9 +171,18 @@ fn byte_at(bytes: &[u8], place: usize) -> u8 {
     }
 }
 
-/// Whether a guess may be right. Any answer will do: what stands in front is compared.
-fn may_stand(guess: &Guess, bytes: &[u8]) -> bool {
-    byte_at(bytes, guess.len) == b'\t' && byte_at(bytes, guess.place) == guess.byte
+/// The number of a guess, where it may be right that its text stands in front. What stands there is compared.
+fn may_stand(guess: Option<Guess>, bytes: &[u8]) -> Option<usize>
+    ensures { IfSome result (IsNumberOf guess) }
+{
+    let guess = guess?;
+    if byte_at(bytes, guess.len as usize) != b'\t' {
+        return None;
+    }
+    if byte_at(bytes, guess.place as usize) != guess.byte {
+        return None;
+    }
+    Some(guess.number as usize)
 }
 
 /// What stands behind the field of a plain text and its tab, where they stand in front.
@@ -181,11 +194,20 @@ fn behind_text<'a>(text: &str, bytes: &'a [u8]) -> Option<&'a [u8]>
         return None;
     }
     let (front, rest) = bytes.split_at(text.len());
-    let [b'\t', after @ ..] = rest else {
-        return None;
-    };
-    if front != text.as_bytes() {
-        return None;
+    let after = behind_tab(rest)?;
+    if front == text.as_bytes() {
+        Some(after)
+    } else {
+        None
     }
-    Some(after)
+}
+
+/// What stands behind a tab in front.
+fn behind_tab(bytes: &[u8]) -> Option<&[u8]>
+    ensures { IfSome result (λ after. bytes.now ≡ 9 ∷ after.now) }
+{
+    match bytes {
+        [b'\t', after @ ..] => Some(after),
+        _ => None,
+    }
 }

@@ -159,6 +159,7 @@ fn place_of(records: &Records, path: PathId) -> Option<usize>
 }
 
 /// Adds the numbers of the paths that a deps record names.
+#[inline(never)]
 fn push_inputs(
     alloc: Global,
     graph: &mut Graph,
@@ -210,9 +211,25 @@ fn number_of(
     ensures numbered { AreNumbered graph.old (texts_of records.now) numbers.old.items → AreNumbered graph.new (texts_of records.now) numbers.new.items }
     ensures number { IfOk result (λ found. AreNumbered graph.old (texts_of records.now) numbers.old.items → MatchOption found (slice_get (texts_of records.now) path ≡ None) (λ number. (number < length graph.new.manifest.paths) × (slice_get (texts_of records.now) path ≡ Some (text_at graph.new.manifest.paths number)))) }
 {
-    if let Some(number) = number_at(numbers, path) {
-        return Ok(Some(number));
+    match number_at(numbers, path) {
+        Some(number) => Ok(Some(number)),
+        None => new_number(alloc, graph, records, numbers, path),
     }
+}
+
+/// The number of a path of the deps log that is not known yet.
+#[inline(never)]
+fn new_number(
+    alloc: Global,
+    graph: &mut Graph,
+    records: &Records,
+    numbers: &mut Vec<Option<PathId>>,
+    path: usize,
+) -> Result<Option<PathId>, AllocError>
+    ensures grown { HasOnlyMorePaths graph.old graph.new }
+    ensures numbered { AreNumbered graph.old (texts_of records.now) numbers.old.items → AreNumbered graph.new (texts_of records.now) numbers.new.items }
+    ensures number { IfOk result (λ found. MatchOption found (slice_get (texts_of records.now) path ≡ None) (λ number. (number < length graph.new.manifest.paths) × (slice_get (texts_of records.now) path ≡ Some (text_at graph.new.manifest.paths number)))) }
+{
     let Some(text) = records.deps_path(path) else {
         return Ok(None);
     };

@@ -12,7 +12,6 @@ invariant-loop-numbers g l = record {
   grown : IsGrown l.initial.self l.self;
   taken : AreTakenFrom l.self.outputs l.bytes (length l.numbers.items) l.numbers.items l.rest;
   most : length l.numbers.items ≤ l.count;
-  plain : Lacks 92 l.rest;
   line_feed : Lacks 10 l.rest;
 }
 
