@@ -1,5 +1,6 @@
 -- What is noted of texts, and fields that stand in front of bytes.
-use Rattle.std.proofs.Common.{◌≡◌, ◌≢◌, ◌⊎◌, inl, inr, ℕ, ◌+◌, ◌<◌, ◌∷◌, ◌++◌, [], List, length, get_or, set, Option, Some, None, slice_get, refl, sym, ap, ◌∙◌, subst, arith}
+use Rattle.std.proofs.Common.{◌≡◌, ◌≢◌, ◌⊎◌, inl, inr, ℕ, ◌+◌, ◌<◌, ◌∷◌, ◌++◌, [], List, length, get_or, set, Option, Some, None, slice_get, Bor, refl, sym, ap, ◌∙◌, subst, arith}
+use Rattle.std.specs.Prelude.{IfSome, IfNone, MatchOption}
 use Rattle.std.specs.List.{flat_map, AllByRecursion}
 use Rattle.std.specs.Str.{IsUtf8}
 use Rattle.std.proofs.lemmas.Bool.Decides.{eqb_tells}
@@ -8,7 +9,7 @@ use Rattle.std.proofs.lemmas.List.Concat.{flat_map-append}
 use Rattle.std.proofs.lemmas.Option.{slice_get_within, slice_get-get_or, get_or_from_slice_get}
 use Rattle.build_log.specs.Line.{field_text, field_and_tab, IsPlain, AreTexts}
 use Rattle.build_log.specs.Kept.{AreNumbersOf}
-use Rattle.build_log.specs.Noted.{IsPlainAt, IsGuessIn, IsNoteIn, AreNotesOf}
+use Rattle.build_log.specs.Noted.{IsPlainAt, IsNumberOf, IsGuessIn, IsNoteIn, AreNotesOf}
 use Rattle.build_log.specs.Taken.{AreTakenFrom}
 use Rattle.build_log.specs.declared.texts.Note.{Note}
 use Rattle.build_log.specs.declared.texts.Guess.{Guess}
@@ -24,6 +25,25 @@ plain_grown texts more n is = (is.0, get_grown texts more n is.0 is.1, is.2)
 guess_grown : (texts more : List (List ℕ)) (guess : Option Guess) → IsGuessIn texts guess → IsGuessIn (texts ++ more) guess
 guess_grown texts more None is = tt
 guess_grown texts more (Some guess) is = plain_grown texts more guess.number is
+
+pub guess_made : (texts : List (List ℕ)) (guess : Option Guess) (number : ℕ) → IfSome guess (λ g. g.number ≡ number) → IsPlainAt texts number → IsGuessIn texts guess
+guess_made texts None number e is = tt
+guess_made texts (Some guess) number e is = subst (IsPlainAt texts) (sym e) is
+
+pub guess_named : (texts : List (List ℕ)) (guess : Option Guess) (number : ℕ) → IsGuessIn texts guess → IsNumberOf guess number → IsPlainAt texts number
+guess_named texts None number is e = absurd e
+guess_named texts (Some guess) number is e = subst (IsPlainAt texts) e is
+
+pub same_some : (a b : List ℕ) → Some a ≡ Some b → a ≡ b
+same_some a b e = cc
+
+pub stripped : (bytes start : List ℕ) (found : Option (Bor (List ℕ))) → MatchOption found ((rest : List ℕ) → bytes ≢ start ++ rest) (λ rest. bytes ≡ start ++ rest.now) → IfSome found (λ rest. bytes ≡ start ++ rest.now)
+stripped bytes start None is = tt
+stripped bytes start (Some rest) is = is
+
+pub if_none : {A : Type 0} (found : Option A) {P : Type 0} → P → IfNone found P
+if_none None p = p
+if_none (Some x) p = tt
 
 -- one text more, of which nothing is guessed
 pub notes_push : (texts : List (List ℕ)) (notes : List Note) (text : List ℕ) → AreNotesOf texts notes → AreNotesOf (texts ++ text ∷ []) (notes ++ record { next = None; other = None } ∷ [])
@@ -46,6 +66,10 @@ notes_set texts notes k new are within is n note at =
           let low : n < length notes = let len = length-set notes k new in let in_new = slice_get_within (set notes k new) n note at in omega arith in
           are n note (slice_get-get_or notes n note low ∙ ap (λ (x : Note). Some x) (sym (get_or-set_other notes k n new note other.1) ∙ read))
     ]
+
+-- a guess more of a text: the newer of its two takes the place of the other
+pub notes_put : (texts : List (List ℕ)) (notes : List Note) (k : ℕ) (old : Note) (guess : Option Guess) → AreNotesOf texts notes → k < length notes → slice_get notes k ≡ Some old → IsGuessIn texts guess → AreNotesOf texts (set notes k (record { next = guess; other = old.next }))
+notes_put texts notes k old guess are within at is = notes_set texts notes k (record { next = guess; other = old.next }) are within (record { next = is; other = (are k old at).next })
 
 -- a plain text and a tab are its field and the tab
 pub field_in_front : (text after : List ℕ) → IsPlain text → text ++ 9 ∷ after ≡ field_and_tab text ++ after

@@ -75,8 +75,10 @@ pub fn plain_field(bytes: &[u8]) -> Option<(&str, &[u8])>
     if !is_plain(field) {
         return None;
     }
-    let text = from_utf8(field).ok()?;
-    Some((text, after))
+    match from_utf8(field) {
+        Ok(text) => Some((text, after)),
+        Err(_) => None,
+    }
 }
 
 /// What stands before the dot that ends a line.

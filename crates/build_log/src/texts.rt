@@ -121,7 +121,8 @@ impl Texts {
         ensures { IfSome result (λ after. (text : List ℕ) × (slice_get self.now number ≡ Some text) × IsUtf8 text × (bytes.now ≡ field_and_tab text ++ after.now)) }
     {
         let text = self.at(number)?;
-        behind_text(text, bytes)
+        let after = behind_text(text, bytes)?;
+        Some(after)
     }
 
     /// Notes that a text with this number, of which no byte is written as two, came behind another.
@@ -188,18 +189,19 @@ fn may_stand(guess: Option<Guess>, bytes: &[u8]) -> Option<usize>
 /// What stands behind the field of a plain text and its tab, where they stand in front.
 fn behind_text<'a>(text: &str, bytes: &'a [u8]) -> Option<&'a [u8]>
     requires { IsPlain text.now }
-    ensures { IfSome result (λ after. bytes.now ≡ field_and_tab text.now ++ after.now) }
+    ensures found { IfSome result (λ after. bytes.now ≡ field_and_tab text.now ++ after.now) }
+    ensures utf8 { IsUtf8 text.now }
 {
-    if bytes.len() < text.len() {
-        return None;
-    }
-    let (front, rest) = bytes.split_at(text.len());
+    let rest = behind_start(text.as_bytes(), bytes)?;
     let after = behind_tab(rest)?;
-    if front == text.as_bytes() {
-        Some(after)
-    } else {
-        None
-    }
+    Some(after)
+}
+
+/// What stands behind these bytes, where they stand in front.
+fn behind_start<'a>(start: &[u8], bytes: &'a [u8]) -> Option<&'a [u8]>
+    ensures { IfSome result (λ rest. bytes.now ≡ start.now ++ rest.now) }
+{
+    bytes.strip_prefix(start)
 }
 
 /// What stands behind a tab in front.

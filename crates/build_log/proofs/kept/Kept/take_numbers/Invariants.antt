@@ -5,8 +5,8 @@ use Rattle.build_log.specs.Steps.{IsGrown}
 use Rattle.build_log.specs.Taken.{AreTakenFrom}
 use Rattle.build_log.proofs.kept.Kept.take_numbers.Given as goal
 
-abbrev pub invariant-loop-numbers : goal.invariant-loop-numbers
-invariant-loop-numbers g l = record {
+abbrev pub invariant-loop-alloc : goal.invariant-loop-alloc
+invariant-loop-alloc g l = record {
   same : (all : List (Saying g.row.T.Denot)) → IsTableOf all l.initial.self → IsTableOf all l.self;
   records : l.self.records ≡ l.initial.self.records;
   grown : IsGrown l.initial.self l.self;
@@ -15,5 +15,5 @@ invariant-loop-numbers g l = record {
   line_feed : Lacks 10 l.rest;
 }
 
-abbrev pub decreases-loop-numbers : goal.decreases-loop-numbers
-decreases-loop-numbers g l = l.count - length l.numbers.items
+abbrev pub decreases-loop-alloc : goal.decreases-loop-alloc
+decreases-loop-alloc g l = l.count - length l.numbers.items
