@@ -41,6 +41,9 @@ pub stripped : (bytes start : List ℕ) (found : Option (Bor (List ℕ))) → Ma
 stripped bytes start None is = tt
 stripped bytes start (Some rest) is = is
 
+pub at_some : {A : Type 0} (P : A → Type 0) (found : Option A) (x : A) → found ≡ Some x → IfSome found P → P x
+at_some P found x e is = subst (λ (r : Option _). IfSome r P) e is
+
 pub if_none : {A : Type 0} (found : Option A) {P : Type 0} → P → IfNone found P
 if_none None p = p
 if_none (Some x) p = tt
@@ -107,3 +110,9 @@ taken_more known bytes count numbers rest number text after are at utf8 e = reco
   many = length-append are.texts (text ∷ []) ∙ ap (λ (n : ℕ). n + 1) are.many;
   numbered = numbers_push known numbers are.texts number text are.numbered at;
 }
+
+pub taken_push : (known : List (List ℕ)) (bytes numbers new rest : List ℕ) (number : ℕ) (text after : List ℕ) → AreTakenFrom known bytes (length numbers) numbers rest → new ≡ numbers ++ number ∷ [] → slice_get known number ≡ Some text → IsUtf8 text → rest ≡ field_and_tab text ++ after
+    → AreTakenFrom known bytes (length new) new after
+taken_push known bytes numbers new rest number text after are pushed at utf8 e =
+    subst (λ (ns : List ℕ). AreTakenFrom known bytes (length ns) ns after) (sym pushed)
+    (subst (λ (n : ℕ). AreTakenFrom known bytes n (numbers ++ number ∷ []) after) (sym (length-append numbers (number ∷ []))) (taken_more known bytes (length numbers) numbers rest number text after are at utf8 e))

@@ -1,6 +1,6 @@
 //! Recorded inputs, which commands of earlier builds told in their depfiles (manual: "Depfile").
 
-ghost use Rattle.std.specs.Prelude.{◌≡◌, ◌<◌, ◌+◌, ◌++◌, ℕ, suc, true, List, None, Some, IfOk, MatchOption, OnOk, OnErr, length, get_or, slice_get};
+ghost use Rattle.std.specs.Prelude.{◌≡◌, ◌<◌, ◌+◌, ◌++◌, ℕ, suc, true, List, None, Some, IfOk, OnOk, OnErr, length, get_or, slice_get};
 ghost use Rattle.model.specs.declared.record.Record.{Record};
 ghost use Rattle.model.specs.declared.record.DepsRecord.{DepsRecord};
 ghost use Rattle.model.specs.Graph.{edge_at, outputs};
@@ -192,50 +192,38 @@ fn push_input(
     ensures numbered { AreNumbered graph.old (texts_of records.now) numbers.old.items → AreNumbered graph.new (texts_of records.now) numbers.new.items }
     ensures inputs { OnOk result ((paths : List (List ℕ)) → AreNumbered graph.old (texts_of records.now) numbers.old.items → HaveJust graph.old inputs.old.items paths → HaveJust graph.new inputs.new.items (paths ++ if_some (slice_get (texts_of records.now) path))) }
 {
-    if let Some(number) = number_of(alloc, graph, records, numbers, path)? {
+    if let Some(number) = number_at(numbers, path) {
         inputs.push(number)?;
+        return Ok(());
     }
+    let Some(text) = records.deps_path(path) else {
+        return Ok(());
+    };
+    let number = number_of(alloc, graph, numbers, path, text)?;
+    inputs.push(number)?;
     Ok(())
 }
 
-/// The number that the graph has for a path of the deps log, if there is such a path. Its text is looked up once: `numbers` are
-/// those that are known.
+/// The number that the graph has for a path of the deps log, which is looked up by its text once: `numbers` are those that are
+/// known.
+#[inline(never)]
 fn number_of(
     alloc: Global,
     graph: &mut Graph,
-    records: &Records,
     numbers: &mut Vec<Option<PathId>>,
     path: usize,
-) -> Result<Option<PathId>, AllocError>
+    text: &str,
+) -> Result<PathId, AllocError>
     ensures grown { HasOnlyMorePaths graph.old graph.new }
-    ensures numbered { AreNumbered graph.old (texts_of records.now) numbers.old.items → AreNumbered graph.new (texts_of records.now) numbers.new.items }
-    ensures number { IfOk result (λ found. AreNumbered graph.old (texts_of records.now) numbers.old.items → MatchOption found (slice_get (texts_of records.now) path ≡ None) (λ number. (number < length graph.new.manifest.paths) × (slice_get (texts_of records.now) path ≡ Some (text_at graph.new.manifest.paths number)))) }
+    ensures numbered { (texts : List (List ℕ)) → slice_get texts path ≡ Some text.now → AreNumbered graph.old texts numbers.old.items → AreNumbered graph.new texts numbers.new.items }
+    ensures number { IfOk result (λ number. (texts : List (List ℕ)) → slice_get texts path ≡ Some text.now → AreNumbered graph.old texts numbers.old.items → (number < length graph.new.manifest.paths) × (text_at graph.new.manifest.paths number ≡ text.now)) }
 {
-    match number_at(numbers, path) {
-        Some(number) => Ok(Some(number)),
-        None => new_number(alloc, graph, records, numbers, path),
+    if let Some(number) = number_at(numbers, path) {
+        return Ok(number);
     }
-}
-
-/// The number of a path of the deps log that is not known yet.
-#[inline(never)]
-fn new_number(
-    alloc: Global,
-    graph: &mut Graph,
-    records: &Records,
-    numbers: &mut Vec<Option<PathId>>,
-    path: usize,
-) -> Result<Option<PathId>, AllocError>
-    ensures grown { HasOnlyMorePaths graph.old graph.new }
-    ensures numbered { AreNumbered graph.old (texts_of records.now) numbers.old.items → AreNumbered graph.new (texts_of records.now) numbers.new.items }
-    ensures number { IfOk result (λ found. MatchOption found (slice_get (texts_of records.now) path ≡ None) (λ number. (number < length graph.new.manifest.paths) × (slice_get (texts_of records.now) path ≡ Some (text_at graph.new.manifest.paths number)))) }
-{
-    let Some(text) = records.deps_path(path) else {
-        return Ok(None);
-    };
     let number = graph.add_path(alloc, text)?;
     note_number(numbers, path, number)?;
-    Ok(Some(number))
+    Ok(number)
 }
 
 /// The number of a path of the deps log, if it is known.

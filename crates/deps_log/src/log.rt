@@ -93,9 +93,12 @@ impl Records for Log {
         let Some((output, start, count, bytes)) = head_of(version, line) else {
             return Ok(false);
         };
-        let Some((paths, [])) = self.kept.take_numbers(alloc, bytes, count as usize)? else {
+        let Some((paths, rest)) = self.kept.take_numbers(alloc, bytes, count as usize)? else {
             return Ok(false);
         };
+        if !rest.is_empty() {
+            return Ok(false);
+        }
         let outputs = [Field::plain(output)];
         self.kept.put(alloc, &outputs, Some(Deps { start, paths }))?;
         Ok(true)

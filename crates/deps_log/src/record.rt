@@ -3,8 +3,9 @@
 ghost use Rattle.std.specs.Prelude.{◌≡◌, ◌<◌, ◌^◌, ◌∷◌, [], ◌++◌, List, ℕ, IfSome, IfNone, IfOk, OnOk, OnSome, length, decimal};
 ghost use Rattle.build_log.specs.declared.form.Version.TheVariants.{Two};
 ghost use Rattle.std.specs.List.{flat_map};
+ghost use Rattle.std.specs.Str.{IsUtf8};
 ghost use Rattle.text.specs.Marks.{Lacks};
-ghost use Rattle.build_log.specs.Line.{counted, field_and_tab};
+ghost use Rattle.build_log.specs.Line.{counted, field_and_tab, AreTexts};
 ghost use Rattle.build_log.specs.Form.{IsAppended};
 ghost use Rattle.build_log.specs.Found.{texts_in};
 ghost use Rattle.build_log.specs.Kept.{AreDistinct};
@@ -66,11 +67,16 @@ pub(crate) fn head_of(version: Version, line: &[u8]) -> Option<(&str, u64, u64, 
     requires { Lacks 10 line.now }
     ensures version { OnSome result (version ≡ Two) }
     ensures head { IfSome result (λ head. line.now ≡ (flat_map field_and_tab (head_fields head.0.now head.1 head.2) ++ head.3.now) ++ 46 ∷ []) }
+    ensures texts { IfSome result (λ head. AreTexts (head_fields head.0.now head.1 head.2)) }
     ensures line_feed { IfSome result (λ head. Lacks 10 head.3.now) }
 {
     match version {
         Version::One => None,
-        Version::Two => head_in(without_dot(line)?),
+        Version::Two => {
+            let front = without_dot(line)?;
+            let (output, start, count, paths) = head_in(front)?;
+            Some((output, start, count, paths))
+        }
     }
 }
 
@@ -78,6 +84,7 @@ pub(crate) fn head_of(version: Version, line: &[u8]) -> Option<(&str, u64, u64, 
 fn head_in(front: &[u8]) -> Option<(&str, u64, u64, &[u8])>
     requires { Lacks 10 front.now }
     ensures head { IfSome result (λ head. front.now ≡ flat_map field_and_tab (head_fields head.0.now head.1 head.2) ++ head.3.now) }
+    ensures texts { IfSome result (λ head. AreTexts (head_fields head.0.now head.1 head.2)) }
     ensures line_feed { IfSome result (λ head. Lacks 10 head.3.now) }
 {
     let named = behind_kind(front)?;
@@ -101,6 +108,7 @@ fn behind_kind(front: &[u8]) -> Option<&[u8]>
 fn number_in(bytes: &[u8]) -> Option<(u64, &[u8])>
     requires { Lacks 10 bytes.now }
     ensures number { IfSome result (λ parts. bytes.now ≡ field_and_tab (decimal parts.0) ++ parts.1.now) }
+    ensures utf8 { IfSome result (λ parts. IsUtf8 (decimal parts.0)) }
     ensures line_feed { IfSome result (λ parts. Lacks 10 parts.1.now) }
 {
     let (text, after) = plain_field(bytes)?;
