@@ -1,7 +1,7 @@
 -- A line in which nothing is escaped, of a record with one output.
 use Rattle.std.proofs.Common.{◌≡◌, ◌≢◌, ◌<◌, ◌≤◌, ◌^◌, ℕ, zero, suc, decimal, true, List, [], ◌∷◌, ◌++◌, length, refl, sym, ap, ◌∙◌, subst, arith, append-nil, append_assoc}
 use Rattle.std.specs.List.{flat_map}
-use Rattle.std.specs.Str.{IsUtf8}
+use Rattle.std.specs.Str.{IsUtf8, IsAscii}
 use Rattle.std.proofs.lemmas.Fmt.{decimal_digit}
 use Rattle.std.proofs.lemmas.Str.{IsUtf8-from_ascii}
 use Rattle.std.proofs.lemmas.List.Concat.{flat_map-append}
@@ -51,7 +51,7 @@ alone output p twice = splits_no_more output p twice.before twice.after twice.sp
 pub has_line : (output : List ℕ) (start count : ℕ) (paths : List (List ℕ)) → start < 2 ^ 64 → count < 2 ^ 64 → length paths ≡ count → AreTexts (head_fields output start count) → AreTexts paths → HasLine (forms Two) (plain_record output start paths)
 has_line output start count paths low few many head texts = record {
   fits = record { room = (omega arith, omega arith); once = alone output; start = low; paths = subst (λ (n : ℕ). n < 2 ^ 64) (sym many) few };
-  texts = subst AreTexts (fields_are output start count paths many) (head.0, head.1, head.2, head.3, head.4, texts);
+  texts = subst AreTexts (fields_are output start count paths many) (head.0, (head.1.0, (head.1.1.0, (head.1.1.1.0, (head.1.1.1.1.0, texts)))));
 }
 
 -- ---- the line of a record with one output
@@ -68,21 +68,25 @@ head_is front named told counted paths output start count kind first second thir
     ∙ ap (λ (l : List ℕ). 114 ∷ 9 ∷ 49 ∷ 9 ∷ l)
     (first ∙ (ap (λ (l : List ℕ). a ++ l) (second ∙ ap (λ (l : List ℕ). b ++ l) third) ∙ sym joined))
 
+ascii_one : (b : ℕ) → b < 128 → IsAscii (b ∷ [])
+ascii_one b lt zero = lt
+ascii_one b lt (suc i) = omega arith
+
 pub kind_utf8 : IsUtf8 (114 ∷ [])
-kind_utf8 = IsUtf8-from_ascii (114 ∷ []) (omega arith, tt)
+kind_utf8 = IsUtf8-from_ascii (114 ∷ []) (ascii_one 114 (omega arith))
 
 pub one_utf8 : IsUtf8 (49 ∷ [])
-one_utf8 = IsUtf8-from_ascii (49 ∷ []) (omega arith, tt)
+one_utf8 = IsUtf8-from_ascii (49 ∷ []) (ascii_one 49 (omega arith))
 
 -- the line is that of a record
 pub record IsLineOfPlain (version : Version) (line output : List ℕ) (start : ℕ) (paths : List (List ℕ)) : Type 0 where
-  pub line : line ≡ line_text ((forms version).fields (plain_record output start paths))
+  pub spelled : line ≡ line_text ((forms version).fields (plain_record output start paths))
   pub has : HasLine (forms version) (plain_record output start paths)
 
 line_of_two : (line bytes output : List ℕ) (start count : ℕ) (known : List (List ℕ)) (numbers : List ℕ) → line ≡ (flat_map field_and_tab (head_fields output start count) ++ bytes) ++ 46 ∷ [] → AreTexts (head_fields output start count) → start < 2 ^ 64 → count < 2 ^ 64 → (taken : AreTakenFrom known bytes count numbers [])
     → IsLineOfPlain Two line output start taken.texts
 line_of_two line bytes output start count known numbers e head low few taken = record {
-  line = line_is known line bytes output start count numbers e taken;
+  spelled = line_is known line bytes output start count numbers e taken;
   has = has_line output start count taken.texts low few taken.many head taken.utf8;
 }
 

@@ -68,6 +68,8 @@ pub(crate) fn head_of(version: Version, line: &[u8]) -> Option<(&str, u64, u64, 
     ensures version { OnSome result (version ≡ Two) }
     ensures head { IfSome result (λ head. line.now ≡ (flat_map field_and_tab (head_fields head.0.now head.1 head.2) ++ head.3.now) ++ 46 ∷ []) }
     ensures texts { IfSome result (λ head. AreTexts (head_fields head.0.now head.1 head.2)) }
+    ensures start { IfSome result (λ head. head.1 < 2 ^ 64) }
+    ensures count { IfSome result (λ head. head.2 < 2 ^ 64) }
     ensures line_feed { IfSome result (λ head. Lacks 10 head.3.now) }
 {
     match version {
@@ -85,6 +87,8 @@ fn head_in(front: &[u8]) -> Option<(&str, u64, u64, &[u8])>
     requires { Lacks 10 front.now }
     ensures head { IfSome result (λ head. front.now ≡ flat_map field_and_tab (head_fields head.0.now head.1 head.2) ++ head.3.now) }
     ensures texts { IfSome result (λ head. AreTexts (head_fields head.0.now head.1 head.2)) }
+    ensures start { IfSome result (λ head. head.1 < 2 ^ 64) }
+    ensures count { IfSome result (λ head. head.2 < 2 ^ 64) }
     ensures line_feed { IfSome result (λ head. Lacks 10 head.3.now) }
 {
     let named = behind_kind(front)?;
@@ -109,6 +113,7 @@ fn number_in(bytes: &[u8]) -> Option<(u64, &[u8])>
     requires { Lacks 10 bytes.now }
     ensures number { IfSome result (λ parts. bytes.now ≡ field_and_tab (decimal parts.0) ++ parts.1.now) }
     ensures utf8 { IfSome result (λ parts. IsUtf8 (decimal parts.0)) }
+    ensures low { IfSome result (λ parts. parts.0 < 2 ^ 64) }
     ensures line_feed { IfSome result (λ parts. Lacks 10 parts.1.now) }
 {
     let (text, after) = plain_field(bytes)?;
