@@ -1,18 +1,20 @@
 -- What is noted of texts, and fields that stand in front of bytes.
-use Rattle.std.proofs.Common.{◌≡◌, ◌≢◌, ◌⊎◌, inl, inr, ℕ, ◌+◌, ◌<◌, ◌∷◌, ◌++◌, [], List, length, get_or, set, Option, Some, None, slice_get, Bor, refl, sym, ap, ◌∙◌, subst, arith}
+use Rattle.std.proofs.Common.{◌≡◌, ◌≢◌, ◌⊎◌, inl, inr, ℕ, ◌+◌, ◌-◌, ◌<◌, ◌≤◌, ◌∷◌, ◌++◌, [], List, length, take, get_or, set, Option, Some, None, slice_get, Bor, refl, sym, ap, ◌∙◌, subst, arith}
 use Rattle.std.specs.Prelude.{IfSome, IfNone, MatchOption}
 use Rattle.std.specs.List.{flat_map, AllByRecursion}
 use Rattle.std.specs.Str.{IsUtf8}
 use Rattle.std.proofs.lemmas.Bool.Decides.{eqb_tells}
+use Rattle.std.proofs.Math.Seq.{take-append_seam}
 use Rattle.std.proofs.lemmas.List.{length-append, length-set, get_or-set_same, get_or-set_other, append-nil, append_assoc}
 use Rattle.std.proofs.lemmas.List.Concat.{flat_map-append}
-use Rattle.std.proofs.lemmas.Option.{slice_get_within, slice_get-get_or, get_or_from_slice_get}
+use Rattle.std.proofs.lemmas.Option.{slice_get_within, slice_get-get_or, slice_get_read, get_or_from_slice_get}
 use Rattle.build_log.specs.Line.{field_text, field_and_tab, IsPlain, AreTexts}
 use Rattle.build_log.specs.Kept.{AreNumbersOf}
-use Rattle.build_log.specs.Noted.{IsPlainAt, IsNumberOf, IsGuessIn, IsNoteIn, AreNotesOf}
-use Rattle.build_log.specs.Taken.{AreTakenFrom}
+use Rattle.build_log.specs.Noted.{IsPlainAt, IsNumberOf, IsGuessIn, IsNoteIn, AreNotesOf, AreRunsOf}
+use Rattle.build_log.specs.Taken.{AreTakenFrom, IsTakenBehind}
 use Rattle.build_log.specs.declared.texts.Note.{Note}
 use Rattle.build_log.specs.declared.texts.Guess.{Guess}
+use Rattle.build_log.specs.declared.texts.Run.{Run}
 use Rattle.build_log.proofs.Escapes.{field_text-plain}
 use Rattle.build_log.proofs.Keeping.{get_grown, get_push, numbers_push, numbers_grown}
 
@@ -116,3 +118,92 @@ pub taken_push : (known : List (List ℕ)) (bytes numbers new rest : List ℕ) (
 taken_push known bytes numbers new rest number text after are pushed at utf8 e =
     subst (λ (ns : List ℕ). AreTakenFrom known bytes (length ns) ns after) (sym pushed)
     (subst (λ (n : ℕ). AreTakenFrom known bytes n (numbers ++ number ∷ []) after) (sym (length-append numbers (number ∷ []))) (taken_more known bytes (length numbers) numbers rest number text after are at utf8 e))
+
+-- ---- runs
+
+texts_append : (xs ys : List (List ℕ)) → AreTexts xs → AreTexts ys → AreTexts (xs ++ ys)
+texts_append [] ys are others = others
+texts_append (x ∷ xs) ys are others = (are.0, texts_append xs ys are.1 others)
+
+numbers_append : (known : List (List ℕ)) (ns ms : List ℕ) (ts us : List (List ℕ)) → AreNumbersOf known ns ts → AreNumbersOf known ms us → AreNumbersOf known (ns ++ ms) (ts ++ us)
+numbers_append known [] ms [] us are others = others
+numbers_append known [] ms (t ∷ ts) us are others = absurd are
+numbers_append known (n ∷ ns) ms [] us are others = absurd are
+numbers_append known (n ∷ ns) ms (t ∷ ts) us are others = (are.0, numbers_append known ns ms ts us are.1 others)
+
+-- what was taken, and what was taken behind it
+pub taken_append : (known : List (List ℕ)) (bytes : List ℕ) (count : ℕ) (numbers rest : List ℕ) (more : ℕ) (others after : List ℕ) → AreTakenFrom known bytes count numbers rest → AreTakenFrom known rest more others after → AreTakenFrom known bytes (count + more) (numbers ++ others) after
+taken_append known bytes count numbers rest more others after first then = record {
+  texts = first.texts ++ then.texts;
+  spelled =
+      first.spelled
+      ∙ (ap (λ (l : List ℕ). flat_map field_and_tab first.texts ++ l) then.spelled
+      ∙ (sym (append_assoc (flat_map field_and_tab first.texts) (flat_map field_and_tab then.texts) after)
+      ∙ ap (λ (l : List ℕ). l ++ after) (sym (flat_map-append field_and_tab first.texts then.texts))));
+  utf8 = texts_append first.texts then.texts first.utf8 then.utf8;
+  many = length-append first.texts then.texts ∙ (ap (λ (n : ℕ). n + length then.texts) first.many ∙ ap (λ (n : ℕ). count + n) then.many);
+  numbered = numbers_append known numbers others first.texts then.texts first.numbered then.numbered;
+}
+
+-- the same behind numbers that were there
+pub taken_behind : (known : List (List ℕ)) (bytes old new rest : List ℕ) (most : ℕ) (after : List ℕ) → AreTakenFrom known bytes (length old) old rest → IsTakenBehind known old rest most new after → AreTakenFrom known bytes (length new) new after
+taken_behind known bytes old new rest most after before is =
+    subst (λ (ns : List ℕ). AreTakenFrom known bytes (length ns) ns after) (sym is.pushed)
+    (subst (λ (n : ℕ). AreTakenFrom known bytes n (old ++ is.more) after) (sym (length-append old is.more)) (taken_append known bytes (length old) old rest (length is.more) is.more after before is.taken))
+
+-- bytes that go on behind a run
+pub taken_whole : (known : List (List ℕ)) (run : List ℕ) (count : ℕ) (numbers bytes after : List ℕ) → AreTakenFrom known run count numbers [] → bytes ≡ run ++ after → AreTakenFrom known bytes count numbers after
+taken_whole known run count numbers bytes after are e = record {
+  texts = are.texts;
+  spelled = e ∙ ap (λ (l : List ℕ). l ++ after) (are.spelled ∙ append-nil (flat_map field_and_tab are.texts));
+  utf8 = are.utf8;
+  many = are.many;
+  numbered = are.numbered;
+}
+
+pub taken_within : (known : List (List ℕ)) (bytes : List ℕ) (count : ℕ) (numbers after : List ℕ) → AreTakenFrom known bytes count numbers after → length after ≤ length bytes
+taken_within known bytes count numbers after are =
+    let len : length bytes ≡ length (flat_map field_and_tab are.texts) + length after = ap length are.spelled ∙ length-append (flat_map field_and_tab are.texts) after in
+    omega arith
+
+-- what stands in front of the rest is a run
+pub front_taken : (known : List (List ℕ)) (bytes : List ℕ) (count : ℕ) (numbers after front : List ℕ) → AreTakenFrom known bytes count numbers after → front ≡ take (length bytes - length after) bytes → AreTakenFrom known front count numbers []
+front_taken known bytes count numbers after front are e =
+    let all = flat_map field_and_tab are.texts in
+    let len : length bytes ≡ length all + length after = ap length are.spelled ∙ length-append all after in
+    let many : length bytes - length after ≡ length all = omega arith in
+    record {
+      texts = are.texts;
+      spelled = e ∙ (ap (λ (n : ℕ). take n bytes) many ∙ (ap (take (length all)) are.spelled ∙ (take-append_seam all after ∙ sym (append-nil all))));
+      utf8 = are.utf8;
+      many = are.many;
+      numbered = are.numbered;
+    }
+
+pub runs_none : (texts : List (List ℕ)) → AreRunsOf texts []
+runs_none texts n run at = absurd (let clash : None ≡ Some run = at in cc)
+
+pub runs_grown : (texts more : List (List ℕ)) (runs : List Run) → AreRunsOf texts runs → AreRunsOf (texts ++ more) runs
+runs_grown texts more runs are n run at = taken_grown texts more run.bytes (length run.numbers) run.numbers [] (are n run at)
+
+pub runs_push : (texts : List (List ℕ)) (runs : List Run) (numbers bytes : List ℕ) → AreRunsOf texts runs → AreTakenFrom texts bytes (length numbers) numbers [] → AreRunsOf texts (runs ++ record { numbers = numbers; bytes = bytes } ∷ [])
+runs_push texts runs numbers bytes are taken n run at = elim (get_push runs (record { numbers = numbers; bytes = bytes }) n run at) [
+  | inl old ↦ are n run old
+  | inr end ↦ subst (λ (r : Run). AreTakenFrom texts r.bytes (length r.numbers) r.numbers []) end.1 taken
+]
+
+pub run_read : (runs slice : List Run) (n : ℕ) (run : Run) → n < length slice → run ≡ get_or slice n run → slice ≡ runs → slice_get runs n ≡ Some run
+run_read runs slice n run within read same = subst (λ (l : List Run). slice_get l n ≡ Some run) same (slice_get_read slice (length slice) n run refl within read)
+
+pub taken_one : (known : List (List ℕ)) (bytes : List ℕ) (number : ℕ) (text after : List ℕ) → slice_get known number ≡ Some text → IsUtf8 text → bytes ≡ field_and_tab text ++ after → AreTakenFrom known bytes 1 (number ∷ []) after
+taken_one known bytes number text after at utf8 e = taken_more known bytes 0 [] bytes number text after (taken_none known bytes) at utf8 e
+
+pub taken_most : (known : List (List ℕ)) (old bytes : List ℕ) (most : ℕ) (new : List ℕ) (found : Option (Bor (List ℕ))) → 0 < most → IfSome found (λ after. IsTakenBehind known old bytes 1 new after.now) → IfSome found (λ after. IsTakenBehind known old bytes most new after.now)
+taken_most known old bytes most new None some is = tt
+taken_most known old bytes most new (Some after) some is = record {
+  more = is.more;
+  pushed = is.pushed;
+  some = is.some;
+  few = let one = is.few in omega arith;
+  taken = is.taken;
+}

@@ -1,6 +1,6 @@
 //! What is kept of the records of a log: outputs by number, and for each the record in force.
 
-ghost use Rattle.std.specs.Prelude.{◌≡◌, ◌<◌, ◌≤◌, ◌↔◌, ◌*◌, [], ◌∷◌, ◌++◌, List, ℕ, Option, Some, None, IsTrue, IfOk, IfSome, IfNone, OnOk, OnErr, length, slice_get, map, if◌then◌else◌};
+ghost use Rattle.std.specs.Prelude.{◌≡◌, ◌<◌, ◌≤◌, ◌↔◌, ◌*◌, ◌-◌, [], ◌∷◌, ◌++◌, List, ℕ, Option, Some, None, IsTrue, IfOk, IfSome, IfNone, OnOk, OnErr, length, take, slice_get, map, if◌then◌else◌};
 ghost use Rattle.std.specs.List.{list_any, AllByRecursion};
 ghost use Rattle.std.specs.Option.{option_and_then, option_copied, option_map};
 ghost use Rattle.model.specs.Graph.{has, has_number};
@@ -10,7 +10,7 @@ ghost use Rattle.build_log.specs.Steps.{IsFilled, IsGrown, IsSaid};
 ghost use Rattle.std.specs.Str.{IsUtf8};
 ghost use Rattle.text.specs.Marks.{Lacks};
 ghost use Rattle.build_log.specs.Line.{field_and_tab};
-ghost use Rattle.build_log.specs.Taken.{AreTakenFrom};
+ghost use Rattle.build_log.specs.Taken.{AreTakenFrom, IsTakenBehind};
 
 use crate::field::Field;
 use crate::line::plain_field;
@@ -134,40 +134,94 @@ impl<T: Drop> Kept<T> {
         }
         let mut numbers = Vec::with_capacity(alloc, count)?;
         let mut rest = bytes;
-        let mut last = 0usize;
         while numbers.len() < count {
-            let Some((number, after)) = self.take_number(alloc, last, rest)? else {
+            let most = count - numbers.len();
+            let Some(after) = self.take_some(alloc, rest, most, &mut numbers)? else {
                 return Ok(None);
             };
-            numbers.push(number)?;
             rest = after;
-            last = number;
         }
         Ok(Some((Items::from_vec(numbers), rest)))
     }
 
-    /// The number of the text whose field stands in front, behind that of `last`, and what stands behind its tab, where no byte
-    /// of it is written as two.
-    fn take_number<'a>(
+    /// Puts the numbers of texts whose fields stand in front, one at least and so many at most, behind those of the texts before
+    /// them, and gives what stands behind their fields.
+    fn take_some<'a>(
+        &mut self,
+        alloc: Global,
+        bytes: &'a [u8],
+        most: usize,
+        numbers: &mut Vec<usize>,
+    ) -> Result<Option<&'a [u8]>, AllocError>
+        requires line_feed { Lacks 10 bytes.now }
+        requires most { 0 < most }
+        ensures same { (all : List (Saying T)) → IsTableOf all self.old → IsTableOf all self.new }
+        ensures records { self.new.records ≡ self.old.records }
+        ensures grown { IsGrown self.old self.new }
+        ensures taken { IfOk result (λ found. IfSome found (λ after. IsTakenBehind self.new.outputs numbers.old.items bytes.now most numbers.new.items after.now)) }
+    {
+        let last = last_of(numbers.as_slice());
+        if let Some((run, after)) = self.outputs.follow_run(last, bytes, most) {
+            numbers.extend_from_slice(run)?;
+            return Ok(Some(after));
+        }
+        self.take_few(alloc, last, bytes, most, numbers)
+    }
+
+    /// The same, where no run that came behind `last` stands in front. What came behind it one by one is a run from now on.
+    #[inline(never)]
+    fn take_few<'a>(
         &mut self,
         alloc: Global,
         last: usize,
         bytes: &'a [u8],
-    ) -> Result<Option<(usize, &'a [u8])>, AllocError>
+        most: usize,
+        numbers: &mut Vec<usize>,
+    ) -> Result<Option<&'a [u8]>, AllocError>
+        requires line_feed { Lacks 10 bytes.now }
+        requires most { 0 < most }
+        ensures same { (all : List (Saying T)) → IsTableOf all self.old → IsTableOf all self.new }
+        ensures records { self.new.records ≡ self.old.records }
+        ensures grown { IsGrown self.old self.new }
+        ensures taken { IfOk result (λ found. IfSome found (λ after. IsTakenBehind self.new.outputs numbers.old.items bytes.now most numbers.new.items after.now)) }
+    {
+        if self.outputs.follow(last, bytes).is_none() {
+            let found = self.push_unknown(alloc, last, bytes, numbers)?;
+            return Ok(found);
+        }
+        let (few, after) = self.outputs.follow_few(alloc, last, bytes, most)?;
+        if few.is_empty() {
+            return Ok(None);
+        }
+        let front = front_before(bytes, after);
+        self.outputs.note_run(alloc, last, few.as_slice(), front)?;
+        numbers.extend_from_slice(few.as_slice())?;
+        Ok(Some(after))
+    }
+
+    /// The same, of one text.
+    fn push_unknown<'a>(
+        &mut self,
+        alloc: Global,
+        last: usize,
+        bytes: &'a [u8],
+        numbers: &mut Vec<usize>,
+    ) -> Result<Option<&'a [u8]>, AllocError>
         requires { Lacks 10 bytes.now }
         ensures same { (all : List (Saying T)) → IsTableOf all self.old → IsTableOf all self.new }
         ensures records { self.new.records ≡ self.old.records }
         ensures grown { IsGrown self.old self.new }
-        ensures number { IfOk result (λ found. IfSome found (λ parts. (text : List ℕ) × (slice_get self.new.outputs parts.0 ≡ Some text) × IsUtf8 text × (bytes.now ≡ field_and_tab text ++ parts.1.now))) }
+        ensures taken { IfOk result (λ found. IfSome found (λ after. IsTakenBehind self.new.outputs numbers.old.items bytes.now 1 numbers.new.items after.now)) }
     {
-        match self.outputs.follow(last, bytes) {
-            Some(found) => Ok(Some(found)),
-            None => self.take_unknown(alloc, last, bytes),
-        }
+        let Some((number, after)) = self.take_unknown(alloc, last, bytes)? else {
+            return Ok(None);
+        };
+        numbers.push(number)?;
+        Ok(Some(after))
     }
 
-    /// The same, where it is not one that came behind `last` before.
-    #[inline(never)]
+    /// The number of the text whose field stands in front, behind that of `last`, and what stands behind its tab, where no byte
+    /// of it is written as two.
     fn take_unknown<'a>(
         &mut self,
         alloc: Global,
@@ -436,6 +490,24 @@ impl<T: Drop> Kept<T> {
     {
         *self.in_force.get(number)?
     }
+}
+
+/// The number behind which the next text of a list is looked for: the last of these. In front of the first, which is often in no
+/// other list, nothing is known; what stands behind that is looked for behind the first text of all.
+fn last_of(numbers: &[usize]) -> usize {
+    match numbers {
+        [] => usize::MAX,
+        [_] => 0,
+        [.., last] => *last,
+    }
+}
+
+/// What stands in front of a part that ends with the bytes.
+fn front_before<'a>(bytes: &'a [u8], after: &[u8]) -> &'a [u8]
+    requires { length after.now ≤ length bytes.now }
+    ensures { result.now ≡ take (length bytes.now - length after.now) bytes.now }
+{
+    &bytes[..bytes.len() - after.len()]
 }
 
 /// Writes a value at each of these places that is there.

@@ -1,16 +1,21 @@
 //! Texts by number, each once.
 
-ghost use Rattle.std.specs.Prelude.{◌≡◌, [], ◌∷◌, ◌++◌, List, ℕ, Some, false, IfOk, IfSome, IfNone, OnOk, OnErr, slice_get};
+ghost use Rattle.std.specs.Prelude.{◌≡◌, ◌<◌, ◌≤◌, [], ◌∷◌, ◌++◌, List, ℕ, Some, false, IfOk, IfSome, IfNone, OnOk, OnErr, length, slice_get};
 ghost use Rattle.std.specs.Option.{option_map};
 ghost use Rattle.std.specs.Str.{IsUtf8};
 ghost use Rattle.model.specs.Graph.{has};
 ghost use Rattle.build_log.specs.Line.{field_and_tab, IsPlain};
-ghost use Rattle.build_log.specs.Noted.{IsPlainAt, IsNumberOf};
+ghost use Rattle.build_log.specs.Noted.{IsPlainAt, IsNumberOf, IsRunFrom};
+ghost use Rattle.build_log.specs.Taken.{AreTakenFrom};
 
 use bstr::ByteSlice;
 use indexmap::IndexSet;
 use std::alloc::{AllocError, Global};
 use std::marker::Model;
+use text::{Bytes, Items};
+
+/// How many texts a run has at most.
+const MOST_IN_RUN: usize = 8;
 
 /// Texts by number, each once, which contracts see as their list. Each is copied once.
 #[derive(Drop)]
@@ -18,6 +23,32 @@ pub struct Texts {
     texts: IndexSet<String>,
     /// For each text what is guessed of the one behind it.
     notes: Vec<Note>,
+    runs: Vec<Run>,
+    /// For the first texts the places of runs that came behind them.
+    places: Vec<Places>,
+}
+
+/// Texts whose fields came one behind another: their numbers, and the bytes of their fields.
+#[derive(Drop)]
+pub struct Run {
+    pub numbers: Items<usize>,
+    pub bytes: Bytes,
+}
+
+/// The places of runs that came behind a text.
+#[derive(Clone, Copy)]
+pub struct Places {
+    pub first: Option<u32>,
+    pub second: Option<u32>,
+    pub third: Option<u32>,
+}
+
+impl Places {
+    const NONE: Places = Places {
+        first: None,
+        second: None,
+        third: None,
+    };
 }
 
 /// Texts that came behind a text, none of which has a byte that is written as two. They are guesses: what stands there is
@@ -40,13 +71,13 @@ pub struct Guess {
 impl Model for Texts {
     ghost use Rattle.std.specs.Prelude.{ℕ, List};
     ghost use Rattle.build_log.specs.Kept.{texts_of};
-    ghost use Rattle.build_log.specs.Noted.{AreNotesOf};
+    ghost use Rattle.build_log.specs.Noted.{AreNotesOf, AreRunsOf};
 
     ghost Value = { List (List ℕ) };
 
     ghost view = { λ texts. texts_of texts.texts.keys };
 
-    ghost invariant = { λ texts. AreNotesOf (texts_of texts.texts.keys) texts.notes.items };
+    ghost invariant = { λ texts. AreNotesOf (texts_of texts.texts.keys) texts.notes.items × AreRunsOf (texts_of texts.texts.keys) texts.runs.items };
 }
 
 impl Texts {
@@ -57,6 +88,8 @@ impl Texts {
         Texts {
             texts: IndexSet::new(alloc),
             notes: Vec::new(alloc),
+            runs: Vec::new(alloc),
+            places: Vec::new(alloc),
         }
     }
 
@@ -139,6 +172,142 @@ impl Texts {
             };
         }
     }
+
+    /// The numbers of texts, so many at most, each of which came behind the one before it, and what stands behind their fields.
+    pub(crate) fn follow_few<'a>(
+        &self,
+        alloc: Global,
+        last: usize,
+        bytes: &'a [u8],
+        most: usize,
+    ) -> Result<(Vec<usize>, &'a [u8]), AllocError>
+        ensures taken { IfOk result (λ parts. AreTakenFrom self.now bytes.now (length parts.0.items) parts.0.items parts.1.now) }
+        ensures most { IfOk result (λ parts. length parts.0.items ≤ most) }
+    {
+        let count = run_len(most);
+        let mut numbers = Vec::with_capacity(alloc, count)?;
+        let mut rest = bytes;
+        let mut before = last;
+        while numbers.len() < count {
+            let Some((number, after)) = self.follow(before, rest) else {
+                break;
+            };
+            numbers.push(number)?;
+            rest = after;
+            before = number;
+        }
+        Ok((numbers, rest))
+    }
+
+    /// The numbers of a run that came behind `last` before and stands in front, of so many texts at most, and what stands behind
+    /// it.
+    pub(crate) fn follow_run<'s, 'a>(
+        &'s self,
+        last: usize,
+        bytes: &'a [u8],
+        most: usize,
+    ) -> Option<(&'s [usize], &'a [u8])>
+        ensures { IfSome result (λ parts. IsRunFrom self.now bytes.now most parts.0.now parts.1.now) }
+    {
+        let places = self.places.get(last)?;
+        if let Some(found) = self.run_at(places.first, bytes, most) {
+            return Some(found);
+        }
+        if let Some(found) = self.run_at(places.second, bytes, most) {
+            return Some(found);
+        }
+        self.run_at(places.third, bytes, most)
+    }
+
+    /// The same, of the run at this place.
+    fn run_at<'s, 'a>(
+        &'s self,
+        place: Option<u32>,
+        bytes: &'a [u8],
+        most: usize,
+    ) -> Option<(&'s [usize], &'a [u8])>
+        ensures { IfSome result (λ parts. IsRunFrom self.now bytes.now most parts.0.now parts.1.now) }
+    {
+        let run = self.runs.get(place? as usize)?;
+        let count = run.numbers.len();
+        if count == 0 || most < count {
+            return None;
+        }
+        let after = behind_start(run.bytes.as_slice(), bytes)?;
+        Some((run.numbers.as_slice(), after))
+    }
+
+    /// Notes that a run came behind a text, where fewer than three did before.
+    pub(crate) fn note_run(
+        &mut self,
+        alloc: Global,
+        last: usize,
+        numbers: &[usize],
+        bytes: &[u8],
+    ) -> Result<(), AllocError>
+        requires { AreTakenFrom self.old bytes.now (length numbers.now) numbers.now [] }
+        ensures { self.new ≡ self.old }
+    {
+        if self.notes.len() <= last {
+            return Ok(());
+        }
+        reach(&mut self.places, last)?;
+        let Some(places) = with_place(self.places[last], small(self.runs.len())) else {
+            return Ok(());
+        };
+        let numbers = Items::from_vec(Vec::from_slice(alloc, numbers)?);
+        let bytes = Bytes::from_vec(Vec::from_slice(alloc, bytes)?);
+        self.runs.push(Run { numbers, bytes })?;
+        self.places[last] = places;
+        Ok(())
+    }
+}
+
+/// How many texts a run of so many at most has.
+fn run_len(most: usize) -> usize
+    ensures { result ≤ most }
+{
+    if most < MOST_IN_RUN {
+        most
+    } else {
+        MOST_IN_RUN
+    }
+}
+
+/// Makes a list so long that it has an entry at this place.
+fn reach(places: &mut Vec<Places>, place: usize) -> Result<(), AllocError>
+    ensures { OnOk result (place < length places.new.items) }
+{
+    while places.len() <= place {
+        places.push(Places::NONE)?;
+    }
+    Ok(())
+}
+
+/// These places and one more, where there is room for one.
+fn with_place(places: Places, place: Option<u32>) -> Option<Places> {
+    if places.first.is_none() {
+        return Some(Places {
+            first: place,
+            second: None,
+            third: None,
+        });
+    }
+    if places.second.is_none() {
+        return Some(Places {
+            first: places.first,
+            second: place,
+            third: None,
+        });
+    }
+    if places.third.is_none() {
+        return Some(Places {
+            first: places.first,
+            second: places.second,
+            third: place,
+        });
+    }
+    None
 }
 
 /// How a text with this number is told from others: texts that come in turn are often names of files that differ before the
