@@ -12,7 +12,7 @@ use Rattle.build_log.proofs.Distinct.{same_bytes, bytes_same, bytes_differ, dist
 
 -- ---- numbers of outputs
 
-get_grown : (xs ys : List (List ℕ)) (n : ℕ) (t : List ℕ) → slice_get xs n ≡ Some t → slice_get (xs ++ ys) n ≡ Some t
+pub get_grown : (xs ys : List (List ℕ)) (n : ℕ) (t : List ℕ) → slice_get xs n ≡ Some t → slice_get (xs ++ ys) n ≡ Some t
 get_grown [] ys n t is = cc
 get_grown (x ∷ xs) ys zero t is = is
 get_grown (x ∷ xs) ys (suc n) t is = get_grown xs ys n t is
@@ -112,7 +112,7 @@ module _ {Z : Type 0} where
       ap texts_of (e ∙ (ap (λ (x : List ℕ). cond (list_any (λ k. bytes_eq x (string_bytes k)) keys) keys (keys ++ own ∷ [])) is ∙ ap (λ (b : Bool). cond b keys (keys ++ own ∷ [])) (sym none)))
       ∙ (map-append string_bytes keys (own ∷ []) ∙ ap (λ (x : List ℕ). texts_of keys ++ x ∷ []) is)
 
-get_push : (xs : List (List ℕ)) (q : List ℕ) (n : ℕ) (o : List ℕ) → slice_get (xs ++ q ∷ []) n ≡ Some o → (slice_get xs n ≡ Some o) ⊎ ((n ≡ length xs) × (q ≡ o))
+pub get_push : {A : Type 0} (xs : List A) (q : A) (n : ℕ) (o : A) → slice_get (xs ++ q ∷ []) n ≡ Some o → (slice_get xs n ≡ Some o) ⊎ ((n ≡ length xs) × (q ≡ o))
 get_push [] q zero o e = let same : q ≡ o = cc in inr (refl, same)
 get_push [] q (suc n) o e = absurd (let clash : None ≡ Some o = e in cc)
 get_push (x ∷ xs) q zero o e = inl e

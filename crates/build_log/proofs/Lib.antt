@@ -8,6 +8,7 @@ pub mod LawLemmas
 pub mod Distinct
 pub mod Filling
 pub mod Keeping
+pub mod Notes
 pub mod Lookups
 pub mod Parts
 pub mod InForce

@@ -1,10 +1,10 @@
 -- Lines of records, one after another.
 use Rattle.std.proofs.Common.{◌≡◌, ◌≢◌, ℕ, Bool, List, [], ◌∷◌, ◌++◌, refl, sym, ap, ◌∙◌, subst, append_assoc, Result, Ok, Err}
-use Rattle.std.specs.Prelude.{IfOk, IsFalse}
+use Rattle.std.specs.Prelude.{IfOk, IsTrue, IsFalse}
 use Rattle.text.specs.Marks.{Lacks}
 use Rattle.text.specs.Fronts.{IsFront, IsNext}
 use Rattle.text.proofs.Fronts.{front_none, front_more, front_stops, front_all}
-use Rattle.build_log.specs.Line.{line_text}
+use Rattle.build_log.specs.Line.{line_text, AreTexts}
 use Rattle.build_log.specs.Form.{Form, record_line, HasLine, HaveLines, lines_text}
 use Rattle.build_log.proofs.Bytes.{one_cut, has_mark}
 use Rattle.build_log.proofs.Lines.{one_line, Lacks-line_text}
@@ -73,3 +73,12 @@ pub no_line : {R E : Type 0} (form : Form R) (found : Result Bool E) (line : Lis
     → IfOk found (λ is_put. IsFalse is_put → IsNoLine form line)
 no_line form (Ok b) line fields e none = λ no r has f. none no r has.fits (one_line fields (form.fields r) (sym e ∙ f))
 no_line form (Err x) line fields e none = tt
+
+-- fields that are a record's are put behind what was put before, which stands for the same as at first
+pub put_behind : {R L E : Type 0} (form : Form R) (Keeps : List R → L → Type 0) (found : Result Bool E) (line : List ℕ) (fields : List (List ℕ)) (old mid new : L) → line ≡ line_text fields → AreTexts fields → ((records : List R) → Keeps records old → Keeps records mid)
+    → IfOk found (λ is_put. IsTrue is_put → (r : R) × (fields ≡ form.fields r) × form.Fits r × ((records : List R) → Keeps records mid → Keeps (records ++ r ∷ []) new))
+    → IfOk found (λ is_put. IsTrue is_put → (r : R) × (line ≡ line_text (form.fields r)) × HasLine form r × ((records : List R) → Keeps records old → Keeps (records ++ r ∷ []) new))
+put_behind form Keeps (Ok b) line fields old mid new e texts same put = λ yes.
+    let p = put yes in
+    (p.0, e ∙ ap line_text p.1, record { fits = p.2; texts = subst AreTexts p.1 texts }, λ records keeps. p.3 records (same records keeps))
+put_behind form Keeps (Err x) line fields old mid new e texts same put = tt

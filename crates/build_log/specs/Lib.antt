@@ -2,6 +2,8 @@ pub mod Spelled
 pub mod Line
 pub mod Form
 pub mod Text
+pub mod Taken
+pub mod Noted
 pub mod Laws
 pub mod Kept
 pub mod Found

@@ -42,7 +42,7 @@ impl<'a> Field<'a> {
     }
 
     /// The field of a text, which borrows from it.
-    pub(crate) fn plain(text: &'a str) -> Field<'a>
+    pub fn plain(text: &'a str) -> Field<'a>
         ensures { result ≡ text.now }
     {
         Field {

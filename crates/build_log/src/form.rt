@@ -3,7 +3,9 @@
 ghost use Rattle.std.specs.Prelude.{◌≡◌, ◌↔◌, [], ◌∷◌, ◌++◌, List, ℕ, Option, IfOk, IsTrue, IsFalse, length, slice_get};
 ghost use Rattle.std.specs.Option.{option_and_then};
 ghost use Rattle.build_log.specs.declared.form.Version.TheVariants.{Two};
-ghost use Rattle.build_log.specs.Form.{Form, IsReadable};
+ghost use Rattle.text.specs.Marks.{Lacks};
+ghost use Rattle.build_log.specs.Line.{line_text};
+ghost use Rattle.build_log.specs.Form.{Form, HasLine, IsReadable};
 ghost use Rattle.build_log.specs.Text.{IsLogOf};
 ghost use Rattle.build_log.specs.Kept.{WantsCompaction};
 ghost use Rattle.build_log.specs.Laws.{KeepsInForce};
@@ -63,6 +65,19 @@ pub trait Records: Sized + Drop {
     ) -> Result<bool, AllocError>
         ensures put { IfOk result (λ is_put. IsTrue is_put → (r : Self.Record) × (fields.now ≡ (forms version).fields r) × (forms version).Fits r × ((records : List Self.Record) → Keeps records self.old → Keeps (records ++ r ∷ []) self.new)) }
         ensures none { IfOk result (λ is_put. IsFalse is_put → (r : Self.Record) → (forms version).Fits r → fields.now ≡ (forms version).fields r → ⊥) };
+
+    /// Puts the record of a line, which is handed in without its line feed, at the end where it is read in a short way, and
+    /// says whether it did. Where it did not, what is kept stands for the same records as before. Where memory is refused,
+    /// nothing is said of it.
+    fn put_plain(
+        &mut self,
+        alloc: Global,
+        version: Version,
+        line: &[u8],
+    ) -> Result<bool, AllocError>
+        requires line_feed { Lacks 10 line.now }
+        ensures put { IfOk result (λ is_put. IsTrue is_put → (r : Self.Record) × (line.now ≡ line_text ((forms version).fields r)) × HasLine (forms version) r × ((records : List Self.Record) → Keeps records self.old → Keeps (records ++ r ∷ []) self.new)) }
+        ensures none { IfOk result (λ is_put. IsFalse is_put → (records : List Self.Record) → Keeps records self.old → Keeps records self.new) };
 
     /// The number of the record in force for an output. It takes no memory.
     fn find(&self, output: &str) -> Option<usize>

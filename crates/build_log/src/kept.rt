@@ -1,15 +1,20 @@
 //! What is kept of the records of a log: outputs by number, and for each the record in force.
 
-ghost use Rattle.std.specs.Prelude.{◌≡◌, ◌<◌, ◌≤◌, ◌↔◌, ◌*◌, [], ◌∷◌, ◌++◌, List, ℕ, Option, Some, None, IsTrue, IfOk, IfSome, IfNone, OnOk, OnErr, length, slice_get, map, if◌then◌else◌};
+ghost use Rattle.std.specs.Prelude.{◌≡◌, ◌<◌, ◌≤◌, ◌↔◌, ◌*◌, ◌-◌, [], ◌∷◌, ◌++◌, List, ℕ, Option, Some, None, IsTrue, IfOk, IfSome, IfNone, OnOk, OnErr, length, take, slice_get, map, if◌then◌else◌};
 ghost use Rattle.std.specs.List.{list_any, AllByRecursion};
 ghost use Rattle.std.specs.Option.{option_and_then, option_copied, option_map};
 ghost use Rattle.model.specs.Graph.{has, has_number};
 ghost use Rattle.build_log.specs.Kept.{Saying, IsTableOf, AreDistinct, AreNumbersOf, told_of, place_of, is_place, tellings, in_force_of, left_to, outputs_at, some_of, texts_at, if_some, joined, WantsCompaction};
 ghost use Rattle.build_log.specs.Found.{tellings_in, IsNamed};
 ghost use Rattle.build_log.specs.Steps.{IsFilled, IsGrown, IsSaid};
+ghost use Rattle.std.specs.Str.{IsUtf8};
+ghost use Rattle.text.specs.Marks.{Lacks};
+ghost use Rattle.build_log.specs.Line.{field_and_tab};
+ghost use Rattle.build_log.specs.Taken.{AreTakenFrom, IsTakenBehind};
 
 use crate::field::Field;
-use indexmap::IndexSet;
+use crate::line::plain_field;
+use crate::texts::Texts;
 use std::alloc::{AllocError, Global};
 use std::marker::Model;
 use text::Items;
@@ -21,7 +26,7 @@ use text::Items;
 /// do, from 0. Texts that a `T` names can be given numbers beside the outputs, so that each is kept once too.
 #[derive(Drop)]
 pub struct Kept<T> {
-    outputs: IndexSet<String>,
+    outputs: Texts,
     /// For each output the number of the record in force, if there is one.
     in_force: Vec<Option<usize>>,
     told: Vec<Told<T>>,
@@ -47,11 +52,11 @@ impl<T> Model for Told<T> {
 }
 
 impl<T> Model for Kept<T> {
-    ghost use Rattle.build_log.specs.Kept.{Table, texts_of};
+    ghost use Rattle.build_log.specs.Kept.{Table};
 
     ghost Value = { Table T };
 
-    ghost view = { λ kept. record { outputs = texts_of kept.outputs.keys; in_force = kept.in_force.items; told = kept.told.items; records = kept.records } };
+    ghost view = { λ kept. record { outputs = kept.outputs; in_force = kept.in_force.items; told = kept.told.items; records = kept.records } };
 }
 
 impl<T: Drop> Kept<T> {
@@ -60,7 +65,7 @@ impl<T: Drop> Kept<T> {
         ensures { IsTableOf [] result }
     {
         Kept {
-            outputs: IndexSet::new(alloc),
+            outputs: Texts::new(alloc),
             in_force: Vec::new(alloc),
             told: Vec::new(alloc),
             records: 0,
@@ -107,6 +112,136 @@ impl<T: Drop> Kept<T> {
         Ok(Items::from_vec(numbers))
     }
 
+    /// The numbers of the texts whose fields, so many, stand in front, and what stands behind them, where no byte of them is
+    /// written as two. Texts that have no number get one. What is kept stands for the same records as before.
+    ///
+    /// A text that came behind the one before it in an earlier call is compared, and neither searched for its tab nor hashed.
+    #[inline(never)]
+    pub fn take_numbers<'a>(
+        &mut self,
+        alloc: Global,
+        bytes: &'a [u8],
+        count: usize,
+    ) -> Result<Option<(Items<usize>, &'a [u8])>, AllocError>
+        requires { Lacks 10 bytes.now }
+        ensures same { (all : List (Saying T)) → IsTableOf all self.old → IsTableOf all self.new }
+        ensures records { self.new.records ≡ self.old.records }
+        ensures grown { IsGrown self.old self.new }
+        ensures numbers { IfOk result (λ found. IfSome found (λ parts. AreTakenFrom self.new.outputs bytes.now count parts.0 parts.1.now)) }
+    {
+        if bytes.len() < count {
+            return Ok(None);
+        }
+        let mut numbers = Vec::with_capacity(alloc, count)?;
+        let mut rest = bytes;
+        while numbers.len() < count {
+            let most = count - numbers.len();
+            let Some(after) = self.take_some(alloc, rest, most, &mut numbers)? else {
+                return Ok(None);
+            };
+            rest = after;
+        }
+        Ok(Some((Items::from_vec(numbers), rest)))
+    }
+
+    /// Puts the numbers of texts whose fields stand in front, one at least and so many at most, behind those of the texts before
+    /// them, and gives what stands behind their fields.
+    fn take_some<'a>(
+        &mut self,
+        alloc: Global,
+        bytes: &'a [u8],
+        most: usize,
+        numbers: &mut Vec<usize>,
+    ) -> Result<Option<&'a [u8]>, AllocError>
+        requires line_feed { Lacks 10 bytes.now }
+        requires most { 0 < most }
+        ensures same { (all : List (Saying T)) → IsTableOf all self.old → IsTableOf all self.new }
+        ensures records { self.new.records ≡ self.old.records }
+        ensures grown { IsGrown self.old self.new }
+        ensures taken { IfOk result (λ found. IfSome found (λ after. IsTakenBehind self.new.outputs numbers.old.items bytes.now most numbers.new.items after.now)) }
+    {
+        let last = last_of(numbers.as_slice());
+        if let Some((run, after)) = self.outputs.follow_run(last, bytes, most) {
+            numbers.extend_from_slice(run)?;
+            return Ok(Some(after));
+        }
+        self.take_few(alloc, last, bytes, most, numbers)
+    }
+
+    /// The same, where no run that came behind `last` stands in front. What came behind it one by one is a run from now on.
+    #[inline(never)]
+    fn take_few<'a>(
+        &mut self,
+        alloc: Global,
+        last: usize,
+        bytes: &'a [u8],
+        most: usize,
+        numbers: &mut Vec<usize>,
+    ) -> Result<Option<&'a [u8]>, AllocError>
+        requires line_feed { Lacks 10 bytes.now }
+        requires most { 0 < most }
+        ensures same { (all : List (Saying T)) → IsTableOf all self.old → IsTableOf all self.new }
+        ensures records { self.new.records ≡ self.old.records }
+        ensures grown { IsGrown self.old self.new }
+        ensures taken { IfOk result (λ found. IfSome found (λ after. IsTakenBehind self.new.outputs numbers.old.items bytes.now most numbers.new.items after.now)) }
+    {
+        if self.outputs.follow(last, bytes).is_none() {
+            let found = self.push_unknown(alloc, last, bytes, numbers)?;
+            return Ok(found);
+        }
+        let (few, after) = self.outputs.follow_few(alloc, last, bytes, most)?;
+        if few.is_empty() {
+            return Ok(None);
+        }
+        let front = front_before(bytes, after);
+        self.outputs.note_run(alloc, last, few.as_slice(), front)?;
+        numbers.extend_from_slice(few.as_slice())?;
+        Ok(Some(after))
+    }
+
+    /// The same, of one text.
+    fn push_unknown<'a>(
+        &mut self,
+        alloc: Global,
+        last: usize,
+        bytes: &'a [u8],
+        numbers: &mut Vec<usize>,
+    ) -> Result<Option<&'a [u8]>, AllocError>
+        requires { Lacks 10 bytes.now }
+        ensures same { (all : List (Saying T)) → IsTableOf all self.old → IsTableOf all self.new }
+        ensures records { self.new.records ≡ self.old.records }
+        ensures grown { IsGrown self.old self.new }
+        ensures taken { IfOk result (λ found. IfSome found (λ after. IsTakenBehind self.new.outputs numbers.old.items bytes.now 1 numbers.new.items after.now)) }
+    {
+        let Some((number, after)) = self.take_unknown(alloc, last, bytes)? else {
+            return Ok(None);
+        };
+        numbers.push(number)?;
+        Ok(Some(after))
+    }
+
+    /// The number of the text whose field stands in front, behind that of `last`, and what stands behind its tab, where no byte
+    /// of it is written as two.
+    fn take_unknown<'a>(
+        &mut self,
+        alloc: Global,
+        last: usize,
+        bytes: &'a [u8],
+    ) -> Result<Option<(usize, &'a [u8])>, AllocError>
+        requires { Lacks 10 bytes.now }
+        ensures same { (all : List (Saying T)) → IsTableOf all self.old → IsTableOf all self.new }
+        ensures records { self.new.records ≡ self.old.records }
+        ensures grown { IsGrown self.old self.new }
+        ensures number { IfOk result (λ found. IfSome found (λ parts. (text : List ℕ) × (slice_get self.new.outputs parts.0 ≡ Some text) × IsUtf8 text × (bytes.now ≡ field_and_tab text ++ parts.1.now))) }
+    {
+        let Some((text, after)) = plain_field(bytes) else {
+            return Ok(None);
+        };
+        let number = self.number(alloc, text)?;
+        self.outputs.note(last, number, text);
+        Ok(Some((number, after)))
+    }
+
     /// The number of an output; if it has none, it gets one.
     fn number(&mut self, alloc: Global, output: &str) -> Result<usize, AllocError>
         ensures same { (all : List (Saying T)) → IsTableOf all self.old → IsTableOf all self.new }
@@ -114,12 +249,11 @@ impl<T: Drop> Kept<T> {
         ensures grown { IsGrown self.old self.new }
         ensures number { IfOk result (λ number. slice_get self.new.outputs number ≡ Some output.now) }
     {
-        if let Some((number, _)) = self.outputs.get_full(output) {
+        if let Some(number) = self.outputs.find(output) {
             return Ok(number);
         }
-        let own = String::from_str(alloc, output)?;
         self.in_force.reserve(1)?;
-        let (number, _) = self.outputs.insert_full(own)?;
+        let number = self.outputs.add(alloc, output)?;
         self.in_force.push(None)?;
         Ok(number)
     }
@@ -162,7 +296,7 @@ impl<T: Drop> Kept<T> {
         ensures place { (all : List (Saying T)) → IsTableOf all self.now → result ≡ place_of all output.now }
         ensures told { (all : List (Saying T)) → IsTableOf all self.now → option_and_then (slice_get (map (λ t. t.1) (tellings all))) result ≡ told_of all output.now }
     {
-        let (number, _) = self.outputs.get_full(output)?;
+        let number = self.outputs.find(output)?;
         self.place(number)
     }
 
@@ -341,8 +475,7 @@ impl<T: Drop> Kept<T> {
     pub fn text(&self, number: usize) -> Option<&str>
         ensures { option_map (λ o. o.now) result ≡ slice_get self.now.outputs number }
     {
-        let output = self.outputs.get_index(number)?;
-        Some(output.as_str())
+        self.outputs.at(number)
     }
 
     fn telling(&self, place: usize) -> Option<&Told<T>>
@@ -357,6 +490,24 @@ impl<T: Drop> Kept<T> {
     {
         *self.in_force.get(number)?
     }
+}
+
+/// The number behind which the next text of a list is looked for: the last of these. In front of the first, which is often in no
+/// other list, nothing is known; what stands behind that is looked for behind the first text of all.
+fn last_of(numbers: &[usize]) -> usize {
+    match numbers {
+        [] => usize::MAX,
+        [_] => 0,
+        [.., last] => *last,
+    }
+}
+
+/// What stands in front of a part that ends with the bytes.
+fn front_before<'a>(bytes: &'a [u8], after: &[u8]) -> &'a [u8]
+    requires { length after.now ≤ length bytes.now }
+    ensures { result.now ≡ take (length bytes.now - length after.now) bytes.now }
+{
+    &bytes[..bytes.len() - after.len()]
 }
 
 /// Writes a value at each of these places that is there.

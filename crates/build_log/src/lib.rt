@@ -14,6 +14,7 @@ mod outputs;
 mod read;
 mod record;
 mod tail;
+mod texts;
 
 pub use done::Done;
 pub use field::{Field, field_text, plain_fields, push_field};
@@ -23,7 +24,7 @@ pub use laws::{
     each_is_read, front_of_lines, front_of_log, has_reader, in_force_keeps, line_grows_log,
     one_reading, one_spelling, parts_are_decided,
 };
-pub use line::{end_line, fields, push_list, push_number, push_text};
+pub use line::{end_line, fields, plain_field, push_list, push_number, push_text, without_dot};
 pub use log::Log;
 pub use number::number_of;
 pub use outputs::{are_distinct, split_counted, split_outputs};

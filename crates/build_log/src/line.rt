@@ -4,11 +4,12 @@ ghost use Rattle.std.specs.Prelude.{◌≡◌, [], ◌∷◌, ◌++◌, List, �
 ghost use Rattle.std.specs.List.{flat_map};
 ghost use Rattle.std.specs.Str.{IsUtf8};
 ghost use Rattle.text.specs.Marks.{Lacks};
-ghost use Rattle.build_log.specs.Line.{field_and_tab, line_text, AreTexts, counted};
+ghost use Rattle.build_log.specs.Line.{field_and_tab, line_text, AreTexts, counted, IsPlain};
 
 use crate::field::{Field, field_of, is_plain, push_field};
 use itoa::Buffer;
 use std::alloc::{AllocError, Global};
+use std::str::from_utf8;
 use text::cut;
 
 /// As many fields as a record of one output has: room for them is made at once.
@@ -63,8 +64,25 @@ pub(crate) fn take_fields<'a>(
     Ok(rest.is_empty())
 }
 
+/// The text of the field in front, and what stands behind its tab, where no byte of the text is written as two.
+pub fn plain_field(bytes: &[u8]) -> Option<(&str, &[u8])>
+    requires { Lacks 10 bytes.now }
+    ensures found { IfSome result (λ parts. bytes.now ≡ field_and_tab parts.0.now ++ parts.1.now) }
+    ensures plain { IfSome result (λ parts. IsPlain parts.0.now) }
+    ensures line_feed { IfSome result (λ parts. Lacks 10 parts.1.now) }
+{
+    let (field, after) = cut(bytes, b'\t')?;
+    if !is_plain(field) {
+        return None;
+    }
+    match from_utf8(field) {
+        Ok(text) => Some((text, after)),
+        Err(_) => None,
+    }
+}
+
 /// What stands before the dot that ends a line.
-fn without_dot(line: &[u8]) -> Option<&[u8]>
+pub fn without_dot(line: &[u8]) -> Option<&[u8]>
     ensures found { IfSome result (λ front. line.now ≡ front.now ++ 46 ∷ []) }
     ensures none { IfNone result ((front : List ℕ) → line.now ≡ front ++ 46 ∷ [] → ⊥) }
 {

@@ -84,6 +84,15 @@ impl Records for Log {
         Ok(true)
     }
 
+    fn put_plain(
+        &mut self,
+        _alloc: Global,
+        _version: Version,
+        _line: &[u8],
+    ) -> Result<bool, AllocError> {
+        Ok(false)
+    }
+
     fn find(&self, output: &str) -> Option<usize> {
         self.kept.find(output)
     }

@@ -84,6 +84,9 @@ fn put_line<'a, L: Records>(
     ensures put { IfOk result (λ is_put. IsTrue is_put → (r : L.Record) × (line.now ≡ line_text ((L.forms version).fields r)) × HasLine (L.forms version) r × ((records : List L.Record) → L.Keeps records log.old → L.Keeps (records ++ r ∷ []) log.new)) }
     ensures none { IfOk result (λ is_put. IsFalse is_put → (r : L.Record) → HasLine (L.forms version) r → line.now ≡ line_text ((L.forms version).fields r) → ⊥) }
 {
+    if log.put_plain(alloc, version, line)? {
+        return Ok(true);
+    }
     if !take_fields(alloc, line, fields)? {
         return Ok(false);
     }

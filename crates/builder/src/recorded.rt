@@ -159,6 +159,7 @@ fn place_of(records: &Records, path: PathId) -> Option<usize>
 }
 
 /// Adds the numbers of the paths that a deps record names.
+#[inline(never)]
 fn push_inputs(
     alloc: Global,
     graph: &mut Graph,
@@ -171,6 +172,7 @@ fn push_inputs(
     ensures numbered { AreNumbered graph.old (texts_of records.now) numbers.old.items → AreNumbered graph.new (texts_of records.now) numbers.new.items }
     ensures inputs { OnOk result ((paths : List (List ℕ)) → AreNumbered graph.old (texts_of records.now) numbers.old.items → HaveJust graph.old inputs.old.items paths → HaveJust graph.new inputs.new.items (paths ++ logged_at (texts_of records.now) deps.now.paths)) }
 {
+    inputs.reserve(deps.paths.as_slice().len())?;
     for path in deps.paths.as_slice() {
         push_input(alloc, graph, records, numbers, inputs, *path)?;
     }
@@ -190,6 +192,10 @@ fn push_input(
     ensures numbered { AreNumbered graph.old (texts_of records.now) numbers.old.items → AreNumbered graph.new (texts_of records.now) numbers.new.items }
     ensures inputs { OnOk result ((paths : List (List ℕ)) → AreNumbered graph.old (texts_of records.now) numbers.old.items → HaveJust graph.old inputs.old.items paths → HaveJust graph.new inputs.new.items (paths ++ if_some (slice_get (texts_of records.now) path))) }
 {
+    if let Some(number) = number_at(numbers, path) {
+        inputs.push(number)?;
+        return Ok(());
+    }
     let Some(text) = records.deps_path(path) else {
         return Ok(());
     };
@@ -200,6 +206,7 @@ fn push_input(
 
 /// The number that the graph has for a path of the deps log, which is looked up by its text once: `numbers` are those that are
 /// known.
+#[inline(never)]
 fn number_of(
     alloc: Global,
     graph: &mut Graph,

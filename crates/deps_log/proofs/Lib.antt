@@ -1,3 +1,4 @@
+mod Plain
 pub mod Fields
 pub mod Sayings
 pub mod Keeping

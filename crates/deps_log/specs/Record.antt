@@ -12,6 +12,10 @@ use Rattle.build_log.specs.Record.{output_fields, HasRoomFor}
 abbrev pub told_fields : ℕ → List (List ℕ) → List (List ℕ)
 told_fields start paths = decimal start ∷ counted paths
 
+-- the fields in front of the paths, where there is one output
+abbrev pub head_fields : List ℕ → ℕ → ℕ → List (List ℕ)
+head_fields output start count = (114 ∷ []) ∷ (49 ∷ []) ∷ output ∷ decimal start ∷ decimal count ∷ []
+
 -- `r`, the outputs, the start and the paths
 abbrev pub fields_of : Version → DepsRecord → List (List ℕ)
 fields_of version r = (114 ∷ []) ∷ (output_fields version r.outputs ++ told_fields r.start r.paths)

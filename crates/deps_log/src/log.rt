@@ -13,7 +13,7 @@ ghost use Rattle.deps_log.specs.Record.{IsRecord, forms};
 ghost use Rattle.deps_log.specs.Log.{Keeps, compaction, told_in, tolds, record_in};
 
 use crate::deps::Deps;
-use crate::record::{record_line, said_by};
+use crate::record::{head_of, record_line, said_by};
 use build_log::{
     Field, InForce, Kept, Records, Tail, Version, in_force_keeps, parts_are_decided, plain_fields,
 };
@@ -81,6 +81,26 @@ impl Records for Log {
             return Ok(false);
         };
         self.put(alloc, outputs, start, paths)?;
+        Ok(true)
+    }
+
+    fn put_plain(
+        &mut self,
+        alloc: Global,
+        version: Version,
+        line: &[u8],
+    ) -> Result<bool, AllocError> {
+        let Some((output, start, count, bytes)) = head_of(version, line) else {
+            return Ok(false);
+        };
+        let Some((paths, rest)) = self.kept.take_numbers(alloc, bytes, count as usize)? else {
+            return Ok(false);
+        };
+        if !rest.is_empty() {
+            return Ok(false);
+        }
+        let outputs = [Field::plain(output)];
+        self.kept.put(alloc, &outputs, Some(Deps { start, paths }))?;
         Ok(true)
     }
 

@@ -1,16 +1,19 @@
 //! The records of the deps log and their lines.
 
-ghost use Rattle.std.specs.Prelude.{◌≡◌, ◌<◌, ◌^◌, ◌∷◌, [], ◌++◌, List, ℕ, IfSome, IfNone, IfOk, OnOk, length, decimal};
+ghost use Rattle.std.specs.Prelude.{◌≡◌, ◌<◌, ◌^◌, ◌∷◌, [], ◌++◌, List, ℕ, IfSome, IfNone, IfOk, OnOk, OnSome, length, decimal};
 ghost use Rattle.build_log.specs.declared.form.Version.TheVariants.{Two};
-ghost use Rattle.build_log.specs.Line.{counted};
+ghost use Rattle.std.specs.List.{flat_map};
+ghost use Rattle.std.specs.Str.{IsUtf8};
+ghost use Rattle.text.specs.Marks.{Lacks};
+ghost use Rattle.build_log.specs.Line.{counted, field_and_tab, AreTexts};
 ghost use Rattle.build_log.specs.Form.{IsAppended};
 ghost use Rattle.build_log.specs.Found.{texts_in};
 ghost use Rattle.build_log.specs.Kept.{AreDistinct};
-ghost use Rattle.deps_log.specs.Record.{fields_of, told_fields, IsRecord, IsNoRecord, forms};
+ghost use Rattle.deps_log.specs.Record.{fields_of, told_fields, head_fields, IsRecord, IsNoRecord, forms};
 
 use build_log::{
-    Field, Version, are_distinct, end_line, number_of, push_list, push_number, push_text,
-    split_counted, split_outputs,
+    Field, Version, are_distinct, end_line, number_of, plain_field, push_list, push_number,
+    push_text, split_counted, split_outputs, without_dot,
 };
 use std::alloc::{AllocError, Global};
 
@@ -56,6 +59,66 @@ fn told_by<'f, 'a>(fields: &'f [Field<'a>]) -> Option<(u64, &'f [Field<'a>])>
         return None;
     }
     Some((start, paths))
+}
+
+/// The output, the start, and how many paths there are, in the line of a record that names one output; and what stands between
+/// them and the dot. It is read where no byte of these fields is written as two, and of version 2 alone.
+pub(crate) fn head_of(version: Version, line: &[u8]) -> Option<(&str, u64, u64, &[u8])>
+    requires { Lacks 10 line.now }
+    ensures version { OnSome result (version ≡ Two) }
+    ensures head { IfSome result (λ head. line.now ≡ (flat_map field_and_tab (head_fields head.0.now head.1 head.2) ++ head.3.now) ++ 46 ∷ []) }
+    ensures texts { IfSome result (λ head. AreTexts (head_fields head.0.now head.1 head.2)) }
+    ensures start { IfSome result (λ head. head.1 < 2 ^ 64) }
+    ensures count { IfSome result (λ head. head.2 < 2 ^ 64) }
+    ensures line_feed { IfSome result (λ head. Lacks 10 head.3.now) }
+{
+    match version {
+        Version::One => None,
+        Version::Two => {
+            let front = without_dot(line)?;
+            let (output, start, count, paths) = head_in(front)?;
+            Some((output, start, count, paths))
+        }
+    }
+}
+
+/// The same, in what stands before the dot.
+fn head_in(front: &[u8]) -> Option<(&str, u64, u64, &[u8])>
+    requires { Lacks 10 front.now }
+    ensures head { IfSome result (λ head. front.now ≡ flat_map field_and_tab (head_fields head.0.now head.1 head.2) ++ head.3.now) }
+    ensures texts { IfSome result (λ head. AreTexts (head_fields head.0.now head.1 head.2)) }
+    ensures start { IfSome result (λ head. head.1 < 2 ^ 64) }
+    ensures count { IfSome result (λ head. head.2 < 2 ^ 64) }
+    ensures line_feed { IfSome result (λ head. Lacks 10 head.3.now) }
+{
+    let named = behind_kind(front)?;
+    let (output, told) = plain_field(named)?;
+    let (start, counted) = number_in(told)?;
+    let (count, paths) = number_in(counted)?;
+    Some((output, start, count, paths))
+}
+
+/// What stands behind the kind of a record and the number of its outputs, where that is 1.
+fn behind_kind(front: &[u8]) -> Option<&[u8]>
+    ensures { IfSome result (λ after. front.now ≡ 114 ∷ 9 ∷ 49 ∷ 9 ∷ after.now) }
+{
+    match front {
+        [b'r', b'\t', b'1', b'\t', after @ ..] => Some(after),
+        _ => None,
+    }
+}
+
+/// The number whose field stands in front, and what stands behind its tab.
+fn number_in(bytes: &[u8]) -> Option<(u64, &[u8])>
+    requires { Lacks 10 bytes.now }
+    ensures number { IfSome result (λ parts. bytes.now ≡ field_and_tab (decimal parts.0) ++ parts.1.now) }
+    ensures utf8 { IfSome result (λ parts. IsUtf8 (decimal parts.0)) }
+    ensures low { IfSome result (λ parts. parts.0 < 2 ^ 64) }
+    ensures line_feed { IfSome result (λ parts. Lacks 10 parts.1.now) }
+{
+    let (text, after) = plain_field(bytes)?;
+    let number = number_of(text)?;
+    Some((number, after))
 }
 
 /// Writes the line, with its line feed, of a record that says that the command of these outputs, which was started under

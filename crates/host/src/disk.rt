@@ -2,13 +2,22 @@
 
 use std::alloc::{AllocError, Global};
 use std::fs::{File, Metadata, OpenOptions};
-use std::io::{ErrorKind, Write};
+use std::io::{ErrorKind, Read, Write};
 use std::os::unix::fs::{FileExt, MetadataExt};
 use std::{fs, io};
 use text::Bytes;
 
 /// How many files that are appended to are kept open.
 const MOST_KEPT: usize = 4;
+
+/// A file of this size is read through a room of its own.
+const LARGE: u64 = 1 << 20;
+
+/// How many bytes are read at once.
+const ROOM: usize = 1 << 16;
+
+/// How many bytes are copied at once.
+const PIECE: usize = 1 << 10;
 
 const NANOS: u64 = 1_000_000_000;
 
@@ -43,10 +52,38 @@ impl<'a> Disk<'a> {
 
     /// What the file at the path holds, or nothing where there is no file.
     pub fn read(&self, path: &str) -> io::Result<Option<Bytes>> {
-        match unless_absent(fs::read(self.rt, path))? {
+        match unless_absent(self.content(path))? {
             Some(content) => Ok(Some(Bytes::from_vec(content))),
             None => Ok(None),
         }
+    }
+
+    /// What the file at the path holds.
+    fn content(&self, path: &str) -> io::Result<Vec<u8>> {
+        let mut file = File::open(self.rt, path)?;
+        let size = file.metadata()?.len();
+        if size < LARGE {
+            let mut content = Vec::new(self.alloc);
+            file.read_to_end(&mut content)?;
+            return Ok(content);
+        }
+        self.large_content(&mut file, size)
+    }
+
+    /// What a file of about this size holds. It is read through a room that stays in the caches, so that the memory of the
+    /// content is not cleared before it is written.
+    fn large_content(&self, file: &mut File, size: u64) -> io::Result<Vec<u8>> {
+        let mut content = Vec::with_capacity(self.alloc, size as usize)?;
+        let mut room = vec![in self.alloc; 0u8; ROOM]?;
+        for _ in 0..u64::MAX {
+            match file.read(room.as_mut_slice()) {
+                Ok(0) => return Ok(content),
+                Ok(count) => append_pieces(&mut content, &room[..count])?,
+                Err(error) if error.kind() == ErrorKind::Interrupted => {}
+                Err(error) => return Err(error),
+            }
+        }
+        Err(ErrorKind::Other.into())
     }
 
     /// The stamp of the file at the path, or nothing where there is no file.
@@ -197,6 +234,14 @@ fn stamp_of(metadata: &Metadata) -> u64 {
     };
     let nanos = u64::try_from(metadata.mtime_nsec()).unwrap_or(0);
     seconds.saturating_mul(NANOS).saturating_add(nanos)
+}
+
+/// Puts bytes at the end, a piece after another.
+fn append_pieces(content: &mut Vec<u8>, bytes: &[u8]) -> Result<(), AllocError> {
+    for piece in bytes.chunks(PIECE) {
+        content.extend_from_slice(piece)?;
+    }
+    Ok(())
 }
 
 /// What was found, or nothing where there is no such file.

@@ -90,6 +90,18 @@ fn reach(rounds: &mut Vec<u32>, place: usize) -> Result<(), AllocError>
     ensures reached { OnOk result (place < length rounds.new.items) }
     ensures same { (k : ℕ) → get_or rounds.new.items k 0 ≡ get_or rounds.old.items k 0 }
 {
+    if rounds.len() <= place {
+        lengthen(rounds, place)?;
+    }
+    Ok(())
+}
+
+/// The same, where it has none.
+#[inline(never)]
+fn lengthen(rounds: &mut Vec<u32>, place: usize) -> Result<(), AllocError>
+    ensures reached { OnOk result (place < length rounds.new.items) }
+    ensures same { (k : ℕ) → get_or rounds.new.items k 0 ≡ get_or rounds.old.items k 0 }
+{
     while rounds.len() <= place {
         rounds.push(0)?;
     }

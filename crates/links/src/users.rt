@@ -111,6 +111,7 @@ impl Users {
     }
 
     /// Moves the list of a path to the end, into twice the room, and puts an edge behind it.
+    #[inline(never)]
     fn push_moved(&mut self, path: PathId, edge: EdgeId) -> Result<(), AllocError>
         requires { path < length self.old }
         ensures ok { OnOk result (self.new ≡ push_at self.old path edge) }
@@ -188,6 +189,6 @@ fn append_moved(
     edges.extend_from_within(start..stop)?;
     edges.push(edge)?;
     let end = edges.len();
-    edges.extend_from_within(start..stop)?;
+    edges.resize(end + (stop - start), edge)?;
     Ok(end)
 }

@@ -1,6 +1,6 @@
 use Rattle.std.proofs.Common.{List, ℕ, ap, ◌∙◌, get_or}
 use Rattle.links.proofs.Rounded.{get_or-nought}
-use Rattle.links.proofs.path_set.reach.Goals as goal
+use Rattle.links.proofs.path_set.lengthen.Goals as goal
 
 pub loop-rounds-preserved : goal.loop-rounds-preserved
 loop-rounds-preserved c = λ k. ap (λ (l : List ℕ). get_or l k 0) c.in_ok-push.ensures.items ∙ (get_or-nought c.loop-rounds.rounds.items k ∙ c.loop-rounds.invariant k)

@@ -1,5 +1,5 @@
 use Rattle.std.proofs.Common.{◌≡◌, ℕ, length, get_or, ◌+◌, ◌-◌}
-use Rattle.links.proofs.path_set.reach.Given as goal
+use Rattle.links.proofs.path_set.lengthen.Given as goal
 
 abbrev pub invariant-loop-rounds : goal.invariant-loop-rounds
 invariant-loop-rounds l = (k : ℕ) → get_or l.rounds.items k 0 ≡ get_or l.initial.rounds.items k 0

@@ -1,0 +1,384 @@
+//! Texts by number, each once.
+
+ghost use Rattle.std.specs.Prelude.{◌≡◌, ◌<◌, ◌≤◌, [], ◌∷◌, ◌++◌, List, ℕ, Some, false, IfOk, IfSome, IfNone, OnOk, OnErr, length, slice_get};
+ghost use Rattle.std.specs.Option.{option_map};
+ghost use Rattle.std.specs.Str.{IsUtf8};
+ghost use Rattle.model.specs.Graph.{has};
+ghost use Rattle.build_log.specs.Line.{field_and_tab, IsPlain};
+ghost use Rattle.build_log.specs.Noted.{IsPlainAt, IsNumberOf, IsRunFrom};
+ghost use Rattle.build_log.specs.Taken.{AreTakenFrom};
+
+use bstr::ByteSlice;
+use indexmap::IndexSet;
+use std::alloc::{AllocError, Global};
+use std::marker::Model;
+use text::{Bytes, Items};
+
+/// How many texts a run has at most.
+const MOST_IN_RUN: usize = 8;
+
+/// Texts by number, each once, which contracts see as their list. Each is copied once.
+#[derive(Drop)]
+pub struct Texts {
+    texts: IndexSet<String>,
+    /// For each text what is guessed of the one behind it.
+    notes: Vec<Note>,
+    runs: Vec<Run>,
+    /// For the first texts the places of runs that came behind them.
+    places: Vec<Places>,
+}
+
+/// Texts whose fields came one behind another: their numbers, and the bytes of their fields.
+#[derive(Drop)]
+pub struct Run {
+    pub numbers: Items<usize>,
+    pub bytes: Bytes,
+}
+
+/// The places of runs that came behind a text.
+#[derive(Clone, Copy)]
+pub struct Places {
+    pub first: Option<u32>,
+    pub second: Option<u32>,
+    pub third: Option<u32>,
+}
+
+impl Places {
+    const NONE: Places = Places {
+        first: None,
+        second: None,
+        third: None,
+    };
+}
+
+/// Texts that came behind a text, none of which has a byte that is written as two. They are guesses: what stands there is
+/// compared each time.
+#[derive(Clone, Copy)]
+pub struct Note {
+    pub next: Option<Guess>,
+    pub other: Option<Guess>,
+}
+
+/// A text by its number, and how it is told from others at a glance: its length, and the byte that it has at one place.
+#[derive(Clone, Copy)]
+pub struct Guess {
+    pub number: u32,
+    pub len: u32,
+    pub place: u32,
+    pub byte: u8,
+}
+
+impl Model for Texts {
+    ghost use Rattle.std.specs.Prelude.{ℕ, List};
+    ghost use Rattle.build_log.specs.Kept.{texts_of};
+    ghost use Rattle.build_log.specs.Noted.{AreNotesOf, AreRunsOf};
+
+    ghost Value = { List (List ℕ) };
+
+    ghost view = { λ texts. texts_of texts.texts.keys };
+
+    ghost invariant = { λ texts. AreNotesOf (texts_of texts.texts.keys) texts.notes.items × AreRunsOf (texts_of texts.texts.keys) texts.runs.items };
+}
+
+impl Texts {
+    /// No texts, which takes no memory.
+    pub(crate) fn new(alloc: Global) -> Texts
+        ensures { result ≡ [] }
+    {
+        Texts {
+            texts: IndexSet::new(alloc),
+            notes: Vec::new(alloc),
+            runs: Vec::new(alloc),
+            places: Vec::new(alloc),
+        }
+    }
+
+    /// The number of a text. It takes no memory.
+    pub(crate) fn find(&self, text: &str) -> Option<usize>
+        ensures some { IfSome result (λ number. slice_get self.now number ≡ Some text.now) }
+        ensures none { IfNone result (has self.now text.now ≡ false) }
+    {
+        let (number, _) = self.texts.get_full(text)?;
+        Some(number)
+    }
+
+    /// The text with this number. It takes no memory.
+    pub(crate) fn at(&self, number: usize) -> Option<&str>
+        ensures { option_map (λ text. text.now) result ≡ slice_get self.now number }
+    {
+        let text = self.texts.get_index(number)?;
+        Some(text.as_str())
+    }
+
+    /// Gives a number to a text that has none. Where memory is refused, nothing is changed.
+    pub(crate) fn add(&mut self, alloc: Global, text: &str) -> Result<usize, AllocError>
+        requires absent { has self.old text.now ≡ false }
+        ensures added { OnOk result (self.new ≡ self.old ++ text.now ∷ []) }
+        ensures number { IfOk result (λ number. slice_get self.new number ≡ Some text.now) }
+        ensures err { OnErr result (self.new ≡ self.old) }
+    {
+        let own = String::from_str(alloc, text)?;
+        self.notes.reserve(1)?;
+        let (number, _) = self.texts.insert_full(own)?;
+        self.notes.push(Note {
+            next: None,
+            other: None,
+        })?;
+        Ok(number)
+    }
+
+    /// The number of the text whose field stands in front, and what stands behind the field and its tab, where it is a text
+    /// that came behind `last` before.
+    pub(crate) fn follow<'a>(&self, last: usize, bytes: &'a [u8]) -> Option<(usize, &'a [u8])>
+        ensures { IfSome result (λ parts. (text : List ℕ) × (slice_get self.now parts.0 ≡ Some text) × IsUtf8 text × (bytes.now ≡ field_and_tab text ++ parts.1.now)) }
+    {
+        let number = self.guess(last, bytes)?;
+        let after = self.behind(number, bytes)?;
+        Some((number, after))
+    }
+
+    /// The number of a text that came behind `last` before, and of which it may be that it stands in front.
+    fn guess(&self, last: usize, bytes: &[u8]) -> Option<usize>
+        ensures { IfSome result (IsPlainAt self.now) }
+    {
+        let note = self.notes.get(last)?;
+        match may_stand(note.next, bytes) {
+            Some(number) => Some(number),
+            None => may_stand(note.other, bytes),
+        }
+    }
+
+    /// What stands behind the field of the text with this number and its tab, where they stand in front.
+    fn behind<'a>(&self, number: usize, bytes: &'a [u8]) -> Option<&'a [u8]>
+        requires { IsPlainAt self.now number }
+        ensures { IfSome result (λ after. (text : List ℕ) × (slice_get self.now number ≡ Some text) × IsUtf8 text × (bytes.now ≡ field_and_tab text ++ after.now)) }
+    {
+        let text = self.at(number)?;
+        let after = behind_text(text, bytes)?;
+        Some(after)
+    }
+
+    /// Notes that a text with this number, of which no byte is written as two, came behind another.
+    pub(crate) fn note(&mut self, last: usize, number: usize, text: &str)
+        requires at { slice_get self.old number ≡ Some text.now }
+        requires plain { IsPlain text.now }
+        ensures { self.new ≡ self.old }
+    {
+        if last < self.notes.len() {
+            let note = self.notes[last];
+            self.notes[last] = Note {
+                next: guess_of(number, text),
+                other: note.next,
+            };
+        }
+    }
+
+    /// The numbers of texts, so many at most, each of which came behind the one before it, and what stands behind their fields.
+    pub(crate) fn follow_few<'a>(
+        &self,
+        alloc: Global,
+        last: usize,
+        bytes: &'a [u8],
+        most: usize,
+    ) -> Result<(Vec<usize>, &'a [u8]), AllocError>
+        ensures taken { IfOk result (λ parts. AreTakenFrom self.now bytes.now (length parts.0.items) parts.0.items parts.1.now) }
+        ensures most { IfOk result (λ parts. length parts.0.items ≤ most) }
+    {
+        let count = run_len(most);
+        let mut numbers = Vec::with_capacity(alloc, count)?;
+        let mut rest = bytes;
+        let mut before = last;
+        while numbers.len() < count {
+            let Some((number, after)) = self.follow(before, rest) else {
+                break;
+            };
+            numbers.push(number)?;
+            rest = after;
+            before = number;
+        }
+        Ok((numbers, rest))
+    }
+
+    /// The numbers of a run that came behind `last` before and stands in front, of so many texts at most, and what stands behind
+    /// it.
+    pub(crate) fn follow_run<'s, 'a>(
+        &'s self,
+        last: usize,
+        bytes: &'a [u8],
+        most: usize,
+    ) -> Option<(&'s [usize], &'a [u8])>
+        ensures { IfSome result (λ parts. IsRunFrom self.now bytes.now most parts.0.now parts.1.now) }
+    {
+        let places = self.places.get(last)?;
+        if let Some(found) = self.run_at(places.first, bytes, most) {
+            return Some(found);
+        }
+        if let Some(found) = self.run_at(places.second, bytes, most) {
+            return Some(found);
+        }
+        self.run_at(places.third, bytes, most)
+    }
+
+    /// The same, of the run at this place.
+    fn run_at<'s, 'a>(
+        &'s self,
+        place: Option<u32>,
+        bytes: &'a [u8],
+        most: usize,
+    ) -> Option<(&'s [usize], &'a [u8])>
+        ensures { IfSome result (λ parts. IsRunFrom self.now bytes.now most parts.0.now parts.1.now) }
+    {
+        let run = self.runs.get(place? as usize)?;
+        let count = run.numbers.len();
+        if count == 0 || most < count {
+            return None;
+        }
+        let after = behind_start(run.bytes.as_slice(), bytes)?;
+        Some((run.numbers.as_slice(), after))
+    }
+
+    /// Notes that a run came behind a text, where fewer than three did before.
+    pub(crate) fn note_run(
+        &mut self,
+        alloc: Global,
+        last: usize,
+        numbers: &[usize],
+        bytes: &[u8],
+    ) -> Result<(), AllocError>
+        requires { AreTakenFrom self.old bytes.now (length numbers.now) numbers.now [] }
+        ensures { self.new ≡ self.old }
+    {
+        if self.notes.len() <= last {
+            return Ok(());
+        }
+        reach(&mut self.places, last)?;
+        let Some(places) = with_place(self.places[last], small(self.runs.len())) else {
+            return Ok(());
+        };
+        let numbers = Items::from_vec(Vec::from_slice(alloc, numbers)?);
+        let bytes = Bytes::from_vec(Vec::from_slice(alloc, bytes)?);
+        self.runs.push(Run { numbers, bytes })?;
+        self.places[last] = places;
+        Ok(())
+    }
+}
+
+/// How many texts a run of so many at most has.
+fn run_len(most: usize) -> usize
+    ensures { result ≤ most }
+{
+    if most < MOST_IN_RUN {
+        most
+    } else {
+        MOST_IN_RUN
+    }
+}
+
+/// Makes a list so long that it has an entry at this place.
+fn reach(places: &mut Vec<Places>, place: usize) -> Result<(), AllocError>
+    ensures { OnOk result (place < length places.new.items) }
+{
+    while places.len() <= place {
+        places.push(Places::NONE)?;
+    }
+    Ok(())
+}
+
+/// These places and one more, where there is room for one.
+fn with_place(places: Places, place: Option<u32>) -> Option<Places> {
+    if places.first.is_none() {
+        return Some(Places {
+            first: place,
+            second: None,
+            third: None,
+        });
+    }
+    if places.second.is_none() {
+        return Some(Places {
+            first: places.first,
+            second: place,
+            third: None,
+        });
+    }
+    if places.third.is_none() {
+        return Some(Places {
+            first: places.first,
+            second: places.second,
+            third: place,
+        });
+    }
+    None
+}
+
+/// How a text with this number is told from others: texts that come in turn are often names of files that differ before the
+/// dot. One that is too long, or whose number is too large, is not told.
+fn guess_of(number: usize, text: &str) -> Option<Guess>
+    ensures { IfSome result (λ guess. guess.number ≡ number) }
+{
+    let bytes = text.as_bytes();
+    let end = bytes.rfind_byte(b'.').unwrap_or(bytes.len());
+    let place = end.saturating_sub(1);
+    Some(Guess {
+        number: small(number)?,
+        len: small(bytes.len())?,
+        place: small(place)?,
+        byte: byte_at(bytes, place),
+    })
+}
+
+/// The same number in 32 bits, where it has room there.
+fn small(number: usize) -> Option<u32>
+    ensures { IfSome result (λ same. same ≡ number) }
+{
+    u32::try_from(number).ok()
+}
+
+/// The byte at this place, or 0.
+fn byte_at(bytes: &[u8], place: usize) -> u8 {
+    match bytes.get(place) {
+        Some(byte) => *byte,
+        None => 0,
+    }
+}
+
+/// The number of a guess, where it may be right that its text stands in front. What stands there is compared.
+fn may_stand(guess: Option<Guess>, bytes: &[u8]) -> Option<usize>
+    ensures { IfSome result (IsNumberOf guess) }
+{
+    let guess = guess?;
+    if byte_at(bytes, guess.len as usize) != b'\t' {
+        return None;
+    }
+    if byte_at(bytes, guess.place as usize) != guess.byte {
+        return None;
+    }
+    Some(guess.number as usize)
+}
+
+/// What stands behind the field of a plain text and its tab, where they stand in front.
+fn behind_text<'a>(text: &str, bytes: &'a [u8]) -> Option<&'a [u8]>
+    requires { IsPlain text.now }
+    ensures found { IfSome result (λ after. bytes.now ≡ field_and_tab text.now ++ after.now) }
+    ensures utf8 { IsUtf8 text.now }
+{
+    let rest = behind_start(text.as_bytes(), bytes)?;
+    let after = behind_tab(rest)?;
+    Some(after)
+}
+
+/// What stands behind these bytes, where they stand in front.
+fn behind_start<'a>(start: &[u8], bytes: &'a [u8]) -> Option<&'a [u8]>
+    ensures { IfSome result (λ rest. bytes.now ≡ start.now ++ rest.now) }
+{
+    bytes.strip_prefix(start)
+}
+
+/// What stands behind a tab in front.
+fn behind_tab(bytes: &[u8]) -> Option<&[u8]>
+    ensures { IfSome result (λ after. bytes.now ≡ 9 ∷ after.now) }
+{
+    match bytes {
+        [b'\t', after @ ..] => Some(after),
+        _ => None,
+    }
+}
