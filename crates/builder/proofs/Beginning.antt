@@ -5,9 +5,12 @@ use Rattle.std.proofs.lemmas.List.{append-nil}
 use Rattle.model.specs.declared.event.Moment.{Moment}
 use Rattle.model.specs.declared.fault.SiteFault.TheVariants.{Memory}
 use Rattle.model.specs.declared.graph.BuildGraph.{BuildGraph}
-use Rattle.model.specs.World.{World, view_of}
+use Rattle.model.specs.declared.graph.Edge.{Edge}
+use Rattle.model.specs.World.{World, file_at, stamp_of, view_of}
 use Rattle.model.specs.Calls.{OnlyLooks}
-use Rattle.model.specs.Graph.{edge_at, outputs, IsCommand, IsMadeOnce}
+use Rattle.model.specs.Graph.{edge_at, maker, outputs, IsCommand, IsMadeOnce}
+use Rattle.model.specs.Judgement.{is_same_number}
+use Rattle.model.specs.OutOfDate.{is_made_anew}
 use Rattle.model.specs.Premises.{FilesAreKept}
 use Rattle.model.specs.Records.{Store, store_in, recorded_inputs, file_in, tick_name}
 use Rattle.model.specs.SingleBuild.{Asked, task_of}
@@ -16,6 +19,7 @@ use Rattle.build_theory.proofs.Looks.{looks_then, edits_before}
 use Rattle.log_theory.specs.Ledger.{IsCarried}
 use Rattle.log_theory.proofs.Ledger.{carried_entry, carried_found, carried_looks, cut_off}
 use Rattle.manifest.specs.Answer.{IsGraph}
+use Rattle.paths.specs.Told.{text_at}
 use Rattle.links.specs.declared.cone.Cone.{Cone}
 use Rattle.links.specs.declared.graph.Graph.{Graph}
 use Rattle.links.specs.Told.{declared_by, recorded_by, AreSameInputs}
@@ -36,7 +40,7 @@ use Rattle.builder.specs.Reports.{HasRead, IsConeRecorded, IsPlanFor, MayRun}
 use Rattle.builder.specs.Taken.{IsTaken}
 use Rattle.builder.proofs.Builds.{IsFoundAt, course_of, any_own, own_in, none_kept, looked_nothing, looked_more, idle_after}
 use Rattle.builder.proofs.Folders.{logs_apart, tick_is_no_build_log, tick_is_no_deps_log}
-use Rattle.builder.proofs.Formed.{have_outputs, no_restat}
+use Rattle.builder.proofs.Formed.{have_outputs}
 
 -- ---- a run may begin
 
@@ -122,6 +126,11 @@ module _ (tells : Bool) (graph : Graph) (request : Request) (cone : Cone) (recor
         seen = λ tell kept. nothing_kept kept;
       }
 
+-- before any command ended nothing is made anew
+none_anew : (edges : List Edge) (same : Bool) (m : Option ℕ) → is_made_anew edges [] same m ≡ false
+none_anew edges same None = refl
+none_anew edges same (Some j) = refl
+
 none_some : (i : ℕ) → None ≡ Some i → ⊥
 none_some i is = cc
 
@@ -155,7 +164,6 @@ module _ (tells : Bool) (graph : Graph) (request : Request) (cone : Cone) (recor
       recorded = subst (λ (b : BuildGraph). AreSameInputs (recorded_inputs course.store b.edges) (recorded_by graph)) (sym {A = BuildGraph} same_graph) may.in_use;
       once = subst (λ (b : BuildGraph). IsMadeOnce b.edges) (sym {A = BuildGraph} same_graph) once;
       some = subst (λ (b : BuildGraph). (i : ℕ) → IsCommand b.edges i → outputs (edge_at b.edges i) ≢ []) (sym {A = BuildGraph} same_graph) (have_outputs (declared_by graph) formed);
-      bare = subst (λ (b : BuildGraph). (i : ℕ) → IsCommand b.edges i → (edge_at b.edges i).restat ≡ false) (sym {A = BuildGraph} same_graph) (λ i command. no_restat (declared_by graph).edges taken i);
       depfiles = may.reads;
       log_owned = ap course.own.files may.owned.build_log ∙ may.owned.is_log;
       deps_owned = ap course.own.files may.owned.deps_log ∙ may.owned.is_deps;
@@ -180,7 +188,10 @@ module _ (tells : Bool) (graph : Graph) (request : Request) (cone : Cone) (recor
       same = λ tell kept. (ap (λ (s : Store). s.records) may.store, ap (λ (s : Store). s.deps) may.store);
     };
     seen = λ tell kept. subst (λ (l : Looks). AreSeenOf (is_quiet course.own (edges_of course) []) graph.manifest.paths now.history l.seen.items) (sym {A = Looks} looks_are) (may.seen tell kept);
-    anew = λ p lt fine. plan.flags p;
+    anew = λ tell kept p lt fine.
+        let text = text_at graph.manifest.paths p in
+        plan.flags p ∙ sym (none_anew (edges_of course) (is_same_number (stamp_of (file_at course.entry.history text)) (stamp_of (file_at now.history text))) (maker (edges_of course) text));
+    before = λ tell kept e stale. absurd (false≢true stale);
     started = λ e runs. absurd (false≢true runs);
     removed = λ i well. absurd (false≢true well);
     room = record { looks = ap (λ (l : Looks). length l.seen.items) looks_are ∙ fits; starts = omega (arith, starts, state.starts.ok.0) };

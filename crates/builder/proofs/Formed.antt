@@ -21,9 +21,6 @@ module _ (edges : List Edge) (taken : IsTaken edges) where
   of_taken : (P : Edge → Type 0) → P no_edge → ((e : Edge) → IsTakenEdge e → P e) → (i : ℕ) → P (edge_at edges i)
   of_taken P none each = each_edge P edges none (all_weaker IsTakenEdge P each edges taken)
 
-  pub no_restat : (i : ℕ) → (edge_at edges i).restat ≡ false
-  no_restat = of_taken (λ e. e.restat ≡ false) refl (λ e is. is.restat)
-
   pub no_dyndep : (i : ℕ) → (edge_at edges i).dyndep ≡ None
   no_dyndep = of_taken (λ e. e.dyndep ≡ None) refl (λ e is. is.dyndep)
 

@@ -1,5 +1,5 @@
--- Which graphs are taken so far: those without `restat` and dyndep files.
-use Rattle.std.specs.Prelude.{◌≡◌, ℕ, false, List, ◌∷◌, ◌++◌, None}
+-- Which graphs are taken so far: those without dyndep files.
+use Rattle.std.specs.Prelude.{◌≡◌, ℕ, List, ◌∷◌, ◌++◌, None}
 use Rattle.std.specs.List.{AllByRecursion}
 use Rattle.model.specs.declared.graph.Edge.{Edge}
 use Rattle.model.specs.Graph.{first_output}
@@ -7,7 +7,6 @@ use Rattle.model.specs.Graph.{first_output}
 -- the edge has nothing that is not taken yet
 pub record IsTakenEdge (edge : Edge) : Type 0 where
   pub dyndep : edge.dyndep ≡ None
-  pub restat : edge.restat ≡ false
 
 abbrev pub IsTaken : List Edge → Type 0
 IsTaken edges = AllByRecursion IsTakenEdge edges

@@ -34,7 +34,7 @@ pub enum Refusal {
     MadeTwice(Path),
     /// A dyndep file is none of the inputs of an edge that names it.
     NoDyndepInput(Path),
-    /// The edge with this first output has something that is not taken yet: `restat` or a dyndep file.
+    /// The edge with this first output has something that is not taken yet: a dyndep file.
     NotTaken(Path),
     /// No build statement names the target; it stands here as it was given.
     UnknownTarget(Text),

@@ -22,7 +22,7 @@ pub fn check_taken(alloc: Global, manifest: &Manifest) -> Result<(), Report>
     }
 }
 
-/// The lowest edge that has something which is not taken yet: `restat` or a dyndep file.
+/// The lowest edge that has something which is not taken yet: a dyndep file.
 fn first_not_taken(manifest: &Manifest) -> Option<EdgeId>
     ensures { MatchOption result (IsTaken (graph_of manifest.now).edges) (IsNotTakenAt manifest.now) }
 {
@@ -40,6 +40,6 @@ fn is_taken(action: &Action) -> bool
 {
     match action {
         Action::Alias => true,
-        Action::Command(command) => command.dyndep.is_none() && !command.restat,
+        Action::Command(command) => command.dyndep.is_none(),
     }
 }

@@ -1,6 +1,6 @@
 -- Lists of numbers, up to a place.
-use Rattle.std.proofs.Common.{◌≡◌, ◌⊎◌, inl, inr, ℕ, ◌+◌, ◌<◌, ◌==◌, true, false, List, [], ◌∷◌, ◌++◌, get_or, length, take, sym, ◌∙◌, ap}
-use Rattle.std.proofs.lemmas.Bool.{eqb-true, eq-eqb, false≢true, cases_Bool}
+use Rattle.std.proofs.Common.{◌≡◌, ◌⊎◌, inl, inr, ℕ, zero, suc, ◌+◌, ◌<◌, ◌==◌, true, false, List, [], ◌∷◌, ◌++◌, get_or, length, take, refl, sym, ◌∙◌, ap, arith}
+use Rattle.std.proofs.lemmas.Bool.{eqb-true, eq-eqb, false≢true, cases_Bool, or_left, or_right}
 use Rattle.std.proofs.lemmas.List.{take_more}
 use Rattle.model.specs.Graph.{has_number}
 use Rattle.build_theory.proofs.Lists.{has_number-left, has_number-push, has_number-push_cases}
@@ -31,3 +31,15 @@ module _ (xs : List ℕ) (k d : ℕ) (lt : k < length xs) (p : ℕ) where
     where
       pushed : has_number (take k xs ++ get_or xs k d ∷ []) p ≡ false
       pushed = sym (ap (λ (l : List ℕ). has_number l p) (take_more xs k d lt)) ∙ none
+
+  -- the last of so many is the one at this place
+  pub there_last : has_number (take (k + 1) xs) p ≡ true → (has_number (take k xs) p ≡ true) ⊎ (p ≡ get_or xs k d)
+  there_last h = elim (has_number-push_cases (take k xs) (get_or xs k d) p (sym (ap (λ (l : List ℕ). has_number l p) (take_more xs k d lt)) ∙ h)) [
+    | inl before ↦ inl before
+    | inr here ↦ inr (sym here)
+  ]
+
+pub item_has : (xs : List ℕ) (k d : ℕ) → k < length xs → has_number xs (get_or xs k d) ≡ true
+item_has [] k d lt = absurd (omega (arith, lt))
+item_has (x ∷ xs) zero d lt = or_left (x == x) (has_number xs x) (eq-eqb x x refl)
+item_has (x ∷ xs) (suc k) d lt = or_right (x == get_or xs k d) (has_number xs (get_or xs k d)) (item_has xs k d (omega (arith, lt)))

@@ -5,13 +5,14 @@ use Rattle.model.specs.World.{World, file_at}
 use Rattle.model.specs.Calls.{OnlyLooks}
 use Rattle.links.specs.declared.graph.Graph.{Graph}
 use Rattle.looks.specs.declared.table.Looks.{Looks}
-use Rattle.looks.specs.Seen.{IfStays, AreSeen, AreKept, IfKept, AreSeenOf}
+use Rattle.looks.specs.Seen.{look_at, is_asked, IfStays, AreSeen, AreKept, IfKept, AreSeenOf}
 
--- the call only looked, and what it saw besides is so of the paths that kept their files
+-- the call only looked, what it saw besides is so of the paths that kept their files, and what was seen before it is still known
 pub record HasLooked (tells : Bool) (graph : Graph) (old new : World) (before after : Looks) : Type 0 where
   pub looks : OnlyLooks tells old new
   pub fits : length after.seen.items ≡ length before.seen.items
   pub seen : IfKept tells graph.manifest.paths old new before.seen.items (λ set files. AreSeenOf set graph.manifest.paths files after.seen.items)
+  pub stays : (p : ℕ) → is_asked (look_at before.seen.items p) ≡ true → look_at after.seen.items p ≡ look_at before.seen.items p
 
 -- so it is of the files, where they stayed the same and what was seen before is so
 abbrev pub IfSeen : Bool → Graph → World → World → Looks → (List Moment → Type 0) → Type 0

@@ -1,11 +1,12 @@
 //! What was seen of each path.
 
-ghost use Rattle.std.specs.Prelude.{◌≡◌, ◌<◌, ℕ, IfOk, OnErr, true, false, length, slice_set};
+ghost use Rattle.std.specs.Prelude.{◌≡◌, ◌<◌, ℕ, IfOk, OnOk, OnErr, true, false, length, slice_set};
 ghost use Rattle.std.proofs.Math.ListN.{replicate};
 ghost use Rattle.model.specs.Calls.{OnlyLooks, HasCause};
 ghost use Rattle.model.specs.Graph.{has_number};
 ghost use Rattle.paths.specs.Told.{text_at};
 ghost use Rattle.looks.specs.declared.table.Look.TheVariants.{Unasked};
+ghost use Rattle.looks.specs.Looking.{HasLooked};
 ghost use Rattle.looks.specs.Seen.{look_at, look_of, is_asked, IfKept, AreSeenOf, IsStampIn};
 
 use links::Graph;
@@ -60,6 +61,7 @@ impl Looks {
         ensures asked { is_asked (look_at self.old.seen.items path) ≡ true → IfOk result (λ stamp. look_at self.old.seen.items path ≡ look_of stamp) }
         ensures kept { IfKept S.tells graph.now.manifest.paths (S.world site.old) (S.world site.new) self.old.seen.items (λ set files. AreSeenOf set graph.now.manifest.paths files self.new.seen.items) }
         ensures stamp { IfOk result (λ stamp. IfKept S.tells graph.now.manifest.paths (S.world site.old) (S.world site.new) self.old.seen.items (IsStampIn (text_at graph.now.manifest.paths path) stamp)) }
+        ensures stays { (p : ℕ) → is_asked (look_at self.old.seen.items p) ≡ true → look_at self.new.seen.items p ≡ look_at self.old.seen.items p }
         ensures err { OnErr result (self.new ≡ self.old) }
     {
         let place = path.index();
@@ -72,6 +74,36 @@ impl Looks {
                 Ok(stamp)
             }
         }
+    }
+
+    /// Asks for these paths, as far as that was not done yet.
+    pub fn ask<S: Site>(
+        &mut self,
+        site: &mut S,
+        graph: &Graph,
+        paths: &[PathId],
+    ) -> Result<(), SiteFault>
+        requires running { (S.world site.old).stopped ≡ false }
+        requires fits { length self.old.seen.items ≡ length graph.now.manifest.paths }
+        requires within { (p : ℕ) → has_number paths.now p ≡ true → p < length graph.now.manifest.paths }
+        ensures looked { HasLooked S.tells graph.now (S.world site.old) (S.world site.new) self.old self.new }
+        ensures cause { HasCause (S.world site.old) (S.world site.new) result }
+        ensures asked { OnOk result ((p : ℕ) → has_number paths.now p ≡ true → is_asked (look_at self.new.seen.items p) ≡ true) }
+    {
+        for path in paths {
+            self.stamp(site, graph, *path)?;
+        }
+        Ok(())
+    }
+
+    /// What was seen of the path, without asking for it.
+    pub fn look(&self, path: PathId) -> Look
+        ensures { result ≡ look_at self.now.seen.items path }
+    {
+        self.seen
+            .get(path.index())
+            .copied()
+            .unwrap_or(Look::Unasked)
     }
 
     /// Forgets what was seen of these paths.

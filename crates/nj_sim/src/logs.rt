@@ -1,7 +1,7 @@
 //! Scripts whose builds keep and read their log, with what they print. Each ends with status 0.
 
 /// Builds after builds, behind `rows::RULES`.
-pub const RECORDS: [(&str, &str); 21] = [
+pub const RECORDS: [(&str, &str); 26] = [
     // What was built is not built again.
     (
         "|build b: cat a
@@ -569,6 +569,173 @@ start cat b a
 end cat b a
 start cat c a
 end cat c a
+success 2
+",
+    ),
+    // What reads an output that its command left as it was is judged by its stamp, and may be clean.
+    (
+        "|build b: keep a
+|build c: cat b
+|build d: cat c
+|build e: cat a
+write a x
+-j 1
+build
+write a x
+build
+build
+delete b
+build
+",
+        "start keep b a
+end keep b a
+start cat c b
+end cat c b
+start cat d c
+end cat d c
+start cat e a
+end cat e a
+success 4
+start keep b a
+end keep b a
+start cat e a
+end cat e a
+success 2
+success 0
+start keep b a
+end keep b a
+start cat c b
+end cat c b
+start cat d c
+end cat d c
+success 3
+",
+    ),
+    // Totals are counted before the end of a command settles what is below.
+    (
+        "|build b: keep a
+|build c: cat b
+|build d: cat c
+|build e: cat a
+write a x
+-j 1
+build
+write a
+lines
+build
+",
+        "start keep b a
+end keep b a
+start cat c b
+end cat c b
+start cat d c
+end cat d c
+start cat e a
+end cat e a
+success 4
+[1/4] keep b a
+[2/2] cat e a
+success 2
+",
+    ),
+    // Where a command has a depfile too, what it told counts as it does without `restat`.
+    (
+        "|build b: keep a
+|  depfile = b.d
+|  deps = gcc
+|build c: cat b
+|build d: scan s
+|  restat = 1
+|build e: cat d
+write a x
+write s use h
+write h 1
+-j 1
+build
+write a x
+build
+write h 1
+build
+build
+",
+        "start keep b a
+end keep b a
+start cat c b
+end cat c b
+start scan d d.d s
+end scan d d.d s
+start cat e d
+end cat e d
+success 4
+start keep b a
+end keep b a
+success 1
+start scan d d.d s
+end scan d d.d s
+start cat e d
+end cat e d
+success 2
+success 0
+",
+    ),
+    // What is read through a phony edge is judged so too, and a path that is named for order alone counts for nothing.
+    (
+        "|build b: keep a
+|build p: phony b
+|build c: cat i | p
+|build d: cat i || b
+write a x
+write i z
+-j 1
+build
+write a x
+build
+write a y
+build
+",
+        "start keep b a
+end keep b a
+start cat c i
+end cat c i
+start cat d i
+end cat d i
+success 3
+start keep b a
+end keep b a
+success 1
+start keep b a
+end keep b a
+start cat c i
+end cat c i
+success 2
+",
+    ),
+    // Without `restat` an output counts as changed where its command has run, and may not be older than what it is made of.
+    (
+        "|build b: keep a
+|  restat =
+|build c: cat b
+write a x
+-j 1
+build
+write a
+build
+build
+",
+        "start keep b a
+end keep b a
+start cat c b
+end cat c b
+success 2
+start keep b a
+end keep b a
+start cat c b
+end cat c b
+success 2
+start keep b a
+end keep b a
+start cat c b
+end cat c b
 success 2
 ",
     ),

@@ -210,8 +210,10 @@ build
     (
         "|build b: cat a
 |build b: cat a
-|build o x: keep a
-|build p: scan a
+|build o x: cat a
+|  dyndep = d
+|build p: cat a
+|  dyndep = d
 build z
 show o
 ",
@@ -222,7 +224,7 @@ o absent
     (
         "|build b: cat a
 |build | i: cat a
-|  restat = 1
+|  dyndep = d
 write a x
 build b
 ",
@@ -241,7 +243,7 @@ build
     (
         "|build p: phony o
 |build o: cat a
-|restat = 1
+|dyndep = d
 write a x
 build
 ",

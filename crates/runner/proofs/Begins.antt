@@ -43,7 +43,7 @@ module _ (tells : Bool) (course : Course) (graph : Graph) (tick : List ℕ) (sui
 
     module _ (mid new : World) (looks : OnlyLooks tells now mid) (writes : WritesAt tells state.records.logs.build_log.path mid new) where
       abbrev pub on_mid : IsOn tells course graph (Some (suc e)) state mid
-      on_mid = on_hand tells course graph state mid (suc e) (on_looks tells course graph stays None state now mid on looks)
+      on_mid = on_hand tells course graph state mid (suc e) (on_looks tells course graph stays None state now mid on suits.once looks)
 
       log_writes : WritesAt tells course.own.build_log mid new
       log_writes = build_log_writes tells course graph on.steps (Some (suc e)) mid mid new state.records.logs on_mid.logging writes
@@ -71,7 +71,7 @@ module _ (tells : Bool) (course : Course) (graph : Graph) (tick : List ℕ) (sui
       begun_now records display same places deps_places begun =
           let told = begun course.behaviour course.format course.own on.steps course.store course.entry declared_logging in
           let logging = subst (λ (edges : List Edge). IsLogging tells course.behaviour course.format course.own edges on.steps (Some (suc e)) course.store course.entry new records.logs) (sym same_edges) told.0 in
-          let after = on_log tells course graph (Some (suc e)) (Some (suc e)) state mid new on_mid course.own.build_log suits.log_owned log_writes records same places deps_places logging refl in
+          let after = on_log tells course graph (Some (suc e)) (Some (suc e)) state mid new on_mid course.own.build_log suits.log_owned log_writes suits.once records same places deps_places logging refl in
           record {
             on = record {
               steps = on.steps;
@@ -81,6 +81,7 @@ module _ (tells : Bool) (course : Course) (graph : Graph) (tick : List ℕ) (sui
               told = record { records = after.told.records; deps = after.told.deps; known = after.told.known; same = after.told.same };
               seen = after.seen;
               anew = after.anew;
+              before = after.before;
               started = after.started;
               removed = after.removed;
               room = record { looks = on.room.looks; starts = on.room.starts };

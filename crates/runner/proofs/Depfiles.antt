@@ -1,5 +1,5 @@
 -- What was read in the depfile of a command is what it told when it ended.
-use Rattle.std.proofs.Common.{◌≡◌, ◌≢◌, ℕ, ◌<◌, ◌+◌, ◌&&◌, ◌||◌, not, Bool, true, false, IsTrue, List, [], ◌∷◌, ◌++◌, map, take, length, get_or, filter, bytes_eq, Option, Some, None, Result, Ok, Err, IfOk, Bor, refl, sym, ◌∙◌, ap, subst}
+use Rattle.std.proofs.Common.{◌≡◌, ◌≢◌, ℕ, ◌<◌, ◌+◌, ◌&&◌, ◌||◌, not, Bool, true, false, IsTrue, List, [], ◌∷◌, ◌++◌, map, take, length, get_or, filter, bytes_eq, Option, Some, None, Result, Ok, Err, IfOk, Bor, refl, sym, ◌∙◌, ap, subst, append_assoc}
 use Rattle.std.specs.List.{list_any}
 use Rattle.std.proofs.lemmas.Bool.{false≢true, or_from, or_parts}
 use Rattle.std.proofs.lemmas.List.{take_more, map_push}
@@ -103,6 +103,25 @@ was_read tells act ok old new path content bytes (Ok told) went named path_is is
     by_told Nothing says = absurd says
     by_told (Inputs paths) says = (went, named, λ tell. (Some bytes, seen tell, says))
     by_told (Refused fault) says = (went, named, λ tell. (Some bytes, seen tell, says))
+
+-- so it is where the program only looks on
+pub was_read_before : (tells : Bool) (act : Act) (ok : Bool) (old mid new : World) (told : Told) → OnlyLooks tells mid new → WasRead tells act ok old mid told → WasRead tells act ok old new told
+was_read_before tells act ok old mid new told looks = by_told told
+  where
+    seen_on : (content : Option (List ℕ)) → IsTrue tells → Sees (λ history. content_of (file_at history act.depfile)) content old.history mid.history → Sees (λ history. content_of (file_at history act.depfile)) content old.history new.history
+    seen_on content tell seen =
+        let call = looks.history tell in
+        record {
+          earlier = seen.earlier;
+          later = seen.later ++ call.more;
+          grows = call.grows ∙ (ap (λ (l : List Moment). l ++ call.more) seen.grows ∙ (append_assoc old.history (seen.earlier ++ seen.later) call.more ∙ ap (λ (l : List Moment). old.history ++ l) (append_assoc seen.earlier seen.later call.more)));
+          is = seen.is;
+        }
+
+    by_told : (told : Told) → WasRead tells act ok old mid told → WasRead tells act ok old new told
+    by_told Nothing read = read
+    by_told (Inputs paths) read = (read.0, read.1, λ tell. let was = read.2 tell in (was.0, seen_on was.0 tell was.1, was.2))
+    by_told (Refused fault) read = (read.0, read.1, λ tell. let was = read.2 tell in (was.0, seen_on was.0 tell was.1, was.2))
 
 -- one more path is borrowed
 pub texts_next : (paths : List (List ℕ)) (i : ℕ) (path : List ℕ) (before after : List (Bor (List ℕ))) (text : Bor (List ℕ)) → i < length paths → path ≡ get_or paths i path

@@ -1,22 +1,27 @@
 -- The command of a running edge is taken in, and its end is noted.
-use Rattle.std.proofs.Common.{◌≡◌, ◌≢◌, inl, inr, ℕ, zero, suc, ◌<◌, ◌==◌, ◌||◌, not, Bool, true, false, List, [], ◌∷◌, ◌++◌, map, length, get_or, bytes_eq, Option, Some, None, refl, sym, ◌∙◌, ap, subst, arith}
-use Rattle.std.specs.List.{list_any}
+use Rattle.std.proofs.Common.{◌≡◌, ◌≢◌, inl, inr, ℕ, zero, suc, ◌<◌, ◌==◌, ◌&&◌, not, Bool, true, false, IsTrue, List, [], ◌∷◌, ◌++◌, map, length, get_or, bytes_eq, Option, Some, None, refl, sym, ◌∙◌, ap, subst, arith, append_assoc}
 use Rattle.std.proofs.lemmas.List.{append-nil, map-append, length_push}
-use Rattle.std.proofs.lemmas.Bool.{false≢true, cases_Bool, or_cases, or_left, or_right, and_from, not_from_false, false_from_ne_true, eqb-true, eq-eqb}
+use Rattle.std.proofs.lemmas.Bool.{false≢true, cases_Bool, or_cases, or_left, or_right, and_from, and_right, not_from_false, false_from_ne_true, eqb-true, eq-eqb}
 use Rattle.model.specs.declared.act.Act.{Act}
 use Rattle.model.specs.declared.event.Event.{Event}
 use Rattle.model.specs.declared.event.Event.TheVariants.{Finish}
+use Rattle.model.specs.declared.event.Moment.{Moment}
+use Rattle.model.specs.declared.event.Moment.TheVariants.{Happened}
 use Rattle.model.specs.declared.graph.BuildGraph.{BuildGraph}
 use Rattle.model.specs.declared.graph.Edge.{Edge}
 use Rattle.model.specs.World.{World, file_at, stamp_of, IsRunning}
-use Rattle.model.specs.Calls.{OnlyLooks, Finishes}
+use Rattle.model.specs.Calls.{IsByOthers, AllByOthers, OnlyLooks, Finishes}
+use Rattle.model.specs.Judgement.{is_same_number}
+use Rattle.model.specs.OutOfDate.{is_made_anew, input_facts}
+use Rattle.model.specs.Premises.{FilesAreKept}
 use Rattle.model.specs.Graph.{has, has_number, edge_at, outputs, maker, later_number, IsCommand, IsMadeOnce}
 use Rattle.model.specs.Schedule.{Task, Step as Done, Ended, started_in, ended_in, running_in, well_in, failed_in, out_of_date_in}
 use Rattle.model.specs.SingleBuild.{task_of}
 use Rattle.model.specs.Kept.{StartedUnder}
 use Rattle.build_theory.specs.Run.{IsRunOrRest}
-use Rattle.build_theory.proofs.Lists.{bytes_same, same_some, has_number-is, has_number-one, has_number-push_other}
-use Rattle.build_theory.proofs.Makers.{maker_is}
+use Rattle.build_theory.proofs.Lists.{all_append, bytes_same, same_some, has_number-is, has_number-one, has_number-push_other}
+use Rattle.build_theory.proofs.Makers.{maker_has, maker_is}
+use Rattle.build_theory.proofs.Calls.{looks_none, looks_then}
 use Rattle.build_theory.proofs.Steps.{IsKept, kept_lawful, running_is, running_parts, started-append, ended-append, well-append, failed-append, out_of_date-append, in_left, in_right, in_either}
 use Rattle.build_theory.proofs.Runs.{run_looks, run_takes_in}
 use Rattle.build_theory.proofs.Starting.{OthersRun}
@@ -30,7 +35,8 @@ use Rattle.links.specs.Links.{links_of}
 use Rattle.links.specs.Linked.{StandFor}
 use Rattle.links.specs.Told.{declared_by}
 use Rattle.looks.specs.declared.table.Look.{Look}
-use Rattle.looks.specs.Seen.{look_at, look_of, is_asked}
+use Rattle.looks.specs.Seen.{look_at, look_of, is_asked, AreSeenOf}
+use Rattle.looks.proofs.Stays.{asked_look}
 use Rattle.plan.specs.declared.plan.Plan.{Plan}
 use Rattle.plan.specs.declared.step.Standing.TheVariants.{Running}
 use Rattle.plan.specs.declared.step.Step.TheVariants.{Wait}
@@ -42,15 +48,18 @@ use Rattle.records.specs.Logging.{NoneInForce}
 use Rattle.records.specs.Laws.{LogStays, NoneWhileRunning}
 use Rattle.runner.specs.declared.reported.Told.{Told}
 use Rattle.runner.specs.declared.state.State.{State}
-use Rattle.runner.specs.Course.{Course, Suits, edges_of, is_quiet, is_anew, IsSeenStill, AreAnew, AreTold, AreStarted, HasRoom, IsOn}
+use Rattle.runner.specs.Course.{Course, Suits, edges_of, is_quiet, IsSeenStill, AreAnew, AreSeenBefore, AreTold, HasRoom, IsOn}
 use Rattle.runner.specs.Going.{IsCut, IsInHand, HasEnded, failed_after}
 use Rattle.runner.specs.Removing.{AreRemoved}
+use Rattle.runner.specs.Restat.{is_same_look, IsFlagged}
 use Rattle.runner.specs.Starting.{in_hand_after, IsTakenIn}
 use Rattle.runner.specs.Telling.{WasRead, IsEnding, ended_well}
-use Rattle.runner.proofs.Depfiles.{OneAnswer, went_well, said_by, unnamed_end, has_told}
-use Rattle.runner.proofs.Quiet.{RunBy, any_number, quiet_parts, quiet_from, quiet_looks, quiet_adds}
+use Rattle.runner.proofs.Depfiles.{OneAnswer, went_well, said_by, unnamed_end, has_told, was_read_before}
+use Rattle.runner.proofs.Quiet.{RunBy, quiet_parts, quiet_from, quiet_adds, quiet_looks}
+use Rattle.runner.proofs.Anew.{as_new, file_still, made_quiet}
+use Rattle.runner.proofs.Noticed.{differs_as}
 use Rattle.runner.proofs.Removing.{WellRest, removed_looks, removed_adds}
-use Rattle.runner.proofs.Keeping.{Carried, Logging, Quietly, run_by, grown, well_rest, looks_leave, logging_with, told_over, seen_over, started_more, cut_free, cut_met}
+use Rattle.runner.proofs.Keeping.{Carried, Logging, Quietly, run_by, grown, well_rest, looks_leave, logging_with, told_over, seen_over, started_more, well_ended as well_before, cut_free, cut_met}
 use Rattle.runner.proofs.Running.{IsRunningEdge, running_edge}
 
 -- ---- steps
@@ -77,14 +86,10 @@ runs_on steps i j ok other runs =
     (in_left started_in started-append steps (Ended i ok ∷ []) j parts.0)
     (not_from_false (has_number (ended_in (steps ++ Ended i ok ∷ [])) j) (ap (λ (l : List ℕ). has_number l j) (ended-append steps (Ended i ok ∷ [])) ∙ (has_number-push_other (ended_in steps) i j other ∙ parts.1)))
 
-any_push : (test : ℕ → Bool) (xs : List ℕ) (i : ℕ) → test i ≡ false → list_any test (xs ++ i ∷ []) ≡ list_any test xs
-any_push test [] i none = ap (λ (b : Bool). b || false) none
-any_push test (x ∷ xs) i none = ap (λ (b : Bool). test x || b) (any_push test xs i none)
-
--- a test that the edge does not pass is passed by some that ended well as before
-any_ended : (test : ℕ → Bool) (steps : List Done) (i : ℕ) (ok : Bool) → test i ≡ false → list_any test (well_in (steps ++ Ended i ok ∷ [])) ≡ list_any test (well_in steps)
-any_ended test steps i true none = ap (λ (l : List ℕ). list_any test l) (well-append steps (Ended i true ∷ [])) ∙ any_push test (well_in steps) i none
-any_ended test steps i false none = ap (λ (l : List ℕ). list_any test l) (well-append steps (Ended i false ∷ []) ∙ append-nil (well_in steps))
+-- other edges ended well as before
+well_others : (steps : List Done) (i j : ℕ) (ok : Bool) → (i ≡ j → ⊥) → has_number (well_in (steps ++ Ended i ok ∷ [])) j ≡ has_number (well_in steps) j
+well_others steps i j true other = ap (λ (l : List ℕ). has_number l j) (well-append steps (Ended i true ∷ [])) ∙ has_number-push_other (well_in steps) i j other
+well_others steps i j false other = ap (λ (l : List ℕ). has_number l j) (well-append steps (Ended i false ∷ []) ∙ append-nil (well_in steps))
 
 -- one that did not fail ended well
 well_unless : (steps : List Done) (i : ℕ) (ok : Bool) → has_number (failed_in (steps ++ Ended i ok ∷ [])) i ≡ false → has_number (well_in (steps ++ Ended i ok ∷ [])) i ≡ true
@@ -106,6 +111,32 @@ well_ended steps i false went = absurd (false≢true went)
 noted_after : (failed : List ℕ) (steps : List Done) (e : ℕ) (ok : Bool) → map suc failed ≡ failed_in steps → map suc (failed_after failed e ok) ≡ failed_in (steps ++ Ended (suc e) ok ∷ [])
 noted_after failed steps e true noted = noted ∙ sym (failed-append steps (Ended (suc e) true ∷ []) ∙ append-nil (failed_in steps))
 noted_after failed steps e false noted = map-append suc failed (e ∷ []) ∙ (ap (λ (l : List ℕ). l ++ suc e ∷ []) noted ∙ sym (failed-append steps (Ended (suc e) false ∷ [])))
+
+-- one that ended well now did so by its command
+well_by_end : (steps : List Done) (i : ℕ) (ok : Bool) → has_number (well_in (steps ++ Ended i ok ∷ [])) i ≡ true → (has_number (well_in steps) i ≡ true → ⊥) → ok ≡ true
+well_by_end steps i true well fresh = refl
+well_by_end steps i false well fresh = absurd (fresh (ap (λ (l : List ℕ). has_number l i) (sym (well-append steps (Ended i false ∷ []) ∙ append-nil (well_in steps))) ∙ well))
+
+-- a command that has ended, and looks after that
+finishes_looks : (tells : Bool) (job : ℕ) (ok : Bool) (now was mid : World) → Finishes tells job ok now was → OnlyLooks tells was mid → Finishes tells job ok now mid
+finishes_looks tells job ok now was mid first looks = record {
+  ran = first.ran;
+  events = looks.events ∙ first.events;
+  ticked = looks.ticked ∙ first.ticked;
+  at_start = looks.at_start ∙ first.at_start;
+  history = λ tell.
+      let ended = first.history tell in
+      let seen = looks.history tell in
+      record {
+        earlier = ended.earlier;
+        later = ended.later ++ seen.more;
+        grows = seen.grows ∙ (ap (λ (l : List Moment). l ++ seen.more) ended.grows
+            ∙ (append_assoc now.history (ended.earlier ++ Happened (Finish job ok) ∷ ended.later) seen.more
+            ∙ ap (λ (l : List Moment). now.history ++ l) (append_assoc ended.earlier (Happened (Finish job ok) ∷ ended.later) seen.more)));
+        all_earlier = ended.all_earlier;
+        all_later = subst (λ (l : List Event). AllByOthers (IsRunning l) (ended.later ++ seen.more)) (sym looks.events) (all_append (IsByOthers (IsRunning was.events)) ended.later seen.more ended.all_later seen.all);
+      };
+}
 
 -- ---- outputs by number
 
@@ -133,11 +164,8 @@ module _ (edges : List Edge) (graph : Graph) (once : IsMadeOnce edges) (stand : 
   made_by : p < length graph.manifest.paths → has (outputs (edge_at edges (suc e))) (text_at graph.manifest.paths p) ≡ true → has_number ((links_of graph).outputs e) p ≡ true
   made_by lt makes = graph.making.made p e (later_is ((links_of graph).maker p) e (sym (stand.makers p lt) ∙ maker_is edges (text_at graph.manifest.paths p) (suc e) once makes))
 
-  makes_it : has_number ((links_of graph).outputs e) p ≡ true → has (outputs (edge_at edges (suc e))) (text_at graph.manifest.paths p) ≡ true
+  pub makes_it : has_number ((links_of graph).outputs e) p ≡ true → has (outputs (edge_at edges (suc e))) (text_at graph.manifest.paths p) ≡ true
   makes_it made = ap (λ (l : List (List ℕ)). has l (text_at graph.manifest.paths p)) (sym (stand.outputs_are e)) ∙ has_text graph.manifest.paths ((links_of graph).outputs e) p made
-
-  not_made : p < length graph.manifest.paths → has_number ((links_of graph).outputs e) p ≡ false → has (outputs (edge_at edges (suc e))) (text_at graph.manifest.paths p) ≡ false
-  not_made lt other = false_from_ne_true (has (outputs (edge_at edges (suc e))) (text_at graph.manifest.paths p)) (λ makes. false≢true (sym other ∙ made_by lt makes))
 
   makers_failed : has_number ((links_of graph).outputs e) p ≡ true → maker edges (text_at graph.manifest.paths p) ≡ Some (suc e)
   makers_failed made = maker_is edges (text_at graph.manifest.paths p) (suc e) once (makes_it made)
@@ -261,100 +289,204 @@ module _ (tells : Bool) (course : Course) (tick : List ℕ) (graph : Graph) (sui
         rest_mid = subst (λ (events : List Event). (i : ℕ) → has_number (well_in more) i ≡ true → IsCommand (edges_of course) i × OthersRun (edges_of course) i (IsRunning events)) looks.events
             (well_rest tells course graph more (in_hand_after (suc e) well) new end_carried)
 
-    module _ (stand : StandFor (declared_by graph).edges graph.manifest.paths (links_of graph)) (after : State) (ended : HasEnded graph e state after) where
-      stand_here : StandFor (edges_of course) graph.manifest.paths (links_of graph)
-      stand_here = subst (λ (g : BuildGraph). StandFor g.edges graph.manifest.paths (links_of graph)) (sym suits.same) stand
+-- ---- its end is noted
 
-      end_told : AreTold tells course graph after new
-      end_told =
-          let told = told_over tells course graph on.steps state mid new look_quiet (told_over tells course graph on.steps state now mid end_quiet on.told) in
-          record { records = told.records; deps = told.deps; known = subst (λ (r : Records). AreKnown graph told.records told.deps r) (sym {A = Records} ended.records) told.known; same = told.same }
+module _ (tells : Bool) (course : Course) (tick : List ℕ) (graph : Graph) (suits : Suits course tick graph) (state : State) (now mid was new : World) (e : ℕ) (ok : Bool) (on : IsOn tells course graph None state now)
+    (turn : IsNextOf (task_of course.asked course.store) on.steps Wait) (finish : Finishes tells (suc e) ok now mid) (looks : OnlyLooks tells mid was) (one : OneAnswer) (told : Told)
+    (read : WasRead tells (edge_at (edges_of course) (suc e)).act ok mid was told) (stand : StandFor (declared_by graph).edges graph.manifest.paths (links_of graph)) (after : State)
+    (noted_so : HasEnded tells graph e (ended_well ok told) was new state after) where
+  abbrev is_well : Bool
+  is_well = ended_well ok told
 
-      seen_new : IsSeenStill tells course graph on.steps state new
-      seen_new = seen_over tells course graph on.steps state mid new look_quiet (seen_over tells course graph on.steps state now mid end_quiet on.seen)
+  abbrev so_far : List Done
+  so_far = on.steps ++ Ended (suc e) is_well ∷ []
 
-      end_seen : IsSeenStill tells course graph more after new
-      end_seen tell kept p asked quiet = by_output (has_number ((links_of graph).outputs e) p) refl
+  edge_here : IsRunningEdge course graph state.plan on.steps (suc e)
+  edge_here = running_edge tells course graph None state now on (suc e) finish.ran
+
+  looked : OnlyLooks tells mid new
+  looked = looks_then tells mid was new looks noted_so.looked.looks
+
+  read_new : WasRead tells (edge_at (edges_of course) (suc e)).act ok mid new told
+  read_new = was_read_before tells (edge_at (edges_of course) (suc e)).act ok mid was new told noted_so.looked.looks read
+
+  carried_was : Carried tells course graph so_far (in_hand_after (suc e) is_well) was
+  carried_was = end_carried tells course tick graph suits state now mid was e ok on turn finish looks one told read
+
+  carried_new : Carried tells course graph so_far (in_hand_after (suc e) is_well) new
+  carried_new = end_carried tells course tick graph suits state now mid new e ok on turn finish looked one told read_new
+
+  -- paths that were quiet before it ended, over its end and what was looked at
+  over_looks : (last : World) → OnlyLooks tells mid last → Quietly tells course graph on.steps now last
+  over_looks last since = end_quiet tells course tick graph suits state now last last e ok on turn (finishes_looks tells (suc e) ok now mid last finish since) (looks_none tells last)
+
+  over_end : Quietly tells course graph on.steps now new
+  over_end = over_looks new looked
+
+  stand_here : StandFor (edges_of course) graph.manifest.paths (links_of graph)
+  stand_here = subst (λ (g : BuildGraph). StandFor g.edges graph.manifest.paths (links_of graph)) (sym suits.same) stand
+
+  noted_told : AreTold tells course graph after new
+  noted_told =
+      let told = told_over tells course graph on.steps state now new over_end on.told in
+      record { records = told.records; deps = told.deps; known = subst (λ (r : Records). AreKnown graph told.records told.deps r) (sym {A = Records} noted_so.beside.records) told.known; same = told.same }
+
+  -- ---- what was seen
+
+  -- what was not forgotten, when it had ended
+  forgot_seen : IsTrue tells → FilesAreKept course.own (edges_of course) course.entry.history was.history
+      → AreSeenOf (is_quiet course.own (edges_of course) so_far) graph.manifest.paths was.history noted_so.between.seen.items
+  forgot_seen tell kept p asked quiet = by_output (has_number ((links_of graph).outputs e) p) refl
+    where
+      by_output : (b : Bool) → has_number ((links_of graph).outputs e) p ≡ b → look_at noted_so.between.seen.items p ≡ look_of (stamp_of (file_at was.history (text_at graph.manifest.paths p)))
+      by_output true made = absurd (false≢true (sym (ap is_asked (noted_so.forgets.forgotten p made)) ∙ asked))
+      by_output false other =
+          noted_so.forgets.others p other
+          ∙ seen_over tells course graph on.steps state now was (over_looks was looks) on.seen tell kept p asked_then still
         where
-          by_output : (b : Bool) → has_number ((links_of graph).outputs e) p ≡ b → look_at after.looks.seen.items p ≡ look_of (stamp_of (file_at new.history (text_at graph.manifest.paths p)))
-          by_output true made = absurd (false≢true (sym (ap is_asked (ended.forgotten p made)) ∙ asked))
-          by_output false other = ended.seen p other ∙ seen_new tell kept p asked_then still
-            where
-              asked_then : is_asked (look_at state.looks.seen.items p) ≡ true
-              asked_then = ap is_asked (sym (ended.seen p other)) ∙ asked
+          asked_then : is_asked (look_at state.looks.seen.items p) ≡ true
+          asked_then = ap is_asked (sym (noted_so.forgets.others p other)) ∙ asked
 
-              within : p < length graph.manifest.paths
-              within = let lt = asked_within state.looks.seen.items p asked_then in let same = on.room.looks in omega (arith, lt, same)
+          within : p < length graph.manifest.paths
+          within = let lt = asked_within state.looks.seen.items p asked_then in let same = on.room.looks in omega (arith, lt, same)
 
-              still : is_quiet course.own (edges_of course) on.steps (text_at graph.manifest.paths p) ≡ true
-              still =
-                  let parts = quiet_parts course.own (edges_of course) more (text_at graph.manifest.paths p) quiet in
-                  quiet_from course.own (edges_of course) on.steps (text_at graph.manifest.paths p) (record {
-                    foreign = parts.foreign;
-                    private = parts.private;
-                    rests = λ i runs makes. elim (cases_Bool (suc e == i)) [
-                      | inl here ↦ false≢true (sym other ∙ made_by (edges_of course) graph suits.once stand_here e p within (subst (λ (n : ℕ). has (outputs (edge_at (edges_of course) n)) (text_at graph.manifest.paths p) ≡ true) (sym (eqb-true (suc e) i here)) makes))
-                      | inr apart ↦ parts.rests i (runs_on on.steps (suc e) i well (λ same. false≢true (sym apart ∙ eq-eqb (suc e) i same)) runs) makes
-                    ];
-                  })
+          still : is_quiet course.own (edges_of course) on.steps (text_at graph.manifest.paths p) ≡ true
+          still =
+              let parts = quiet_parts course.own (edges_of course) so_far (text_at graph.manifest.paths p) quiet in
+              quiet_from course.own (edges_of course) on.steps (text_at graph.manifest.paths p) (record {
+                foreign = parts.foreign;
+                private = parts.private;
+                rests = λ i runs makes. elim (cases_Bool (suc e == i)) [
+                  | inl here ↦ false≢true (sym other ∙ made_by (edges_of course) graph suits.once stand_here e p within (subst (λ (n : ℕ). has (outputs (edge_at (edges_of course) n)) (text_at graph.manifest.paths p) ≡ true) (sym (eqb-true (suc e) i here)) makes))
+                  | inr apart ↦ parts.rests i (runs_on on.steps (suc e) i is_well (λ same. false≢true (sym apart ∙ eq-eqb (suc e) i same)) runs) makes
+                ];
+              })
 
-      end_anew : AreAnew course graph more after
-      end_anew p lt unfailed = by_output (has_number ((links_of graph).outputs e) p) refl
-        where
-          by_output : (b : Bool) → has_number ((links_of graph).outputs e) p ≡ b → flags.has after.plan.changed.items p ≡ is_anew (edges_of course) more (text_at graph.manifest.paths p)
-          by_output true made =
-              ended.changed p made
-              ∙ sym (any_number (λ i. has (outputs (edge_at (edges_of course) i)) (text_at graph.manifest.paths p)) (well_in more) (suc e)
-              (well_unless on.steps (suc e) well (unfailed (suc e) (makers_failed (edges_of course) graph suits.once stand_here e p made))) (makes_it (edges_of course) graph suits.once stand_here e p made))
-          by_output false other =
-              ended.unchanged p other
-              ∙ (on.anew p lt (λ j is. false_from_ne_true (has_number (failed_in on.steps) j) (λ h. false≢true (sym (unfailed j is) ∙ in_left failed_in failed-append on.steps (Ended (suc e) well ∷ []) j h)))
-              ∙ sym (any_ended (λ i. has (outputs (edge_at (edges_of course) i)) (text_at graph.manifest.paths p)) on.steps (suc e) well (not_made (edges_of course) graph suits.once stand_here e p lt other)))
+  noted_seen : IsSeenStill tells course graph so_far after new
+  noted_seen tell kept =
+      let quiet = quiet_looks tells course.own (edges_of course) so_far course.entry was new (grown tells course graph so_far (in_hand_after (suc e) is_well) was carried_was)
+      (run_by tells course graph so_far (in_hand_after (suc e) is_well) was carried_was) noted_so.looked.looks tell kept in
+      noted_so.looked.seen tell (is_quiet course.own (edges_of course) so_far) quiet.1 (forgot_seen tell quiet.0)
 
-      stamp_kept : (k : ℕ) → has_number (running_in on.steps) (suc k) ≡ true → StartedUnder (suc k) (get_or after.starts.items k 0) course.entry new
-      stamp_kept k runs = subst (λ (l : List ℕ). StartedUnder (suc k) (get_or l k 0) course.entry new) (sym ended.starts)
-          (started_more (suc k) (get_or state.starts.items k 0) course.entry now new (Finish (suc e) ok ∷ []) (looks.events ∙ finish.events) (on.started k runs))
+  -- ---- what was made anew
 
-      end_started : AreStarted course more after new
-      end_started k runs = stamp_kept k (ran_before on.steps (suc e) (suc k) well runs)
+  module _ (tell : IsTrue tells) (kept : FilesAreKept course.own (edges_of course) course.entry.history new.history) (p : ℕ) where
+    abbrev text : List ℕ
+    text = text_at graph.manifest.paths p
 
-      end_room : HasRoom graph after
-      end_room = record { looks = ended.fits ∙ on.room.looks; starts = ap length ended.starts ∙ on.room.starts }
+    abbrev was_same : Bool
+    was_same = is_same_number (stamp_of (file_at course.entry.history text)) (stamp_of (file_at new.history text))
 
-      module _ (stays : LogStays) (none : NoneWhileRunning) (takes : TakesStep graph state.plan after.plan (Ended (suc e) well)) (noted : after.failed.items ≡ failed_after state.failed.items e well) where
-        end_logging : Logging tells course graph more (in_hand_after (suc e) well) new after.records.logs
-        end_logging = subst (λ (r : Records). Logging tells course graph more (in_hand_after (suc e) well) new r.logs) (sym {A = Records} ended.records)
-            (logging_with tells course graph on.steps more None (in_hand_after (suc e) well) new state.records.logs end_carried (rest_logging stays))
+    -- an output of the edge
+    module _ (made : has_number ((links_of graph).outputs e) p ≡ true) (came_well : has_number (well_in so_far) (suc e) ≡ true) where
+      maker_here : maker (edges_of course) text ≡ Some (suc e)
+      maker_here = makers_failed (edges_of course) graph suits.once stand_here e p made
 
-        abbrev on_ended : IsOn tells course graph (in_hand_after (suc e) well) after new
-        on_ended = record {
-          steps = more;
-          planned = end_planned well after.plan takes;
-          carried = end_carried;
-          logging = end_logging;
-          told = end_told;
-          seen = end_seen;
-          anew = end_anew;
-          started = end_started;
-          removed = end_removed;
-          room = end_room;
-          noted = ap (map suc) noted ∙ noted_after state.failed.items on.steps e well on.noted;
-        }
+      same_restat : (edge_at (edges_of course) (suc e)).restat ≡ (edge_at (declared_by graph).edges (suc e)).restat
+      same_restat = ap (λ (g : BuildGraph). (edge_at g.edges (suc e)).restat) suits.same
 
-        -- it was noted, and where it ended well that may be recorded
-        pub end_taken_in : IsTakenIn tells course graph (suc e) (get_or after.starts.items e 0) well told after new
-        end_taken_in = record {
-          on = on_ended;
-          before = on.steps;
-          last = refl;
-          well = λ went. record {
-            well = well_ended on.steps (suc e) well went;
-            started = stamp_kept e edge.running;
-            ended = λ tell. (_, ended_here tells course.behaviour course.format course.own course.asked course.store course.entry on.steps now mid new (suc e) ok finish looks on.carried tell (went_well ok told went));
-            none = none_in_force stays none;
-            told = has_told tells course tick graph suits one state now mid new (suc e) ok on finish looks told read went;
-          };
-        }
+      -- its stamps are compared
+      compared : is_well ≡ true → (edge_at (edges_of course) (suc e)).restat ≡ true → is_asked (look_at after.looks.seen.items p) ≡ true
+          → not (is_same_look (look_at state.looks.seen.items p) (look_at after.looks.seen.items p)) ≡ not was_same
+      compared went restat asked =
+          ap (λ (b : Look). not (is_same_look b (look_at after.looks.seen.items p))) (on.before tell (over_end tell kept).0 e edge_here.stale (running_parts on.steps (suc e) edge_here.running).1 restat p made)
+          ∙ (ap (λ (a : Look). not (is_same_look (look_of (stamp_of (file_at course.entry.history text))) a))
+          (noted_seen tell kept p asked (made_quiet course.own (edges_of course) kept.own_files suits.once so_far (suc e) text maker_here (in_right ended_in ended-append on.steps (Ended (suc e) is_well ∷ []) (suc e) (has_number-one (suc e)))))
+          ∙ differs_as (stamp_of (file_at course.entry.history text)) (stamp_of (file_at new.history text)))
+
+      by_restat : (b : Bool) → (edge_at (edges_of course) (suc e)).restat ≡ b → flags.has after.plan.changed.items p ≡ not (b && was_same)
+      by_restat true restat =
+          let went = well_by_end on.steps (suc e) is_well came_well (λ h. false≢true (sym (running_parts on.steps (suc e) edge_here.running).1 ∙ well_before tells course graph on.steps None now on.carried (suc e) h)) in
+          let flagged = subst (λ (b : Bool). IsFlagged b (look_at state.looks.seen.items p) (look_at after.looks.seen.items p) (flags.has after.plan.changed.items p))
+          (ap (λ (b : Bool). b && (edge_at (declared_by graph).edges (suc e)).restat) went ∙ (sym same_restat ∙ restat)) (noted_so.changed p made) in
+          flagged.1 ∙ compared went restat flagged.0
+      by_restat false restat = subst (λ (b : Bool). IsFlagged b (look_at state.looks.seen.items p) (look_at after.looks.seen.items p) (flags.has after.plan.changed.items p))
+          (and_right is_well (edge_at (declared_by graph).edges (suc e)).restat (sym same_restat ∙ restat)) (noted_so.changed p made)
+
+      anew_here : flags.has after.plan.changed.items p ≡ (input_facts (edges_of course) (well_in so_far) course.entry.history new.history text).changed
+      anew_here =
+          by_restat (edge_at (edges_of course) (suc e)).restat refl
+          ∙ (ap (λ (b : Bool). b && not ((edge_at (edges_of course) (suc e)).restat && was_same)) (sym came_well)
+          ∙ ap (is_made_anew (edges_of course) (well_in so_far) was_same) (sym maker_here))
+
+    -- any other path
+    anew_there : p < length graph.manifest.paths → ((j : ℕ) → maker (edges_of course) text ≡ Some j → has_number (failed_in so_far) j ≡ false) → has_number ((links_of graph).outputs e) p ≡ false
+        → flags.has after.plan.changed.items p ≡ (input_facts (edges_of course) (well_in so_far) course.entry.history new.history text).changed
+    anew_there lt unfailed other =
+        let call = over_end tell kept in
+        noted_so.unchanged p other
+        ∙ (on.anew tell call.0 p lt (λ j is. false_from_ne_true (has_number (failed_in on.steps) j) (λ h. false≢true (sym (unfailed j is) ∙ in_left failed_in failed-append on.steps (Ended (suc e) is_well ∷ []) j h)))
+        ∙ as_new (edges_of course) (well_in on.steps) (well_in so_far) course.entry.history now.history new.history text
+        (λ j is. well_others on.steps (suc e) j is_well (λ same. false≢true (sym other ∙ made_by (edges_of course) graph suits.once stand_here e p lt (maker_has (edges_of course) text (suc e) (is ∙ ap (λ (n : ℕ). Some n) (sym same))))))
+        (λ j is ran. file_still (is_quiet course.own (edges_of course) on.steps) now.history new.history call.2.0 text call.2.1 call.1
+        (made_quiet course.own (edges_of course) kept.own_files suits.once on.steps j text is (well_before tells course graph on.steps None now on.carried j ran))))
+
+  noted_anew : AreAnew tells course graph so_far after new
+  noted_anew tell kept p lt unfailed = by_output (has_number ((links_of graph).outputs e) p) refl
+    where
+      by_output : (b : Bool) → has_number ((links_of graph).outputs e) p ≡ b
+          → flags.has after.plan.changed.items p ≡ (input_facts (edges_of course) (well_in so_far) course.entry.history new.history (text_at graph.manifest.paths p)).changed
+      by_output true made = anew_here tell kept p made (well_unless on.steps (suc e) is_well (unfailed (suc e) (makers_failed (edges_of course) graph suits.once stand_here e p made)))
+      by_output false other = anew_there tell kept p lt unfailed other
+
+  -- outputs of another edge are not those that were forgotten
+  not_here : (k p : ℕ) → has_number (ended_in so_far) (suc k) ≡ false → has_number ((links_of graph).outputs k) p ≡ true → has_number ((links_of graph).outputs e) p ≡ false
+  not_here k p unended made = false_from_ne_true (has_number ((links_of graph).outputs e) p) (λ here.
+      let same = same_some (suc k) (suc e) (sym (makers_failed (edges_of course) graph suits.once stand_here k p made) ∙ makers_failed (edges_of course) graph suits.once stand_here e p here) in
+      false≢true (sym unended ∙ in_right ended_in ended-append on.steps (Ended (suc e) is_well ∷ []) (suc k) (ap (λ (n : ℕ). has_number (suc e ∷ []) n) same ∙ has_number-one (suc e))))
+
+  noted_before : AreSeenBefore tells course graph so_far after new
+  noted_before tell kept k stale unended restat p made =
+      let was_seen = on.before tell (over_end tell kept).0 k
+      (ap (λ (l : List ℕ). has_number l (suc k)) (sym (out_of_date-append on.steps (Ended (suc e) is_well ∷ []) ∙ append-nil (out_of_date_in on.steps))) ∙ stale)
+      (false_from_ne_true (has_number (ended_in on.steps) (suc k)) (λ h. false≢true (sym unended ∙ in_left ended_in ended-append on.steps (Ended (suc e) is_well ∷ []) (suc k) h))) restat p made in
+      let between = noted_so.forgets.others p (not_here k p unended made) ∙ was_seen in
+      noted_so.looked.stays p (ap is_asked between ∙ asked_look (stamp_of (file_at course.entry.history (text_at graph.manifest.paths p)))) ∙ between
+
+  -- ---- the rest
+
+  stamp_kept : (k : ℕ) → has_number (running_in on.steps) (suc k) ≡ true → StartedUnder (suc k) (get_or after.starts.items k 0) course.entry new
+  stamp_kept k runs = subst (λ (l : List ℕ). StartedUnder (suc k) (get_or l k 0) course.entry new) (sym noted_so.beside.starts)
+      (started_more (suc k) (get_or state.starts.items k 0) course.entry now new (Finish (suc e) ok ∷ []) (looked.events ∙ finish.events) (on.started k runs))
+
+  noted_room : HasRoom graph after
+  noted_room = record { looks = noted_so.looked.fits ∙ (noted_so.forgets.fits ∙ on.room.looks); starts = ap length noted_so.beside.starts ∙ on.room.starts }
+
+  module _ (stays : LogStays) (none : NoneWhileRunning) (takes : TakesStep graph state.plan after.plan (Ended (suc e) is_well)) (noted : after.failed.items ≡ failed_after state.failed.items e is_well) where
+    noted_logging : Logging tells course graph so_far (in_hand_after (suc e) is_well) new after.records.logs
+    noted_logging = subst (λ (r : Records). Logging tells course graph so_far (in_hand_after (suc e) is_well) new r.logs) (sym {A = Records} noted_so.beside.records)
+        (logging_with tells course graph on.steps so_far None (in_hand_after (suc e) is_well) new state.records.logs carried_new (rest_logging tells course tick graph suits state now mid new e ok on turn finish looked stays))
+
+    abbrev on_ended : IsOn tells course graph (in_hand_after (suc e) is_well) after new
+    on_ended = record {
+      steps = so_far;
+      planned = end_planned tells course tick graph suits state now mid new e ok on turn finish looked is_well after.plan takes;
+      carried = carried_new;
+      logging = noted_logging;
+      told = noted_told;
+      seen = noted_seen;
+      anew = noted_anew;
+      before = noted_before;
+      started = λ k runs. stamp_kept k (ran_before on.steps (suc e) (suc k) is_well runs);
+      removed = end_removed tells course tick graph suits state now mid new e ok on turn finish looked one told read_new;
+      room = noted_room;
+      noted = ap (map suc) noted ∙ noted_after state.failed.items on.steps e is_well on.noted;
+    }
+
+    -- it was noted, and where it ended well that may be recorded
+    pub end_taken_in : IsTakenIn tells course graph (suc e) (get_or after.starts.items e 0) is_well told after new
+    end_taken_in = record {
+      on = on_ended;
+      before = on.steps;
+      last = refl;
+      well = λ went. record {
+        well = well_ended on.steps (suc e) is_well went;
+        started = stamp_kept e edge_here.running;
+        ended = λ tell. (_, ended_here tells course.behaviour course.format course.own course.asked course.store course.entry on.steps now mid new (suc e) ok finish looked on.carried tell (went_well ok told went));
+        none = none_in_force tells course tick graph suits state now mid new e ok on turn finish looked stays none;
+        told = has_told tells course tick graph suits one state now mid new (suc e) ok on finish looked told read_new went;
+      };
+    }
 
 -- ---- its depfile was read
 
@@ -386,13 +518,20 @@ module _ (tells : Bool) (course : Course) (tick : List ℕ) (graph : Graph) (sui
       let same : e ≡ runs.edge = omega (arith, runs.is) in
       ap (standing_at state.plan.standings.items) same ∙ runs.stands
 
-  pub ending_cut : (plan : Plan) → TakesStep graph state.plan plan (Ended (suc e) well) → IsCut tells course graph plan now
-  ending_cut plan takes = end_cut tells course tick graph suits state ending.before ending.mid now e ok ending.on ending.next ending.finishes ending.looks one told ending.read plan
-      (subst (λ (b : Bool). TakesStep graph state.plan plan (Ended (suc e) b)) is takes)
+  -- what the edge is, in the graph that is declared
+  pub ending_command : IsCommand (declared_by graph).edges (suc e)
+  ending_command = subst (λ (g : BuildGraph). IsCommand g.edges (suc e)) suits.same (running_edge tells course graph None state ending.before ending.on (suc e) ending.finishes.ran).command
 
-  pub ending_taken : StandFor (declared_by graph).edges graph.manifest.paths (links_of graph) → (after : State) → HasEnded graph e state after → LogStays → NoneWhileRunning → TakesStep graph state.plan after.plan (Ended (suc e) well)
-      → after.failed.items ≡ failed_after state.failed.items e well → IsTakenIn tells course graph (suc e) (get_or after.starts.items e 0) well told after now
-  ending_taken stand after ended stays none takes noted =
-      subst (λ (b : Bool). IsTakenIn tells course graph (suc e) (get_or after.starts.items e 0) b told after now) (sym is)
-      (end_taken_in tells course tick graph suits state ending.before ending.mid now e ok ending.on ending.next ending.finishes ending.looks one told ending.read stand after ended stays none
+  -- where noting it met a fault
+  pub ending_cut : (new : World) → OnlyLooks tells now new → (plan : Plan) → TakesStep graph state.plan plan (Ended (suc e) well) → IsCut tells course graph plan new
+  ending_cut new looks plan takes =
+      end_cut tells course tick graph suits state ending.before ending.mid new e ok ending.on ending.next ending.finishes (looks_then tells ending.mid now new ending.looks looks) one told
+      (was_read_before tells (edge_at (edges_of course) (suc e)).act ok ending.mid now new told looks ending.read) plan (subst (λ (b : Bool). TakesStep graph state.plan plan (Ended (suc e) b)) is takes)
+
+  pub ending_taken : StandFor (declared_by graph).edges graph.manifest.paths (links_of graph) → (new : World) (after : State) → HasEnded tells graph e well now new state after → LogStays → NoneWhileRunning
+      → TakesStep graph state.plan after.plan (Ended (suc e) well) → after.failed.items ≡ failed_after state.failed.items e well → IsTakenIn tells course graph (suc e) (get_or after.starts.items e 0) well told after new
+  ending_taken stand new after noted_so stays none takes noted =
+      subst (λ (b : Bool). IsTakenIn tells course graph (suc e) (get_or after.starts.items e 0) b told after new) (sym is)
+      (end_taken_in tells course tick graph suits state ending.before ending.mid now new e ok ending.on ending.next ending.finishes ending.looks one told ending.read stand after
+      (subst (λ (b : Bool). HasEnded tells graph e b now new state after) is noted_so) stays none
       (subst (λ (b : Bool). TakesStep graph state.plan after.plan (Ended (suc e) b)) is takes) (subst (λ (b : Bool). after.failed.items ≡ failed_after state.failed.items e b) is noted))

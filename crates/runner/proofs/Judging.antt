@@ -1,5 +1,5 @@
 -- An edge is judged, rightly by the files of now.
-use Rattle.std.proofs.Common.{◌≡◌, ℕ, suc, ◌<◌, ◌&&◌, not, Vec, Global, Bool, true, false, IsTrue, List, [], ◌∷◌, ◌++◌, length, Option, None, is_some, bytes_eq, inl, refl, sym, ◌∙◌, ap, subst}
+use Rattle.std.proofs.Common.{◌≡◌, inl, inr, ℕ, suc, ◌<◌, ◌&&◌, not, Vec, Global, Bool, true, false, IsTrue, List, [], ◌∷◌, ◌++◌, length, Option, None, is_some, bytes_eq, refl, sym, ◌∙◌, ap, subst, arith}
 use Rattle.std.proofs.lemmas.List.{append-nil}
 use Rattle.std.proofs.lemmas.Bool.{false≢true, false_from_ne_true}
 use Rattle.std.specs.List.{AllByRecursion}
@@ -12,18 +12,17 @@ use Rattle.model.specs.World.{World, file_at, stamp_of, IsRunning}
 use Rattle.model.specs.Calls.{OnlyLooks}
 use Rattle.model.specs.Graph.{has, has_number, edge_at, IsCommand}
 use Rattle.model.specs.Records.{recorded_inputs}
-use Rattle.model.specs.Judgement.{is_same_number}
 use Rattle.model.specs.OutOfDate.{input_facts, Counted, IsVerdict}
-use Rattle.model.specs.Schedule.{Step as Done, Judged, IsLawfulStep, MayBeJudged, started_in, ended_in, well_in, failed_in, running_in}
+use Rattle.model.specs.Schedule.{Step as Done, Judged, IsLawfulStep, MayBeJudged, out_of_date_in, started_in, ended_in, well_in, failed_in, running_in}
 use Rattle.model.specs.Premises.{FilesAreKept, RecordedApart, IsWithinEdge, IsNoEdit}
 use Rattle.model.specs.SingleBuild.{task_of}
 use Rattle.build_theory.specs.Run.{IsRunOrRest}
-use Rattle.build_theory.proofs.Lists.{same_bytes}
+use Rattle.build_theory.proofs.Lists.{same_bytes, has_number-is}
 use Rattle.build_theory.proofs.Files.{IsElsewhere}
 use Rattle.build_theory.proofs.Runs.{rest_begins}
 use Rattle.build_theory.proofs.Starting.{OthersRun, since, private_elsewhere}
 use Rattle.build_theory.proofs.Orderly.{IsKept, kept_orderly}
-use Rattle.build_theory.proofs.Steps.{running_is, started-append, ended-append, well-append, failed-append}
+use Rattle.build_theory.proofs.Steps.{running_is, started-append, ended-append, out_of_date-append, well-append, failed-append, in_either}
 use Rattle.log_theory.proofs.Kept.{depfile_stays}
 use Rattle.log_theory.proofs.Ledger.{others_run, carried_judged}
 use Rattle.display.specs.declared.display.Display.{Display}
@@ -31,10 +30,11 @@ use Rattle.lowest.specs.Flags as flags
 use Rattle.paths.specs.Told.{text_at}
 use Rattle.links.specs.declared.graph.Graph.{Graph}
 use Rattle.links.specs.Links.{links_of}
+use Rattle.links.specs.Linked.{StandFor}
 use Rattle.links.specs.Told.{declared_by, recorded_by}
 use Rattle.looks.specs.declared.table.Looks.{Looks}
 use Rattle.looks.specs.Looking.{HasLooked}
-use Rattle.looks.specs.Seen.{IfKept, AreSeenOf}
+use Rattle.looks.specs.Seen.{look_at, look_of, is_asked, IfKept, AreSeenOf}
 use Rattle.plan.specs.declared.plan.Plan.{Plan}
 use Rattle.plan.specs.Planned.{TakesStep}
 use Rattle.records.specs.Laws.{LogStays}
@@ -42,13 +42,15 @@ use Rattle.records.specs.Known.{AreKnown}
 use Rattle.verdict.specs.Facts.{flag_at}
 use Rattle.verdict.specs.Judged.{IsAnswer, IsReasonBy, MayBeJudgedBy, AreUntouched, HasOldDepfile, KeepsDepfile, HasPathsOf}
 use Rattle.runner.specs.declared.state.State.{State}
-use Rattle.runner.specs.Course.{Course, Suits, edges_of, is_quiet, AreStarted, IsOn}
+use Rattle.runner.specs.Course.{Course, Suits, edges_of, is_quiet, AreAnew, AreSeenBefore, AreStarted, IsOn}
 use Rattle.runner.proofs.Places.{phony_is}
 use Rattle.runner.proofs.Quiet.{all_kept, quiet_less}
 use Rattle.runner.proofs.Removing.{removed_steps}
-use Rattle.runner.proofs.Keeping.{Carried, grown, looks_carried, looks_leave, looks_quiet, looks_removed, logging_over, told_over, started_more}
-use Rattle.runner.proofs.Launching.{anew_over}
-use Rattle.runner.proofs.Settled.{anew_is_made, counted_unfailed, paths_quiet, outputs_untouched}
+use Rattle.runner.proofs.Keeping.{Carried, grown, looks_carried, looks_leave, looks_quiet, looks_removed, logging_over, told_over, started_more, well_ended, still_anew, still_before}
+use Rattle.runner.proofs.Anew.{anew_over}
+use Rattle.runner.proofs.Finishing.{makes_it}
+use Rattle.runner.proofs.Noticed.{with_looks, before_kept}
+use Rattle.runner.proofs.Settled.{counted_unfailed, outputs_quiet, paths_quiet, outputs_untouched}
 
 -- ---- steps
 
@@ -65,6 +67,13 @@ well_judged steps i b = well-append steps (Judged i b ∷ []) ∙ append-nil (we
 
 pub failed_judged : (steps : List Done) (i : ℕ) (b : Bool) → failed_in (steps ++ Judged i b ∷ []) ≡ failed_in steps
 failed_judged steps i b = failed-append steps (Judged i b ∷ []) ∙ append-nil (failed_in steps)
+
+-- the edge that was found to be out of date
+judged_here : (e k : ℕ) (stale : Bool) → has_number (out_of_date_in (Judged (suc e) stale ∷ [])) (suc k) ≡ true → k ≡ e
+judged_here e k true here =
+    let same = has_number-is (suc e) (suc k) here in
+    omega (arith, same)
+judged_here e k false here = absurd (false≢true here)
 
 module _ (tells : Bool) (course : Course) (graph : Graph) (stays : LogStays) (tick : List ℕ) (suits : Suits course tick graph) (state : State) (now new : World) (e : ℕ)
     (on : IsOn tells course graph None state now) (next : (stale : Bool) → IsLawfulStep (task_of course.asked course.store) on.steps (Judged (suc e) stale)) (looks : OnlyLooks tells now new) where
@@ -116,9 +125,8 @@ module _ (tells : Bool) (course : Course) (graph : Graph) (stays : LogStays) (ti
 
     flagged : FlagsOver (edges_of course)
     flagged p lt counted =
-        on.anew p lt (counted_unfailed edges on.steps kept course.own files.own_files suits.once course.asked course.store (suc e) turn.once apart (λ q j h made. turn.ready q h j made) new.history (text_at graph.manifest.paths p) counted)
-        ∙ anew_is_made edges on.steps kept suits.once suits.bare (text_at graph.manifest.paths p)
-        (is_same_number (stamp_of (file_at course.entry.history (text_at graph.manifest.paths p))) (stamp_of (file_at new.history (text_at graph.manifest.paths p))))
+        still_anew tells course graph stays None state now new on suits.once (looks_quiet tells course graph stays None state now new on looks) tell files p lt
+        (counted_unfailed edges on.steps kept course.own files.own_files suits.once course.asked course.store (suc e) turn.once apart (λ q j h made. turn.ready q h j made) new.history (text_at graph.manifest.paths p) counted)
 
     pub may_be_judged : FilesAreKept course.own (edges_of course) course.entry.history now.history
         → MayBeJudgedBy graph on.told.records on.told.deps state.plan.changed.items course.store (well_in on.steps) course.entry.history new.history (suc e) (is_quiet course.own (edges_of course) on.steps)
@@ -138,6 +146,8 @@ module _ (tells : Bool) (course : Course) (graph : Graph) (stays : LogStays) (ti
   -- ---- the verdict
 
   module _ (after : Looks) (reason : Option Reason) (stale : Bool) (told : stale ≡ is_some reason) (looked : HasLooked tells graph now new state.looks after)
+      (stand : StandFor (declared_by graph).edges graph.manifest.paths (links_of graph))
+      (outputs_asked : (edge_at (edges_of course) (suc e)).restat ≡ true → (p : ℕ) → has_number ((links_of graph).outputs e) p ≡ true → is_asked (look_at state.looks.seen.items p) ≡ true)
       (answer : (rs : List Record) (ds : List DepsRecord) → AreKnown graph rs ds state.records → KeepsDepfile tells (declared_by graph).edges now new (suc e)
       → IfKept tells graph.manifest.paths now new state.looks.seen.items (IsAnswer graph rs ds state.plan.changed.items e reason)) where
     abbrev pub more : List Done
@@ -162,6 +172,31 @@ module _ (tells : Bool) (course : Course) (graph : Graph) (stays : LogStays) (ti
         looked.seen tell (is_quiet course.own (edges_of course) on.steps) quiet.1 (on.seen tell quiet.0) p asked
         (quiet_less course.own (edges_of course) on.steps more (λ i runs. running_judged on.steps (suc e) stale i ∙ runs) (text_at graph.manifest.paths p) quiet_so)
 
+    judged_anew : AreAnew tells course graph more state new
+    judged_anew = anew_over tells course graph on.steps more on.steps state now new (looks_quiet tells course graph stays None state now new on looks) suits.once (well_ended tells course graph on.steps None now on.carried)
+        (well_judged on.steps (suc e) stale) (failed_judged on.steps (suc e) stale) on.anew
+
+    -- of its own outputs that were asked for: nobody has touched them
+    judged_own : IsTrue tells → FilesAreKept course.own (edges_of course) course.entry.history new.history → (edge_at (edges_of course) (suc e)).restat ≡ true → (p : ℕ) → has_number ((links_of graph).outputs e) p ≡ true
+        → look_at after.seen.items p ≡ look_of (stamp_of (file_at course.entry.history (text_at graph.manifest.paths p)))
+    judged_own tell files restat p made =
+        let quiet = looks_quiet tells course graph stays None state now new on looks tell files in
+        let was = outputs_asked restat p made in
+        let makes = makes_it (edges_of course) graph suits.once (subst (λ (es : List Edge). StandFor es graph.manifest.paths (links_of graph)) (sym same_edges) stand) e p made in
+        looked.seen tell (is_quiet course.own (edges_of course) on.steps) quiet.1 (on.seen tell quiet.0) p (ap is_asked (looked.stays p was) ∙ was)
+        (outputs_quiet edges on.steps kept course.own files.own_files suits.once (suc e) turn.once (text_at graph.manifest.paths p) makes)
+        ∙ ap look_of (outputs_untouched tells course.own (task_of course.asked course.store) on.steps course.entry new suits.idle rest tell files suits.once (suc e) turn.command turn.once (text_at graph.manifest.paths p) makes)
+
+    judged_before : AreSeenBefore tells course graph more (with_looks tells course graph state after) new
+    judged_before tell files k due unended restat p made = elim (in_either out_of_date_in out_of_date-append on.steps (Judged (suc e) stale ∷ []) (suc k) due) [
+      | inl before ↦
+          before_kept tells course graph on.steps state new after looked.stays (still_before tells course graph stays None state now new on (looks_quiet tells course graph stays None state now new on looks))
+          tell files k before (ap (λ (l : List ℕ). has_number l (suc k)) (sym (ended-append on.steps (Judged (suc e) stale ∷ []) ∙ append-nil (ended_in on.steps))) ∙ unended) restat p made
+      | inr here ↦
+          let same = judged_here e k stale here in
+          judged_own tell files (subst (λ (n : ℕ). (edge_at (edges_of course) (suc n)).restat ≡ true) same restat) p (subst (λ (n : ℕ). has_number ((links_of graph).outputs n) p ≡ true) same made)
+    ]
+
     pub judged_started : AreStarted course more state new
     judged_started k runs = started_more (suc k) _ course.entry now new [] (looks.events ∙ sym (append-nil now.events)) (on.started k (sym (running_judged on.steps (suc e) stale (suc k)) ∙ runs))
 
@@ -176,8 +211,8 @@ module _ (tells : Bool) (course : Course) (graph : Graph) (stays : LogStays) (ti
           logging = logging_over tells course graph stays on.steps more None None now new state.records.logs (looks_leave tells course graph now new looks) judged_carried on.logging;
           told = record { records = now_told.records; deps = now_told.deps; known = now_told.known; same = now_told.same };
           seen = judged_seen;
-          anew = λ p lt unfailed. ap (λ (c : Vec Bool Global). flags.has c.items p) flags_same
-              ∙ anew_over tells course graph on.steps more state (well_judged on.steps (suc e) stale) (failed_judged on.steps (suc e) stale) on.anew p lt unfailed;
+          anew = λ tell files p lt unfailed. ap (λ (c : Vec Bool Global). flags.has c.items p) flags_same ∙ judged_anew tell files p lt unfailed;
+          before = judged_before;
           started = judged_started;
           removed = removed_steps tells course.own (edges_of course) on.steps more course.entry new None (well_judged on.steps (suc e) stale) (looks_removed tells course graph stays None state now new on looks);
           room = record { looks = looked.fits ∙ on.room.looks; starts = on.room.starts };
@@ -187,3 +222,9 @@ module _ (tells : Bool) (course : Course) (graph : Graph) (stays : LogStays) (ti
 -- it is that of a command in numbers too
 pub judged_command : (course : Course) (graph : Graph) (tick : List ℕ) → Suits course tick graph → (e : ℕ) → IsCommand (edges_of course) (suc e) → (links_of graph).phony e ≡ false
 judged_command course graph tick suits e command = phony_is graph e (subst (λ (b : BuildGraph). IsCommand b.edges (suc e)) suits.same command)
+
+-- the outputs were asked for, as the graph has them
+pub asked_outputs : (course : Course) (graph : Graph) (tick : List ℕ) → Suits course tick graph → (e : ℕ) (looks : Looks)
+    → ((edge_at (declared_by graph).edges (suc e)).restat ≡ true → (p : ℕ) → has_number ((links_of graph).outputs e) p ≡ true → is_asked (look_at looks.seen.items p) ≡ true)
+    → (edge_at (edges_of course) (suc e)).restat ≡ true → (p : ℕ) → has_number ((links_of graph).outputs e) p ≡ true → is_asked (look_at looks.seen.items p) ≡ true
+asked_outputs course graph tick suits e looks asked restat = asked (subst (λ (b : BuildGraph). (edge_at b.edges (suc e)).restat ≡ true) suits.same restat)

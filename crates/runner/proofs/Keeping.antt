@@ -1,5 +1,5 @@
 -- What a run keeps goes on over the calls of its site: one lemma for each part, and one for each kind of call.
-use Rattle.std.proofs.Common.{◌≡◌, ◌≢◌, inl, ℕ, suc, ◌≤◌, ◌<◌, Bool, true, IsTrue, List, [], ◌∷◌, ◌++◌, length, Option, Some, None, sym, ◌∙◌, ap, subst, append_assoc, arith}
+use Rattle.std.proofs.Common.{◌≡◌, ◌≢◌, inl, ℕ, suc, ◌≤◌, ◌<◌, Bool, true, IsTrue, List, [], ◌∷◌, ◌++◌, length, Option, Some, None, refl, sym, ◌∙◌, ap, subst, append_assoc, arith}
 use Rattle.std.proofs.lemmas.List.{append-nil, length-append}
 use Rattle.std.proofs.lemmas.Bool.{false≢true}
 use Rattle.model.specs.declared.event.Event.{Event}
@@ -9,9 +9,9 @@ use Rattle.model.specs.declared.record.Record.{Record}
 use Rattle.model.specs.declared.record.DepsRecord.{DepsRecord}
 use Rattle.model.specs.World.{World, File, file_at, stamp_of, runs}
 use Rattle.model.specs.Calls.{OnlyLooks, Ticks, WritesOrNot}
-use Rattle.model.specs.Graph.{has_number, edge_at, IsCommand}
+use Rattle.model.specs.Graph.{has_number, edge_at, IsCommand, IsMadeOnce}
 use Rattle.model.specs.Records.{OwnFiles, in_force, deps_in_force}
-use Rattle.model.specs.Schedule.{Step as Done, ended_in, out_of_date_in}
+use Rattle.model.specs.Schedule.{Step as Done, ended_in, out_of_date_in, well_in}
 use Rattle.model.specs.SingleBuild.{task_of}
 use Rattle.model.specs.Kept.{StartedUnder}
 use Rattle.build_theory.specs.Run.{IsRunOrRest}
@@ -40,10 +40,11 @@ use Rattle.records.specs.Known.{AreKnown}
 use Rattle.records.specs.Logging.{AreSameLogs, IsLogging, IsLoggedStill}
 use Rattle.records.specs.Laws.{LeavesTheLogs, LogStays}
 use Rattle.runner.specs.declared.state.State.{State}
-use Rattle.runner.specs.Course.{Course, Suits, edges_of, is_quiet, IsSeenStill, AreTold, AreStarted, IsOn}
+use Rattle.runner.specs.Course.{Course, Suits, edges_of, is_quiet, IsSeenStill, AreAnew, AreSeenBefore, AreTold, AreStarted, IsOn}
 use Rattle.runner.specs.Removing.{AreRemoved}
 use Rattle.runner.specs.Going.{IsInHand, IsCut}
 use Rattle.runner.proofs.Quiet.{KeepsQuiet, RunBy, quiet_own, quiet_response, quiet_depfile, quiet_looks}
+use Rattle.runner.proofs.Anew.{anew_over, before_over}
 use Rattle.runner.proofs.Removing.{WellRest, removed_looks, removed_own, removed_depfile, removed_response, removed_hand}
 
 -- ---- the parts
@@ -115,6 +116,9 @@ module _ (tells : Bool) (course : Course) (graph : Graph) where
     pub stale_is_command : (i : ℕ) → has_number (out_of_date_in steps) i ≡ true → IsCommand (edges_of course) i
     stale_is_command = stale_command tells course.behaviour course.format course.own course.asked course.store course.entry steps now carried.beside.idle (rest_of steps hand now carried)
 
+    pub well_ended : (i : ℕ) → has_number (well_in steps) i ≡ true → has_number (ended_in steps) i ≡ true
+    well_ended i well = (kept_lawful (task_of course.asked course.store) steps carried.run.lawful).well i well
+
     -- an edge that ended well is that of a command, which does not run
     pub well_rest : WellRest (edges_of course) steps now
     well_rest i well = (
@@ -168,15 +172,23 @@ module _ (tells : Bool) (course : Course) (graph : Graph) where
     rest : WellRest (edges_of course) on.steps now
     rest = well_rest on.steps hand now on.carried
 
-    abbrev pub on_over : Carried on.steps hand new → Leaves now new → Quietly on.steps now new → new.events ≡ now.events → Removed → IsOn tells course graph hand state new
-    on_over carried leaves quiet events removed = record {
+    -- what was made anew, and what was seen of outputs before
+    pub still_anew : IsMadeOnce (edges_of course) → Quietly on.steps now new → AreAnew tells course graph on.steps state new
+    still_anew once quiet = anew_over tells course graph on.steps on.steps on.steps state now new quiet once (well_ended on.steps hand now on.carried) refl refl on.anew
+
+    pub still_before : Quietly on.steps now new → AreSeenBefore tells course graph on.steps state new
+    still_before quiet = before_over tells course graph on.steps on.steps on.steps state now new quiet (λ e stale unended. (stale, unended)) on.before
+
+    abbrev pub on_over : IsMadeOnce (edges_of course) → Carried on.steps hand new → Leaves now new → Quietly on.steps now new → new.events ≡ now.events → Removed → IsOn tells course graph hand state new
+    on_over once carried leaves quiet events removed = record {
       steps = on.steps;
       planned = on.planned;
       carried = carried;
       logging = logging_over stays on.steps on.steps hand hand now new state.records.logs leaves carried on.logging;
       told = told_over on.steps state now new quiet on.told;
       seen = seen_over on.steps state now new quiet on.seen;
-      anew = on.anew;
+      anew = still_anew once quiet;
+      before = still_before quiet;
       started = started_over on.steps state now new events on.started;
       removed = removed;
       room = on.room;
@@ -193,8 +205,8 @@ module _ (tells : Bool) (course : Course) (graph : Graph) where
     pub looks_removed : OnlyLooks tells now new → Removed
     looks_removed looks = removed_looks tells course.own (edges_of course) on.steps course.entry now new (grown on.steps hand now on.carried) rest hand on.removed looks
 
-    abbrev pub on_looks : OnlyLooks tells now new → IsOn tells course graph hand state new
-    on_looks looks = on_over (looks_carried looks) (looks_leave now new looks) (looks_quiet looks) looks.events (looks_removed looks)
+    abbrev pub on_looks : IsMadeOnce (edges_of course) → OnlyLooks tells now new → IsOn tells course graph hand state new
+    on_looks once looks = on_over once (looks_carried looks) (looks_leave now new looks) (looks_quiet looks) looks.events (looks_removed looks)
 
     -- a tick
     module _ (tick : List ℕ) (suits : Suits course tick graph) where
@@ -214,7 +226,7 @@ module _ (tells : Bool) (course : Course) (graph : Graph) where
           removed_own tells course.own (edges_of course) on.steps course.entry now new (grown on.steps hand now on.carried) rest hand on.removed tick suits.owned (ticks_grew tells tick stamp now new ticks)
 
       abbrev pub on_ticks : (stamp : ℕ) → Ticks tells tick stamp now new → IsOn tells course graph hand state new
-      on_ticks stamp ticks = on_over (ticks_carried stamp ticks) (ticks_leave stamp ticks) (ticks_quiet stamp ticks) ticks.events (ticks_removed stamp ticks)
+      on_ticks stamp ticks = on_over suits.once (ticks_carried stamp ticks) (ticks_leave stamp ticks) (ticks_quiet stamp ticks) ticks.events (ticks_removed stamp ticks)
 
     -- the response file of the edge in hand, which was judged out of date, is written, or removed
     module _ (i : ℕ) (stale : has_number (out_of_date_in on.steps) i ≡ true) (writes : WritesAt tells (edge_at (edges_of course) i).act.response_path now new) where
@@ -241,8 +253,8 @@ module _ (tells : Bool) (course : Course) (graph : Graph) where
       pub response_removed : hand ≡ Some i → Removed
       response_removed held = removed_response tells course.own (edges_of course) on.steps course.entry now new (grown on.steps hand now on.carried) rest hand on.removed i held command writes.history
 
-      abbrev pub on_response : hand ≡ Some i → IsOn tells course graph hand state new
-      on_response held = on_over response_carried response_leaves response_quiet writes.events (response_removed held)
+      abbrev pub on_response : IsMadeOnce (edges_of course) → hand ≡ Some i → IsOn tells course graph hand state new
+      on_response once held = on_over once response_carried response_leaves response_quiet writes.events (response_removed held)
 
     -- the depfile of an edge that was judged out of date is removed, or not
     module _ (i : ℕ) (stale : has_number (out_of_date_in on.steps) i ≡ true) (removes : WritesOrNot tells (edge_at (edges_of course) i).act.depfile None now new) where
@@ -272,8 +284,8 @@ module _ (tells : Bool) (course : Course) (graph : Graph) where
       pub depfile_removed : Removed
       depfile_removed = removed_depfile tells course.own (edges_of course) on.steps course.entry now new (grown on.steps hand now on.carried) rest hand on.removed i reads depfile_at.history
 
-      abbrev pub on_depfile : IsOn tells course graph hand state new
-      on_depfile = on_over depfile_carried depfile_leaves depfile_quiet depfile_at.events depfile_removed
+      abbrev pub on_depfile : IsMadeOnce (edges_of course) → IsOn tells course graph hand state new
+      on_depfile once = on_over once depfile_carried depfile_leaves depfile_quiet depfile_at.events depfile_removed
 
   -- ---- an edge is taken in hand
 
@@ -289,6 +301,7 @@ module _ (tells : Bool) (course : Course) (graph : Graph) where
     told = on.told;
     seen = on.seen;
     anew = on.anew;
+    before = on.before;
     started = on.started;
     removed = removed_hand tells course.own (edges_of course) on.steps course.entry now (Some i) on.removed;
     room = on.room;
@@ -342,16 +355,20 @@ module _ (tells : Bool) (course : Course) (graph : Graph) where
     pub log_quiet : Quietly on.steps now new
     log_quiet = quiet_own tells course.own (edges_of course) on.steps course.entry now new (grown on.steps hand now on.carried) (run_by on.steps hand now on.carried) path owned writes.history
 
-    abbrev pub on_log : (records : Records) → AreSameLogs state.records.logs records.logs → records.places.items ≡ state.records.places.items → records.deps_places.items ≡ state.records.deps_places.items
+    pub log_anew : IsMadeOnce (edges_of course) → AreAnew tells course graph on.steps state new
+    log_anew once = anew_over tells course graph on.steps on.steps on.steps state now new log_quiet once (well_ended on.steps hand now on.carried) refl refl on.anew
+
+    abbrev pub on_log : IsMadeOnce (edges_of course) → (records : Records) → AreSameLogs state.records.logs records.logs → records.places.items ≡ state.records.places.items → records.deps_places.items ≡ state.records.deps_places.items
         → Logging on.steps next new records.logs → hand ≡ next → IsOn tells course graph next (with_records state records) new
-    on_log records same places deps_places logging held = record {
+    on_log once records same places deps_places logging held = record {
       steps = on.steps;
       planned = on.planned;
       carried = log_carried logging.logged;
       logging = logging;
       told = told_by state new records same places deps_places (told_over on.steps state now new log_quiet on.told);
       seen = seen_over on.steps state now new log_quiet on.seen;
-      anew = on.anew;
+      anew = log_anew once;
+      before = before_over tells course graph on.steps on.steps on.steps state now new log_quiet (λ e stale unended. (stale, unended)) on.before;
       started = started_over on.steps state now new writes.events on.started;
       removed = subst (λ (h : Option ℕ). AreRemoved tells course.own (edges_of course) on.steps h course.entry new) held log_removed;
       room = record { looks = on.room.looks; starts = on.room.starts };

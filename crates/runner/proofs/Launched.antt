@@ -88,7 +88,7 @@ module _ (tells : Bool) (course : Course) (graph : Graph) (stays : LogStays) (ti
   depfile_removes = subst (λ (a : Act). WritesOrNot tells a.depfile None now gone) is removes
 
   abbrev on_gone : On gone
-  on_gone = on_depfile tells course graph stays (Some (suc e)) state now gone begun.on (suc e) begun.next.1.stale depfile_removes
+  on_gone = on_depfile tells course graph stays (Some (suc e)) state now gone begun.on (suc e) begun.next.1.stale depfile_removes suits.once
 
   -- its old depfile could not be removed
   pub cut_clearing : IsCut tells course graph state.plan gone
@@ -99,7 +99,7 @@ module _ (tells : Bool) (course : Course) (graph : Graph) (stays : LogStays) (ti
     response_at = subst (λ (a : Act). WritesAt tells a.response_path gone mid) is at
 
     abbrev on_mid : On mid
-    on_mid = on_response tells course graph stays (Some (suc e)) state gone mid on_gone (suc e) begun.next.1.stale response_at refl
+    on_mid = on_response tells course graph stays (Some (suc e)) state gone mid on_gone (suc e) begun.next.1.stale response_at suits.once refl
 
     -- its response file could not be written
     pub cut_writing : IsCut tells course graph state.plan mid
@@ -142,13 +142,13 @@ module _ (tells : Bool) (course : Course) (graph : Graph) (stays : LogStays) (ti
         of_job made = subst (λ (n : ℕ). Starts tells n act new last) is_job made
 
         pub launched : TakesStep graph state.plan plan (Started (suc e)) → plan.changed ≡ state.plan.changed → Starts tells job act new last → IsOn tells course graph None (with_plan tells course graph stamped plan) last
-        launched takes same made = on_starts tells course graph stays stamped new last e act plan on_last begun.next is ready (of_job made) takes same given
+        launched takes same made = on_starts tells course graph stays stamped new last e act plan on_last begun.next is ready (of_job made) suits.once takes same given
 
         -- the start met a fault
         pub cut_starting : TakesStep graph state.plan plan (Started (suc e)) → Starts tells job act new last → IsCut tells course graph plan last
         cut_starting takes made =
-            cut_free tells course graph plan last (steps ++ Started (suc e) ∷ []) (start_planned tells course graph stays stamped new last e act plan on_last begun.next is ready (of_job made) takes)
-            (start_carried tells course graph stays stamped new last e act plan on_last begun.next is ready (of_job made))
+            cut_free tells course graph plan last (steps ++ Started (suc e) ∷ []) (start_planned tells course graph stays stamped new last e act plan on_last begun.next is ready (of_job made) suits.once takes)
+            (start_carried tells course graph stays stamped new last e act plan on_last begun.next is ready (of_job made) suits.once)
 
         pub cut_unstarted : plan ≡ state.plan → OnlyLooks tells new last → IsCut tells course graph plan last
         cut_unstarted same looks =

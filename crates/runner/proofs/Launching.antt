@@ -6,13 +6,12 @@ use Rattle.model.specs.declared.act.Act.{Act}
 use Rattle.model.specs.declared.event.Event.TheVariants.{Start}
 use Rattle.model.specs.World.{World, IsRunning}
 use Rattle.model.specs.Calls.{Starts, Ticks, Writes, WritesOrNot}
-use Rattle.std.specs.List.{list_any}
-use Rattle.model.specs.Graph.{has, has_number, edge_at, outputs, IsCommand}
+use Rattle.model.specs.Graph.{has_number, edge_at, IsCommand, IsMadeOnce}
 use Rattle.model.specs.Premises.{OwnFilesApart, LiesIn}
-use Rattle.model.specs.Schedule.{Step as Done, Started, IsLawfulStep, started_in, ended_in, running_in, well_in, failed_in}
+use Rattle.model.specs.Schedule.{Step as Done, Started, IsLawfulStep, started_in, ended_in, out_of_date_in, running_in, well_in, failed_in}
 use Rattle.model.specs.SingleBuild.{task_of}
 use Rattle.model.specs.Kept.{StartedUnder}
-use Rattle.build_theory.proofs.Steps.{IsKept, kept_lawful, running_is, running_parts, started-append, ended-append, well-append, failed-append, in_either}
+use Rattle.build_theory.proofs.Steps.{IsKept, kept_lawful, running_is, running_parts, started-append, ended-append, out_of_date-append, well-append, failed-append, in_left, in_either}
 use Rattle.build_theory.proofs.Lists.{has_number-is}
 use Rattle.log_theory.specs.Writes.{GrewAt, WritesAt}
 use Rattle.log_theory.specs.Ledger.{HasNoRecord, HoldsStill, IsReadyToStart}
@@ -27,10 +26,11 @@ use Rattle.plan.specs.declared.plan.Plan.{Plan}
 use Rattle.plan.specs.Planned.{IsPlanned, TakesStep}
 use Rattle.records.specs.Laws.{LogStays}
 use Rattle.runner.specs.declared.state.State.{State}
-use Rattle.runner.specs.Course.{Course, Suits, edges_of, AreAnew, AreStarted, IsSeenStill, IsOn}
+use Rattle.runner.specs.Course.{Course, Suits, edges_of, AreAnew, AreSeenBefore, AreStarted, IsSeenStill, IsOn}
 use Rattle.runner.specs.Removing.{AreRemoved}
 use Rattle.runner.proofs.Quiet.{RunBy, quiet_adds, quiet_less, running_started}
-use Rattle.runner.proofs.Keeping.{Carried, Quietly, run_by, grown, well_rest, stale_is_command, response_carried, depfile_at, on_depfile, logging_over, told_over, seen_over, started_more}
+use Rattle.runner.proofs.Keeping.{Carried, Quietly, run_by, grown, well_rest, well_ended, stale_is_command, response_carried, depfile_at, on_depfile, logging_over, told_over, seen_over, started_more}
+use Rattle.runner.proofs.Anew.{anew_over, before_over}
 use Rattle.runner.proofs.Removing.{removed_adds}
 
 -- ---- steps
@@ -41,6 +41,12 @@ well_started steps i = well-append steps (Started i ∷ []) ∙ append-nil (well
 
 pub failed_started : (steps : List Done) (i : ℕ) → failed_in (steps ++ Started i ∷ []) ≡ failed_in steps
 failed_started steps i = failed-append steps (Started i ∷ []) ∙ append-nil (failed_in steps)
+
+pub ended_started : (steps : List Done) (i : ℕ) → ended_in (steps ++ Started i ∷ []) ≡ ended_in steps
+ended_started steps i = ended-append steps (Started i ∷ []) ∙ append-nil (ended_in steps)
+
+pub stale_started : (steps : List Done) (i : ℕ) → out_of_date_in (steps ++ Started i ∷ []) ≡ out_of_date_in steps
+stale_started steps i = out_of_date-append steps (Started i ∷ []) ∙ append-nil (out_of_date_in steps)
 
 -- what runs after a start is that command, or ran before
 pub started_or_ran : (steps : List Done) (i j : ℕ) → has_number (running_in (steps ++ Started i ∷ [])) j ≡ true → (i ≡ j) ⊎ (has_number (running_in steps) j ≡ true)
@@ -58,12 +64,6 @@ started_or_ran steps i j runs = elim (in_either started_in started-append steps 
     both false e none unended = absurd (false≢true none)
 
 module _ (tells : Bool) (course : Course) (graph : Graph) where
-  -- what was made anew is so after steps that end nothing
-  pub anew_over : (steps many : List Done) (state : State) → well_in many ≡ well_in steps → failed_in many ≡ failed_in steps → AreAnew course graph steps state → AreAnew course graph many state
-  anew_over steps many state well failed anew p lt unfailed =
-      anew p lt (λ j made. ap (λ (l : List ℕ). has_number l j) (sym failed) ∙ unfailed j made)
-      ∙ ap (λ (l : List ℕ). list_any (λ i. has (outputs (edge_at (edges_of course) i)) (text_at graph.manifest.paths p)) l) (sym well)
-
   -- ---- the stamp of the start is noted
 
   -- the state with other stamps, and with another plan
@@ -94,6 +94,7 @@ module _ (tells : Bool) (course : Course) (graph : Graph) where
       told = record { records = on.told.records; deps = on.told.deps; known = on.told.known; same = on.told.same };
       seen = on.seen;
       anew = on.anew;
+      before = on.before;
       started = stamped_started;
       removed = on.removed;
       room = record { looks = on.room.looks; starts = ap length is ∙ (length-set state.starts.items e stamp ∙ on.room.starts) };
@@ -103,7 +104,7 @@ module _ (tells : Bool) (course : Course) (graph : Graph) where
   -- ---- the start
 
   module _ (stays : LogStays) (state : State) (now new : World) (e : ℕ) (act : Act) (plan : Plan) (on : IsOn tells course graph (Some (suc e)) state now) (next : IsLawfulStep (task_of course.asked course.store) on.steps (Started (suc e)))
-      (is : act ≡ (edge_at (edges_of course) (suc e)).act) (ready : IsReadyToStart tells course.format course.own (edges_of course) (suc e) course.entry now) (starts : Starts tells (suc e) act now new) where
+      (is : act ≡ (edge_at (edges_of course) (suc e)).act) (ready : IsReadyToStart tells course.format course.own (edges_of course) (suc e) course.entry now) (starts : Starts tells (suc e) act now new) (once : IsMadeOnce (edges_of course)) where
     abbrev pub more : List Done
     more = on.steps ++ Started (suc e) ∷ []
 
@@ -133,6 +134,14 @@ module _ (tells : Bool) (course : Course) (graph : Graph) where
       where
         under : StartedUnder (suc e) now.ticked course.entry new
         under = started_under tells course.behaviour course.format course.own course.asked course.store course.entry on.steps (Some (suc e)) now new (suc e) act starts on.carried
+
+    pub start_anew : AreAnew tells course graph more state new
+    start_anew = anew_over tells course graph on.steps more more state now new start_quiet once (λ j well. in_left ended_in ended-append on.steps (Started (suc e) ∷ []) j (well_ended tells course graph on.steps (Some (suc e)) now on.carried j well))
+        (well_started on.steps (suc e)) (failed_started on.steps (suc e)) on.anew
+
+    pub start_before : AreSeenBefore tells course graph more state new
+    start_before = before_over tells course graph on.steps more more state now new start_quiet
+        (λ j stale unended. (ap (λ (l : List ℕ). has_number l j) (sym (stale_started on.steps (suc e))) ∙ stale, ap (λ (l : List ℕ). has_number l j) (sym (ended_started on.steps (suc e))) ∙ unended)) on.before
 
     pub start_removed : AreRemoved tells course.own (edges_of course) more None course.entry new
     start_removed = removed_adds tells course.own (edges_of course) on.steps course.entry now new (grown tells course graph on.steps (Some (suc e)) now on.carried) (well_rest tells course graph on.steps (Some (suc e)) now on.carried)
@@ -165,7 +174,8 @@ module _ (tells : Bool) (course : Course) (graph : Graph) where
           let told = told_over tells course graph more state now new start_quiet on.told in
           record { records = told.records; deps = told.deps; known = told.known; same = told.same };
       seen = start_seen;
-      anew = λ p lt unfailed. ap (λ (c : Vec Bool Global). flags.has c.items p) flags_same ∙ anew_over on.steps more state (well_started on.steps (suc e)) (failed_started on.steps (suc e)) on.anew p lt unfailed;
+      anew = λ tell kept p lt unfailed. ap (λ (c : Vec Bool Global). flags.has c.items p) flags_same ∙ start_anew tell kept p lt unfailed;
+      before = start_before;
       started = start_started stamped;
       removed = start_removed;
       room = record { looks = on.room.looks; starts = on.room.starts };
@@ -198,7 +208,7 @@ module _ (tells : Bool) (course : Course) (graph : Graph) where
     response_written = subst (λ (a : Act). a.response_path ≢ [] → Writes tells a.response_path (Some a.response_content) gone mid) is written
 
     abbrev on_gone : IsOn tells course graph (Some i) state gone
-    on_gone = on_depfile tells course graph stays (Some i) state now gone on i next.1.stale depfile_removes
+    on_gone = on_depfile tells course graph stays (Some i) state now gone on i next.1.stale depfile_removes suits.once
 
     carried_mid : Carried tells course graph on.steps (Some i) mid
     carried_mid = response_carried tells course graph stays (Some i) state gone mid on_gone i next.1.stale response_at

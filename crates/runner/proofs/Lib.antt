@@ -1,6 +1,8 @@
 pub mod Quiet
 pub mod Removing
+pub mod Anew
 pub mod Keeping
+pub mod Noticed
 pub mod Places
 pub mod Launching
 pub mod Results
@@ -16,4 +18,5 @@ pub mod Ends
 pub mod Depfiles
 pub mod Finishing
 pub mod Noting
+pub mod Comparing
 pub mod Recording

@@ -17,7 +17,7 @@ first_flags (suc n) [] k lt = refl
 first_flags (suc n) (x ∷ xs) zero lt = refl
 first_flags (suc n) (x ∷ xs) (suc k) lt = first_flags n xs k (omega (arith, lt))
 
-place_of : (xs : List ℕ) (p : ℕ) → has_number xs p ≡ true → (k : ℕ) × (k < length xs) × (slice_index xs k ≡ p)
+pub place_of : (xs : List ℕ) (p : ℕ) → has_number xs p ≡ true → (k : ℕ) × (k < length xs) × (slice_index xs k ≡ p)
 place_of [] p there = absurd (false≢true there)
 place_of (x ∷ xs) p there = elim (or_cases (x == p) (has_number xs p) there) [
   | inl here ↦ (0, omega arith, eqb-true x p here)
@@ -41,8 +41,9 @@ module _ (old new all : List Bool) (outs : List ℕ) (n : ℕ) (flagged : AreFla
       subst (λ (q : ℕ). has new q ≡ true) place.2
       (flagged.given place.0 lt ∙ (first_flags n all place.0 (omega (arith, lt, many)) ∙ (ap (λ (l : List Bool). has l place.0) same ∙ each place.0 (omega (arith, lt, enough)))))
 
-  pub flags_kept : (p : ℕ) → has_number outs p ≡ false → has new p ≡ has old p
-  flags_kept p other = flagged.others p (λ k lt is. false≢true (sym other ∙ (ap (has_number outs) (sym is) ∙ listed outs k lt)))
+-- where the flags of some paths are handed in, others stay
+pub flags_kept : (old new : List Bool) (outs : List ℕ) (given : List Bool) → AreFlagged old new outs given → (p : ℕ) → has_number outs p ≡ false → has new p ≡ has old p
+flags_kept old new outs given flagged p other = flagged.others p (λ k lt is. false≢true (sym other ∙ (ap (has_number outs) (sym is) ∙ listed outs k lt)))
 
 -- a running edge is one of the graph
 pub edge_within : (graph : Graph) (plan : Plan) (e : ℕ) → IsPlanOver graph plan → standing_at plan.standings.items e ≡ Running → e < length graph.manifest.lines

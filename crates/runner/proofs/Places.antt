@@ -1,6 +1,6 @@
 -- Which edges a run has to do with, and what they do.
-use Rattle.std.proofs.Common.{◌≡◌, ℕ, zero, suc, ◌<◌, ◌==◌, false, true, List, [], ◌∷◌, length, get_or, Option, Some, refl, sym, ◌∙◌, ap, subst, arith}
-use Rattle.std.proofs.lemmas.Bool.{true≢false, eq-eqb, or_left, or_right}
+use Rattle.std.proofs.Common.{◌≡◌, ℕ, zero, suc, ◌<◌, false, true, List, [], ◌∷◌, length, get_or, Option, Some, refl, sym, ◌∙◌, ap, subst, arith}
+use Rattle.std.proofs.lemmas.Bool.{true≢false}
 use Rattle.model.specs.declared.graph.Edge.{Edge}
 use Rattle.model.specs.Graph.{has_number, edge_at, no_edge, IsCommand}
 use Rattle.paths.specs.declared.line.Line.{Line}
@@ -14,6 +14,7 @@ use Rattle.links.specs.declared.graph.Graph.{Graph}
 use Rattle.links.specs.Held.{maker_in}
 use Rattle.links.specs.Links.{is_alias, links_of}
 use Rattle.links.specs.Told.{declared_by}
+use Rattle.looks.proofs.Slices.{item_has}
 
 -- ---- edges by number
 
@@ -54,15 +55,13 @@ module _ (graph : Graph) (e : ℕ) (command : IsCommand (declared_by graph).edge
       by_action Alias is = absurd (no_alias is)
       by_action (Command what) is = refl
 
+  pub restat_is : (what : Order) → get_or graph.manifest.actions e no_action ≡ Command what → what.restat ≡ (edge_at (declared_by graph).edges (suc e)).restat
+  restat_is what is = sym (ap (λ (x : Edge). x.restat) (read ∙ ap (edge_of graph.manifest.paths (line_at graph.manifest.lines e)) is))
+
 maker_within : (makers : List (Option ℕ)) (p e : ℕ) → maker_in makers p ≡ Some e → p < length makers
 maker_within [] p e is = cc
 maker_within (m ∷ makers) zero e is = omega arith
 maker_within (m ∷ makers) (suc p) e is = let lt = maker_within makers p e is in omega (arith, lt)
-
-listed : (xs : List ℕ) (k d : ℕ) → k < length xs → has_number xs (get_or xs k d) ≡ true
-listed [] k d lt = absurd (omega (arith, lt))
-listed (x ∷ xs) zero d lt = or_left (x == x) (has_number xs x) (eq-eqb x x refl)
-listed (x ∷ xs) (suc k) d lt = or_right (x == get_or xs k d) (has_number xs (get_or xs k d)) (listed xs k d (omega (arith, lt)))
 
 -- what a loop reads at a place of a list
 pub read_item : (xs : List ℕ) (i v : ℕ) → v ≡ get_or xs i v → i < length xs → v ≡ get_or xs i 0
@@ -73,7 +72,7 @@ read_item (x ∷ xs) (suc i) v read lt = read_item xs i v read (omega (arith, lt
 -- what an edge makes is one of the paths
 pub output_within : (graph : Graph) (e k : ℕ) (outputs : List ℕ) (p : ℕ) → outputs ≡ (links_of graph).outputs e → k < length outputs → p ≡ get_or outputs k 0 → p < length graph.manifest.paths
 output_within graph e k outputs p same lt is =
-    let has = subst (λ (l : List ℕ). has_number l p ≡ true) same (ap (λ (n : ℕ). has_number outputs n) is ∙ listed outputs k 0 lt) in
+    let has = subst (λ (l : List ℕ). has_number l p ≡ true) same (ap (λ (n : ℕ). has_number outputs n) is ∙ item_has outputs k 0 lt) in
     let inside = maker_within graph.makers.items p e (graph.making.all p e has) in
     let fits = graph.making.fits in
     omega (arith, inside, fits)

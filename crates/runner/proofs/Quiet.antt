@@ -25,7 +25,7 @@ use Rattle.runner.specs.Course.{is_private, is_under_way, is_quiet}
 
 -- ---- some of a list
 
-pub any_number : (test : ℕ → Bool) (xs : List ℕ) (i : ℕ) → has_number xs i ≡ true → test i ≡ true → list_any test xs ≡ true
+any_number : (test : ℕ → Bool) (xs : List ℕ) (i : ℕ) → has_number xs i ≡ true → test i ≡ true → list_any test xs ≡ true
 any_number test [] i there is = absurd (false≢true there)
 any_number test (x ∷ xs) i there is = elim (or_cases (x == i) (has_number xs i) there) [
   | inl here ↦ or_left (test x) (list_any test xs) (ap test (eqb-true x i here) ∙ is)

@@ -52,6 +52,7 @@ on_shown tells course graph hand state display now on = record {
   told = record { records = on.told.records; deps = on.told.deps; known = on.told.known; same = on.told.same };
   seen = on.seen;
   anew = on.anew;
+  before = on.before;
   started = on.started;
   removed = on.removed;
   room = record { looks = on.room.looks; starts = on.room.starts };
@@ -189,7 +190,7 @@ module _ (tells : Bool) (course : Course) (tick : List ℕ) (graph : Graph) (sui
           let both = ok course.behaviour course.format course.own taken.on.steps course.store course.entry may_report (logging_declared tells course tick graph suits state now e taken.on taken.before taken.last) in
           let there = subst (λ (g : BuildGraph). IsReported tells course.format course.own g.edges i stamp texts course.entry new) (sym suits.same) both.1 in
           record {
-            on = on_log tells course graph (Some i) (Some i) state now new taken.on course.own.deps_log suits.deps_owned log_writes records same places deps_places
+            on = on_log tells course graph (Some i) (Some i) state now new taken.on course.own.deps_log suits.deps_owned log_writes suits.once records same places deps_places
                 (subst (λ (g : BuildGraph). IsLogging tells course.behaviour course.format course.own g.edges taken.on.steps (Some i) course.store course.entry new records.logs) (sym suits.same) both.0) refl;
             before = taken.before;
             last = taken.last;
@@ -261,11 +262,11 @@ module _ (tells : Bool) (course : Course) (tick : List ℕ) (graph : Graph) (sui
 
     -- it is in hand until its response file is removed
     abbrev recorded : IsOn tells course graph (Some job) After mid
-    recorded = on_log tells course graph (Some job) (Some job) state now mid done.on course.own.build_log suits.log_owned done_writes records same places deps_places
+    recorded = on_log tells course graph (Some job) (Some job) state now mid done.on course.own.build_log suits.log_owned done_writes suits.once records same places deps_places
         (logging_with tells course graph steps steps None (Some job) mid records.logs (hand_carried tells course graph steps mid job carried_then) logging_then) refl
 
     abbrev cleared : IsOn tells course graph (Some job) After gone
-    cleared = on_depfile tells course graph stays (Some job) After mid gone recorded job stale_here clears_it
+    cleared = on_depfile tells course graph stays (Some job) After mid gone recorded job stale_here clears_it suits.once
 
     pub carried_gone : Carried tells course graph steps None gone
     carried_gone = carried_depfile tells course.behaviour course.format course.own course.asked course.store course.entry steps None mid gone job stale_here clears_it carried_then
@@ -282,7 +283,7 @@ module _ (tells : Bool) (course : Course) (tick : List ℕ) (graph : Graph) (sui
       removes_it = subst (λ (a : Act). WritesAt tells a.response_path gone new) act_here removes
 
       abbrev held : IsOn tells course graph (Some job) After new
-      held = on_response tells course graph stays (Some job) After gone new cleared job stale_here removes_it refl
+      held = on_response tells course graph stays (Some job) After gone new cleared job stale_here removes_it suits.once refl
 
       pub carried_new : Carried tells course graph steps None new
       carried_new = carried_response tells course.behaviour course.format course.own course.asked course.store course.entry steps None gone new job stale_here removes_it carried_gone
@@ -296,6 +297,7 @@ module _ (tells : Bool) (course : Course) (tick : List ℕ) (graph : Graph) (sui
         told = held.told;
         seen = held.seen;
         anew = held.anew;
+        before = held.before;
         started = held.started;
         removed = removed_last tells course.own (edges_of course) steps course.entry gone new (grown tells course graph steps None gone carried_gone) (well_rest tells course graph steps None gone carried_gone)
             (Some job) cleared.removed job refl (command_here tells course tick graph suits state now e done.on done.before done.last)

@@ -10,6 +10,11 @@ pub ok_both : {T E : Type 0} {P Q R : Type 0} (r : Result T E) → OnOk r P → 
 ok_both (Ok x) p q f = f p q
 ok_both (Err e) p q f = tt
 
+-- three clauses of one call
+pub ok_then₃ : {T E : Type 0} {P Q R S : Type 0} (r : Result T E) → OnOk r P → OnOk r Q → OnOk r R → (P → Q → R → S) → OnOk r S
+ok_then₃ (Ok x) p q s f = f p q s
+ok_then₃ (Err e) p q s f = tt
+
 pub on_ok : {T E : Type 0} {P : Type 0} (r : Result T E) → P → OnOk r P
 on_ok (Ok x) p = p
 on_ok (Err e) p = tt

@@ -1,27 +1,27 @@
 -- What an edge reads whose turn to be judged has come: it is settled, and quiet.
-use Rattle.std.proofs.Common.{◌≡◌, ◌⊎◌, inl, inr, ℕ, ◌&&◌, not, Bool, true, false, IsTrue, List, Option, Some, None, refl, sym, ◌∙◌, ap, subst}
-use Rattle.std.proofs.lemmas.Bool.{false≢true, true≢false, cases_Bool, false_from_ne_true}
+use Rattle.std.proofs.Common.{◌≡◌, ◌⊎◌, inl, inr, ℕ, Bool, true, false, IsTrue, List, Some, sym, ◌∙◌, ap, subst}
+use Rattle.std.proofs.lemmas.Bool.{false≢true, true≢false, false_from_ne_true}
 use Rattle.model.specs.declared.event.Moment.{Moment}
 use Rattle.model.specs.declared.graph.Edge.{Edge}
 use Rattle.model.specs.World.{World, View, stamp_of, view_of, IsIdle}
 use Rattle.model.specs.Graph.{has, has_number, edge_at, maker, outputs, regular_inputs, inputs, IsCommand, IsMadeOnce}
 use Rattle.model.specs.Reading.{IsRead, Itself, Through, needs}
 use Rattle.model.specs.Records.{OwnFiles, Store, recorded_inputs}
-use Rattle.model.specs.OutOfDate.{is_made_anew, Counted}
+use Rattle.model.specs.OutOfDate.{Counted}
 use Rattle.model.specs.Schedule.{Task, Step as Done, IsSettled, Done as ByItself, Alias, judged_in, clean_in, well_in, failed_in, running_in, done_in}
 use Rattle.model.specs.Premises.{FilesAreKept, OwnFilesApart, RecordedApart}
 use Rattle.model.specs.SingleBuild.{Asked}
 use Rattle.build_theory.specs.Run.{IsRunOrRest}
-use Rattle.build_theory.proofs.Lists.{has-left, has-right, has_number-cases, same_some, some_none}
-use Rattle.build_theory.proofs.Makers.{maker_has, maker_is}
+use Rattle.build_theory.proofs.Lists.{has-left, has-right, has_number-cases, same_some}
+use Rattle.build_theory.proofs.Makers.{maker_is}
 use Rattle.build_theory.proofs.Settled.{settled_command}
 use Rattle.build_theory.proofs.Steps.{running_parts}
 use Rattle.build_theory.proofs.Orderly.{IsKept, kept_orderly}
 use Rattle.build_theory.proofs.Exit.{unchanged, may_not}
 use Rattle.log_theory.proofs.Carried.{read_apart}
 use Rattle.verdict.specs.Judged.{everything, HasPathsOf, AreUntouched}
-use Rattle.runner.specs.Course.{is_quiet, is_anew}
-use Rattle.runner.proofs.Quiet.{quiet_from, any_number, number_of_any}
+use Rattle.runner.specs.Course.{is_quiet}
+use Rattle.runner.proofs.Quiet.{quiet_from}
 
 -- ---- settled edges
 
@@ -58,32 +58,6 @@ module _ (edges : List Edge) (steps : List Done) (kept : IsKept edges steps) whe
         | inr well ↦ false≢true (sym parts.1 ∙ kept.well j well)
       ]
 
-  -- ---- what was made anew
-
-  module _ (once : IsMadeOnce edges) (plain : (j : ℕ) → IsCommand edges j → (edge_at edges j).restat ≡ false) (p : List ℕ) where
-    abbrev makes : ℕ → Bool
-    makes i = has (outputs (edge_at edges i)) p
-
-    anew_by : (m : Option ℕ) → maker edges p ≡ m → (same : Bool) → is_anew edges steps p ≡ is_made_anew edges (well_in steps) same m
-    anew_by None is same = false_from_ne_true (is_anew edges steps p) (λ some.
-        let j = number_of_any makes (well_in steps) some in
-        some_none j.0 (sym (maker_is edges p j.0 once j.2) ∙ is))
-    anew_by (Some j) is same = elim (cases_Bool (has_number (well_in steps) j)) [
-      | inl well ↦ any_number makes (well_in steps) j well (maker_has edges p j is) ∙ sym (by_flags (has_number (well_in steps) j) (edge_at edges j).restat well (plain j (kept.judged j (kept.out_of_date j (kept.started j (kept.ended j (kept.well j well)))))))
-      | inr none ↦ false_from_ne_true (is_anew edges steps p) (λ some.
-          let k = number_of_any makes (well_in steps) some in
-          false≢true (sym none ∙ subst (λ (n : ℕ). has_number (well_in steps) n ≡ true) (same_some k.0 j (sym (maker_is edges p k.0 once k.2) ∙ is)) k.1))
-          ∙ sym (ap (λ (b : Bool). b && not ((edge_at edges j).restat && same)) none)
-    ]
-      where
-        by_flags : (w r : Bool) → w ≡ true → r ≡ false → (w && not (r && same)) ≡ true
-        by_flags true false well none = refl
-        by_flags true true well none = absurd (true≢false none)
-        by_flags false r well none = absurd (false≢true well)
-
-    pub anew_is_made : (same : Bool) → is_anew edges steps p ≡ is_made_anew edges (well_in steps) same (maker edges p)
-    anew_is_made same = anew_by (maker edges p) refl same
-
   -- ---- an edge whose turn has come
 
   module _ (own : OwnFiles) (apart : OwnFilesApart own edges) (once : IsMadeOnce edges) where
@@ -97,6 +71,13 @@ module _ (edges : List Edge) (steps : List Done) (kept : IsKept edges steps) whe
       ];
       rests = λ i runs made. rests i (maker_is edges p i once made) runs;
     })
+
+    -- what an edge makes that was not judged yet
+    pub outputs_quiet : (i : ℕ) → has_number (judged_in steps) i ≡ false → (p : List ℕ) → has (outputs (edge_at edges i)) p ≡ true → is_quiet own edges steps p ≡ true
+    outputs_quiet i fresh p h = quiet_path p (apart.outputs i p h) (λ j is runs.
+        let same = same_some j i (sym is ∙ maker_is edges p i once h) in
+        let judged = kept.out_of_date j (kept.started j (running_parts steps j runs).0) in
+        false≢true (sym fresh ∙ subst (λ (n : ℕ). has_number (judged_in steps) n ≡ true) same judged))
 
     module _ (asked : Asked) (store : Store) (i : ℕ) (fresh : has_number (judged_in steps) i ≡ false) (recorded_apart : RecordedApart own (recorded_inputs store edges))
         (ready : (p : List ℕ) (j : ℕ) → has (needs edges (recorded_inputs store edges) i) p ≡ true → maker edges p ≡ Some j → IsSettled edges (done_in steps) j) where
@@ -113,10 +94,7 @@ module _ (edges : List Edge) (steps : List Done) (kept : IsKept edges steps) whe
 
       pub paths_quiet : HasPathsOf edges store i (is_quiet own edges steps)
       paths_quiet = record {
-        made = λ p h. quiet_path p (apart.outputs i p h) (λ j is runs.
-            let same = same_some j i (sym is ∙ maker_is edges p i once h) in
-            let judged = kept.out_of_date j (kept.started j (running_parts steps j runs).0) in
-            false≢true (sym fresh ∙ subst (λ (n : ℕ). has_number (judged_in steps) n ≡ true) same judged));
+        made = outputs_quiet i fresh;
         read = λ p read. quiet_path p (read_apart edges everything (λ q. own.set q ≡ false) apart.inputs i p read)
             (λ j is runs. settled_rests j (settled_reads edges everything (done_in steps) i p read input_ready j is) runs);
         recorded = λ p h. quiet_path p (recorded_apart i p h) (λ j is runs. settled_rests j (recorded_ready p j h is) runs);

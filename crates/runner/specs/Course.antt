@@ -4,21 +4,23 @@ use Rattle.std.specs.List.{list_any}
 use Rattle.model.specs.declared.graph.Edge.{Edge}
 use Rattle.model.specs.declared.record.Record.{Record}
 use Rattle.model.specs.declared.record.DepsRecord.{DepsRecord}
-use Rattle.model.specs.World.{World, IsIdle}
+use Rattle.model.specs.World.{World, file_at, stamp_of, IsIdle}
 use Rattle.model.specs.Graph.{has, has_number, edge_at, maker, outputs, IsCommand, IsMadeOnce}
 use Rattle.model.specs.Outcome.{Behaviour}
 use Rattle.model.specs.Records.{Store, LogFormat, OwnFiles, recorded_inputs}
-use Rattle.model.specs.Schedule.{Step as Done, failed_in, running_in, well_in}
+use Rattle.model.specs.OutOfDate.{input_facts}
+use Rattle.model.specs.Schedule.{Step as Done, out_of_date_in, ended_in, failed_in, running_in, well_in}
 use Rattle.model.specs.Premises.{FilesAreKept}
 use Rattle.model.specs.Kept.{StartedUnder}
 use Rattle.model.specs.SingleBuild.{Asked, task_of}
 use Rattle.paths.specs.Told.{text_at}
 use Rattle.links.specs.declared.graph.Graph.{Graph}
+use Rattle.links.specs.Links.{links_of}
 use Rattle.links.specs.Told.{declared_by, recorded_by, AreSameInputs}
 use Rattle.depfile.specs.Depfile.{IsReading}
 use Rattle.lowest.specs.Flags as flags
 use Rattle.plan.specs.Planned.{IsPlanned}
-use Rattle.looks.specs.Seen.{AreSeenOf}
+use Rattle.looks.specs.Seen.{look_at, look_of, AreSeenOf}
 use Rattle.records.specs.Known.{AreKnown}
 use Rattle.records.specs.Logging.{IsLogging}
 use Rattle.log_theory.specs.Ledger.{IsCarried}
@@ -38,15 +40,14 @@ pub record Course : Type 0 where
 abbrev pub edges_of : Course → List Edge
 edges_of course = course.asked.graph.edges
 
--- The graph declares what was asked, with the recorded inputs that are in use; each path is made once; a command has outputs, and
--- names no `restat`; depfiles are read as their grammar says; both logs are files of the program's own; ticks touch another such
--- file, that is no log; no command ran at the entry.
+-- The graph declares what was asked, with the recorded inputs that are in use; each path is made once; a command has outputs;
+-- depfiles are read as their grammar says; both logs are files of the program's own; ticks touch another such file, that is no log;
+-- no command ran at the entry.
 pub record Suits (course : Course) (tick : List ℕ) (graph : Graph) : Type 0 where
   pub same : course.asked.graph ≡ declared_by graph
   pub recorded : AreSameInputs (recorded_inputs course.store (edges_of course)) (recorded_by graph)
   pub once : IsMadeOnce (edges_of course)
   pub some : (i : ℕ) → IsCommand (edges_of course) i → outputs (edge_at (edges_of course) i) ≢ []
-  pub bare : (i : ℕ) → IsCommand (edges_of course) i → (edge_at (edges_of course) i).restat ≡ false
   pub depfiles : IsReading course.behaviour.depfile
   pub log_owned : course.own.files course.own.build_log ≡ true
   pub deps_owned : course.own.files course.own.deps_log ≡ true
@@ -78,15 +79,22 @@ IsSeenStill tells course graph steps state now =
 
 -- ---- what was made anew
 
--- a command of this run made the path, and ended well
-abbrev pub is_anew : List Edge → List Done → List ℕ → Bool
-is_anew edges steps p = list_any (λ i. has (outputs (edge_at edges i)) p) (well_in steps)
+-- The flag of each path whose maker did not fail says whether a command of this run made it anew, by its stamps at the entry and now,
+-- where files are kept.
+abbrev pub AreAnew : Bool → Course → Graph → List Done → State → World → Type 0
+AreAnew tells course graph steps state now =
+    IsTrue tells → FilesAreKept course.own (edges_of course) course.entry.history now.history
+    → (p : ℕ) → p < length graph.manifest.paths → ((j : ℕ) → maker (edges_of course) (text_at graph.manifest.paths p) ≡ Some j → has_number (failed_in steps) j ≡ false)
+    → flags.has state.plan.changed.items p ≡ (input_facts (edges_of course) (well_in steps) course.entry.history now.history (text_at graph.manifest.paths p)).changed
 
--- the flag of each path whose maker did not fail says so
-abbrev pub AreAnew : Course → Graph → List Done → State → Type 0
-AreAnew course graph steps state =
-    (p : ℕ) → p < length graph.manifest.paths → ((j : ℕ) → maker (edges_of course) (text_at graph.manifest.paths p) ≡ Some j → has_number (failed_in steps) j ≡ false)
-    → flags.has state.plan.changed.items p ≡ is_anew (edges_of course) steps (text_at graph.manifest.paths p)
+-- Of the outputs of each edge with `restat` that is out of date and has not ended, what is noted is what was there at the entry, where
+-- files are kept.
+abbrev pub AreSeenBefore : Bool → Course → Graph → List Done → State → World → Type 0
+AreSeenBefore tells course graph steps state now =
+    IsTrue tells → FilesAreKept course.own (edges_of course) course.entry.history now.history
+    → (e : ℕ) → has_number (out_of_date_in steps) (suc e) ≡ true → has_number (ended_in steps) (suc e) ≡ false → (edge_at (edges_of course) (suc e)).restat ≡ true
+    → (p : ℕ) → has_number ((links_of graph).outputs e) p ≡ true
+    → look_at state.looks.seen.items p ≡ look_of (stamp_of (file_at course.entry.history (text_at graph.manifest.paths p)))
 
 -- ---- where a run stands
 
@@ -115,7 +123,8 @@ pub record IsOn (tells : Bool) (course : Course) (graph : Graph) (hand : Option 
   pub logging : IsLogging tells course.behaviour course.format course.own (edges_of course) steps hand course.store course.entry now state.records.logs
   pub told : AreTold tells course graph state now
   pub seen : IsSeenStill tells course graph steps state now
-  pub anew : AreAnew course graph steps state
+  pub anew : AreAnew tells course graph steps state now
+  pub before : AreSeenBefore tells course graph steps state now
   pub started : AreStarted course steps state now
   pub removed : AreRemoved tells course.own (edges_of course) steps hand course.entry now
   pub room : HasRoom graph state

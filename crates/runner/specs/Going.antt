@@ -1,16 +1,18 @@
 -- A run that goes on, that has ended, or that a fault cuts off.
-use Rattle.std.specs.Prelude.{◌≡◌, ◌⊎◌, ℕ, ◌≤◌, ◌<◌, Bool, true, false, List, [], ◌∷◌, ◌++◌, length, Option, Some, None}
+use Rattle.std.specs.Prelude.{◌≡◌, ◌⊎◌, ℕ, suc, ◌≤◌, ◌<◌, ◌&&◌, Bool, true, false, List, [], ◌∷◌, ◌++◌, length, Option, Some, None}
 use Rattle.std.specs.List.{sum_by}
 use Rattle.model.specs.World.{World}
-use Rattle.model.specs.Graph.{has_number}
+use Rattle.model.specs.Graph.{has_number, edge_at}
 use Rattle.model.specs.Schedule.{Task, Step as Done, Ended, MayStart, NoneMayBeJudged, out_of_date_in, started_in, ended_in}
 use Rattle.model.specs.SingleBuild.{task_of}
 use Rattle.build_theory.specs.Run.{IsRun}
 use Rattle.lowest.specs.Flags as flags
 use Rattle.links.specs.declared.graph.Graph.{Graph}
 use Rattle.links.specs.Links.{links_of}
+use Rattle.links.specs.Told.{declared_by}
 use Rattle.log_theory.specs.Ledger.{IsCutOff}
-use Rattle.looks.specs.declared.table.Look.TheVariants.{Unasked}
+use Rattle.looks.specs.declared.table.Looks.{Looks}
+use Rattle.looks.specs.Looking.{HasLooked}
 use Rattle.looks.specs.Seen.{look_at}
 use Rattle.plan.specs.declared.step.End.{End}
 use Rattle.plan.specs.declared.step.Standing.{Standing}
@@ -19,6 +21,7 @@ use Rattle.plan.specs.declared.step.Step.TheVariants.{Ended as Over}
 use Rattle.plan.specs.declared.plan.Plan.{Plan}
 use Rattle.plan.specs.Planned.{IsPlanned, IsNextOf}
 use Rattle.runner.specs.Course.{Course, Suits, IsOn}
+use Rattle.runner.specs.Restat.{IsFlagged, IsForgotten}
 use Rattle.runner.specs.declared.state.State.{State}
 
 -- such a run goes on, of some course
@@ -58,17 +61,22 @@ pub record AreSet (graph : Graph) (all : List Bool) : Type 0 where
 
 -- ---- the end of a command
 
--- What the end of the command of an edge changes beside its plan's steps: all its outputs count as changed, and what was seen of
--- them is forgotten.
-pub record HasEnded (graph : Graph) (e : ℕ) (old new : State) : Type 0 where
-  pub changed : (p : ℕ) → has_number ((links_of graph).outputs e) p ≡ true → flags.has new.plan.changed.items p ≡ true
-  pub unchanged : (p : ℕ) → has_number ((links_of graph).outputs e) p ≡ false → flags.has new.plan.changed.items p ≡ flags.has old.plan.changed.items p
-  pub forgotten : (p : ℕ) → has_number ((links_of graph).outputs e) p ≡ true → look_at new.looks.seen.items p ≡ Unasked
-  pub seen : (p : ℕ) → has_number ((links_of graph).outputs e) p ≡ false → look_at new.looks.seen.items p ≡ look_at old.looks.seen.items p
-  pub fits : length new.looks.seen.items ≡ length old.looks.seen.items
+-- the end of a command changes nothing of these
+pub record IsSameBeside (old new : State) : Type 0 where
   pub records : new.records ≡ old.records
   pub starts : new.starts.items ≡ old.starts.items
   pub set : new.set ≡ old.set
+
+-- What the end of the command of an edge changes beside its plan's steps: what was seen of its outputs is forgotten, and where it
+-- ended well and has `restat` they are looked at anew; an output counts as changed unless its stamp is seen to be the same.
+pub record HasEnded (tells : Bool) (graph : Graph) (e : ℕ) (ok : Bool) (was now : World) (old new : State) : Type 0 where
+  pub changed : (p : ℕ) → has_number ((links_of graph).outputs e) p ≡ true
+      → IsFlagged (ok && (edge_at (declared_by graph).edges (suc e)).restat) (look_at old.looks.seen.items p) (look_at new.looks.seen.items p) (flags.has new.plan.changed.items p)
+  pub unchanged : (p : ℕ) → has_number ((links_of graph).outputs e) p ≡ false → flags.has new.plan.changed.items p ≡ flags.has old.plan.changed.items p
+  pub between : Looks
+  pub forgets : IsForgotten graph e old.looks between
+  pub looked : HasLooked tells graph was now between new.looks
+  pub beside : IsSameBeside old new
 
 -- the failed edges, when the command of one more has ended
 abbrev pub failed_after : List ℕ → ℕ → Bool → List ℕ

@@ -1,5 +1,6 @@
 pub mod Cut
 pub mod Removing
+pub mod Restat
 pub mod Course
 pub mod Going
 pub mod Starting

@@ -9,8 +9,10 @@ ghost use Rattle.plan.specs.Planned.{IsOffered, is_stale};
 ghost use Rattle.runner.specs.Course.{Course, Suits, IsOn};
 ghost use Rattle.runner.specs.Going.{IsGoing, work_left};
 
+use crate::outputs::ask_before;
 use crate::setting::Setting;
 use crate::state::State;
+use links::lists_stand;
 use model::{Reason, SiteFault};
 use paths::EdgeId;
 use plan::Verdict;
@@ -35,7 +37,9 @@ pub fn judge<S: Site>(
     ensures on { OnOk result ((course : Course) → Suits course setting.entry.tick.now setting.entry.graph.now → (on : IsOn S.tells course setting.entry.graph.now None state.old (S.world site.old)) → ((stale : Bool) → IsLawfulStep (task_of course.asked course.store) on.steps (Judged (suc edge) stale)) → IsOn S.tells course setting.entry.graph.now None state.new (S.world site.new)) }
     ensures plan { OnErr result (state.new.plan ≡ state.old.plan) }
 {
+    lists_stand(setting.graph);
     log_stays();
+    ask_before(site, setting, &mut state.looks, edge)?;
     let plan = &state.plan;
     let reason = reason(
         setting.alloc,

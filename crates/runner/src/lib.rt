@@ -5,6 +5,7 @@ mod counts;
 mod cut;
 mod folders;
 mod judge;
+mod outputs;
 mod reported;
 mod response;
 mod rest;

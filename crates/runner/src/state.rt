@@ -27,7 +27,7 @@ pub struct State<'a> {
     pub starts: Vec<u64>,
     /// The edges whose command failed, in the order in which they ended.
     pub failed: Vec<EdgeId>,
-    /// As many flags that are set as an edge may have outputs: all outputs of a command count as changed.
+    /// As many flags that are set as an edge may have outputs: all outputs of a command without `restat` count as changed.
     pub set: Vec<bool>,
 }
 

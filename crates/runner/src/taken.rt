@@ -1,25 +1,30 @@
 //! Taking in a command that has ended.
 
-ghost use Rattle.std.specs.Prelude.{◌≡◌, ◌<◌, ◌++◌, ◌∷◌, [], ℕ, suc, None, true, false, get_or, IfErr, OnOk, OnErr};
+ghost use Rattle.std.specs.Prelude.{◌≡◌, ◌<◌, ◌++◌, ◌∷◌, [], not, ℕ, suc, None, true, false, length, get_or, IfErr, OnOk, OnErr};
 ghost use Rattle.model.specs.declared.event.Event.TheVariants.{Finish};
-ghost use Rattle.model.specs.Calls.{HasCause};
-ghost use Rattle.model.specs.Graph.{edge_at};
+ghost use Rattle.model.specs.Calls.{OnlyLooks, HasCause};
+ghost use Rattle.model.specs.Graph.{edge_at, has_number, IsCommand};
 ghost use Rattle.model.specs.Schedule.{Ended};
 ghost use Rattle.model.specs.SingleBuild.{task_of};
+ghost use Rattle.lowest.specs.Flags.{has};
+ghost use Rattle.links.specs.Links.{links_of};
 ghost use Rattle.links.specs.Told.{declared_by};
+ghost use Rattle.looks.specs.Seen.{look_at};
 ghost use Rattle.plan.specs.declared.step.Standing.{Standing};
 ghost use Rattle.plan.specs.declared.step.Step.TheVariants as step;
 ghost use Rattle.plan.specs.Standing.{standing_at};
 ghost use Rattle.plan.specs.Planned.{IsPlanOver, IsNextOf, TakesStep};
 ghost use Rattle.runner.specs.Course.{Course, Suits, IsOn};
-ghost use Rattle.runner.specs.Going.{IsGoing, IsCut, AreSet, HasEnded, failed_after, work_left};
+ghost use Rattle.runner.specs.Going.{IsGoing, IsCut, AreSet, IsSameBeside, HasEnded, failed_after, work_left};
 ghost use Rattle.runner.specs.Removing.{EndsByRemoving};
+ghost use Rattle.runner.specs.Restat.{is_same_look, IsForgotten, LooksAnew};
 ghost use Rattle.runner.specs.Starting.{IsTakenIn};
 ghost use Rattle.runner.specs.Cutting.{Cuts, IfWaiting, IsOfWait};
 ghost use Rattle.runner.specs.Telling.{IsEnding, ended_well};
 
 use crate::counts::progress;
 use crate::cut::Cut;
+use crate::outputs::{changes, has_restat};
 use crate::reported::{Told, ended, read_told, remove_read_depfile, report};
 use crate::response::remove_response;
 use crate::setting::Setting;
@@ -93,7 +98,7 @@ fn take_in_told<S: Site>(
     none_while_running();
     one_answer();
     let finished = ended(finished, &told);
-    note_end(setting, state, edge, finished.ok)?;
+    note_end(site, setting, state, edge, finished.ok).map_err(Cut::Other)?;
     record_end(site, setting, state, edge, finished.ok, &told).map_err(Cut::Other)?;
     let progress = progress(&state.plan);
     show_end(
@@ -122,8 +127,38 @@ fn note_unread(setting: Setting<'_>, state: &mut State<'_>, edge: EdgeId)
         .finished(setting.graph, edge, false, &state.set[..outputs.len()]);
 }
 
-/// Notes how the command of a running edge ended: in the plan, that its outputs may be new, and that it failed where it did.
-fn note_end(
+/// Notes how the command of a running edge ended: in the plan, which of its outputs are new, and that it failed where it did. Of
+/// an edge with `restat` that ended well, those are new whose stamp is another than before; of any other, all.
+fn note_end<S: Site>(
+    site: &mut S,
+    setting: Setting<'_>,
+    state: &mut State<'_>,
+    edge: EdgeId,
+    ok: bool,
+) -> Result<(), SiteFault>
+    requires going_on { (S.world site.old).stopped ≡ false }
+    requires over { IsPlanOver setting.graph.now state.old.plan }
+    requires running { standing_at state.old.plan.standings.items edge ≡ Standing.Running }
+    requires command { IsCommand (declared_by setting.graph.now).edges (suc edge) }
+    requires enough { AreSet setting.graph.now state.old.set.items }
+    requires fits { length state.old.looks.seen.items ≡ length setting.graph.now.manifest.paths }
+    ensures looks { OnlyLooks S.tells (S.world site.old) (S.world site.new) }
+    ensures cause { HasCause (S.world site.old) (S.world site.new) result }
+    ensures nearer { work_left state.new.plan.standings.items < work_left state.old.plan.standings.items }
+    ensures ended { OnOk result (HasEnded S.tells setting.entry.graph.now edge ok (S.world site.old) (S.world site.new) state.old state.new) }
+    ensures set { state.new.set ≡ state.old.set }
+    ensures planned { TakesStep setting.entry.graph.now state.old.plan state.new.plan (Ended (suc edge) ok) }
+    ensures noted { OnOk result (state.new.failed.items ≡ failed_after state.old.failed.items edge ok) }
+{
+    if ok && has_restat(setting.graph, edge) {
+        note_compared(site, setting, state, edge)
+    } else {
+        Ok(note_all(setting, state, edge, ok)?)
+    }
+}
+
+/// Notes the end of a command all of whose outputs count as changed.
+fn note_all(
     setting: Setting<'_>,
     state: &mut State<'_>,
     edge: EdgeId,
@@ -133,7 +168,10 @@ fn note_end(
     requires running { standing_at state.old.plan.standings.items edge ≡ Standing.Running }
     requires enough { AreSet setting.graph.now state.old.set.items }
     ensures nearer { work_left state.new.plan.standings.items < work_left state.old.plan.standings.items }
-    ensures ended { HasEnded setting.entry.graph.now edge state.old state.new }
+    ensures changed { (p : ℕ) → has_number ((links_of setting.entry.graph.now).outputs edge) p ≡ true → has state.new.plan.changed.items p ≡ true }
+    ensures unchanged { (p : ℕ) → has_number ((links_of setting.entry.graph.now).outputs edge) p ≡ false → has state.new.plan.changed.items p ≡ has state.old.plan.changed.items p }
+    ensures forgets { IsForgotten setting.entry.graph.now edge state.old.looks state.new.looks }
+    ensures beside { IsSameBeside state.old state.new }
     ensures planned { TakesStep setting.entry.graph.now state.old.plan state.new.plan (Ended (suc edge) ok) }
     ensures noted { OnOk result (state.new.failed.items ≡ failed_after state.old.failed.items edge ok) }
 {
@@ -146,6 +184,45 @@ fn note_end(
         state.failed.push(edge)?;
     }
     Ok(())
+}
+
+/// Notes the good end of a command that may have left outputs as they were.
+fn note_compared<S: Site>(
+    site: &mut S,
+    setting: Setting<'_>,
+    state: &mut State<'_>,
+    edge: EdgeId,
+) -> Result<(), SiteFault>
+    requires going_on { (S.world site.old).stopped ≡ false }
+    requires over { IsPlanOver setting.graph.now state.old.plan }
+    requires running { standing_at state.old.plan.standings.items edge ≡ Standing.Running }
+    requires enough { AreSet setting.graph.now state.old.set.items }
+    requires fits { length state.old.looks.seen.items ≡ length setting.graph.now.manifest.paths }
+    ensures looks { OnlyLooks S.tells (S.world site.old) (S.world site.new) }
+    ensures cause { HasCause (S.world site.old) (S.world site.new) result }
+    ensures nearer { work_left state.new.plan.standings.items < work_left state.old.plan.standings.items }
+    ensures changed { OnOk result ((p : ℕ) → has_number ((links_of setting.entry.graph.now).outputs edge) p ≡ true → has state.new.plan.changed.items p ≡ not (is_same_look (look_at state.old.looks.seen.items p) (look_at state.new.looks.seen.items p))) }
+    ensures unchanged { OnOk result ((p : ℕ) → has_number ((links_of setting.entry.graph.now).outputs edge) p ≡ false → has state.new.plan.changed.items p ≡ has state.old.plan.changed.items p) }
+    ensures anew { OnOk result (LooksAnew S.tells setting.entry.graph.now edge (S.world site.old) (S.world site.new) state.old.looks state.new.looks) }
+    ensures beside { IsSameBeside state.old state.new }
+    ensures planned { TakesStep setting.entry.graph.now state.old.plan state.new.plan (Ended (suc edge) true) }
+    ensures failed { state.new.failed ≡ state.old.failed }
+{
+    match changes(site, setting, &mut state.looks, edge) {
+        Ok(changed) => {
+            state
+                .plan
+                .finished(setting.graph, edge, true, changed.as_slice());
+            Ok(())
+        }
+        Err(fault) => {
+            let outputs = setting.graph.outputs(edge);
+            state
+                .plan
+                .finished(setting.graph, edge, true, &state.set[..outputs.len()]);
+            Err(fault)
+        }
+    }
 }
 
 /// Records a command that ended well: what it told first, then that it is done; and then removes its depfile, where that is not to

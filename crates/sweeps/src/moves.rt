@@ -18,6 +18,7 @@ const RULES: &str = "rule cat
   command = cat $out $in
 rule keep
   command = keep $out $in
+  restat = 1
 rule both
   command = both $out $in
 rule fail

@@ -13,7 +13,6 @@ use Rattle.model.specs.Calls.{OnlyLooks}
 use Rattle.model.specs.OutOfDate.{deps_start}
 use Rattle.model.specs.Records.{in_force, deps_in_force}
 use Rattle.model.specs.Judgement.{OutputFacts, InputFacts}
-use Rattle.build_theory.proofs.Calls.{looks_none}
 use Rattle.build_theory.proofs.Lists.{all_parts, bytes_same}
 use Rattle.paths.specs.Told.{text_at}
 use Rattle.links.specs.declared.graph.Graph.{Graph}
@@ -25,14 +24,12 @@ use Rattle.dirty.specs.declared.outputs.Outputs.{Outputs}
 use Rattle.dirty.specs.Summaries.{AreOutputs, AreInputs, TakesOutput}
 use Rattle.verdict.specs.Facts.{output_at, stamp_at, one_input, all_inputs, AreIn, HasOutputs, HasDepfile, TakesOne, TakesAll}
 
-pub looked_none : (tells : Bool) (graph : Graph) (w : World) (looks : Looks) → HasLooked tells graph w w looks looks
-looked_none tells graph w looks = record { looks = looks_none tells w; fits = refl; seen = λ told set kept seen. seen }
-
 -- a call that only looks asks for no path of the table
 pub looked_still : (tells : Bool) (graph : Graph) (a b : World) (looks : Looks) → FilesStay tells a b → OnlyLooks tells a b → HasLooked tells graph a b looks looks
 looked_still tells graph a b looks stay only = record {
   looks = only;
   fits = refl;
+  stays = λ p asked. refl;
   seen = λ told set kept seen p asked is. seen p asked is ∙ ap (λ (f : Option File). look_of (stamp_of f)) (sym (stay told set only kept (text_at graph.manifest.paths p) is));
 }
 

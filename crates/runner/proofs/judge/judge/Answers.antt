@@ -1,13 +1,15 @@
 use Rattle.std.proofs.Common.{suc, true, List, Bool, subst}
 use Rattle.model.specs.declared.record.Record.{Record}
 use Rattle.model.specs.declared.record.DepsRecord.{DepsRecord}
+use Rattle.build_theory.proofs.Calls.{looks_then}
 use Rattle.links.specs.Told.{declared_by}
 use Rattle.looks.specs.Seen.{IfKept}
 use Rattle.plan.specs.Planned.{is_stale}
 use Rattle.records.specs.Known.{AreKnown}
 use Rattle.verdict.specs.Judged.{IsAnswer, KeepsDepfile}
 use Rattle.runner.proofs.Work.{judged_less}
-use Rattle.runner.proofs.Judging.{judged_on, judged_command}
+use Rattle.runner.proofs.Noticed.{with_looks, on_looked}
+use Rattle.runner.proofs.Judging.{judged_on, judged_command, asked_outputs}
 use Rattle.runner.proofs.judge.judge.Goals as goal
 
 pub reason-requires-clause-command : goal.reason-requires-clause-command
@@ -15,16 +17,28 @@ reason-requires-clause-command g c =
     let going = c.requires.going.0 in
     judged_command going.course c.args.setting.graph.now c.args.setting.tick.now going.suits c.args.edge (c.requires.going.1 true).0.command
 
+pub returns-in_err-reason-clause-looks : goal.returns-in_err-reason-clause-looks
+returns-in_err-reason-clause-looks g c = looks_then g.S.Texts.tells (g.S.Texts.world c.args.site.now) (g.S.Texts.world c.ask_before.new.site) (g.S.Texts.world c.reason.new.site) c.ask_before.ensures.looked.looks c.reason.ensures.looked.looks
+
+pub returns-clause-looks : goal.returns-clause-looks
+returns-clause-looks g c = looks_then g.S.Texts.tells (g.S.Texts.world c.args.site.now) (g.S.Texts.world c.ask_before.new.site) (g.S.Texts.world c.reason.new.site) c.ask_before.ensures.looked.looks c.reason.ensures.looked.looks
+
 pub returns-clause-nearer : goal.returns-clause-nearer
 returns-clause-nearer g c = judged_less c.args.state.now.plan c.judged.new.self.standings.items c.args.edge c.verdict_of-verdict.result c.requires.offered c.judged.ensures.stands
 
 pub returns-clause-on : goal.returns-clause-on
 returns-clause-on g c course suits on next =
-    judged_on g.S.Texts.tells course c.args.setting.graph.now c.log_stays.ensures c.args.setting.tick.now suits c.args.state.now (g.S.Texts.world c.args.site.now) (g.S.Texts.world c.reason.new.site) c.args.edge on next
+    let tells = g.S.Texts.tells in
+    let graph = c.args.setting.graph.now in
+    let state = c.args.state.now in
+    let mid = g.S.Texts.world c.ask_before.new.site in
+    judged_on tells course graph c.log_stays.ensures c.args.setting.tick.now suits (with_looks tells course graph state c.ask_before.new.looks) mid (g.S.Texts.world c.reason.new.site) c.args.edge
+    (on_looked tells course graph c.log_stays.ensures c.args.setting.tick.now suits state (g.S.Texts.world c.args.site.now) mid c.ask_before.new.looks c.ask_before.ensures.looked on) next
     c.reason.ensures.looked.looks c.reason.new.looks c.in_ok-reason.reason (is_stale c.verdict_of-verdict.result) c.verdict_of-verdict.ensures c.reason.ensures.looked
+    c.lists_stand.ensures (asked_outputs course graph c.args.setting.tick.now suits c.args.edge c.ask_before.new.looks c.in_ok-ask_before.ensures.asked)
     (subst
-    (λ (flags : List Bool). (rs : List Record) (ds : List DepsRecord) → AreKnown c.args.setting.graph.now rs ds c.args.state.now.records
-    → KeepsDepfile g.S.Texts.tells (declared_by c.args.setting.graph.now).edges (g.S.Texts.world c.args.site.now) (g.S.Texts.world c.reason.new.site) (suc c.args.edge)
-    → IfKept g.S.Texts.tells c.args.setting.graph.now.manifest.paths (g.S.Texts.world c.args.site.now) (g.S.Texts.world c.reason.new.site) c.args.state.now.looks.seen.items (IsAnswer c.args.setting.graph.now rs ds flags c.args.edge c.in_ok-reason.reason))
+    (λ (flags : List Bool). (rs : List Record) (ds : List DepsRecord) → AreKnown graph rs ds state.records
+    → KeepsDepfile tells (declared_by graph).edges mid (g.S.Texts.world c.reason.new.site) (suc c.args.edge)
+    → IfKept tells graph.manifest.paths mid (g.S.Texts.world c.reason.new.site) c.ask_before.new.looks.seen.items (IsAnswer graph rs ds flags c.args.edge c.in_ok-reason.reason))
     c.deref.ensures.value c.in_ok-reason.ensures.reason)
     c.judged.new.self c.judged-2.new.self c.judged.ensures.planned c.judged.ensures.flags

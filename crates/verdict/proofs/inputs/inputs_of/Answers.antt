@@ -5,7 +5,8 @@ use Rattle.links.specs.ReadingOf.{edges_in}
 use Rattle.looks.specs.Seen.{IfKept}
 use Rattle.verdict.specs.Facts.{TakesAll}
 use Rattle.verdict.proofs.Reasons.{within_by}
-use Rattle.verdict.proofs.Taking.{looked_none, has_inputs}
+use Rattle.looks.proofs.Stays.{looked_none}
+use Rattle.verdict.proofs.Taking.{has_inputs}
 use Rattle.verdict.proofs.inputs.inputs_of.Goals as goal
 
 pub returns-in_err-reading-clause-looked : goal.returns-in_err-reading-clause-looked

@@ -7,7 +7,8 @@ use Rattle.paths.specs.Told.{text_at}
 use Rattle.looks.specs.Seen.{IfKept, IsStampIn}
 use Rattle.verdict.specs.Facts.{HasOutputs}
 use Rattle.verdict.proofs.Reasons.{at_has}
-use Rattle.verdict.proofs.Taking.{looked_none, outputs_more}
+use Rattle.looks.proofs.Stays.{looked_none}
+use Rattle.verdict.proofs.Taking.{outputs_more}
 use Rattle.verdict.proofs.Known.{takes_known}
 use Rattle.verdict.proofs.outputs.outputs_of.Goals as goal
 

@@ -1,0 +1,44 @@
+-- Outputs of commands with `restat` (manual: "Rule variables"): which of them count as changed.
+use Rattle.std.specs.Prelude.{◌≡◌, ◌<◌, ◌==◌, not, ℕ, Bool, true, false, List, length, slice_index}
+use Rattle.lowest.specs.Flags as flags
+use Rattle.model.specs.World.{World}
+use Rattle.model.specs.Graph.{has_number}
+use Rattle.links.specs.declared.graph.Graph.{Graph}
+use Rattle.links.specs.Links.{links_of}
+use Rattle.looks.specs.declared.table.Look.{Look}
+use Rattle.looks.specs.declared.table.Look.TheVariants.{Unasked, Absent, Stamp}
+use Rattle.looks.specs.declared.table.Looks.{Looks}
+use Rattle.looks.specs.Looking.{HasLooked}
+use Rattle.looks.specs.Seen.{look_at, is_asked}
+
+-- both show a file, of one stamp
+abbrev pub is_same_look : Look → Look → Bool
+is_same_look Unasked after = false
+is_same_look Absent after = false
+is_same_look (Stamp before) Unasked = false
+is_same_look (Stamp before) Absent = false
+is_same_look (Stamp before) (Stamp after) = before == after
+
+-- for each of these paths the flag says whether what is seen of it differs from what was
+pub record AreChangesOf (before after : List Look) (paths : List ℕ) (given : List Bool) : Type 0 where
+  pub fits : length given ≡ length paths
+  pub are : (k : ℕ) → k < length paths → flags.has given k ≡ not (is_same_look (look_at before (slice_index paths k)) (look_at after (slice_index paths k)))
+
+-- Whether the flag of an output is right, by what was seen of it before and is now: where these are compared it tells whether the stamp
+-- differs, else it is set.
+abbrev pub IsFlagged : Bool → Look → Look → Bool → Type 0
+IsFlagged true before after flag = (is_asked after ≡ true) × (flag ≡ not (is_same_look before after))
+IsFlagged false before after flag = flag ≡ true
+
+-- what was seen of the outputs of an edge is forgotten, and nothing else is
+pub record IsForgotten (graph : Graph) (e : ℕ) (before after : Looks) : Type 0 where
+  pub forgotten : (p : ℕ) → has_number ((links_of graph).outputs e) p ≡ true → look_at after.seen.items p ≡ Unasked
+  pub others : (p : ℕ) → has_number ((links_of graph).outputs e) p ≡ false → look_at after.seen.items p ≡ look_at before.seen.items p
+  pub fits : length after.seen.items ≡ length before.seen.items
+
+-- The outputs of the edge were forgotten, and then asked for.
+pub record LooksAnew (tells : Bool) (graph : Graph) (e : ℕ) (old new : World) (before after : Looks) : Type 0 where
+  pub between : Looks
+  pub forgets : IsForgotten graph e before between
+  pub looked : HasLooked tells graph old new between after
+  pub asked : (p : ℕ) → has_number ((links_of graph).outputs e) p ≡ true → is_asked (look_at after.seen.items p) ≡ true
