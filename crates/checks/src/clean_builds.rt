@@ -1,49 +1,23 @@
-//! Clean builds of graphs that are made by hand.
+//! Worked rows, with the contents that the rows name.
 
-use crate::told::push_file;
 use clean::{NoDepfiles, clean_build};
 use model::{Act, BuildGraph, Deps, Edge, Writer};
 use sim::{History, Toy};
-use std::alloc::{AllocError, Global};
-use std::mem;
-use tables::word;
+use std::alloc::Global;
+use std::test::Fail;
 use text::{Bytes, Items, Path, Text};
 
-/// Edges, and the files before a clean build.
-#[derive(Drop)]
-pub struct Rows {
-    edges: Vec<Edge>,
-    files: History,
-}
-
-impl Rows {
-    pub fn new(alloc: Global) -> Rows {
-        Rows {
-            edges: Vec::new(alloc),
-            files: History::new(alloc),
+fn paths(alloc: Global, words: &str) -> Result<Items<Path>, Fail> {
+    let mut paths = Items::new(alloc);
+    for word in words.split(' ') {
+        if !word.is_empty() {
+            paths.push(Path::from_str(alloc, word)?)?;
         }
     }
-
-    /// `edge OUTPUT : INPUTS : COMMAND`; one without a command is a phony edge.
-    pub fn keep_edge(&mut self, alloc: Global, row: &str) -> Result<(), AllocError> {
-        let (output, rest) = row.split_once(" : ").unwrap_or((row, ""));
-        let (inputs, command) = rest.split_once(" : ").unwrap_or((rest, ""));
-        let edge = edge(alloc, output, inputs, command)?;
-        self.edges.push(edge)?;
-        Ok(())
-    }
-
-    /// `file PATH TEXT`
-    pub fn keep_file(&mut self, alloc: Global, row: &str) -> Result<(), AllocError> {
-        let (path, text) = word(row);
-        let path = Path::from_str(alloc, path)?;
-        let content = Bytes::from_slice(alloc, text.as_bytes())?;
-        self.files.write(Writer::Someone, path, Some(content))?;
-        Ok(())
-    }
+    Ok(paths)
 }
 
-fn edge(alloc: Global, outputs: &str, inputs: &str, command: &str) -> Result<Edge, AllocError> {
+fn edge(alloc: Global, outputs: &str, inputs: &str, command: &str) -> Result<Edge, Fail> {
     Ok(Edge {
         explicit_outputs: paths(alloc, outputs)?,
         implicit_outputs: Items::new(alloc),
@@ -66,33 +40,6 @@ fn edge(alloc: Global, outputs: &str, inputs: &str, command: &str) -> Result<Edg
     })
 }
 
-fn paths(alloc: Global, words: &str) -> Result<Items<Path>, AllocError> {
-    let mut paths = Items::new(alloc);
-    for word in words.split(' ') {
-        if !word.is_empty() {
-            paths.push(Path::from_str(alloc, word)?)?;
-        }
-    }
-    Ok(paths)
-}
-
-/// `clean PATHS`: what a clean build of the edges leaves at these paths. The next edges and files begin anew.
-pub fn push_clean(
-    alloc: Global,
-    rows: &mut Rows,
-    shown: &str,
-    told: &mut String,
-) -> Result<(), AllocError> {
-    let edges = mem::replace(&mut rows.edges, Vec::new(alloc));
-    let files = mem::replace(&mut rows.files, History::new(alloc));
-    let graph = graph(alloc, edges);
-    let built = clean_build(alloc, &Toy, &NoDepfiles, &graph, files)?;
-    for path in shown.split(' ') {
-        push_file(alloc, path, built.content(path), told)?;
-    }
-    Ok(())
-}
-
 fn graph(alloc: Global, edges: Vec<Edge>) -> BuildGraph {
     BuildGraph {
         edges: Items::from_vec(edges),
@@ -100,4 +47,63 @@ fn graph(alloc: Global, edges: Vec<Edge>) -> BuildGraph {
         defaults: Items::new(alloc),
         builddir: Text::new(alloc),
     }
+}
+
+fn files(alloc: Global, present: &[(&str, &str)]) -> Result<History, Fail> {
+    let mut files = History::new(alloc);
+    for (path, content) in present {
+        let content = Bytes::from_slice(alloc, content.as_bytes())?;
+        files.write(Writer::Someone, Path::from_str(alloc, path)?, Some(content))?;
+    }
+    Ok(files)
+}
+
+fn held<'a>(files: &'a History, path: &str) -> Option<&'a [u8]> {
+    files.content(path).map(|content| content.as_slice())
+}
+
+/// Users stand before makers, so each round makes one more file right.
+#[test]
+fn builds_from_the_sources_alone(rt: HostRuntime) -> Result<(), Fail> {
+    let alloc = rt.alloc();
+    let d = edge(alloc, "d", "c", "cat d c")?;
+    let c = edge(alloc, "c", "b a", "cat c b a")?;
+    let b = edge(alloc, "b", "a", "cat b a")?;
+    let graph = graph(alloc, vec![in alloc; d, c, b]?);
+    let files = files(alloc, &[("a", "x"), ("b", "stale"), ("e", "y")])?;
+    let built = clean_build(alloc, &Toy, &NoDepfiles, &graph, files)?;
+    assert_eq!(rt; held(&built, "b"), Some(b"x".as_slice()));
+    assert_eq!(rt; held(&built, "c"), Some(b"xx".as_slice()));
+    assert_eq!(rt; held(&built, "d"), Some(b"xx".as_slice()));
+    assert_eq!(rt; held(&built, "e"), Some(b"y".as_slice()));
+    Ok(())
+}
+
+/// An old output is no source: what a failing command makes is absent, and so is all below it.
+#[test]
+fn failed_commands_leave_nothing(rt: HostRuntime) -> Result<(), Fail> {
+    let alloc = rt.alloc();
+    let b = edge(alloc, "b", "a", "fail b a")?;
+    let c = edge(alloc, "c", "b", "cat c b")?;
+    let graph = graph(alloc, vec![in alloc; b, c]?);
+    let files = files(alloc, &[("a", "x"), ("b", "old"), ("c", "old")])?;
+    let built = clean_build(alloc, &Toy, &NoDepfiles, &graph, files)?;
+    assert_eq!(rt; held(&built, "a"), Some(b"x".as_slice()));
+    assert_eq!(rt; held(&built, "b"), None);
+    assert_eq!(rt; held(&built, "c"), None);
+    Ok(())
+}
+
+/// A file at a phony's path is a source.
+#[test]
+fn phony_paths_stay(rt: HostRuntime) -> Result<(), Fail> {
+    let alloc = rt.alloc();
+    let all = edge(alloc, "all", "b", "")?;
+    let b = edge(alloc, "b", "a all", "cat b a all")?;
+    let graph = graph(alloc, vec![in alloc; all, b]?);
+    let files = files(alloc, &[("a", "x"), ("all", "z")])?;
+    let built = clean_build(alloc, &Toy, &NoDepfiles, &graph, files)?;
+    assert_eq!(rt; held(&built, "all"), Some(b"z".as_slice()));
+    assert_eq!(rt; held(&built, "b"), Some(b"xz".as_slice()));
+    Ok(())
 }

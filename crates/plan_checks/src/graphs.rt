@@ -1,9 +1,10 @@
 //! The graph that a build file declares.
 
-use links::{Cone, Graph};
+use links::{Cone, ConeFault, Graph, GraphFault};
 use manifest::read;
 use site::{SiteFault, Texts};
 use std::alloc::Global;
+use std::test::Fail;
 use text::{Bytes, Path};
 
 /// A site with one file, which gives its bytes once.
@@ -28,22 +29,27 @@ impl Texts for OneFile {
     }
 }
 
-/// The graph of a build file, if there is one.
-pub fn graph_of(alloc: Global, text: String) -> Option<Graph> {
+/// The graph of a build file.
+pub fn graph_of(alloc: Global, text: String) -> Result<Graph, Fail> {
     let mut site = OneFile {
         content: Some(Bytes::from_vec(text.into_bytes())),
     };
-    let manifest = read(alloc, &mut site, "build.ninja").ok()?;
-    Graph::build(alloc, manifest).ok()
+    let manifest = read(alloc, &mut site, "build.ninja")?;
+    match Graph::build(alloc, manifest) {
+        Ok(graph) => Ok(graph),
+        Err(fault) => Err(fault.into()),
+    }
 }
 
-/// The cone of this target, or of what is built by default.
-pub fn cone_of(alloc: Global, graph: &Graph, target: Option<&str>) -> Option<Cone> {
-    match target {
-        Some(target) => {
-            let target = Path::from_str(alloc, target).ok()?;
-            graph.cone(alloc, &[target]).ok()
-        }
-        None => graph.cone(alloc, &[]).ok(),
+/// The cone of this target, or of what is built where there is none.
+pub fn cone_of(alloc: Global, graph: &Graph, target: Option<&str>) -> Result<Cone, Fail> {
+    let mut targets = Vec::new(alloc);
+    if let Some(target) = target {
+        targets.push(Path::from_str(alloc, target)?)?;
+    }
+    match graph.cone(alloc, &targets) {
+        Ok(cone) => Ok(cone),
+        Err(ConeFault::Memory) => Err("out of memory".into()),
+        Err(_) => Err("no cone".into()),
     }
 }

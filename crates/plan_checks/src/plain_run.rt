@@ -8,6 +8,7 @@ use paths::EdgeId;
 use plan::{Standing, Step};
 use plan_plain::Plan;
 use std::alloc::Global;
+use std::test::Fail;
 
 /// A plan over a graph, and the commands that run.
 #[derive(Drop)]
@@ -28,41 +29,43 @@ impl<'a> PlainRun<'a> {
         cone: &Cone,
         jobs: usize,
         keep: usize,
-    ) -> Option<PlainRun<'a>> {
+    ) -> Result<PlainRun<'a>, Fail> {
         if cone.marks.len() != graph.edges() {
-            return None;
+            return Err("a cone of another graph".into());
         }
-        Some(PlainRun {
+        Ok(PlainRun {
             graph,
-            plan: Plan::new(alloc, graph, cone, jobs, keep).ok()?,
+            plan: Plan::new(alloc, graph, cone, jobs, keep)?,
             running: Vec::new(alloc),
         })
     }
 
-    /// What the plan says next, which is done and told to it. None where the plan says what cannot be done.
-    pub fn turn(&mut self, alloc: Global, chance: &Chance) -> Option<Step> {
+    /// What the plan says next, which is done and told to it.
+    pub fn turn(&mut self, alloc: Global, chance: &Chance) -> Result<Step, Fail> {
         let step = self.plan.next(self.graph);
         match step {
             Step::Judge(edge) => self.plan.judged(self.graph, edge, chance.verdict),
             Step::Start(edge) => {
-                self.running.push(edge).ok()?;
+                self.running.push(edge)?;
                 self.plan.started(edge);
             }
             Step::Wait => self.end_one(alloc, chance)?,
             Step::Ended(_) => {}
         }
-        Some(step)
+        Ok(step)
     }
 
-    /// One of the running commands ends. None where none runs.
-    fn end_one(&mut self, alloc: Global, chance: &Chance) -> Option<()> {
-        let edge = take_out(&mut self.running, chance.place)?;
+    /// One of the running commands ends.
+    fn end_one(&mut self, alloc: Global, chance: &Chance) -> Result<(), Fail> {
+        let Some(edge) = take_out(&mut self.running, chance.place) else {
+            return Err("a wait where nothing runs".into());
+        };
         if !self.runs(edge) {
-            return None;
+            return Err("an end of what does not run".into());
         }
-        let flags = flags_of(alloc, self.graph.outputs(edge).len(), chance.changed).ok()?;
+        let flags = flags_of(alloc, self.graph.outputs(edge).len(), chance.changed)?;
         self.plan.finished(self.graph, edge, chance.ok, &flags);
-        Some(())
+        Ok(())
     }
 
     fn runs(&self, edge: EdgeId) -> bool

@@ -8,6 +8,7 @@ use links::{Cone, Graph};
 use paths::EdgeId;
 use plan::{Plan, Standing, Step, Verdict};
 use std::alloc::{AllocError, Global};
+use std::test::Fail;
 
 /// What comes of the next step, whichever it is.
 #[derive(Clone, Copy)]
@@ -79,41 +80,43 @@ impl<'a> Run<'a> {
         cone: &Cone,
         jobs: usize,
         keep: usize,
-    ) -> Option<Run<'a>> {
+    ) -> Result<Run<'a>, Fail> {
         if cone.marks.len() != graph.edges() {
-            return None;
+            return Err("a cone of another graph".into());
         }
-        Some(Run {
+        Ok(Run {
             graph,
-            plan: Plan::new(alloc, graph, cone, jobs, keep).ok()?,
+            plan: Plan::new(alloc, graph, cone, jobs, keep)?,
             running: Vec::new(alloc),
         })
     }
 
-    /// What the plan says next, which is done and told to it. None where the plan says what cannot be done.
-    pub fn turn(&mut self, alloc: Global, chance: &Chance) -> Option<Step> {
+    /// What the plan says next, which is done and told to it.
+    pub fn turn(&mut self, alloc: Global, chance: &Chance) -> Result<Step, Fail> {
         let step = self.plan.next();
         match step {
             Step::Judge(edge) => self.plan.judged(self.graph, edge, chance.verdict),
             Step::Start(edge) => {
-                self.running.push(edge).ok()?;
+                self.running.push(edge)?;
                 self.plan.started(edge);
             }
             Step::Wait => self.end_one(alloc, chance)?,
             Step::Ended(_) => {}
         }
-        Some(step)
+        Ok(step)
     }
 
-    /// One of the running commands ends. None where none runs.
-    fn end_one(&mut self, alloc: Global, chance: &Chance) -> Option<()> {
-        let edge = take_out(&mut self.running, chance.place)?;
+    /// One of the running commands ends.
+    fn end_one(&mut self, alloc: Global, chance: &Chance) -> Result<(), Fail> {
+        let Some(edge) = take_out(&mut self.running, chance.place) else {
+            return Err("a wait where nothing runs".into());
+        };
         if !self.runs(edge) {
-            return None;
+            return Err("an end of what does not run".into());
         }
-        let flags = flags_of(alloc, self.graph.outputs(edge).len(), chance.changed).ok()?;
+        let flags = flags_of(alloc, self.graph.outputs(edge).len(), chance.changed)?;
         self.plan.finished(self.graph, edge, chance.ok, &flags);
-        Some(())
+        Ok(())
     }
 
     fn runs(&self, edge: EdgeId) -> bool

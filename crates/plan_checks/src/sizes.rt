@@ -4,7 +4,7 @@ use crate::graphs::{cone_of, graph_of};
 use crate::run::{Chance, Run};
 use plan::{End, Step, Verdict};
 use std::alloc::{AllocError, Global};
-use tables::word;
+use std::test::Fail;
 
 const RULES: &str = "\
 pool few
@@ -16,20 +16,7 @@ rule few
   pool = few
 ";
 
-/// More steps than a build here has.
-const MOST_STEPS: usize = 4_000_000;
-
-fn number(text: &str) -> usize {
-    text.parse::<usize>().unwrap_or(0)
-}
-
-/// `fan EDGES JOBS`: so many edges that need nothing of one another, each second one in a pool.
-pub fn push_fan(alloc: Global, row: &str, told: &mut String) -> Result<(), AllocError> {
-    let (edges, jobs) = word(row);
-    let text = fan(alloc, number(edges))?;
-    push_steps(alloc, text, number(jobs), told)
-}
-
+/// So many edges that need nothing of one another, each second one in a pool.
 fn fan(alloc: Global, edges: usize) -> Result<String, AllocError> {
     let mut text = String::from_str(alloc, RULES)?;
     for place in 0..edges {
@@ -40,13 +27,7 @@ fn fan(alloc: Global, edges: usize) -> Result<String, AllocError> {
     Ok(text)
 }
 
-/// `chain EDGES JOBS`: so many edges of which each needs the one before it.
-pub fn push_chain(alloc: Global, row: &str, told: &mut String) -> Result<(), AllocError> {
-    let (edges, jobs) = word(row);
-    let text = chain(alloc, number(edges))?;
-    push_steps(alloc, text, number(jobs), told)
-}
-
+/// So many edges of which each needs the one before it.
 fn chain(alloc: Global, edges: usize) -> Result<String, AllocError> {
     let mut text = String::from_str(alloc, RULES)?;
     for place in 0..edges {
@@ -57,44 +38,55 @@ fn chain(alloc: Global, edges: usize) -> Result<String, AllocError> {
     Ok(text)
 }
 
-/// Takes a plan through the build, and tells how many steps it has, if it ends well.
-fn push_steps(
-    alloc: Global,
-    text: String,
-    jobs: usize,
-    told: &mut String,
-) -> Result<(), AllocError> {
-    match steps_through(alloc, text, jobs) {
-        Some(steps) => {
-            let steps = format!(in alloc; "{steps} steps")?;
-            told.push_str(steps.as_str())
-        }
-        None => told.push_str("no good end"),
-    }
-}
-
-fn steps_through(alloc: Global, text: String, jobs: usize) -> Option<usize> {
-    let graph = graph_of(alloc, text)?;
-    let cone = cone_of(alloc, &graph, None)?;
-    let mut run = Run::new(alloc, &graph, &cone, jobs, 1)?;
-    let steps = steps_of(&mut run, alloc);
-    steps
-}
-
-/// How many steps a build has in which each command is out of date and ends well; none where it does not end so.
-fn steps_of(run: &mut Run<'_>, alloc: Global) -> Option<usize> {
+/// How many steps a build has in which each command is out of date and ends well, up to so many; none where it does not end
+/// so.
+fn steps_of(run: &mut Run<'_>, alloc: Global, most: usize) -> Result<Option<usize>, Fail> {
     let chance = Chance {
         verdict: Verdict::OutOfDate,
         place: 0,
         ok: true,
         changed: 1,
     };
-    for done in 0..MOST_STEPS {
-        match run.turn(alloc, &chance)? {
-            Step::Ended(End::Well) => return Some(done),
-            Step::Ended(End::Failed) => return None,
-            _ => {}
+    for done in 0..most {
+        if let Step::Ended(end) = run.turn(alloc, &chance)? {
+            return Ok(if matches!(end, End::Well) {
+                Some(done)
+            } else {
+                None
+            });
         }
     }
-    None
+    Ok(None)
+}
+
+fn steps_through(
+    alloc: Global,
+    text: String,
+    jobs: usize,
+    most: usize,
+) -> Result<Option<usize>, Fail> {
+    let graph = graph_of(alloc, text)?;
+    let cone = cone_of(alloc, &graph, None)?;
+    let mut run = Run::new(alloc, &graph, &cone, jobs, 1)?;
+    steps_of(&mut run, alloc, most)
+}
+
+#[test]
+fn a_fan_of_many_edges(rt: HostRuntime) -> Result<(), Fail> {
+    let text = fan(rt.alloc(), 200_000)?;
+    assert_eq!(rt;
+        steps_through(rt.alloc(), text, 8, 1_000_000)?,
+        Some(600_000)
+    );
+    Ok(())
+}
+
+#[test]
+fn a_chain_of_many_edges(rt: HostRuntime) -> Result<(), Fail> {
+    let text = chain(rt.alloc(), 1_000_000)?;
+    assert_eq!(rt;
+        steps_through(rt.alloc(), text, 1, 4_000_000)?,
+        Some(3_000_000)
+    );
+    Ok(())
 }
