@@ -16,7 +16,7 @@ pub struct Ran {
 
 /// Runs the program where `NINJA_STATUS` is this pattern, or is not set, with these words. `@` in front of a word stands for the
 /// folder.
-pub fn ran(folder: &Folder<'_>, pattern: Option<&str>, words: &str) -> Result<Ran, AllocError> {
+pub fn run_of(folder: &Folder<'_>, pattern: Option<&str>, words: &str) -> Result<Ran, AllocError> {
     let alloc = folder.alloc();
     let words = words_of(folder, words)?;
     let mut out = Vec::new(alloc);

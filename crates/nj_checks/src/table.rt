@@ -1,7 +1,7 @@
 //! Which row asks what.
 
 use crate::folder::Folder;
-use crate::runs::{Ran, push_front, push_ran, push_status, ran, text_of};
+use crate::runs::{Ran, push_front, push_ran, push_status, run_of, text_of};
 use std::alloc::{AllocError, Global};
 use std::io;
 use tables::{Table, unescaped, word};
@@ -50,7 +50,8 @@ impl<'a> Rows<'a> {
                 Ok(Some(self.folder.begin()))
             }
             "compiler" => {
-                self.passes_over = ran(&self.folder, None, "-C @ -f compiler.ninja")?.status != 0;
+                self.passes_over = run_of(&self.folder, None, "-C @ -f compiler.ninja")?.status
+                    != 0;
                 Ok(Some(Ok(())))
             }
             "unless_root" => {
@@ -77,7 +78,7 @@ impl<'a> Rows<'a> {
             "front" => push_front(alloc, &self.ran(other)?, number(one), told),
             "status" => push_status(alloc, self.ran(rest)?.status, told),
             "under" => push_ran(alloc, &self.ran_under(one, other)?, told),
-            "words" => push_ran(alloc, &ran(&self.folder, None, rest)?, told),
+            "words" => push_ran(alloc, &run_of(&self.folder, None, rest)?, told),
             _ => self.push_part(alloc, first, rest, told),
         }
     }
@@ -94,8 +95,8 @@ impl<'a> Rows<'a> {
     ) -> Result<(), AllocError> {
         match first {
             "length" => push_length(alloc, &self.ran_under("", rest)?, told),
-            "refused" => push_refused(alloc, &ran(&self.folder, None, rest)?, told),
-            "help" => push_help(alloc, &ran(&self.folder, None, "--help")?, rest, told),
+            "refused" => push_refused(alloc, &run_of(&self.folder, None, rest)?, told),
+            "help" => push_help(alloc, &run_of(&self.folder, None, "--help")?, rest, told),
             "same" => self.push_same(alloc, rest, told),
             _ => self.push_file(alloc, first, rest, told),
         }
@@ -139,14 +140,14 @@ impl<'a> Rows<'a> {
     fn ran(&self, words: &str) -> Result<Ran, AllocError> {
         let alloc = self.folder.alloc();
         let words = format!(in alloc; "-C @ {words}")?;
-        ran(&self.folder, None, words.as_str())
+        run_of(&self.folder, None, words.as_str())
     }
 
     fn ran_under(&self, pattern: &str, words: &str) -> Result<Ran, AllocError> {
         let alloc = self.folder.alloc();
         let pattern = text_of(alloc, pattern)?;
         let words = format!(in alloc; "-C @ {words}")?;
-        ran(&self.folder, Some(pattern.as_str()), words.as_str())
+        run_of(&self.folder, Some(pattern.as_str()), words.as_str())
     }
 }
 
