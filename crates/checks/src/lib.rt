@@ -6,6 +6,10 @@ mod builds;
 #[cfg(test)]
 mod clean_builds;
 #[cfg(test)]
+mod history;
+#[cfg(test)]
 mod large_builds;
 #[cfg(test)]
 mod moves;
+#[cfg(test)]
+mod watched;

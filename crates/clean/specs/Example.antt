@@ -1,15 +1,9 @@
 -- Two commands, of which one reads what the other makes and reports an input.
-use Rattle.std.specs.Prelude.{ℕ, true, false, List, [], ◌∷◌, ◌++◌, Some, None, codes}
+use Rattle.std.specs.Prelude.{ℕ, true, false, List, [], ◌∷◌, Some, None, codes}
 use Rattle.model.specs.declared.act.Act.{Act}
 use Rattle.model.specs.declared.graph.Deps.TheVariants.{Gcc}
 use Rattle.model.specs.declared.graph.Edge.{Edge}
-use Rattle.model.specs.declared.event.Event.TheVariants.{Start, Finish}
-use Rattle.model.specs.declared.event.Moment.{Moment}
-use Rattle.model.specs.declared.event.Moment.TheVariants.{Wrote, Happened}
-use Rattle.model.specs.declared.event.Writer.TheVariants.{Program, Command, Someone}
-use Rattle.model.specs.Graph.{has}
 use Rattle.model.specs.Outcome.{Behaviour}
-use Rattle.model.specs.Records.{OwnFiles}
 use Rattle.model.specs.Schedule.{Step, Judged, Started, Ended}
 use Rattle.sim.specs.Toy.{toy_outcome}
 
@@ -46,35 +40,6 @@ two_edges =
 abbrev pub toys : Behaviour
 toys = record { outcome = toy_outcome; depfile = λ content. Some (content ∷ []); dyndep = λ content. None }
 
-abbrev pub own : OwnFiles
-own = record {
-  build_log = codes ".nj_log";
-  deps_log = codes ".nj_deps";
-  files = λ p. has (codes ".nj_log" ∷ codes ".nj_deps" ∷ codes "tick" ∷ []) p;
-  set = λ p. has (codes ".nj_log" ∷ codes ".nj_deps" ∷ codes "tick" ∷ codes "o.d" ∷ [] ∷ []) p;
-}
-
 -- both commands are judged out of date and run, one after the other
 abbrev pub one_by_one : List Step
 one_by_one = Judged 1 true ∷ Started 1 ∷ Ended 1 true ∷ Judged 2 true ∷ Started 2 ∷ Ended 2 true ∷ []
-
--- `a` holds `h`, the name of a file that is there too
-abbrev pub before : List Moment
-before = Wrote Someone (codes "a") (Some (codes "h")) 1 ∷ Wrote Someone (codes "h") (Some (codes "z")) 2 ∷ []
-
--- what a build does
-abbrev pub during : List Moment
-during =
-    Wrote Program (codes "tick") (Some []) 3
-    ∷ Happened (Start 1 (act_with (codes "cat b a") []) 3)
-    ∷ Wrote (Command 1) (codes "b") (Some (codes "h")) 4
-    ∷ Happened (Finish 1 true)
-    ∷ Wrote Program (codes "tick") (Some []) 5
-    ∷ Happened (Start 2 (act_with (codes "both o o.d b") (codes "o.d")) 5)
-    ∷ Wrote (Command 2) (codes "o") (Some (codes "h")) 6
-    ∷ Wrote (Command 2) (codes "o.d") (Some (codes "h")) 7
-    ∷ Happened (Finish 2 true)
-    ∷ []
-
-abbrev pub after : List Moment
-after = before ++ during

@@ -1,18 +1,11 @@
 //! Laws about the definitions of a build. Each function has an empty body: its contract is the law.
 
-ghost use Rattle.clean.specs.PremisesMet.{PremisesAreMet};
 ghost use Rattle.clean.specs.Rows.{WorkedRows};
 ghost use Rattle.clean.specs.Beyond.{RoundBeyondChangesNothing};
 
 /// On an acyclic graph, one round beyond the clean build changes nothing.
 pub fn round_beyond()
     ensures { RoundBeyondChangesNothing }
-{}
-
-/// The premises can be met: a history of two commands, one reading what the other makes and reporting an input, keeps
-/// them all.
-pub fn premises_met()
-    ensures { PremisesAreMet }
 {}
 
 /// The definitions call these rows right and wrong as they are meant to: contents, reading sets through phony edges,

@@ -8,4 +8,4 @@ mod made;
 
 pub use clean::clean_build;
 pub use depfiles::{Depfiles, NoDepfiles};
-pub use laws::{premises_met, round_beyond, worked_rows};
+pub use laws::{round_beyond, worked_rows};

@@ -30,7 +30,9 @@ use Rattle.log_theory.specs.Logged.{IsLoggedAt}
 use Rattle.log_theory.specs.Judged.{AreTakenIn}
 use Rattle.log_theory.specs.Builds.{IsRunOf}
 use Rattle.log_theory.specs.Writes.{GrewAt, WritesAt}
+use Rattle.log_theory.specs.Alone.{IsNoFileOf, AreLeftAlone}
 use Rattle.log_theory.specs.Ledger.{IsBeside, IsCarried, IsCutOff, IsReadyToStart}
+use Rattle.log_theory.proofs.Alone.{runs_idle, alone_nothing, alone_looks, alone_adds, alone_at, own_apart, response_apart, depfile_apart}
 use Rattle.log_theory.proofs.Calls.{entry_logged, looks_logged, start_logged, rest_logged}
 use Rattle.log_theory.proofs.Growing.{logged_hand, logged_judged, logged_as_failed, logged_as_well}
 use Rattle.log_theory.proofs.Judged.{judged_nothing, judged_on, judged_other, judged_now, taken_nothing, taken_on, taken_other, taken_ended, verdicts_at_exit}
@@ -103,6 +105,9 @@ module _ (tells : Bool) (B : Behaviour) (format : LogFormat) (own : OwnFiles) (a
   abbrev Logged : List Step → Option ℕ → World → Type 0
   Logged steps hand now = IsLoggedAt B format own asked.graph.edges steps hand store old now
 
+  abbrev LeftAlone : World → Type 0
+  LeftAlone now = AreLeftAlone asked.graph.edges old.history now.history
+
   -- ---- which commands run
 
   module _ (steps : List Step) (now : World) (idle : IsIdle old.events) (rest : Rest steps now) where
@@ -118,6 +123,11 @@ module _ (tells : Bool) (B : Behaviour) (format : LogFormat) (own : OwnFiles) (a
         split : runs_from j (runs j (old.events ++ rest.first)) rest.later ≡ true
         split = sym (runs_from-append j false (old.events ++ rest.first) rest.later)
             ∙ (ap (λ (l : List Event). runs j l) (append_assoc old.events rest.first rest.later ∙ sym rest.grows) ∙ h)
+
+    -- so by the history
+    runs_told : (tell : IsTrue tells) (j : ℕ) → runs j (events_in (rest.history tell).more) ≡ true → runs j now.events ≡ true
+    runs_told tell j h = ap (λ (l : List Event). runs j l) rest.grows
+        ∙ (runs_idle j old.events (rest.first ++ rest.later) idle ∙ (ap (λ (l : List Event). runs j l) (sym (rest.history tell).happened) ∙ h))
 
     pub command_of : (j : ℕ) → runs j now.events ≡ true → IsCommand asked.graph.edges j
     command_of j h = kept.judged j (kept.out_of_date j (kept.started j (running_parts steps j (running_of j h)).0))
@@ -149,14 +159,16 @@ module _ (tells : Bool) (B : Behaviour) (format : LogFormat) (own : OwnFiles) (a
         (λ before after i splits. ends (events_in before) (events_in after) i (sym (grew tell).happened ∙ (ap events_in splits ∙ events_in-append before (Happened (Finish i true) ∷ after))))
         (λ i well. (kept_orderly asked.graph.edges steps rest.orderly).well i well) taken
 
-    pub beside_on : (met hand next : Option ℕ) → starts_in es ≡ [] → EndsOf es steps → (IsTrue tells → Kept new → Logged steps hand now → Logged steps next new) → Beside steps met hand now → Beside steps met next new
-    beside_on met hand next none ends logs beside = record {
+    pub beside_on : (met hand next : Option ℕ) → starts_in es ≡ [] → EndsOf es steps → (IsTrue tells → Kept new → Logged steps hand now → Logged steps next new) → (IsTrue tells → Kept new → LeftAlone now → LeftAlone new)
+        → Beside steps met hand now → Beside steps met next new
+    beside_on met hand next none ends logs alone beside = record {
       idle = beside.idle;
       ready = λ tell. ready_quiet own asked.graph.edges old.history now.history (rest.history tell).more (grew tell).more new.history (rest.history tell).grows (grew tell).grows (ap starts_in (grew tell).happened ∙ none) (beside.ready tell);
       ticked = λ tell. ticked_quiet old.history now.history (rest.history tell).more (grew tell).more new.history (rest.history tell).grows (grew tell).grows (ap starts_in (grew tell).happened ∙ none) (beside.ticked tell);
       judged = λ tell. judged_on tells own asked store old steps now new (grew tell).more (λ t. (grew tell).grows) (beside.judged tell);
       taken_in = λ tell files. taken_in_on met ends tell (beside.taken_in tell (files_before tell files));
       logged = λ tell files. logs tell files (beside.logged tell (files_before tell files));
+      alone = λ tell files. alone tell files (beside.alone tell (files_before tell files));
     }
 
   -- a call that only looks
@@ -164,6 +176,7 @@ module _ (tells : Bool) (B : Behaviour) (format : LogFormat) (own : OwnFiles) (a
   beside_looks steps met hand now new rest looks beside =
       beside_on steps now new rest [] grew met hand hand refl (no_ends steps)
       (λ tell files logged. looks_logged B format own asked.graph.edges store old now new (rest.history tell).more (rest.history tell).grows files (command_of steps now beside.idle rest) steps hand tells tell looks logged)
+      (λ tell files. alone_looks asked.graph.edges old.history now.history (rest.history tell).more new.history (rest.history tell).grows (IsRunning now.events) (looks.history tell))
       beside
     where
       grew : IsTrue tells → GrewBy [] now.history new.history
@@ -175,6 +188,7 @@ module _ (tells : Bool) (B : Behaviour) (format : LogFormat) (own : OwnFiles) (a
       beside_on steps now new rest (Finish i ok ∷ []) grew met hand hand refl (one_end_of steps i ok (unended steps now beside.idle rest i finish.ran))
       (λ tell files logged. rest_logged B format own asked.graph.edges store old now new (rest.history tell).more (rest.history tell).grows files (command_of steps now beside.idle rest) steps hand tells tell i ok finish
       (command_of steps new beside.idle (rest_finishes tells own (task_of asked store) old steps now new i ok rest finish)) logged)
+      (λ tell files. alone_adds asked.graph.edges old.history now.history (rest.history tell).more new.history (rest.history tell).grows (IsRunning now.events) (IsRunning new.events) (Finish i ok) (finish.history tell))
       beside
     where
       grew : IsTrue tells → GrewBy (Finish i ok ∷ []) now.history new.history
@@ -195,6 +209,7 @@ module _ (tells : Bool) (B : Behaviour) (format : LogFormat) (own : OwnFiles) (a
     taken_in = λ tell files. taken_ended B asked.graph.edges old.history steps i w None met now.history fresh (λ k is. absurd (none_some k is))
         (λ at ended. elim read [ inl says ↦ inl (says tell files at ended) | inr met_it ↦ inr met_it ]) (beside.taken_in tell files);
     logged = λ tell files. logs tell files (beside.logged tell files);
+    alone = beside.alone;
   }
     where
       no_judgement : (k : ℕ) (b : Bool) → Ended i w ≡ Judged k b → ⊥
@@ -216,6 +231,7 @@ module _ (tells : Bool) (B : Behaviour) (format : LogFormat) (own : OwnFiles) (a
       judged = λ tell. judged_nothing tells own asked store old old;
       taken_in = λ tell files. taken_nothing B asked.graph.edges old.history None old.history;
       logged = λ tell files. subst (λ (s : Store). IsLoggedAt B format own asked.graph.edges [] None s old old) (sym found) (entry_logged B format own asked.graph.edges old);
+      alone = λ tell files. alone_nothing asked.graph.edges old.history;
     };
   }
 
@@ -230,6 +246,7 @@ module _ (tells : Bool) (B : Behaviour) (format : LogFormat) (own : OwnFiles) (a
       judged = λ tell. judged_nothing tells own asked other old now;
       taken_in = carried.beside.taken_in;
       logged = λ tell files. subst (λ (s : Store). IsLoggedAt B format own asked.graph.edges [] hand s old now) (sym (same tell files)) (carried.beside.logged tell files);
+      alone = carried.beside.alone;
     };
   }
 
@@ -259,6 +276,7 @@ module _ (tells : Bool) (B : Behaviour) (format : LogFormat) (own : OwnFiles) (a
       logged = λ tell files.
           let was = carried.beside.logged tell files in
           record { readable = was.readable; logged = logged_judged B asked.graph.edges store old steps hand (store_in format own (view_of now.history)) now i b was.logged };
+      alone = carried.beside.alone;
     };
   }
 
@@ -275,6 +293,7 @@ module _ (tells : Bool) (B : Behaviour) (format : LogFormat) (own : OwnFiles) (a
       logged = λ tell files.
           let was = carried.beside.logged tell files in
           record { readable = was.readable; logged = logged_hand B asked.graph.edges store old steps (store_in format own (view_of now.history)) now i was.logged };
+      alone = carried.beside.alone;
     };
   }
 
@@ -282,16 +301,30 @@ module _ (tells : Bool) (B : Behaviour) (format : LogFormat) (own : OwnFiles) (a
 
   module _ (steps : List Step) (hand next : Option ℕ) (now new : World) (path : List ℕ) where
     at_path : IsRun tells own (task_of asked store) steps old new → new.events ≡ now.events → (IsTrue tells → GrewAt path (IsRunning now.events) now.history new.history)
-        → (IsTrue tells → Kept new → Logged steps hand now → Logged steps next new) → Carried steps hand now → Carried steps next new
-    at_path run events grew logs carried = record {
+        → (IsTrue tells → Kept new → Logged steps hand now → Logged steps next new)
+        → (IsTrue tells → Kept new → (j : ℕ) → has_number (running_in steps) j ≡ true → IsCommand asked.graph.edges j → IsNoFileOf asked.graph.edges j path) → Carried steps hand now → Carried steps next new
+    at_path run events grew logs apart carried = record {
       run = run;
-      beside = beside_on steps now new (rest_of steps hand now carried) [] (λ tell. grew_at path (IsRunning now.events) now.history new.history (grew tell)) None hand next refl (no_ends steps) logs carried.beside;
+      beside = beside_on steps now new rest [] (λ tell. grew_at path (IsRunning now.events) now.history new.history (grew tell)) None hand next refl (no_ends steps) logs alone carried.beside;
     }
+      where
+        rest : Rest steps now
+        rest = rest_of steps hand now carried
+
+        alone : IsTrue tells → Kept new → LeftAlone now → LeftAlone new
+        alone tell files = alone_at asked.graph.edges old.history now.history (rest.history tell).more new.history (rest.history tell).grows path (IsRunning now.events) (grew tell)
+            (λ j ran.
+            let runs_now : runs j now.events ≡ true = runs_told steps now carried.beside.idle rest tell j ran in
+            apart tell files j (running_of steps now carried.beside.idle rest j runs_now) (command_of steps now carried.beside.idle rest j runs_now))
+
+    -- a file of its own is none of a command's
+    no_command : own.files path ≡ true → IsTrue tells → Kept new → (j : ℕ) → has_number (running_in steps) j ≡ true → IsCommand asked.graph.edges j → IsNoFileOf asked.graph.edges j path
+    no_command mine tell files j running command = own_apart own asked.graph.edges files.own_files j command path mine
 
     -- It is one of its own files, a log among them: what the logs tell is handed in.
     pub carried_log : own.files path ≡ true → WritesAt tells path now new → (IsTrue tells → Kept new → Logged steps hand now → Logged steps next new) → Carried steps hand now → Carried steps next new
     carried_log mine writes logs carried =
-        at_path (run_at tells own (task_of asked store) path steps old now new (λ content. inl mine) writes.events writes.history carried.run) writes.events writes.history logs carried
+        at_path (run_at tells own (task_of asked store) path steps old now new (λ content. inl mine) writes.events writes.history carried.run) writes.events writes.history logs (no_command mine) carried
 
   module _ (steps : List Step) (hand : Option ℕ) (now new : World) (path : List ℕ) where
     -- where the path is no log
@@ -310,7 +343,7 @@ module _ (tells : Bool) (B : Behaviour) (format : LogFormat) (own : OwnFiles) (a
     pub carried_ticks : own.files path ≡ true → path ≢ own.build_log → path ≢ own.deps_log → (stamp : ℕ) → Ticks tells path stamp now new → Carried steps hand now → Carried steps hand new
     carried_ticks mine no_build_log no_deps_log stamp ticks carried =
         at_path steps hand hand now new path (run_at tells own (task_of asked store) path steps old now new (λ content. inl mine) ticks.events grew carried.run) ticks.events grew
-        (apart_logged ticks.events grew (λ tell files. (no_build_log, no_deps_log)) carried) carried
+        (apart_logged ticks.events grew (λ tell files. (no_build_log, no_deps_log)) carried) (no_command steps hand hand now new path mine) carried
       where
         grew : IsTrue tells → GrewAt path (IsRunning now.events) now.history new.history
         grew = ticks_grew tells path stamp now new ticks
@@ -322,32 +355,42 @@ module _ (tells : Bool) (B : Behaviour) (format : LogFormat) (own : OwnFiles) (a
   no_log : (path log : List ℕ) → LiesIn own path → own.files log ≡ true → path ≢ log
   no_log path log lies mine same = false≢true (sym lies.1 ∙ (ap own.files same ∙ mine))
 
-  -- the response file of an edge that was judged out of date is written, or removed
-  pub carried_response : (steps : List Step) (hand : Option ℕ) (now new : World) (i : ℕ) → has_number (out_of_date_in steps) i ≡ true → WritesAt tells (edge_at asked.graph.edges i).act.response_path now new
+  -- what runs is another edge's command
+  runs_other : (steps : List Step) (i j : ℕ) → has_number (running_in steps) i ≡ false → has_number (running_in steps) j ≡ true → j ≢ i
+  runs_other steps i j rests running same = false≢true (sym rests ∙ (ap (λ (n : ℕ). has_number (running_in steps) n) (sym same) ∙ running))
+
+  -- the response file of an edge that was judged out of date is written, or removed, while its command does not run
+  pub carried_response : (steps : List Step) (hand : Option ℕ) (now new : World) (i : ℕ) → has_number (out_of_date_in steps) i ≡ true → has_number (running_in steps) i ≡ false → WritesAt tells (edge_at asked.graph.edges i).act.response_path now new
       → Carried steps hand now → Carried steps hand new
-  carried_response steps hand now new i stale writes carried =
+  carried_response steps hand now new i stale rests writes carried =
       at_path steps hand hand now new path (run_at tells own (task_of asked store) path steps old now new (λ content. inr (inr (i, stale, refl))) writes.events writes.history carried.run) writes.events writes.history
       (apart_logged steps hand now new path writes.events writes.history (λ tell files.
-      let lies = files.own_files.responses i (stale_command steps now carried.beside.idle (rest_of steps hand now carried) i stale) in
+      let lies = files.own_files.responses i command in
       (no_log path own.build_log lies files.own_files.build_log, no_log path own.deps_log lies files.own_files.deps_log)) carried)
-      carried
+      (λ tell files j running theirs. response_apart own asked.graph.edges files.own_files j theirs i command (runs_other steps i j rests running)) carried
     where
       path : List ℕ
       path = (edge_at asked.graph.edges i).act.response_path
 
-  -- its depfile is removed
-  pub carried_depfile : (steps : List Step) (hand : Option ℕ) (now new : World) (i : ℕ) → has_number (out_of_date_in steps) i ≡ true → WritesOrNot tells (edge_at asked.graph.edges i).act.depfile None now new
+      command : IsCommand asked.graph.edges i
+      command = stale_command steps now carried.beside.idle (rest_of steps hand now carried) i stale
+
+  -- its depfile is removed, while its command does not run
+  pub carried_depfile : (steps : List Step) (hand : Option ℕ) (now new : World) (i : ℕ) → has_number (out_of_date_in steps) i ≡ true → has_number (running_in steps) i ≡ false → WritesOrNot tells (edge_at asked.graph.edges i).act.depfile None now new
       → Carried steps hand now → Carried steps hand new
-  carried_depfile steps hand now new i stale (inl looks) carried = carried_looks steps hand now new looks carried
-  carried_depfile steps hand now new i stale (inr writes) carried =
+  carried_depfile steps hand now new i stale rests (inl looks) carried = carried_looks steps hand now new looks carried
+  carried_depfile steps hand now new i stale rests (inr writes) carried =
       at_path steps hand hand now new path run call.events call.history
       (apart_logged steps hand now new path call.events call.history (λ tell files.
-      let lies = files.own_files.depfiles i (stale_command steps now carried.beside.idle (rest_of steps hand now carried) i stale) in
+      let lies = files.own_files.depfiles i command in
       (no_log path own.build_log lies files.own_files.build_log, no_log path own.deps_log lies files.own_files.deps_log)) carried)
-      carried
+      (λ tell files j running theirs. depfile_apart own asked.graph.edges files.own_files j theirs i command (runs_other steps i j rests running)) carried
     where
       path : List ℕ
       path = (edge_at asked.graph.edges i).act.depfile
+
+      command : IsCommand asked.graph.edges i
+      command = stale_command steps now carried.beside.idle (rest_of steps hand now carried) i stale
 
       call : WritesAt tells (edge_at asked.graph.edges i).act.depfile now new
       call = writes_at tells (edge_at asked.graph.edges i).act.depfile None now new writes
@@ -374,6 +417,8 @@ module _ (tells : Bool) (B : Behaviour) (format : LogFormat) (own : OwnFiles) (a
           (taken_in_on steps now new rest (Start i act now.ticked ∷ []) grew None (start_no_end steps i now.ticked act) tell (carried.beside.taken_in tell (before tell files)));
       logged = λ tell files. start_logged B format own asked.graph.edges store old now new (rest.history tell).more (rest.history tell).grows files (command_of steps now idle rest) steps tells tell i act starts
           (command_of (steps ++ Started i ∷ []) new idle (rest_begins tells own (task_of asked store) old (steps ++ Started i ∷ []) new run)) (ready.begun tell (before tell files)) not_well_yet (carried.beside.logged tell (before tell files));
+      alone = λ tell files. alone_adds asked.graph.edges old.history now.history (rest.history tell).more new.history (rest.history tell).grows (IsRunning now.events) (IsRunning new.events) (Start i act now.ticked)
+          (starts.history tell) (carried.beside.alone tell (before tell files));
     };
   }
     where
@@ -481,6 +526,7 @@ module _ (tells : Bool) (B : Behaviour) (format : LogFormat) (own : OwnFiles) (a
           let taken = carried.beside.taken_in tell files in
           record { well = taken.well; depfiles = λ i at ended has unmet. taken.depfiles i at ended has (λ is. absurd (nothing i is)) };
       logged = carried.beside.logged;
+      alone = carried.beside.alone;
     };
   }
     where

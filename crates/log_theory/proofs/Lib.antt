@@ -23,6 +23,7 @@ pub mod NothingLeft
 pub mod Over
 pub mod Stated
 pub mod Builds
+pub mod Alone
 pub mod Ledger
 pub mod TakenIn
 pub mod Readying

@@ -73,13 +73,13 @@ one tells B format own asked store old a b c d e f g h j k l m i stamp tick seen
     resp_c = writing.writes_at tells (edge_at asked.graph.edges i).act.response_path (Some (edge_at asked.graph.edges i).act.response_content) b c writes
 
     at_c : IsCarried tells B format own asked store (Judged i true ∷ []) (Some i) old c
-    at_c = ledger.carried_response tells B format own asked store old (Judged i true ∷ []) (Some i) b c i stale resp_c at_b
+    at_c = ledger.carried_response tells B format own asked store old (Judged i true ∷ []) (Some i) b c i stale refl resp_c at_b
 
     dep_d : WritesAt tells (edge_at asked.graph.edges i).act.depfile c d
     dep_d = writing.writes_at tells (edge_at asked.graph.edges i).act.depfile None c d removes
 
     at_d : IsCarried tells B format own asked store (Judged i true ∷ []) (Some i) old d
-    at_d = ledger.carried_depfile tells B format own asked store old (Judged i true ∷ []) (Some i) c d i stale (inr removes) at_c
+    at_d = ledger.carried_depfile tells B format own asked store old (Judged i true ∷ []) (Some i) c d i stale refl (inr removes) at_c
 
     at_e : IsCarried tells B format own asked store (Judged i true ∷ []) (Some i) old e
     at_e = ledger.carried_log tells B format own asked store old (Judged i true ∷ []) (Some i) (Some i) d e own.build_log log_mine begin begin_log at_d

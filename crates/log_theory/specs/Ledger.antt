@@ -1,5 +1,6 @@
 -- What a run carries from call to call, in one record: its schedule and history, that its starts are ready and ticked, what each
--- judgement and each depfile said, and what the logs tell. For a build without dyndep files.
+-- judgement and each depfile said, what the logs tell, and that files of running commands are left alone. For a build without
+-- dyndep files.
 use Rattle.std.specs.Prelude.{◌≡◌, ◌≢◌, ℕ, Bool, true, IsTrue, List, [], ◌++◌, Option, Some, None}
 use Rattle.model.specs.declared.event.Moment.{Moment}
 use Rattle.model.specs.declared.graph.Edge.{Edge}
@@ -13,6 +14,7 @@ use Rattle.model.specs.SingleBuild.{Asked, task_of}
 use Rattle.build_theory.specs.Run.{IsRun, IsRunOrRest, AreStartsReady}
 use Rattle.log_theory.specs.Logged.{IsLoggedAt, IsTickedAt, StartsAreTicked}
 use Rattle.log_theory.specs.Judged.{AreJudgedThen, AreTakenIn}
+use Rattle.log_theory.specs.Alone.{AreLeftAlone}
 
 -- What is carried beside the run. `met` is the edge whose taking in met a fault, `hand` the one whose start or taking in is under
 -- way.
@@ -23,6 +25,7 @@ pub record IsBeside (tells : Bool) (B : Behaviour) (format : LogFormat) (own : O
   pub judged : IsTrue tells → AreJudgedThen tells own asked store steps old now
   pub taken_in : IsTrue tells → FilesAreKept own asked.graph.edges old.history now.history → AreTakenIn B asked.graph.edges steps met old.history now.history
   pub logged : IsTrue tells → FilesAreKept own asked.graph.edges old.history now.history → IsLoggedAt B format own asked.graph.edges steps hand store old now
+  pub alone : IsTrue tells → FilesAreKept own asked.graph.edges old.history now.history → AreLeftAlone asked.graph.edges old.history now.history
 
 -- A run that goes on. The depfile of each command that it took in was read; `hand` is the edge whose start or recording is under
 -- way.

@@ -5,4 +5,5 @@ pub mod Histories
 pub mod Builds
 pub mod Driving
 pub mod Writes
+pub mod Alone
 pub mod Ledger

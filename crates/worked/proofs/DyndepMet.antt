@@ -17,7 +17,7 @@ use Rattle.model.specs.SingleBuild.{Asked, Success, IsShownCycle, NamesOther, In
 use Rattle.worked.specs.Small.{no_records}
 use Rattle.worked.specs.Dyndep.{declared, grown, without_dd, not_an_input, asked_of, says, text, texts, reads_dyndep, first_phase, last_phase, clean_first, clean_last, at_entry, after_all, command_ran, IsLawfulWith, DyndepRows}
 use Rattle.worked.proofs.Lists.{all_has, none_some}
-use Rattle.worked.proofs.OneBuild.{written_in, unwritten, from_append}
+use Rattle.worked.proofs.Written.{written_in, unwritten, from_append}
 use Rattle.worked.proofs.ThreeEdges.{task_over, first_lawful, clean_lawful, load_due, load_next, names_dd}
 use Rattle.worked.proofs.Grown.{clean_lawful_after, made_once, no_cycle, no_load, unsettled, last_lawful, all_judged, each_settled}
 use Rattle.worked.proofs.ReadTooEarly.{read_beside, reported_beside, reported_through}

@@ -1,8 +1,6 @@
 pub mod Lists
 pub mod Refused
-pub mod OneEdge
-pub mod OneBuild
-pub mod HistoriesMet
+pub mod Written
 pub mod ReadTooEarly
 pub mod ThreeEdges
 pub mod Grown

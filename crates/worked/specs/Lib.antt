@@ -1,4 +1,3 @@
 pub mod Small
 pub mod Refused
-pub mod Histories
 pub mod Dyndep

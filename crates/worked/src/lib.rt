@@ -3,7 +3,6 @@
 #![tactic(auto)]
 
 ghost use Rattle.worked.specs.Refused.{RefusedRows};
-ghost use Rattle.worked.specs.Histories.{HistoriesAreMet};
 ghost use Rattle.worked.specs.Dyndep.{DyndepRows};
 
 /// The definitions refuse these: records made up or dropped, a fault passed over, moves skipped, restarts that are missing or
@@ -12,13 +11,6 @@ ghost use Rattle.worked.specs.Dyndep.{DyndepRows};
 /// an answer.
 pub fn refused_rows()
     ensures { RefusedRows }
-{}
-
-/// The premises of the headline over histories can be met, by worlds written out: an edit, a build whose command fails, an
-/// edit, a build in which the site stops while the command runs, a restart, and a build that succeeds are visits that carry
-/// out a list of moves, each build with its record of a single build, and all premises are kept.
-pub fn histories_met()
-    ensures { HistoriesAreMet }
 {}
 
 /// Builds with a dyndep file that is made in the build: the steps before and after its load are lawful, and so are the

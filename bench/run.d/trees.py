@@ -1,0 +1,134 @@
+"""The trees whose builds are counted and timed. Each is written into a folder by a function that is given how many edges it has."""
+
+import os
+
+# How many headers a unit tells, of how many there are.
+TOLD, HEADERS = 57, 400
+
+
+def write(folder, path, text):
+    full = os.path.join(folder, path)
+    os.makedirs(os.path.dirname(full), exist_ok=True)
+    with open(full, "w", encoding="utf-8") as it:
+        it.write(text)
+
+
+def empty(folder, paths):
+    made = set()
+    for path in paths:
+        full = os.path.join(folder, path)
+        top = os.path.dirname(full)
+        if top not in made:
+            os.makedirs(top, exist_ok=True)
+            made.add(top)
+        os.close(os.open(full, os.O_CREAT | os.O_WRONLY, 0o644))
+
+
+def header(number):
+    return f"include/component{number % 20:02}/header_number{number:03}.h"
+
+
+CPP = """\
+cxx = c++
+flags = -O2 -g -Wall -Iinclude -std=c++17
+pool link
+  depth = 2
+rule cxx
+  command = : $cxx $flags $DEFINES -MD -MF $out.d -c $in -o $out; read heads < heads$set; echo "$out: $in $$heads" > $out.d; : > $out
+  depfile = $out.d
+  deps = gcc
+  description = CXX $out
+rule archive
+  command = : ar rcs $out @$out.rsp; : > $out
+  rspfile = $out.rsp
+  rspfile_content = $in
+  description = AR $out
+rule link
+  command = : $cxx $flags -o $out $in; : > $out
+  pool = link
+  description = LINK $out
+rule generate
+  command = : generate $in; test -e $out || : > $out
+  restat = 1
+  description = GENERATE $out
+"""
+
+
+def cpp(folder, edges):
+    """Libraries of 40 units and an archive; one unit in ten is generated; a program of each twenty libraries."""
+    lines, sources, libraries = [CPP], [header(n) for n in range(HEADERS)], []
+    for number in range(20):
+        told = sorted({(number * 11 + k * 7) % HEADERS for k in range(TOLD)})
+        write(folder, f"heads{number}", " ".join(header(it) for it in told) + "\n")
+    count, library = 0, 0
+    while count < edges:
+        objects = []
+        for unit in range(min(40, edges - count)):
+            name = f"library{library:04}/source/unit{unit:02}"
+            source = f"src/{name}.cc"
+            if unit % 10 == 9:
+                source = f"gen/{name}.cc"
+                lines.append(f"build {source}: generate src/{name}.in\n")
+                sources.append(f"src/{name}.in")
+                count += 1
+            else:
+                sources.append(source)
+            lines.append(f"build obj/{name}.o: cxx {source}\n  DEFINES = -DLIBRARY={library} -DUNIT={unit}\n  set = {library % 20}\n")
+            objects.append(f"obj/{name}.o")
+            count += 1
+        lines.append(f"build lib/library{library:04}.a: archive {' '.join(objects)}\n")
+        libraries.append(f"lib/library{library:04}.a")
+        count += 1
+        if len(libraries) == 20 or count >= edges:
+            lines.append(f"build bin/program{library:04}: link {' '.join(libraries)}\n")
+            libraries = []
+            count += 1
+        library += 1
+    write(folder, "build.ninja", "".join(lines))
+    empty(folder, sources)
+
+
+TOUCH = "rule touch\n  command = : > $out\n"
+
+
+def plain(folder, edges):
+    """Edges of six inputs each."""
+    lines = [TOUCH]
+    for n in range(edges):
+        inputs = " ".join(f"in/folder{(n + k) % 97:02}/input{n + k}.txt" for k in range(6))
+        lines.append(f"build out/folder{n % 97:02}/output{n}.txt: touch {inputs}\n")
+    write(folder, "build.ninja", "".join(lines))
+    empty(folder, (f"in/folder{n % 97:02}/input{n}.txt" for n in range(edges + 5)))
+
+
+def phony(folder, edges):
+    """Edges that all read one phony edge of 1,000 files."""
+    files = [f"in/file{n:03}.txt" for n in range(1000)]
+    lines = [TOUCH, f"build all_files: phony {' '.join(files)}\n"]
+    lines += [f"build out/folder{n % 97:02}/output{n}.txt: touch | all_files\n" for n in range(edges)]
+    write(folder, "build.ninja", "".join(lines))
+    empty(folder, files)
+
+
+def chain(folder, edges):
+    lines = [TOUCH, "build out/c0: touch start\n"]
+    lines += [f"build out/c{n}: touch out/c{n - 1}\n" for n in range(1, edges)]
+    write(folder, "build.ninja", "".join(lines))
+    empty(folder, ["start"])
+
+
+def fan(folder, edges, command=": > $out"):
+    lines = [f"rule touch\n  command = {command}\n"]
+    lines += [f"build out/folder{n % 97:02}/f{n}: touch start\n" for n in range(edges)]
+    write(folder, "build.ninja", "".join(lines))
+    empty(folder, ["start"])
+
+
+def idle_fan(folder, edges):
+    """Commands that do nothing."""
+    fan(folder, edges, ":")
+
+
+def wait(folder, _):
+    """One command that takes five seconds."""
+    write(folder, "build.ninja", "rule wait\n  command = sleep 5; : > $out\nbuild out/waited: wait\n")

@@ -1,0 +1,12 @@
+pub mod Lists
+pub mod Given
+pub mod OfSim
+pub mod Called
+pub mod Logs
+pub mod TwoEdges
+pub mod Outcomes
+pub mod TwoBuilt
+pub mod Between
+pub mod Builds
+pub mod KeptLogs
+pub mod Visits
