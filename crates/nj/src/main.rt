@@ -1,12 +1,7 @@
 //! The program: builds what build files describe, with real files and real commands.
 #![tactic(auto)]
 
-mod run;
-#[cfg(test)]
-mod tests;
-mod told;
-
-use run::run;
+use nj_run::run;
 use std::io::{BufWriter, ErrorKind};
 use std::process::ExitCode;
 use std::{env, io};

@@ -1,29 +1,7 @@
 //! Runs a script of files and builds on a site in memory: from standard input to standard output.
 #![tactic(auto)]
 
-mod command;
-#[cfg(test)]
-mod depfiles;
-mod fault;
-mod idle;
-#[cfg(test)]
-mod language;
-#[cfg(test)]
-mod lines;
-#[cfg(test)]
-mod logs;
-mod print;
-#[cfg(test)]
-mod refusals;
-#[cfg(test)]
-mod rows;
-mod run;
-#[cfg(test)]
-mod stops;
-#[cfg(test)]
-mod tests;
-
-use run::script;
+use scripts::script;
 use std::io;
 use std::process::ExitCode;
 

@@ -4,10 +4,10 @@ use Rattle.sim.specs.declared.sim.Sim.{Sim}
 use Rattle.sim.specs.declared.toy.Toy.{Toy}
 use Rattle.sim.specs.Toy.{toy_outcome}
 use Rattle.sim.specs.World.{world_of}
-use Rattle.nj_sim.specs.Script.{GoesOn}
+use Rattle.scripts.specs.Script.{GoesOn}
 use Rattle.builder.specs.Build.{limits_of}
-use Rattle.nj_sim.proofs.Idles.{goes_idle}
-use Rattle.nj_sim.proofs.idle.build_alone.Goals as goal
+use Rattle.scripts.proofs.Idles.{goes_idle}
+use Rattle.scripts.proofs.idle.build_alone.Goals as goal
 
 pub returns-clause-build : goal.returns-clause-build
 returns-clause-build c =

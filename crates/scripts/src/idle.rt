@@ -3,7 +3,7 @@
 ghost use Rattle.std.specs.Prelude.{◌≡◌};
 ghost use Rattle.model.specs.World.{IsIdle};
 ghost use Rattle.sim.specs.World.{world_of, fresh};
-ghost use Rattle.nj_sim.specs.Script.{GoesOn, BuildsAlone};
+ghost use Rattle.scripts.specs.Script.{GoesOn, BuildsAlone};
 
 use builder::{Options, Report, build};
 use depfile::has_reading;

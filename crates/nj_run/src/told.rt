@@ -2,7 +2,7 @@
 
 ghost use Rattle.std.specs.Prelude.{◌≡◌, ◌≢◌, ◌≤◌, IfOk};
 ghost use Rattle.clap.specs.Words.{kind_of};
-ghost use Rattle.nj.specs.Status.{status_of};
+ghost use Rattle.nj_run.specs.Status.{status_of};
 
 use builder::Report;
 use clap::Error;

@@ -1,6 +1,6 @@
-use Rattle.nj.proofs.Ends.{built, explained}
-use Rattle.nj.proofs.run.run.Goals as goal
-use Rattle.nj.proofs.run.run.Goals.{in-Ok, in-Err+in-Some-1, in-Err+in-None-1}
+use Rattle.nj_run.proofs.Ends.{built, explained}
+use Rattle.nj_run.proofs.program.run.Goals as goal
+use Rattle.nj_run.proofs.program.run.Goals.{in-Ok, in-Err+in-Some-1, in-Err+in-None-1}
 
 pub returns-clause-refused : goal.returns-clause-refused
 returns-clause-refused g c two = elim c.match-options.branch [

@@ -14,7 +14,7 @@ use Rattle.builder.specs.declared.report.Report.TheVariants.{Success, Failed, Re
 use Rattle.deps_log.specs.Format.{HasFormat}
 use Rattle.depfile.specs.Depfile.{HasReading}
 use Rattle.builder.specs.Build.{missing_answer, Says, IsBuild}
-use Rattle.nj_sim.specs.Script.{GoesOn}
+use Rattle.scripts.specs.Script.{GoesOn}
 
 abbrev is_trouble : Report → Bool
 is_trouble (Success started) = false

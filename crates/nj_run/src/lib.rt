@@ -1,0 +1,7 @@
+//! The run of `nj`: what its words ask for, done with real files and real commands, and what it tells at its end.
+#![tactic(auto)]
+
+mod program;
+mod told;
+
+pub use program::run;
