@@ -1,0 +1,154 @@
+//! A manifest whose edges have what a dyndep file says.
+
+use crate::build::users_of;
+use crate::fault::{ExtendFault, GraphFault};
+use crate::makers::makers_of;
+use crate::recorded::Recorded;
+use crate::users::Users;
+use dyndep::Addition;
+use paths::{Action, EdgeId, Lines, Manifest, PathId, Paths};
+use std::alloc::{AllocError, Global};
+use std::mem;
+use text::{Items, Path};
+
+/// What a statement adds, in numbers.
+#[derive(Drop)]
+pub struct Gain {
+    pub outputs: Items<PathId>,
+    pub inputs: Items<PathId>,
+}
+
+/// Which edge makes each path, and for each path the edges that name it.
+#[derive(Drop)]
+pub struct Parts {
+    pub makers: Vec<Option<EdgeId>>,
+    pub users: Users,
+}
+
+/// Gives edges what the statements add that were chosen for them, whose dyndep file is loaded then; the parts of the graph
+/// that follow from it.
+///
+/// Where it is refused, the manifest has more paths at most.
+pub fn load(
+    alloc: Global,
+    manifest: &mut Manifest,
+    recorded: &Recorded,
+    additions: &[Addition],
+    chosen: &[Option<usize>],
+) -> Result<Parts, ExtendFault> {
+    let gains = gains_of(alloc, &mut manifest.paths, additions)?;
+    let lines = grown_lines(alloc, &manifest.lines, chosen, &gains)?;
+    let before = mem::replace(&mut manifest.lines, lines);
+    match parts_of(alloc, manifest, recorded) {
+        Ok(parts) => {
+            let mut actions = mem::replace(&mut manifest.actions, Items::new(alloc)).into_vec();
+            load_actions(&mut actions, additions, chosen);
+            manifest.actions = Items::from_vec(actions);
+            Ok(parts)
+        }
+        Err(fault) => {
+            manifest.lines = before;
+            Err(fault)
+        }
+    }
+}
+
+/// What the statements add, in numbers. Paths that have none get them.
+fn gains_of(
+    alloc: Global,
+    paths: &mut Paths,
+    additions: &[Addition],
+) -> Result<Vec<Gain>, AllocError> {
+    let mut gains = Vec::with_capacity(alloc, additions.len())?;
+    for addition in additions {
+        gains.push(Gain {
+            outputs: numbers_of(alloc, paths, addition.outputs.as_slice())?,
+            inputs: numbers_of(alloc, paths, addition.inputs.as_slice())?,
+        })?;
+    }
+    Ok(gains)
+}
+
+fn numbers_of(
+    alloc: Global,
+    paths: &mut Paths,
+    texts: &[Path],
+) -> Result<Items<PathId>, AllocError> {
+    let mut numbers = Items::from_vec(Vec::with_capacity(alloc, texts.len())?);
+    for text in texts {
+        numbers.push(paths.add(alloc, text.as_str())?)?;
+    }
+    Ok(numbers)
+}
+
+/// The lines of all edges, with what the statements add that were chosen for them.
+fn grown_lines(
+    alloc: Global,
+    lines: &Lines,
+    chosen: &[Option<usize>],
+    gains: &[Gain],
+) -> Result<Lines, AllocError> {
+    let mut grown = Lines::new(alloc);
+    for (place, choice) in chosen.iter().enumerate() {
+        let edge = EdgeId::at_below(place);
+        match choice {
+            None => grown.push_grown(lines, edge, &[], &[])?,
+            Some(statement) => {
+                let gain = &gains[*statement];
+                grown.push_grown(
+                    lines,
+                    edge,
+                    gain.outputs.as_slice(),
+                    gain.inputs.as_slice(),
+                )?;
+            }
+        }
+    }
+    Ok(grown)
+}
+
+/// The makers and the users of the paths of a manifest, with recorded inputs.
+fn parts_of(
+    alloc: Global,
+    manifest: &Manifest,
+    recorded: &Recorded,
+) -> Result<Parts, ExtendFault> {
+    let makers = match makers_of(alloc, manifest) {
+        Ok(makers) => makers,
+        Err(GraphFault::MadeTwice(path)) => return Err(ExtendFault::MadeTwice(path)),
+        Err(_) => return Err(ExtendFault::Memory),
+    };
+    let mut users = users_of(alloc, manifest)?;
+    use_recorded(&mut users, manifest, recorded)?;
+    Ok(Parts { makers, users })
+}
+
+/// Puts each edge behind those that name its recorded inputs.
+fn use_recorded(
+    users: &mut Users,
+    manifest: &Manifest,
+    recorded: &Recorded,
+) -> Result<(), AllocError> {
+    for place in 0..manifest.lines.len() {
+        let edge = manifest.edge(place);
+        users.push_all(recorded.at(edge), edge)?;
+    }
+    Ok(())
+}
+
+/// The dyndep file of each edge that a statement was chosen for is loaded; where that says so its outputs may stay as they
+/// were.
+fn load_actions(actions: &mut [Action], additions: &[Addition], chosen: &[Option<usize>]) {
+    for (place, choice) in chosen.iter().enumerate() {
+        if let Some(statement) = choice {
+            load_action(&mut actions[place], additions[*statement].restat);
+        }
+    }
+}
+
+fn load_action(action: &mut Action, restat: bool) {
+    if let Action::Command(command) = action {
+        command.dyndep = None;
+        command.restat = command.restat || restat;
+    }
+}
