@@ -10,6 +10,7 @@ pub mod Making
 pub mod Free
 pub mod Cone
 pub mod ConeOf
+pub mod Extended
 pub mod Targets
 pub mod Alias
 pub mod ReadingOf

@@ -33,7 +33,13 @@ impl Graph {
     {
         let chosen = self.statements(alloc, additions, file)?;
         let known = self.manifest.paths.len();
-        match load(alloc, &mut self.manifest, &self.recorded, additions, &chosen) {
+        match load(
+            alloc,
+            &mut self.manifest,
+            &self.recorded,
+            additions,
+            &chosen,
+        ) {
             Ok(parts) => {
                 self.makers = parts.makers;
                 self.users = parts.users;

@@ -95,12 +95,7 @@ fn grown_lines(
             None => grown.push_grown(lines, edge, &[], &[])?,
             Some(statement) => {
                 let gain = &gains[*statement];
-                grown.push_grown(
-                    lines,
-                    edge,
-                    gain.outputs.as_slice(),
-                    gain.inputs.as_slice(),
-                )?;
+                grown.push_grown(lines, edge, gain.outputs.as_slice(), gain.inputs.as_slice())?;
             }
         }
     }
@@ -108,11 +103,7 @@ fn grown_lines(
 }
 
 /// The makers and the users of the paths of a manifest, with recorded inputs.
-fn parts_of(
-    alloc: Global,
-    manifest: &Manifest,
-    recorded: &Recorded,
-) -> Result<Parts, ExtendFault> {
+fn parts_of(alloc: Global, manifest: &Manifest, recorded: &Recorded) -> Result<Parts, ExtendFault> {
     let makers = match makers_of(alloc, manifest) {
         Ok(makers) => makers,
         Err(GraphFault::MadeTwice(path)) => return Err(ExtendFault::MadeTwice(path)),

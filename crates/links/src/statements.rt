@@ -4,8 +4,6 @@ ghost use Rattle.std.specs.Prelude.{◌≡◌, ◌<◌, ◌++◌, ◌∷◌, ℕ
 ghost use Rattle.model.specs.Graph.{later_number};
 ghost use Rattle.paths.specs.Told.{text_at};
 ghost use Rattle.links.specs.Told.{declared_by};
-ghost use Rattle.links.specs.Extended.{IsUnfit, owner_in, names, addition_of};
-ghost use Rattle.links.specs.Statements.{owners_of, AreChosen, IsChosenBelow, IsFirstBad, IsLackingAt, fits_at, IsRefused};
 
 use crate::fault::ExtendFault;
 use crate::graph::Graph;
@@ -24,11 +22,7 @@ impl Graph {
         alloc: Global,
         additions: &[Addition],
         file: PathId,
-    ) -> Result<Vec<Option<usize>>, ExtendFault>
-        requires { file < length self.now.manifest.paths }
-        ensures chosen { IfOk result (λ chosen. AreChosen self.now file (map addition_of additions.now) chosen.items) }
-        ensures fault { IfErr result (IsRefused (declared_by self.now).edges (text_at self.now.manifest.paths file) (map addition_of additions.now)) }
-    {
+    ) -> Result<Vec<Option<usize>>, ExtendFault> {
         let mut chosen = vec![in alloc; None; self.edges()]?;
         let unfit = self.choose_all(additions, file, &mut chosen);
         if let Some(edge) = self.first_lacking(file, &chosen) {
