@@ -75,8 +75,8 @@ or_else_some [] ys some = absurd (true≢false some)
 or_else_some (x ∷ xs) ys some = refl
 
 module _ (graph : Graph) where
-  outs_below : AllByRecursion (λ p. p < graph.manifest.named) (flat_map line_outputs graph.manifest.lines)
-  outs_below = within_of graph.manifest.named (flat_map line_outputs graph.manifest.lines) (λ p h. let at = flat_has line_outputs graph.manifest.lines p h in output_below graph.manifest at.0 p at.1)
+  outs_below : AllByRecursion (λ p. p < length graph.manifest.paths) (flat_map line_outputs graph.manifest.lines)
+  outs_below = within_of (length graph.manifest.paths) (flat_map line_outputs graph.manifest.lines) (λ p h. let at = flat_has line_outputs graph.manifest.lines p h in output_below graph.manifest at.0 p at.1)
 
   outs_within : AreWithin graph.manifest.paths (flat_map line_outputs graph.manifest.lines)
   outs_within = within_of (length graph.manifest.paths) (flat_map line_outputs graph.manifest.lines) (λ p h. let at = flat_has line_outputs graph.manifest.lines p h in let low = output_below graph.manifest at.0 p at.1 in omega (arith, low, graph.manifest.names))
@@ -84,9 +84,9 @@ module _ (graph : Graph) where
   ins_within : AreWithin graph.manifest.paths (flat_map line_inputs graph.manifest.lines)
   ins_within = within_of (length graph.manifest.paths) (flat_map line_inputs graph.manifest.lines) (λ p h. let at = flat_has line_inputs graph.manifest.lines p h in let low = input_below graph.manifest at.0 p at.1 in omega (arith, low, graph.manifest.names))
 
-  pub free_within : (marks : List Bool) (free : List ℕ) → free ≡ free_of marks (flat_map line_outputs graph.manifest.lines) → (k d : ℕ) → k < length free → get_or free k d < graph.manifest.named
-  free_within marks free is = subst (λ (l : List ℕ). (k d : ℕ) → k < length l → get_or l k d < graph.manifest.named) (sym {A = List ℕ} is)
-      (all_index graph.manifest.named (free_of marks (flat_map line_outputs graph.manifest.lines)) (free_below graph.manifest.named marks (flat_map line_outputs graph.manifest.lines) outs_below))
+  pub free_within : (marks : List Bool) (free : List ℕ) → free ≡ free_of marks (flat_map line_outputs graph.manifest.lines) → (k d : ℕ) → k < length free → get_or free k d < length graph.manifest.paths
+  free_within marks free is = subst (λ (l : List ℕ). (k d : ℕ) → k < length l → get_or l k d < length graph.manifest.paths) (sym {A = List ℕ} is)
+      (all_index (length graph.manifest.paths) (free_of marks (flat_map line_outputs graph.manifest.lines)) (free_below (length graph.manifest.paths) marks (flat_map line_outputs graph.manifest.lines) outs_below))
 
   roots_are : (marks : List Bool) → ((p : ℕ) → get_or marks p false ≡ has_number (flat_map line_inputs graph.manifest.lines) p)
       → texts_at graph.manifest.paths (free_of marks (flat_map line_outputs graph.manifest.lines)) ≡ roots (declared_by graph).edges
@@ -139,14 +139,14 @@ module _ (graph : Graph) where
     makers = makers;
   }
 
-  pub cone_for : (recorded : ℕ → List (List ℕ)) → AreSameInputs recorded (recorded_by graph) → (asked : List (List ℕ)) (numbers requested : List ℕ) → All (λ p. p < graph.manifest.named) numbers → texts_at graph.manifest.paths numbers ≡ targets_of (declared_by graph) asked
+  pub cone_for : (recorded : ℕ → List (List ℕ)) → AreSameInputs recorded (recorded_by graph) → (asked : List (List ℕ)) (numbers requested : List ℕ) → All (λ p. p < length graph.manifest.paths) numbers → texts_at graph.manifest.paths numbers ≡ targets_of (declared_by graph) asked
       → AllByRecursion (λ p. is_named (declared_by graph).edges p ≡ true) asked → AreMakersOf (declared_by graph).edges (texts_at graph.manifest.paths numbers) requested
       → (the_cone : Cone) → the_cone.targets.items ≡ numbers → IsConeForEach (links_of graph) requested the_cone.order.items the_cone.marks.items → IsConeFor graph recorded asked the_cone
   cone_for recorded same asked numbers requested within told named makers the_cone kept cone = record {
     listed = listed;
     named = named;
     acyclic = no_cycle (declared_by graph).edges recorded (targets_of (declared_by graph) asked) the_cone.order.items the_cone.marks.items listed;
-    within = subst (All (λ p. p < graph.manifest.named)) (sym {A = List ℕ} kept) within;
+    within = subst (All (λ p. p < length graph.manifest.paths)) (sym {A = List ℕ} kept) within;
     numbers = ap (texts_at graph.manifest.paths) kept ∙ told;
   }
     where

@@ -18,3 +18,5 @@ pub mod Named
 pub mod Longer
 pub mod Joins
 pub mod Ends
+pub mod Places
+pub mod Choosing

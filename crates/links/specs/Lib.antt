@@ -11,6 +11,7 @@ pub mod Free
 pub mod Cone
 pub mod ConeOf
 pub mod Extended
+pub mod Statements
 pub mod Targets
 pub mod Alias
 pub mod ReadingOf

@@ -1,5 +1,11 @@
 //! A manifest whose edges have what a dyndep file says.
 
+ghost use Rattle.std.specs.Prelude.{◌≡◌, ◌<◌, ◌^◌, ◌≤◌, [], map, length, IfOk, IfErr, OnOk, OnErr};
+ghost use Rattle.std.proofs.Math.ListN.{replicate};
+ghost use Rattle.links.specs.Held.{AreMakers, DyndepsAreInputs, AreRecorded, AreUsers};
+ghost use Rattle.links.specs.Extended.{addition_of};
+ghost use Rattle.links.specs.Statements.{HasMore, AreNumbersIn, AreGainsIn, AreGrownLines, AreChoicesBelow, loaded_action, AreLoadedActions, HasOnlyMore, IsLoadedManifest, IsLoadFault, IsPartsFault};
+
 use crate::build::users_of;
 use crate::fault::{ExtendFault, GraphFault};
 use crate::makers::makers_of;
@@ -35,7 +41,17 @@ pub fn load(
     recorded: &Recorded,
     additions: &[Addition],
     chosen: &[Option<usize>],
-) -> Result<Parts, ExtendFault> {
+) -> Result<Parts, ExtendFault>
+    requires recorded { AreRecorded manifest.old recorded.now }
+    requires dyndeps { DyndepsAreInputs manifest.old }
+    requires fits { length chosen.now ≡ length manifest.old.lines }
+    requires below { AreChoicesBelow (length additions.now) chosen.now }
+    ensures loaded { OnOk result (IsLoadedManifest manifest.old manifest.new (map addition_of additions.now) chosen.now) }
+    ensures makers { IfOk result (λ parts. AreMakers manifest.new parts.makers.items) }
+    ensures users { IfOk result (λ parts. AreUsers manifest.new recorded.now parts.users) }
+    ensures err { OnErr result (HasOnlyMore manifest.old manifest.new) }
+    ensures fault { IfErr result (IsLoadFault manifest.old (map addition_of additions.now) chosen.now) }
+{
     let gains = gains_of(alloc, &mut manifest.paths, additions)?;
     let lines = grown_lines(alloc, &manifest.lines, chosen, &gains)?;
     let before = mem::replace(&mut manifest.lines, lines);
@@ -58,7 +74,10 @@ fn gains_of(
     alloc: Global,
     paths: &mut Paths,
     additions: &[Addition],
-) -> Result<Vec<Gain>, AllocError> {
+) -> Result<Vec<Gain>, AllocError>
+    ensures more { HasMore paths.old paths.new }
+    ensures gains { IfOk result (λ gains. AreGainsIn paths.new (map addition_of additions.now) gains.items) }
+{
     let mut gains = Vec::with_capacity(alloc, additions.len())?;
     for addition in additions {
         gains.push(Gain {
@@ -73,7 +92,10 @@ fn numbers_of(
     alloc: Global,
     paths: &mut Paths,
     texts: &[Path],
-) -> Result<Items<PathId>, AllocError> {
+) -> Result<Items<PathId>, AllocError>
+    ensures more { HasMore paths.old paths.new }
+    ensures numbers { IfOk result (λ numbers. AreNumbersIn paths.new texts.now numbers) }
+{
     let mut numbers = Items::from_vec(Vec::with_capacity(alloc, texts.len())?);
     for text in texts {
         numbers.push(paths.add(alloc, text.as_str())?)?;
@@ -87,7 +109,12 @@ fn grown_lines(
     lines: &Lines,
     chosen: &[Option<usize>],
     gains: &[Gain],
-) -> Result<Lines, AllocError> {
+) -> Result<Lines, AllocError>
+    requires few { length lines.now ≤ 2 ^ 32 }
+    requires fits { length chosen.now ≡ length lines.now }
+    requires below { AreChoicesBelow (length gains.now) chosen.now }
+    ensures { IfOk result (λ grown. AreGrownLines lines.now chosen.now gains.now grown) }
+{
     let mut grown = Lines::new(alloc);
     for (place, choice) in chosen.iter().enumerate() {
         let edge = EdgeId::at_below(place);
@@ -103,7 +130,12 @@ fn grown_lines(
 }
 
 /// The makers and the users of the paths of a manifest, with recorded inputs.
-fn parts_of(alloc: Global, manifest: &Manifest, recorded: &Recorded) -> Result<Parts, ExtendFault> {
+fn parts_of(alloc: Global, manifest: &Manifest, recorded: &Recorded) -> Result<Parts, ExtendFault>
+    requires { AreRecorded manifest.now recorded.now }
+    ensures makers { IfOk result (λ parts. AreMakers manifest.now parts.makers.items) }
+    ensures users { IfOk result (λ parts. AreUsers manifest.now recorded.now parts.users) }
+    ensures fault { IfErr result (IsPartsFault manifest.now) }
+{
     let makers = match makers_of(alloc, manifest) {
         Ok(makers) => makers,
         Err(GraphFault::MadeTwice(path)) => return Err(ExtendFault::MadeTwice(path)),
@@ -119,7 +151,11 @@ fn use_recorded(
     users: &mut Users,
     manifest: &Manifest,
     recorded: &Recorded,
-) -> Result<(), AllocError> {
+) -> Result<(), AllocError>
+    requires recorded { AreRecorded manifest.now recorded.now }
+    requires users { AreUsers manifest.now (replicate (length manifest.now.lines) []) users.old }
+    ensures { OnOk result (AreUsers manifest.now recorded.now users.new) }
+{
     for place in 0..manifest.lines.len() {
         let edge = manifest.edge(place);
         users.push_all(recorded.at(edge), edge)?;
@@ -129,7 +165,11 @@ fn use_recorded(
 
 /// The dyndep file of each edge that a statement was chosen for is loaded; where that says so its outputs may stay as they
 /// were.
-fn load_actions(actions: &mut [Action], additions: &[Addition], chosen: &[Option<usize>]) {
+fn load_actions(actions: &mut [Action], additions: &[Addition], chosen: &[Option<usize>])
+    requires fits { length chosen.now ≡ length actions.old }
+    requires below { AreChoicesBelow (length additions.now) chosen.now }
+    ensures { AreLoadedActions actions.old chosen.now (map addition_of additions.now) actions.new }
+{
     for (place, choice) in chosen.iter().enumerate() {
         if let Some(statement) = choice {
             load_action(&mut actions[place], additions[*statement].restat);
@@ -137,7 +177,9 @@ fn load_actions(actions: &mut [Action], additions: &[Addition], chosen: &[Option
     }
 }
 
-fn load_action(action: &mut Action, restat: bool) {
+fn load_action(action: &mut Action, restat: bool)
+    ensures { action.new ≡ loaded_action restat action.old }
+{
     if let Action::Command(command) = action {
         command.dyndep = None;
         command.restat = command.restat || restat;
