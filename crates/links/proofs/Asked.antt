@@ -22,7 +22,7 @@ use Rattle.links.specs.ConeOf.{StandFor, IsConeForEach, IsFaultForEach}
 use Rattle.links.specs.Free.{free_of}
 use Rattle.links.specs.Linked.{default_targets, IsGraphOf, IsConeOf, AreMakersOf}
 use Rattle.links.specs.Links.{links_of}
-use Rattle.links.specs.Targets.{IsConeFor, IsNoCone, IsFirstUnknown, IsUnknownIn}
+use Rattle.links.specs.Targets.{IsConeFor, IsConeOfNumbers, IsNoCone, IsNoConeAgain, IsFirstUnknown, IsUnknownIn}
 use Rattle.links.specs.Told.{declared_by, recorded_by, AreSameInputs}
 use Rattle.links.proofs.ConesOf.{no_cycle}
 use Rattle.links.proofs.GraphIs.{graph_is, links_are}
@@ -153,6 +153,30 @@ module _ (graph : Graph) where
       listed : IsConeOf (declared_by graph).edges recorded (targets_of (declared_by graph) asked) the_cone.order.items the_cone.marks.items
       listed = cone (declared_by graph).edges recorded (targets_of (declared_by graph) asked)
           (stand_for recorded same (targets_of (declared_by graph) asked) requested (subst (λ (l : List (List ℕ)). AreMakersOf (declared_by graph).edges l requested) told makers))
+
+  pub cone_of_numbers : (recorded : ℕ → List (List ℕ)) → AreSameInputs recorded (recorded_by graph) → (numbers requested : List ℕ) → AreMakersOf (declared_by graph).edges (texts_at graph.manifest.paths numbers) requested
+      → (the_cone : Cone) → the_cone.targets.items ≡ numbers → IsConeForEach (links_of graph) requested the_cone.order.items the_cone.marks.items → IsConeOfNumbers graph recorded numbers the_cone
+  cone_of_numbers recorded same numbers requested makers the_cone kept cone =
+      let listed = cone (declared_by graph).edges recorded (texts_at graph.manifest.paths numbers) (stand_for recorded same (texts_at graph.manifest.paths numbers) requested makers) in
+      record {
+        listed = listed;
+        acyclic = no_cycle (declared_by graph).edges recorded (texts_at graph.manifest.paths numbers) the_cone.order.items the_cone.marks.items listed;
+        numbers = kept;
+      }
+
+-- where the targets are those of an earlier cone
+pub no_cone_again : (graph : Graph) (asked : Asked) (store : Store) → asked.graph ≡ declared_by graph → AreSameInputs (recorded_inputs store asked.graph.edges) (recorded_by graph) → (numbers requested : List ℕ)
+    → targets_of (declared_graph asked) asked.targets ≡ texts_at graph.manifest.paths numbers → AreMakersOf (declared_by graph).edges (texts_at graph.manifest.paths numbers) requested
+    → (fault : ConeFault) → IsFaultForEach (links_of graph) requested fault → IsNoConeAgain asked store graph.manifest.paths fault
+no_cone_again graph asked store is same numbers requested told makers Memory fault = tt
+no_cone_again graph asked store is same numbers requested told makers (Unknown place) fault = absurd fault
+no_cone_again graph asked store is same numbers requested told makers (Cycle cycle) fault =
+    let edges_are : asked.graph.edges ≡ (declared_by graph).edges = ap (λ g. g.edges) is in
+    fault asked store graph.manifest.paths
+    (subst (λ (es : List Edge). IsGraphOf es (recorded_inputs store asked.graph.edges) graph.manifest.paths (links_of graph)) (sym {A = List Edge} edges_are) (graph_is graph (recorded_inputs store asked.graph.edges) same))
+    (subst (λ (es : List Edge). StandFor es (recorded_inputs store asked.graph.edges) (targets_of (declared_graph asked) asked.targets) (links_of graph) requested) (sym {A = List Edge} edges_are)
+    (subst (λ (ts : List (List ℕ)). StandFor (declared_by graph).edges (recorded_inputs store asked.graph.edges) ts (links_of graph) requested) (sym {A = List (List ℕ)} told)
+    (stand_for graph (recorded_inputs store asked.graph.edges) same (texts_at graph.manifest.paths numbers) requested makers)))
 
 -- where what is asked is of this graph
 module _ (graph : Graph) (asked : Asked) (store : Store) (targets : List (List ℕ)) (declared : asked.declared ≡ asked.graph.edges) (is : asked.graph ≡ declared_by graph) (wants : asked.targets ≡ targets)

@@ -161,7 +161,7 @@ module _ (owners : List (Option ℕ)) (place : ℕ) (owner : Option ℕ) (at : s
 -- ---- statements that do not fit
 
 -- whether the edge has one of the first so many statements
-find_one : (owners : List (Option ℕ)) (count i : ℕ) → NoneIsOf owners count i ⊎ ((j : ℕ) × (j < count) × (slice_get owners j ≡ Some (Some i)))
+pub find_one : (owners : List (Option ℕ)) (count i : ℕ) → NoneIsOf owners count i ⊎ ((j : ℕ) × (j < count) × (slice_get owners j ≡ Some (Some i)))
 find_one owners zero i = inl (λ j lt is. omega (arith, lt))
 find_one owners (suc count) i = elim (find_one owners count i) [
   | inl none ↦ by none (slice_get owners count) refl

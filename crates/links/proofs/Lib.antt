@@ -20,3 +20,7 @@ pub mod Joins
 pub mod Ends
 pub mod Places
 pub mod Choosing
+pub mod Unfitting
+pub mod Gaining
+pub mod Loading
+pub mod Extending

@@ -44,4 +44,3 @@ module _ {X Y : Type 0} (f : X → Y) where
   map_get [] (suc j) y is = cc
   map_get (x ∷ xs) zero y is = (x, refl, cc)
   map_get (x ∷ xs) (suc j) y is = map_get xs j y is
-

@@ -11,6 +11,8 @@ use Rattle.paths.specs.Commands.{no_action}
 use Rattle.paths.specs.Told.{text_at, texts_at, edges_of}
 use Rattle.links.specs.declared.fault.ExtendFault.{ExtendFault}
 use Rattle.links.specs.declared.fault.ExtendFault.TheVariants.{Memory, Unfit, MadeTwice}
+use Rattle.links.specs.declared.fault.GraphFault.{GraphFault}
+use Rattle.links.specs.declared.fault.GraphFault.TheVariants as graph
 use Rattle.links.specs.declared.graph.Graph.{Graph}
 use Rattle.links.specs.declared.loaded.Gain.{Gain}
 use Rattle.links.specs.Linked.{IsFirstRepeated}
@@ -223,3 +225,9 @@ abbrev pub IsPartsFault : Manifest → ExtendFault → Type 0
 IsPartsFault manifest Memory = Unit {0}
 IsPartsFault manifest (Unfit output) = ⊥
 IsPartsFault manifest (MadeTwice p) = IsMadeTwiceIn manifest.paths manifest.lines manifest.actions p
+
+-- the same fault; a dyndep file is never lacking here
+abbrev pub extend_fault_of : GraphFault → ExtendFault
+extend_fault_of graph.Memory = Memory
+extend_fault_of (graph.MadeTwice p) = MadeTwice p
+extend_fault_of (graph.NoDyndepInput p) = Memory

@@ -1,10 +1,12 @@
 //! A manifest whose edges have what a dyndep file says.
 
-ghost use Rattle.std.specs.Prelude.{◌≡◌, ◌<◌, ◌^◌, ◌≤◌, [], map, length, IfOk, IfErr, OnOk, OnErr};
+ghost use Rattle.std.specs.Prelude.{◌≡◌, ◌<◌, ◌^◌, ◌≤◌, ◌++◌, ◌∷◌, ℕ, Some, [], map, length, IfOk, IfErr, OnOk, OnErr};
 ghost use Rattle.std.proofs.Math.ListN.{replicate};
+ghost use Rattle.paths.specs.Numbers.{HaveOnePlace};
+ghost use Rattle.paths.specs.Lists.{line_at};
 ghost use Rattle.links.specs.Held.{AreMakers, DyndepsAreInputs, AreRecorded, AreUsers};
 ghost use Rattle.links.specs.Extended.{addition_of};
-ghost use Rattle.links.specs.Statements.{HasMore, AreNumbersIn, AreGainsIn, AreGrownLines, AreChoicesBelow, loaded_action, AreLoadedActions, HasOnlyMore, IsLoadedManifest, IsLoadFault, IsPartsFault};
+ghost use Rattle.links.specs.Statements.{HasMore, AreNumbersIn, AreGainsIn, AreGrownLines, AreChoicesBelow, line_with, action_with, loaded_action, AreLoadedActions, HasOnlyMore, IsLoadedManifest, IsLoadFault, IsPartsFault, extend_fault_of};
 
 use crate::build::users_of;
 use crate::fault::{ExtendFault, GraphFault};
@@ -49,6 +51,7 @@ pub fn load(
     ensures loaded { OnOk result (IsLoadedManifest manifest.old manifest.new (map addition_of additions.now) chosen.now) }
     ensures makers { IfOk result (λ parts. AreMakers manifest.new parts.makers.items) }
     ensures users { IfOk result (λ parts. AreUsers manifest.new recorded.now parts.users) }
+    ensures apart { OnOk result (HaveOnePlace manifest.new.paths) }
     ensures err { OnErr result (HasOnlyMore manifest.old manifest.new) }
     ensures fault { IfErr result (IsLoadFault manifest.old (map addition_of additions.now) chosen.now) }
 {
@@ -88,11 +91,7 @@ fn gains_of(
     Ok(gains)
 }
 
-fn numbers_of(
-    alloc: Global,
-    paths: &mut Paths,
-    texts: &[Path],
-) -> Result<Items<PathId>, AllocError>
+fn numbers_of(alloc: Global, paths: &mut Paths, texts: &[Path]) -> Result<Items<PathId>, AllocError>
     ensures more { HasMore paths.old paths.new }
     ensures numbers { IfOk result (λ numbers. AreNumbersIn paths.new texts.now numbers) }
 {
@@ -117,16 +116,30 @@ fn grown_lines(
 {
     let mut grown = Lines::new(alloc);
     for (place, choice) in chosen.iter().enumerate() {
-        let edge = EdgeId::at_below(place);
-        match choice {
-            None => grown.push_grown(lines, edge, &[], &[])?,
-            Some(statement) => {
-                let gain = &gains[*statement];
-                grown.push_grown(lines, edge, gain.outputs.as_slice(), gain.inputs.as_slice())?;
-            }
-        }
+        push_line(&mut grown, lines, EdgeId::at_below(place), *choice, gains)?;
     }
     Ok(grown)
+}
+
+/// Puts the line of an edge behind the others, with what the statement adds that was chosen for it.
+fn push_line(
+    grown: &mut Lines,
+    lines: &Lines,
+    edge: EdgeId,
+    choice: Option<usize>,
+    gains: &[Gain],
+) -> Result<(), AllocError>
+    requires edge { edge < length lines.now }
+    requires below { (k : ℕ) → choice ≡ Some k → k < length gains.now }
+    ensures { OnOk result (grown.new ≡ grown.old ++ line_with gains.now (line_at lines.now edge) choice ∷ []) }
+{
+    match choice {
+        None => grown.push_grown(lines, edge, &[], &[]),
+        Some(statement) => {
+            let gain = &gains[statement];
+            grown.push_grown(lines, edge, gain.outputs.as_slice(), gain.inputs.as_slice())
+        }
+    }
 }
 
 /// The makers and the users of the paths of a manifest, with recorded inputs.
@@ -134,16 +147,26 @@ fn parts_of(alloc: Global, manifest: &Manifest, recorded: &Recorded) -> Result<P
     requires { AreRecorded manifest.now recorded.now }
     ensures makers { IfOk result (λ parts. AreMakers manifest.now parts.makers.items) }
     ensures users { IfOk result (λ parts. AreUsers manifest.now recorded.now parts.users) }
+    ensures apart { OnOk result (HaveOnePlace manifest.now.paths) }
     ensures fault { IfErr result (IsPartsFault manifest.now) }
 {
     let makers = match makers_of(alloc, manifest) {
         Ok(makers) => makers,
-        Err(GraphFault::MadeTwice(path)) => return Err(ExtendFault::MadeTwice(path)),
-        Err(_) => return Err(ExtendFault::Memory),
+        Err(fault) => return Err(extend_fault(fault)),
     };
     let mut users = users_of(alloc, manifest)?;
     use_recorded(&mut users, manifest, recorded)?;
     Ok(Parts { makers, users })
+}
+
+/// The fault of a graph whose dyndep files are inputs: an edge keeps its inputs.
+fn extend_fault(fault: GraphFault) -> ExtendFault
+    ensures { result ≡ extend_fault_of fault }
+{
+    match fault {
+        GraphFault::MadeTwice(path) => ExtendFault::MadeTwice(path),
+        GraphFault::Memory | GraphFault::NoDyndepInput(_) => ExtendFault::Memory,
+    }
 }
 
 /// Puts each edge behind those that name its recorded inputs.
@@ -171,9 +194,17 @@ fn load_actions(actions: &mut [Action], additions: &[Addition], chosen: &[Option
     ensures { AreLoadedActions actions.old chosen.now (map addition_of additions.now) actions.new }
 {
     for (place, choice) in chosen.iter().enumerate() {
-        if let Some(statement) = choice {
-            load_action(&mut actions[place], additions[*statement].restat);
-        }
+        load_chosen(&mut actions[place], *choice, additions);
+    }
+}
+
+/// The same for one edge.
+fn load_chosen(action: &mut Action, choice: Option<usize>, additions: &[Addition])
+    requires { (k : ℕ) → choice ≡ Some k → k < length additions.now }
+    ensures { action.new ≡ action_with (map addition_of additions.now) action.old choice }
+{
+    if let Some(statement) = choice {
+        load_action(action, additions[statement].restat);
     }
 }
 
