@@ -22,7 +22,7 @@ use Rattle.links.specs.declared.graph.Graph.{Graph}
 use Rattle.links.specs.declared.loaded.Gain.{Gain}
 use Rattle.links.specs.Held.{list_at, dyndep_of, AreRecorded}
 use Rattle.links.specs.Linked.{IsFirstRepeated}
-use Rattle.links.specs.Told.{declared_by, recorded_by}
+use Rattle.links.specs.Told.{declared_by}
 use Rattle.links.specs.Extended.{dyndep_at, IsRemadeBy, IsRefusedLoad}
 use Rattle.links.specs.Statements.{owner_in, owners_of, IsFirstOf, IsChoice, FitsAt, AreChosen, HasMore, IsGainIn, no_addition, addition_at, AreGainsIn, gain_of, line_with, AreGrownLines, action_at, loaded_action, action_with, AreLoadedActions, IsMadeTwiceIn, IsRemadeIn, IsLoadFault}
 use Rattle.links.proofs.Choosing.{owner_some, owner_is, names_number, named_within}
@@ -237,12 +237,13 @@ recorded_loaded graph now more long = record {
   once = graph.recording.once;
 }
 
-recorded_same : (graph : Graph) (paths : List (List ℕ)) → HasMore graph.manifest.paths paths → (e : ℕ) → texts_at paths (list_at graph.recorded e) ≡ texts_at graph.manifest.paths (list_at graph.recorded e)
+pub recorded_same : (graph : Graph) (paths : List (List ℕ)) → HasMore graph.manifest.paths paths → (e : ℕ) → texts_at paths (list_at graph.recorded e) ≡ texts_at graph.manifest.paths (list_at graph.recorded e)
 recorded_same graph paths more e = more_texts graph.manifest.paths paths more (list_at graph.recorded e) (within_of (length graph.manifest.paths) (list_at graph.recorded e) (graph.recording.within e))
 
-pub recorded_by_same : (old new : Graph) → HasMore old.manifest.paths new.manifest.paths → new.recorded ≡ old.recorded → (i : ℕ) → recorded_by new i ≡ recorded_by old i
-recorded_by_same old new more same zero = refl
-recorded_by_same old new more same (suc e) = ap (λ (l : List (List ℕ)). texts_at new.manifest.paths (list_at l e)) same ∙ recorded_same old new.manifest.paths more e
+-- two lists for each number are the same where they are for 0 and for each other number
+pub by_number : (f g : ℕ → List (List ℕ)) → f 0 ≡ g 0 → ((e : ℕ) → f (suc e) ≡ g (suc e)) → (i : ℕ) → f i ≡ g i
+by_number f g none some zero = none
+by_number f g none some (suc e) = some e
 
 pub defaults_same : (graph : Graph) (paths : List (List ℕ)) → HasMore graph.manifest.paths paths → texts_at paths graph.manifest.defaults ≡ texts_at graph.manifest.paths graph.manifest.defaults
 defaults_same graph paths more = more_texts graph.manifest.paths paths more graph.manifest.defaults (each graph.manifest.defaults graph.manifest.known)

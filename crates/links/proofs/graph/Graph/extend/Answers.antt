@@ -4,7 +4,7 @@ use Rattle.links.specs.declared.graph.Graph.{Graph}
 use Rattle.links.specs.Extended.{addition_of}
 use Rattle.links.specs.Statements.{AreChosen}
 use Rattle.links.proofs.Ends.{none_twice}
-use Rattle.links.proofs.Extending.{is_grown, dyndeps_loaded, recorded_loaded, recorded_by_same, defaults_same, refused}
+use Rattle.links.proofs.Extending.{is_grown, dyndeps_loaded, recorded_loaded, recorded_same, by_number, defaults_same, refused}
 use Rattle.links.proofs.graph.Graph.extend.Goals as goal
 
 pub invariant_of-self : goal.invariant_of-self
@@ -38,7 +38,7 @@ returns-in-Ok-clause-loaded c =
       paths = loaded.paths.grows;
       named = loaded.named;
       numbers = refl;
-      recorded = recorded_by_same graph _ loaded.paths refl;
+      recorded = by_number _ _ refl (recorded_same graph now.paths loaded.paths);
     }
 
 pub returns-clause-fault : goal.returns-clause-fault
