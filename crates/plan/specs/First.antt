@@ -12,8 +12,8 @@ use Rattle.plan.specs.declared.step.Standing.{Standing}
 use Rattle.plan.specs.declared.step.Standing.TheVariants.{Outside, Unjudged, Alias}
 use Rattle.plan.specs.Standing.{standing_at, is_outside, awaits}
 use Rattle.plan.specs.Pools.{place_in, pool_of, depths_of}
-use Rattle.plan.specs.Plan.{is_missing, IsPooled, AreAllPooled}
-use Rattle.plan.specs.Loads.{AreLoads}
+use Rattle.plan.specs.Plan.{is_missing, IsPooled}
+use Rattle.plan.specs.Loads.{IsLoading}
 use Rattle.plan.specs.Planned.{IsOverIn}
 
 -- an edge of the cone waits to be judged or, where it has no command, for its inputs
@@ -63,5 +63,4 @@ pub record IsBegun (graph : Graph) (marks : List Mark) (jobs keep : ℕ) (plan :
   pub idle : IsIdle graph plan.standings.items plan.queue
   pub flags : plan.changed.items ≡ replicate (length graph.manifest.paths) false
   pub limits : (plan.jobs ≡ jobs) × (plan.keep ≡ keep)
-  pub loads : AreLoads graph plan.standings.items plan.loads.items
-  pub all : 0 < length plan.loads.items → AreAllPooled graph plan.queue
+  pub loading : IsLoading graph plan.standings.items plan.queue plan.loads.items

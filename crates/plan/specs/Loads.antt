@@ -1,5 +1,5 @@
 -- Which dyndep files are loaded, and in which order, by numbers.
-use Rattle.std.specs.Prelude.{◌≡◌, ◌⊎◌, ℕ, ◌<◌, Bool, true, false, List, [], ◌∷◌, ◌++◌, Option, None, Some}
+use Rattle.std.specs.Prelude.{◌≡◌, ◌⊎◌, ℕ, ◌<◌, Bool, true, false, List, [], ◌∷◌, ◌++◌, length, Option, None, Some}
 use Rattle.std.specs.List.{AllByRecursion}
 use Rattle.model.specs.Graph.{has_number}
 use Rattle.lowest.specs.Flags.{has}
@@ -7,7 +7,9 @@ use Rattle.links.specs.declared.graph.Graph.{Graph}
 use Rattle.links.specs.Links.{links_of}
 use Rattle.links.specs.Extended.{dyndep_at}
 use Rattle.plan.specs.declared.step.Standing.{Standing}
+use Rattle.queue.specs.Turns.{Turns}
 use Rattle.plan.specs.Standing.{standing_at, is_outside}
+use Rattle.plan.specs.Plan.{AreAllPooled}
 
 -- an edge of the cone names the file, which is not loaded
 pub record IsWanted (graph : Graph) (standings : List Standing) (file : ℕ) : Type 0 where
@@ -35,6 +37,11 @@ pub record AreLoads (graph : Graph) (standings : List Standing) (loads : List �
   pub named : (file : ℕ) → has_number loads file ≡ true → IsWanted graph standings file
   pub all : (e file : ℕ) → is_outside (standing_at standings e) ≡ false → dyndep_at graph e ≡ Some file → has_number loads file ≡ true
   pub ordered : AreInOrder graph loads
+
+-- So it is; and while files are left, so that the cone may grow, each edge is in its pool, in the cone or not.
+pub record IsLoading (graph : Graph) (standings : List Standing) (turns : Turns) (loads : List ℕ) : Type 0 where
+  pub loads_are : AreLoads graph standings loads
+  pub all : 0 < length loads → AreAllPooled graph turns
 
 -- none of these paths is there
 abbrev pub NoneIsThere : List Bool → List ℕ → Type 0

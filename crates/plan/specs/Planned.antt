@@ -27,8 +27,8 @@ use Rattle.plan.specs.declared.step.Step.{Step}
 use Rattle.plan.specs.declared.step.Step.TheVariants.{Load, Judge, Start, Wait, Ended as Over}
 use Rattle.plan.specs.Standing.{standing_at, is_outside, is_phony, is_settled}
 use Rattle.plan.specs.Pools.{pool_of}
-use Rattle.plan.specs.Plan.{IsOver, IsPooled, AreAllPooled}
-use Rattle.plan.specs.Loads.{AreLoads}
+use Rattle.plan.specs.Plan.{IsOver, IsPooled}
+use Rattle.plan.specs.Loads.{IsLoading}
 
 -- the plan keeps what is there, and what edges wait for, by the graph
 abbrev pub IsOverIn : Graph → Plan → Type 0
@@ -40,9 +40,7 @@ pub record IsPlanOver (graph : Graph) (plan : Plan) : Type 0 where
   pub settled : AreNone plan.pending
   pub pooled : IsPooled graph plan.standings.items plan.queue
   pub flags : length plan.changed.items ≡ length graph.manifest.paths
-  pub loads : AreLoads graph plan.standings.items plan.loads.items
-  -- the cone may grow
-  pub all : 0 < length plan.loads.items → AreAllPooled graph plan.queue
+  pub loading : IsLoading graph plan.standings.items plan.queue plan.loads.items
 
 -- the numbers of the graph say who waits for whom among the task's edges, which of them are aliases, in which pools they are,
 -- and which dyndep files they name; aliases have no recorded inputs

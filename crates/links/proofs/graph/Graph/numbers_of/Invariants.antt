@@ -1,4 +1,4 @@
-use Rattle.std.proofs.Common.{◌≡◌, ◌<◌, true, take}
+use Rattle.std.proofs.Common.{◌≡◌, ◌<◌, true, take, length}
 use Rattle.std.specs.List.{AllByRecursion}
 use Rattle.model.specs.Graph.{is_named}
 use Rattle.paths.specs.Told.{texts_at}
