@@ -22,7 +22,7 @@ use Rattle.links.specs.ConeOf.{StandFor, IsConeForEach, IsFaultForEach}
 use Rattle.links.specs.Free.{free_of}
 use Rattle.links.specs.Linked.{default_targets, IsGraphOf, IsConeOf, AreMakersOf}
 use Rattle.links.specs.Links.{links_of}
-use Rattle.links.specs.Targets.{IsConeFor, IsNoCone, IsFirstUnknown, IsUnknownIn}
+use Rattle.links.specs.Targets.{IsConeFor, IsConeOfNumbers, IsNoCone, IsNoConeAgain, IsFirstUnknown, IsUnknownIn}
 use Rattle.links.specs.Told.{declared_by, recorded_by, AreSameInputs}
 use Rattle.links.proofs.ConesOf.{no_cycle}
 use Rattle.links.proofs.GraphIs.{graph_is, links_are}
@@ -75,8 +75,8 @@ or_else_some [] ys some = absurd (true≢false some)
 or_else_some (x ∷ xs) ys some = refl
 
 module _ (graph : Graph) where
-  outs_below : AllByRecursion (λ p. p < graph.manifest.named) (flat_map line_outputs graph.manifest.lines)
-  outs_below = within_of graph.manifest.named (flat_map line_outputs graph.manifest.lines) (λ p h. let at = flat_has line_outputs graph.manifest.lines p h in output_below graph.manifest at.0 p at.1)
+  outs_below : AllByRecursion (λ p. p < length graph.manifest.paths) (flat_map line_outputs graph.manifest.lines)
+  outs_below = within_of (length graph.manifest.paths) (flat_map line_outputs graph.manifest.lines) (λ p h. let at = flat_has line_outputs graph.manifest.lines p h in output_below graph.manifest at.0 p at.1)
 
   outs_within : AreWithin graph.manifest.paths (flat_map line_outputs graph.manifest.lines)
   outs_within = within_of (length graph.manifest.paths) (flat_map line_outputs graph.manifest.lines) (λ p h. let at = flat_has line_outputs graph.manifest.lines p h in let low = output_below graph.manifest at.0 p at.1 in omega (arith, low, graph.manifest.names))
@@ -84,9 +84,9 @@ module _ (graph : Graph) where
   ins_within : AreWithin graph.manifest.paths (flat_map line_inputs graph.manifest.lines)
   ins_within = within_of (length graph.manifest.paths) (flat_map line_inputs graph.manifest.lines) (λ p h. let at = flat_has line_inputs graph.manifest.lines p h in let low = input_below graph.manifest at.0 p at.1 in omega (arith, low, graph.manifest.names))
 
-  pub free_within : (marks : List Bool) (free : List ℕ) → free ≡ free_of marks (flat_map line_outputs graph.manifest.lines) → (k d : ℕ) → k < length free → get_or free k d < graph.manifest.named
-  free_within marks free is = subst (λ (l : List ℕ). (k d : ℕ) → k < length l → get_or l k d < graph.manifest.named) (sym {A = List ℕ} is)
-      (all_index graph.manifest.named (free_of marks (flat_map line_outputs graph.manifest.lines)) (free_below graph.manifest.named marks (flat_map line_outputs graph.manifest.lines) outs_below))
+  pub free_within : (marks : List Bool) (free : List ℕ) → free ≡ free_of marks (flat_map line_outputs graph.manifest.lines) → (k d : ℕ) → k < length free → get_or free k d < length graph.manifest.paths
+  free_within marks free is = subst (λ (l : List ℕ). (k d : ℕ) → k < length l → get_or l k d < length graph.manifest.paths) (sym {A = List ℕ} is)
+      (all_index (length graph.manifest.paths) (free_of marks (flat_map line_outputs graph.manifest.lines)) (free_below (length graph.manifest.paths) marks (flat_map line_outputs graph.manifest.lines) outs_below))
 
   roots_are : (marks : List Bool) → ((p : ℕ) → get_or marks p false ≡ has_number (flat_map line_inputs graph.manifest.lines) p)
       → texts_at graph.manifest.paths (free_of marks (flat_map line_outputs graph.manifest.lines)) ≡ roots (declared_by graph).edges
@@ -139,20 +139,44 @@ module _ (graph : Graph) where
     makers = makers;
   }
 
-  pub cone_for : (recorded : ℕ → List (List ℕ)) → AreSameInputs recorded (recorded_by graph) → (asked : List (List ℕ)) (numbers requested : List ℕ) → All (λ p. p < graph.manifest.named) numbers → texts_at graph.manifest.paths numbers ≡ targets_of (declared_by graph) asked
+  pub cone_for : (recorded : ℕ → List (List ℕ)) → AreSameInputs recorded (recorded_by graph) → (asked : List (List ℕ)) (numbers requested : List ℕ) → All (λ p. p < length graph.manifest.paths) numbers → texts_at graph.manifest.paths numbers ≡ targets_of (declared_by graph) asked
       → AllByRecursion (λ p. is_named (declared_by graph).edges p ≡ true) asked → AreMakersOf (declared_by graph).edges (texts_at graph.manifest.paths numbers) requested
       → (the_cone : Cone) → the_cone.targets.items ≡ numbers → IsConeForEach (links_of graph) requested the_cone.order.items the_cone.marks.items → IsConeFor graph recorded asked the_cone
   cone_for recorded same asked numbers requested within told named makers the_cone kept cone = record {
     listed = listed;
     named = named;
     acyclic = no_cycle (declared_by graph).edges recorded (targets_of (declared_by graph) asked) the_cone.order.items the_cone.marks.items listed;
-    within = subst (All (λ p. p < graph.manifest.named)) (sym {A = List ℕ} kept) within;
+    within = subst (All (λ p. p < length graph.manifest.paths)) (sym {A = List ℕ} kept) within;
     numbers = ap (texts_at graph.manifest.paths) kept ∙ told;
   }
     where
       listed : IsConeOf (declared_by graph).edges recorded (targets_of (declared_by graph) asked) the_cone.order.items the_cone.marks.items
       listed = cone (declared_by graph).edges recorded (targets_of (declared_by graph) asked)
           (stand_for recorded same (targets_of (declared_by graph) asked) requested (subst (λ (l : List (List ℕ)). AreMakersOf (declared_by graph).edges l requested) told makers))
+
+  pub cone_of_numbers : (recorded : ℕ → List (List ℕ)) → AreSameInputs recorded (recorded_by graph) → (numbers requested : List ℕ) → AreMakersOf (declared_by graph).edges (texts_at graph.manifest.paths numbers) requested
+      → (the_cone : Cone) → the_cone.targets.items ≡ numbers → IsConeForEach (links_of graph) requested the_cone.order.items the_cone.marks.items → IsConeOfNumbers graph recorded numbers the_cone
+  cone_of_numbers recorded same numbers requested makers the_cone kept cone =
+      let listed = cone (declared_by graph).edges recorded (texts_at graph.manifest.paths numbers) (stand_for recorded same (texts_at graph.manifest.paths numbers) requested makers) in
+      record {
+        listed = listed;
+        acyclic = no_cycle (declared_by graph).edges recorded (texts_at graph.manifest.paths numbers) the_cone.order.items the_cone.marks.items listed;
+        numbers = kept;
+      }
+
+-- where the targets are those of an earlier cone
+pub no_cone_again : (graph : Graph) (asked : Asked) (store : Store) → asked.graph ≡ declared_by graph → AreSameInputs (recorded_inputs store asked.graph.edges) (recorded_by graph) → (numbers requested : List ℕ)
+    → targets_of (declared_graph asked) asked.targets ≡ texts_at graph.manifest.paths numbers → AreMakersOf (declared_by graph).edges (texts_at graph.manifest.paths numbers) requested
+    → (fault : ConeFault) → IsFaultForEach (links_of graph) requested fault → IsNoConeAgain asked store graph.manifest.paths fault
+no_cone_again graph asked store is same numbers requested told makers Memory fault = tt
+no_cone_again graph asked store is same numbers requested told makers (Unknown place) fault = absurd fault
+no_cone_again graph asked store is same numbers requested told makers (Cycle cycle) fault =
+    let edges_are : asked.graph.edges ≡ (declared_by graph).edges = ap (λ g. g.edges) is in
+    fault asked store graph.manifest.paths
+    (subst (λ (es : List Edge). IsGraphOf es (recorded_inputs store asked.graph.edges) graph.manifest.paths (links_of graph)) (sym {A = List Edge} edges_are) (graph_is graph (recorded_inputs store asked.graph.edges) same))
+    (subst (λ (es : List Edge). StandFor es (recorded_inputs store asked.graph.edges) (targets_of (declared_graph asked) asked.targets) (links_of graph) requested) (sym {A = List Edge} edges_are)
+    (subst (λ (ts : List (List ℕ)). StandFor (declared_by graph).edges (recorded_inputs store asked.graph.edges) ts (links_of graph) requested) (sym {A = List (List ℕ)} told)
+    (stand_for graph (recorded_inputs store asked.graph.edges) same (texts_at graph.manifest.paths numbers) requested makers)))
 
 -- where what is asked is of this graph
 module _ (graph : Graph) (asked : Asked) (store : Store) (targets : List (List ℕ)) (declared : asked.declared ≡ asked.graph.edges) (is : asked.graph ≡ declared_by graph) (wants : asked.targets ≡ targets)

@@ -48,7 +48,7 @@ dyndeps_turn manifest place e same before here d p low names = elim (cases_eq e 
 
 -- ---- in texts
 
-dyndep_low : (manifest : Manifest) (e p : ℕ) → dyndep_of (get_or manifest.actions e no_action) ≡ Some p → p < length manifest.paths
+pub dyndep_low : (manifest : Manifest) (e p : ℕ) → dyndep_of (get_or manifest.actions e no_action) ≡ Some p → p < length manifest.paths
 dyndep_low manifest e p is = by (get_or manifest.actions e no_action) (manifest.dyndeps e) is
   where
     by : (action : Action) → dyndep_stop action ≤ length manifest.paths → dyndep_of action ≡ Some p → p < length manifest.paths

@@ -18,3 +18,9 @@ pub mod Named
 pub mod Longer
 pub mod Joins
 pub mod Ends
+pub mod Places
+pub mod Choosing
+pub mod Unfitting
+pub mod Gaining
+pub mod Loading
+pub mod Extending

@@ -41,12 +41,12 @@ longer_length old new path (inr more) = let long = ap length more in let sum = l
 
 -- ---- the same texts
 
-texts_longer : (paths more : List (List ℕ)) (numbers : List ℕ) → AreWithin paths numbers → texts_at (paths ++ more) numbers ≡ texts_at paths numbers
+pub texts_longer : (paths more : List (List ℕ)) (numbers : List ℕ) → AreWithin paths numbers → texts_at (paths ++ more) numbers ≡ texts_at paths numbers
 texts_longer paths more [] within = refl
 texts_longer paths more (n ∷ numbers) within =
     ap (λ (t : List ℕ). t ∷ texts_at (paths ++ more) numbers) (get_or_append_left paths more [] n within.0) ∙ ap (λ (l : List (List ℕ)). text_at paths n ∷ l) (texts_longer paths more numbers within.1)
 
-part_within : (n : ℕ) (line : Line) → ((p : ℕ) → has_number (line_paths line) p ≡ true → p < n)
+pub part_within : (n : ℕ) (line : Line) → ((p : ℕ) → has_number (line_paths line) p ≡ true → p < n)
     → AllByRecursion (λ p. p < n) line.explicit_outputs × AllByRecursion (λ p. p < n) line.implicit_outputs × AllByRecursion (λ p. p < n) line.explicit_inputs
     × AllByRecursion (λ p. p < n) line.implicit_inputs × AllByRecursion (λ p. p < n) line.order_only_inputs × AllByRecursion (λ p. p < n) line.validations
 part_within n line each = (
@@ -67,7 +67,7 @@ part_within n line each = (
     regular : (p : ℕ) → has_number (line_regular_inputs line) p ≡ true → p < n
     regular p h = needed p (has_number-left (line_regular_inputs line) line.order_only_inputs p h)
 
-edge_longer : (paths more : List (List ℕ)) (line : Line) (action : Action) → ((p : ℕ) → has_number (line_paths line) p ≡ true → p < length paths) → dyndep_stop action ≤ length paths
+pub edge_longer : (paths more : List (List ℕ)) (line : Line) (action : Action) → ((p : ℕ) → has_number (line_paths line) p ≡ true → p < length paths) → dyndep_stop action ≤ length paths
     → edge_of (paths ++ more) line action ≡ edge_of paths line action
 edge_longer paths more line Alias each low =
     let parts = part_within (length paths) line each in
@@ -93,7 +93,7 @@ edge_longer paths more line (Command command) each low =
     dyndep None low = refl
     dyndep (Some p) low = ap (λ (t : List ℕ). Some t) (get_or_append_left paths more [] p (omega (arith, low)))
 
-edges_longer : (paths more : List (List ℕ)) (lines : List Line) (actions : List Action) → ((e p : ℕ) → has_number (line_paths (line_at lines e)) p ≡ true → p < length paths)
+pub edges_longer : (paths more : List (List ℕ)) (lines : List Line) (actions : List Action) → ((e p : ℕ) → has_number (line_paths (line_at lines e)) p ≡ true → p < length paths)
     → ((e : ℕ) → dyndep_stop (get_or actions e no_action) ≤ length paths) → edges_of (paths ++ more) lines actions ≡ edges_of paths lines actions
 edges_longer paths more [] actions each low = refl
 edges_longer paths more (line ∷ lines) [] each low = refl

@@ -25,30 +25,27 @@ in_all [] e p h = absurd (false≢true h)
 in_all (line ∷ lines) zero p h = has_number-left (line_paths line) (all_paths lines) p h
 in_all (line ∷ lines) (suc e) p h = has_number-right (line_paths line) (all_paths lines) p (in_all lines e p h)
 
-lt_from : (a b : ℕ) → nat_lt a b ≡ true → a < b
-lt_from a b is = grind (arith, is)
-
 module _ (manifest : Manifest) where
-  pub named_below : (e p : ℕ) → has_number (line_paths (line_at manifest.lines e)) p ≡ true → p < manifest.named
-  named_below e p h = lt_from p manifest.named (sym (manifest.numbered p) ∙ in_all manifest.lines e p h)
+  pub named_below : (e p : ℕ) → has_number (line_paths (line_at manifest.lines e)) p ≡ true → p < length manifest.paths
+  named_below e p h = manifest.within p (in_all manifest.lines e p h)
 
-  pub output_below : (e p : ℕ) → has_number (line_outputs (line_at manifest.lines e)) p ≡ true → p < manifest.named
+  pub output_below : (e p : ℕ) → has_number (line_outputs (line_at manifest.lines e)) p ≡ true → p < length manifest.paths
   output_below e p h =
       let line = line_at manifest.lines e in
       named_below e p (has_number-left (line_outputs line) (line_inputs line ++ line.validations) p h)
 
-  pub input_below : (e p : ℕ) → has_number (line_inputs (line_at manifest.lines e)) p ≡ true → p < manifest.named
+  pub input_below : (e p : ℕ) → has_number (line_inputs (line_at manifest.lines e)) p ≡ true → p < length manifest.paths
   input_below e p h =
       let line = line_at manifest.lines e in
       named_below e p (has_number-right (line_outputs line) (line_inputs line ++ line.validations) p (has_number-left (line_inputs line) line.validations p h))
 
-  pub validation_below : (e p : ℕ) → has_number (line_at manifest.lines e).validations p ≡ true → p < manifest.named
+  pub validation_below : (e p : ℕ) → has_number (line_at manifest.lines e).validations p ≡ true → p < length manifest.paths
   validation_below e p h =
       let line = line_at manifest.lines e in
       named_below e p (has_number-right (line_outputs line) (line_inputs line ++ line.validations) p (has_number-right (line_inputs line) line.validations p h))
 
-  widen : (numbers : List ℕ) → ((p : ℕ) → has_number numbers p ≡ true → p < manifest.named) → AreWithin manifest.paths numbers
-  widen numbers each = within_of (length manifest.paths) numbers (λ p h. let low = each p h in omega (arith, low, manifest.names))
+  widen : (numbers : List ℕ) → ((p : ℕ) → has_number numbers p ≡ true → p < length manifest.paths) → AreWithin manifest.paths numbers
+  widen numbers each = within_of (length manifest.paths) numbers each
 
   pub outputs_within : (e : ℕ) → AreWithin manifest.paths (line_outputs (line_at manifest.lines e))
   outputs_within e = widen (line_outputs (line_at manifest.lines e)) (output_below e)

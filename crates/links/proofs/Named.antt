@@ -1,13 +1,13 @@
--- Numbers of paths that build lines name.
+-- Numbers of paths that edges name.
 use Rattle.std.proofs.Common.{◌≡◌, ℕ, zero, suc, ◌<◌, true, List, [], ◌∷◌, ◌++◌, get_or, nat_lt, sym, ◌∙◌, ap, arith}
 use Rattle.std.proofs.lemmas.Bool.{false≢true, or_left, or_right}
 use Rattle.std.proofs.lemmas.List.{map-append}
 use Rattle.model.specs.declared.graph.Edge.{Edge}
-use Rattle.model.specs.Graph.{has, no_edge, inputs, paths_of, is_named}
+use Rattle.model.specs.Graph.{has, has_number, no_edge, inputs, paths_of, is_named}
 use Rattle.paths.specs.declared.line.Line.{Line}
 use Rattle.paths.specs.declared.manifest.Action.{Action}
 use Rattle.paths.specs.declared.manifest.Manifest.{Manifest}
-use Rattle.paths.specs.Lists.{line_at, line_outputs, line_inputs, line_paths}
+use Rattle.paths.specs.Lists.{line_at, line_outputs, line_inputs, line_paths, all_paths}
 use Rattle.paths.specs.Commands.{no_action}
 use Rattle.paths.specs.Told.{text_at, texts_at, edge_of, graph_of}
 use Rattle.links.proofs.Asked.{flat_has}
@@ -26,12 +26,9 @@ paths_are paths line action =
     ∙ (ap (λ (l : List (List ℕ)). texts_at paths (line_outputs line) ++ l) (sym (map-append (text_at paths) (line_inputs line) line.validations))
     ∙ sym (map-append (text_at paths) (line_outputs line) (line_inputs line ++ line.validations)))))
 
-lt_true : (a b : ℕ) → a < b → nat_lt a b ≡ true
-lt_true a b less = grind (arith, less)
-
-pub named_number : (manifest : Manifest) (n : ℕ) → n < manifest.named → is_named (graph_of manifest).edges (text_at manifest.paths n) ≡ true
-named_number manifest n lt =
-    let there = flat_has line_paths manifest.lines n (manifest.numbered n ∙ lt_true n manifest.named lt) in
+pub named_number : (manifest : Manifest) (n : ℕ) → has_number (all_paths manifest.lines) n ≡ true → is_named (graph_of manifest).edges (text_at manifest.paths n) ≡ true
+named_number manifest n among =
+    let there = flat_has line_paths manifest.lines n among in
     let line = line_at manifest.lines there.0 in
     named_get (graph_of manifest).edges there.0 (text_at manifest.paths n)
     (ap (λ (l : List (List ℕ)). has l (text_at manifest.paths n)) (ap paths_of (edge_get manifest.paths manifest.lines manifest.actions there.0 manifest.fits) ∙ paths_are manifest.paths line (get_or manifest.actions there.0 no_action))

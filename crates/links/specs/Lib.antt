@@ -10,6 +10,8 @@ pub mod Making
 pub mod Free
 pub mod Cone
 pub mod ConeOf
+pub mod Extended
+pub mod Statements
 pub mod Targets
 pub mod Alias
 pub mod ReadingOf

@@ -32,15 +32,27 @@ pub record IsConeFor (graph : Graph) (recorded : ℕ → List (List ℕ)) (targe
   pub listed : IsConeOf (declared_by graph).edges recorded (targets_of (declared_by graph) targets) cone.order.items cone.marks.items
   pub named : AllByRecursion (λ p. is_named (declared_by graph).edges p ≡ true) targets
   pub acyclic : (i : ℕ) → IsInCone (declared_by graph).edges recorded (targets_of (declared_by graph) targets) i → IsCycle (declared_by graph).edges recorded i → ⊥
-  -- the numbers of what is built, all of paths that build lines name
-  pub within : All (λ p. p < graph.manifest.named) cone.targets.items
+  -- the numbers of what is built
+  pub within : All (λ p. p < length graph.manifest.paths) cone.targets.items
   pub numbers : texts_at graph.manifest.paths cone.targets.items ≡ targets_of (declared_by graph) targets
+
+-- the cone of the paths with these numbers, and it has no cycle
+pub record IsConeOfNumbers (graph : Graph) (recorded : ℕ → List (List ℕ)) (targets : List ℕ) (cone : Cone) : Type 0 where
+  pub listed : IsConeOf (declared_by graph).edges recorded (texts_at graph.manifest.paths targets) cone.order.items cone.marks.items
+  pub acyclic : (i : ℕ) → IsInCone (declared_by graph).edges recorded (texts_at graph.manifest.paths targets) i → IsCycle (declared_by graph).edges recorded i → ⊥
+  pub numbers : cone.targets.items ≡ targets
 
 -- why what was asked for has no cone: a target that is unknown, or paths that lead round a cycle
 abbrev pub IsNoCone : Asked → Store → List (List ℕ) → ConeFault → Type 0
 IsNoCone asked store paths Memory = Unit {0}
 IsNoCone asked store paths (Unknown place) = IsFirstUnknown asked.declared asked.targets place
 IsNoCone asked store paths (Cycle numbers) = AllNamed asked × IsShownCycle asked store (map (text_at paths) numbers)
+
+-- why what was asked for has no cone any more: paths that lead round a cycle
+abbrev pub IsNoConeAgain : Asked → Store → List (List ℕ) → ConeFault → Type 0
+IsNoConeAgain asked store paths Memory = Unit {0}
+IsNoConeAgain asked store paths (Unknown place) = ⊥
+IsNoConeAgain asked store paths (Cycle numbers) = IsShownCycle asked store (map (text_at paths) numbers)
 
 -- the fault is a target that no build line names, or want of memory
 abbrev pub IsUnknownIn : List Edge → List (List ℕ) → ConeFault → Type 0

@@ -8,6 +8,7 @@ ghost use Rattle.paths.specs.Told.{text_at};
 ghost use Rattle.links.specs.Held.{times};
 ghost use Rattle.links.specs.Links.{links_of, needs_at, users_at};
 ghost use Rattle.links.specs.Told.{declared_by};
+ghost use Rattle.links.specs.Extended.{dyndep_at};
 
 use crate::graph::Graph;
 use paths::{Action, EdgeId, PathId};
@@ -105,6 +106,18 @@ impl Graph {
         match self.manifest.action(edge) {
             Action::Alias => true,
             Action::Command(_) => false,
+        }
+    }
+
+    /// The dyndep file that is to be loaded before the edge is judged; none where it names none, or that was loaded (manual:
+    /// "Dynamic Dependencies").
+    pub fn dyndep(&self, edge: EdgeId) -> Option<PathId>
+        requires { edge < length self.now.manifest.lines }
+        ensures { result ≡ dyndep_at self.now edge }
+    {
+        match self.manifest.action(edge) {
+            Action::Alias => None,
+            Action::Command(command) => command.dyndep,
         }
     }
 

@@ -43,7 +43,7 @@ impl Graph {
 }
 
 /// For each path the edges that name it.
-fn users_of(alloc: Global, manifest: &Manifest) -> Result<Users, AllocError>
+pub(crate) fn users_of(alloc: Global, manifest: &Manifest) -> Result<Users, AllocError>
     ensures users { IfOk result (AreUsers manifest.now (replicate (length manifest.now.lines) [])) }
     ensures apart { OnOk result (HaveOnePlace manifest.now.paths) }
 {

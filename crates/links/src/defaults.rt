@@ -17,7 +17,7 @@ impl Graph {
     /// The outputs that no edge names as an input, in reading order; all outputs, where there is no such one. What is
     /// recorded does not count.
     pub fn default_targets(&self, alloc: Global) -> Result<Vec<PathId>, AllocError>
-        ensures within { IfOk result (λ targets. All (λ p. p < self.now.manifest.named) targets.items) }
+        ensures within { IfOk result (λ targets. All (λ p. p < length self.now.manifest.paths) targets.items) }
         ensures targets { IfOk result (λ targets. texts_at self.now.manifest.paths targets.items ≡ default_targets (declared_by self.now).edges) }
     {
         let needed = self.needed(alloc)?;
@@ -33,7 +33,7 @@ impl Graph {
     fn needed(&self, alloc: Global) -> Result<Vec<bool>, AllocError>
         ensures { IfOk result (λ needed. (p : ℕ) → get_or needed.items p false ≡ has_number (flat_map line_inputs self.now.manifest.lines) p) }
     {
-        let mut needed = vec![in alloc; false; self.manifest.named]?;
+        let mut needed = vec![in alloc; false; self.paths()]?;
         for place in 0..self.edges() {
             mark(&mut needed, self.inputs(self.manifest.edge(place)));
         }

@@ -39,3 +39,40 @@ impl<T: Drop> From<AllocFailed<T>> for GraphFault {
         GraphFault::Memory
     }
 }
+
+/// Why a graph does not take what a dyndep file says.
+#[derive(Debug, Drop, Error)]
+pub enum ExtendFault {
+    /// A growth of memory was refused.
+    #[error("out of memory")]
+    Memory,
+    /// The first output of an edge that names the file and has no statement in it; or the output of a statement that is of no
+    /// such edge, or of one that has a statement before. It is shown with the file's name.
+    #[error("does not fit '{0}'")]
+    Unfit(Path),
+    /// An output that another edge makes, or the same edge once more.
+    #[error("'{0}' is made twice")]
+    MadeTwice(Path),
+}
+
+impl From<AllocError> for ExtendFault {
+    ghost use Rattle.std.specs.Prelude.{◌≡◌};
+    ghost use Rattle.links.specs.declared.fault.ExtendFault.TheVariants.{Memory};
+
+    ghost from_gives = { λ _ fault. fault ≡ Memory };
+
+    fn from(_: AllocError) -> ExtendFault {
+        ExtendFault::Memory
+    }
+}
+
+impl<T: Drop> From<AllocFailed<T>> for ExtendFault {
+    ghost use Rattle.std.specs.Prelude.{◌≡◌};
+    ghost use Rattle.links.specs.declared.fault.ExtendFault.TheVariants.{Memory};
+
+    ghost from_gives = { λ _ fault. fault ≡ Memory };
+
+    fn from(_: AllocFailed<T>) -> ExtendFault {
+        ExtendFault::Memory
+    }
+}

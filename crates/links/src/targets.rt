@@ -4,11 +4,11 @@ ghost use Rattle.std.specs.Prelude.{◌≡◌, ◌<◌, ℕ, true, List, All, ma
 ghost use Rattle.std.specs.List.{AllByRecursion};
 ghost use Rattle.model.specs.Graph.{is_named, targets_of};
 ghost use Rattle.model.specs.Records.{Store, recorded_inputs};
-ghost use Rattle.model.specs.SingleBuild.{Asked};
+ghost use Rattle.model.specs.SingleBuild.{Asked, declared_graph};
 ghost use Rattle.paths.specs.Told.{texts_at};
 ghost use Rattle.links.specs.Linked.{AreMakersOf};
 ghost use Rattle.links.specs.Told.{declared_by, recorded_by, AreSameInputs};
-ghost use Rattle.links.specs.Targets.{IsOrdered, IsConeFor, IsNoCone, IsUnknownIn};
+ghost use Rattle.links.specs.Targets.{IsOrdered, IsConeFor, IsConeOfNumbers, IsNoCone, IsNoConeAgain, IsUnknownIn};
 
 use crate::cone::{Cone, ConeFault};
 use crate::graph::Graph;
@@ -36,9 +36,22 @@ impl Graph {
         Cone::of(alloc, self, numbers, &requested)
     }
 
+    /// The cone of the same targets, as an earlier one has them in numbers, once a dyndep file was loaded. `Cycle` where edges
+    /// of it need one another in a circle.
+    pub fn cone_again(&self, alloc: Global, targets: Vec<PathId>) -> Result<Cone, ConeFault>
+        requires { All (λ p. p < length self.now.manifest.paths) targets.items }
+        ensures marks { IfOk result (λ cone. vec_len cone.marks ≡ length self.now.manifest.lines) }
+        ensures ordered { IfOk result (IsOrdered self.now) }
+        ensures cone { IfOk result (λ cone. (recorded : ℕ → List (List ℕ)) → AreSameInputs recorded (recorded_by self.now) → IsConeOfNumbers self.now recorded targets.items cone) }
+        ensures fault { IfErr result (λ fault. (asked : Asked) (store : Store) → asked.graph ≡ declared_by self.now → targets_of (declared_graph asked) asked.targets ≡ texts_at self.now.manifest.paths targets.items → AreSameInputs (recorded_inputs store asked.graph.edges) (recorded_by self.now) → IsNoConeAgain asked store self.now.manifest.paths fault) }
+    {
+        let requested = self.makers_of(alloc, &targets)?;
+        Cone::of(alloc, self, targets, &requested)
+    }
+
     /// What is built where these targets are asked for.
     fn targets(&self, alloc: Global, asked: &[Path]) -> Result<Vec<PathId>, ConeFault>
-        ensures within { IfOk result (λ targets. All (λ p. p < self.now.manifest.named) targets.items) }
+        ensures within { IfOk result (λ targets. All (λ p. p < length self.now.manifest.paths) targets.items) }
         ensures targets { IfOk result (λ targets. texts_at self.now.manifest.paths targets.items ≡ targets_of (declared_by self.now) asked.now) }
         ensures named { IfOk result (λ _. AllByRecursion (λ p. is_named (declared_by self.now).edges p ≡ true) asked.now) }
         ensures fault { IfErr result (IsUnknownIn (declared_by self.now).edges asked.now) }
@@ -54,7 +67,7 @@ impl Graph {
 
     /// The numbers of these targets; `Unknown` for the first that no build line names.
     fn numbers_of(&self, alloc: Global, asked: &[Path]) -> Result<Vec<PathId>, ConeFault>
-        ensures within { IfOk result (λ targets. All (λ p. p < self.now.manifest.named) targets.items) }
+        ensures within { IfOk result (λ targets. All (λ p. p < length self.now.manifest.paths) targets.items) }
         ensures targets { IfOk result (λ targets. texts_at self.now.manifest.paths targets.items ≡ asked.now) }
         ensures named { IfOk result (λ _. AllByRecursion (λ p. is_named (declared_by self.now).edges p ≡ true) asked.now) }
         ensures fault { IfErr result (IsUnknownIn (declared_by self.now).edges asked.now) }

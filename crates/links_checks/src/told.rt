@@ -20,6 +20,35 @@ pub fn push_cone(
     }
 }
 
+/// The numbers of these targets, or of the defaults; none where they have no cone.
+pub fn target_numbers(
+    alloc: Global,
+    graph: &Graph,
+    targets: &str,
+) -> Result<Option<Vec<PathId>>, AllocError> {
+    let targets = paths(alloc, targets)?;
+    match graph.cone(alloc, targets.as_slice()) {
+        Ok(cone) => Ok(Some(cone.targets)),
+        Err(_) => Ok(None),
+    }
+}
+
+/// The cone of targets that an earlier one had.
+pub fn push_cone_again(
+    alloc: Global,
+    graph: &Graph,
+    targets: Vec<PathId>,
+    told: &mut String,
+) -> Result<(), AllocError> {
+    if targets.iter().any(|target| target.index() >= graph.paths()) {
+        return told.push_str("no target");
+    }
+    match graph.cone_again(alloc, targets) {
+        Ok(cone) => push_first_outputs(graph, &cone.order, told),
+        Err(fault) => push_fault(alloc, graph, &fault, told),
+    }
+}
+
 /// The words of a text.
 fn paths(alloc: Global, text: &str) -> Result<Items<Path>, AllocError> {
     let mut paths = Items::new(alloc);

@@ -1,5 +1,5 @@
 -- Which paths the edges of a manifest name.
-use Rattle.std.proofs.Common.{◌≡◌, inl, inr, ℕ, ◌<◌, ◌≤◌, ◌||◌, ◌==◌, Bool, true, false, List, [], ◌∷◌, ◌++◌, length, slice_get, nat_lt, Some, refl, sym, ◌∙◌, ap, subst, arith, bytes_eq}
+use Rattle.std.proofs.Common.{◌≡◌, inl, inr, ℕ, zero, suc, ◌<◌, ◌≤◌, ◌||◌, ◌==◌, Bool, true, false, List, [], ◌∷◌, ◌++◌, length, take, slice_get, Some, refl, sym, ◌∙◌, ap, subst, arith, bytes_eq}
 use Rattle.std.proofs.lemmas.Bool.{or_cases, or_left, or_right, eqb-true, eq-eqb, false≢true, false_from_ne_true}
 use Rattle.std.proofs.lemmas.List.{map-append}
 use Rattle.std.proofs.lemmas.Option.{slice_get-get_or}
@@ -9,7 +9,7 @@ use Rattle.paths.specs.declared.line.Line.{Line}
 use Rattle.paths.specs.declared.manifest.Action.{Action}
 use Rattle.paths.specs.declared.manifest.Action.TheVariants.{Alias, Command}
 use Rattle.paths.specs.Numbers.{HaveOnePlace}
-use Rattle.paths.specs.Lists.{line_outputs, line_regular_inputs, line_inputs, line_paths, all_paths}
+use Rattle.paths.specs.Lists.{line_outputs, line_regular_inputs, line_inputs, line_paths, line_at, all_paths}
 use Rattle.paths.specs.Told.{text_at, texts_at, edge_of, edges_of}
 use Rattle.paths.proofs.Places.{in_has}
 
@@ -83,24 +83,61 @@ has_of_among paths (m ∷ numbers) n p among is = elim (or_cases (m == n) (has_n
 
 -- ---- the paths that lines name
 
-lt_true : (a b : ℕ) → a < b → nat_lt a b ≡ true
-lt_true a b less = grind (arith, less)
-
-lt_from : (a b : ℕ) → nat_lt a b ≡ true → a < b
-lt_from a b is = grind (arith, is)
-
-module _ (paths : List (List ℕ)) (lines : List Line) (actions : List Action) (named : ℕ) (fits : length actions ≡ length lines) (names : named ≤ length paths)
-    (numbered : (p : ℕ) → has_number (all_paths lines) p ≡ nat_lt p named) where
-  at_named : (p : List ℕ) → is_named (edges_of paths lines actions) p ≡ true → (n : ℕ) × (n < named) × (slice_get paths n ≡ Some p)
+module _ (paths : List (List ℕ)) (lines : List Line) (actions : List Action) (fits : length actions ≡ length lines) (within : (p : ℕ) → has_number (all_paths lines) p ≡ true → p < length paths) where
+  at_named : (p : List ℕ) → is_named (edges_of paths lines actions) p ≡ true → (n : ℕ) × (has_number (all_paths lines) n ≡ true) × (slice_get paths n ≡ Some p)
   at_named p is =
       let one = among_of_has paths (all_paths lines) p (sym (named_texts paths lines actions p fits) ∙ is) in
-      let below = lt_from one.number named (sym (numbered one.number) ∙ one.among) in
-      (one.number, below, slice_get-get_or paths one.number [] (omega (arith, below, names)) ∙ ap (λ (t : List ℕ). Some t) one.is)
+      (one.number, one.among, slice_get-get_or paths one.number [] (within one.number one.among) ∙ ap (λ (t : List ℕ). Some t) one.is)
 
   -- a path that is not in the table
   pub unnamed_absent : (p : List ℕ) → has paths p ≡ false → is_named (edges_of paths lines actions) p ≡ false
   unnamed_absent p absent = false_from_ne_true _ (λ is. let at = at_named p is in false≢true (sym absent ∙ in_has paths at.0 p at.2))
 
-  -- a path that has a higher number
-  pub unnamed_later : (p : List ℕ) (n : ℕ) → HaveOnePlace paths → slice_get paths n ≡ Some p → named ≤ n → is_named (edges_of paths lines actions) p ≡ false
-  unnamed_later p n once at later = false_from_ne_true _ (λ is. let other = at_named p is in let same = once other.0 n p other.2 at in omega (arith, same, other.1, later))
+  -- a path whose number no line has
+  pub unnamed_other : (p : List ℕ) (n : ℕ) → HaveOnePlace paths → slice_get paths n ≡ Some p → has_number (all_paths lines) n ≡ false → is_named (edges_of paths lines actions) p ≡ false
+  unnamed_other p n once at none = false_from_ne_true _ (λ is.
+      let other = at_named p is in
+      false≢true (sym none ∙ (ap (has_number (all_paths lines)) (sym (once other.0 n p other.2 at)) ∙ other.1)))
+
+-- ---- whether some line names a path
+
+has_number_append : (xs ys : List ℕ) (n : ℕ) → has_number (xs ++ ys) n ≡ (has_number xs n || has_number ys n)
+has_number_append [] ys n = refl
+has_number_append (x ∷ xs) ys n = grind (arith, has_number_append xs ys n)
+
+-- one line more
+pub named_next : (lines : List Line) (k n : ℕ) → k < length lines → has_number (all_paths (take k lines)) n ≡ false → has_number (line_paths (line_at lines k)) n ≡ false → has_number (all_paths (take (suc k) lines)) n ≡ false
+named_next [] k n lt none here = absurd (omega (arith, lt))
+named_next (line ∷ lines) zero n lt none here = has_number_append (line_paths line) [] n ∙ (ap (λ (b : Bool). b || false) here)
+named_next (line ∷ lines) (suc k) n lt none here =
+    has_number_append (line_paths line) (all_paths (take (suc k) lines)) n
+    ∙ (ap (λ (b : Bool). b || has_number (all_paths (take (suc k) lines)) n) (or_false_left _ _ (sym (has_number_append (line_paths line) (all_paths (take k lines)) n) ∙ none))
+    ∙ named_next lines k n (omega (arith, lt)) (or_false_right _ _ (sym (has_number_append (line_paths line) (all_paths (take k lines)) n) ∙ none)) here)
+  where
+    or_false_left : (a b : Bool) → (a || b) ≡ false → a ≡ false
+    or_false_left true b is = is
+    or_false_left false b is = refl
+
+    or_false_right : (a b : Bool) → (a || b) ≡ false → b ≡ false
+    or_false_right true b is = absurd (false≢true (sym is))
+    or_false_right false b is = is
+
+pub named_here : (lines : List Line) (k n : ℕ) → k < length lines → has_number (line_paths (line_at lines k)) n ≡ true → has_number (all_paths lines) n ≡ true
+named_here [] k n lt here = absurd (omega (arith, lt))
+named_here (line ∷ lines) zero n lt here = has_number_append (line_paths line) (all_paths lines) n ∙ or_left _ (has_number (all_paths lines) n) here
+named_here (line ∷ lines) (suc k) n lt here = has_number_append (line_paths line) (all_paths lines) n ∙ or_right (has_number (line_paths line) n) _ (named_here lines k n (omega (arith, lt)) here)
+
+pub named_all : (lines : List Line) (k n : ℕ) → length lines ≤ k → has_number (all_paths (take k lines)) n ≡ false → has_number (all_paths lines) n ≡ false
+named_all [] k n le none = refl
+named_all (line ∷ lines) zero n le none = absurd (omega (arith, le))
+named_all (line ∷ lines) (suc k) n le none = by (has_number (line_paths line) n) refl (named_all lines k n (omega (arith, le)))
+  where
+    whole : has_number (line_paths line ++ all_paths (take k lines)) n ≡ (has_number (line_paths line) n || has_number (all_paths (take k lines)) n)
+    whole = has_number_append (line_paths line) (all_paths (take k lines)) n
+
+    by : (b : Bool) → has_number (line_paths line) n ≡ b → (has_number (all_paths (take k lines)) n ≡ false → has_number (all_paths lines) n ≡ false) → has_number (line_paths line ++ all_paths lines) n ≡ false
+    by true is rest = absurd (false≢true (sym none ∙ (whole ∙ or_left _ (has_number (all_paths (take k lines)) n) is)))
+    by false is rest =
+        has_number_append (line_paths line) (all_paths lines) n
+        ∙ (ap (λ (b : Bool). b || has_number (all_paths lines) n) is
+        ∙ rest (sym (ap (λ (b : Bool). b || has_number (all_paths (take k lines)) n) is) ∙ (sym whole ∙ none)))

@@ -1,5 +1,5 @@
 -- Texts and their places in a table.
-use Rattle.std.proofs.Common.{◌≡◌, ◌⊎◌, inl, inr, ℕ, zero, suc, ◌+◌, ◌<◌, ◌^◌, ◌||◌, cond, Bool, true, false, if◌then◌else◌, List, [], ◌∷◌, ◌++◌, map, length, slice_get, nat_lt, Option, Some, None, MatchOption, String, Global, string_bytes, bytes_eq, refl, sym, ◌∙◌, ap, subst, arith, length-append}
+use Rattle.std.proofs.Common.{◌≡◌, ◌⊎◌, inl, inr, ℕ, zero, suc, ◌+◌, ◌<◌, ◌≤◌, ◌^◌, ◌||◌, cond, Bool, true, false, if◌then◌else◌, List, [], ◌∷◌, ◌++◌, map, length, take, slice_get, nat_lt, Option, Some, None, MatchOption, String, Global, string_bytes, bytes_eq, refl, sym, ◌∙◌, ap, subst, arith, length-append}
 use Rattle.std.specs.List.{list_any, position, position_from}
 use Rattle.std.specs.String.{string_eq}
 use Rattle.std.proofs.lemmas.Bool.{cases_Bool, or_left, or_right, false≢true}
@@ -148,3 +148,29 @@ numbered n number at is some = elim (cases_Bool (nat_lt n (2 ^ 32))) [
       let none : Some number ≡ None = sym some ∙ (is ∙ ap (λ (b : Bool). if b then Some n else None) more) in
       cc
 ]
+
+-- ---- fewer texts
+
+taken_at : (count : ℕ) (paths : List (List ℕ)) (i : ℕ) (path : List ℕ) → slice_get (take count paths) i ≡ Some path → slice_get paths i ≡ Some path
+taken_at zero paths i path is = absurd (nothing i is)
+  where
+    none : List (List ℕ)
+    none = []
+
+    nothing : (i : ℕ) → slice_get none i ≡ Some path → ⊥
+    nothing zero is = cc
+    nothing (suc i) is = cc
+taken_at (suc count) [] i path is = is
+taken_at (suc count) (p ∷ paths) zero path is = is
+taken_at (suc count) (p ∷ paths) (suc i) path is = taken_at count paths i path is
+
+pub fewer_once : (count : ℕ) (paths : List (List ℕ)) → HaveOnePlace paths → HaveOnePlace (take count paths)
+fewer_once count paths once i j path at other = once i j path (taken_at count paths i path at) (taken_at count paths j path other)
+
+shorter : (count : ℕ) (paths : List (List ℕ)) → length (take count paths) ≤ length paths
+shorter zero paths = omega arith
+shorter (suc count) [] = omega arith
+shorter (suc count) (p ∷ paths) = let rest = shorter count paths in omega (arith, rest)
+
+pub fewer_small : (count : ℕ) (paths : List (List ℕ)) → IsSmall paths → IsSmall (take count paths)
+fewer_small count paths small = let fewer = shorter count paths in omega (arith, fewer, small)

@@ -33,6 +33,17 @@ line_inputs line = line_regular_inputs line ++ line.order_only_inputs
 abbrev pub line_paths : Line → List ℕ
 line_paths line = line_outputs line ++ (line_inputs line ++ line.validations)
 
+-- the line with more implicit outputs and more implicit inputs
+abbrev pub grown_line : Line → List ℕ → List ℕ → Line
+grown_line line outputs inputs = record {
+  explicit_outputs = line.explicit_outputs;
+  implicit_outputs = line.implicit_outputs ++ outputs;
+  explicit_inputs = line.explicit_inputs;
+  implicit_inputs = line.implicit_inputs ++ inputs;
+  order_only_inputs = line.order_only_inputs;
+  validations = line.validations;
+}
+
 -- ---- in flat memory
 
 -- what stands from one place to another

@@ -1,7 +1,8 @@
 //! The paths of all edges, in flat memory.
 
 ghost use Rattle.std.specs.Prelude.{◌≡◌, ◌<◌, ◌++◌, ◌∷◌, [], length, vec_len, IfOk, OnOk, OnErr};
-ghost use Rattle.paths.specs.Lists.{line_at, line_outputs, line_regular_inputs, line_inputs, line_paths, IsAppended, Extends};
+ghost use Rattle.model.specs.Graph.{has_number};
+ghost use Rattle.paths.specs.Lists.{line_at, line_outputs, line_regular_inputs, line_inputs, line_paths, all_paths, grown_line, IsAppended, Extends};
 
 use crate::id::{EdgeId, PathId};
 use crate::line::Line;
@@ -67,6 +68,46 @@ impl Lines {
         let row = append_line(&mut self.numbers, line)?;
         self.rows.push(row)?;
         Ok(())
+    }
+
+    /// Puts the line of an edge behind the others, with more implicit outputs and more implicit inputs. Where memory is
+    /// refused, they stay as they were.
+    pub fn push_grown(
+        &mut self,
+        lines: &Lines,
+        edge: EdgeId,
+        outputs: &[PathId],
+        inputs: &[PathId],
+    ) -> Result<(), AllocError>
+        requires { edge < length lines.now }
+        ensures ok { OnOk result (self.new ≡ self.old ++ grown_line (line_at lines.now edge) outputs.now inputs.now ∷ []) }
+        ensures err { OnErr result (self.new ≡ self.old) }
+    {
+        // what a refused line leaves at the end belongs to no line
+        let row = append_grown(&mut self.numbers, lines, edge, outputs, inputs)?;
+        self.rows.push(row)?;
+        Ok(())
+    }
+
+    /// Whether some edge names the path.
+    pub fn name(&self, path: PathId) -> bool
+        ensures { result ≡ has_number (all_paths self.now) path }
+    {
+        for place in 0..self.len() {
+            if has(self.all_of(place), path) {
+                return true;
+            }
+        }
+        false
+    }
+
+    /// All paths that the edge at this place names.
+    fn all_of(&self, place: usize) -> &[PathId]
+        requires { place < length self.now }
+        ensures { result.now ≡ line_paths (line_at self.now place) }
+    {
+        let row = self.rows[place];
+        &self.numbers[row.start..row.validations]
     }
 
     /// What the edge makes: its explicit outputs, then its implicit ones (manual: "Build outputs").
@@ -174,6 +215,54 @@ fn append_line(numbers: &mut Vec<PathId>, line: &Line) -> Result<Row, AllocError
         order_only_inputs: append(numbers, line.order_only_inputs.as_slice())?,
         validations: append(numbers, line.validations.as_slice())?,
     })
+}
+
+/// Puts the lists of an edge's line at the end, one behind the other, with more implicit outputs and inputs.
+fn append_grown(
+    numbers: &mut Vec<PathId>,
+    lines: &Lines,
+    edge: EdgeId,
+    outputs: &[PathId],
+    inputs: &[PathId],
+) -> Result<Row, AllocError>
+    requires { edge < length lines.now }
+    ensures ok { IfOk result (IsAppended numbers.old.items numbers.new.items (grown_line (line_at lines.now edge) outputs.now inputs.now)) }
+    ensures err { OnErr result (Extends numbers.old.items numbers.new.items) }
+{
+    Ok(Row {
+        start: numbers.len(),
+        explicit_outputs: append(numbers, lines.explicit_outputs(edge))?,
+        implicit_outputs: append_both(numbers, lines.implicit_outputs(edge), outputs)?,
+        explicit_inputs: append(numbers, lines.explicit_inputs(edge))?,
+        implicit_inputs: append_both(numbers, lines.implicit_inputs(edge), inputs)?,
+        order_only_inputs: append(numbers, lines.order_only_inputs(edge))?,
+        validations: append(numbers, lines.validations(edge))?,
+    })
+}
+
+/// Puts two lists at the end, one behind the other, and gives the place behind them.
+fn append_both(
+    numbers: &mut Vec<PathId>,
+    list: &[PathId],
+    more: &[PathId],
+) -> Result<usize, AllocError>
+    ensures ok { IfOk result (λ stop. (numbers.new.items ≡ numbers.old.items ++ (list.now ++ more.now)) × (stop ≡ vec_len numbers.new)) }
+    ensures err { OnErr result (Extends numbers.old.items numbers.new.items) }
+{
+    append(numbers, list)?;
+    append(numbers, more)
+}
+
+/// Whether the path is one of these.
+fn has(paths: &[PathId], path: PathId) -> bool
+    ensures { result ≡ has_number paths.now path }
+{
+    for one in paths {
+        if *one == path {
+            return true;
+        }
+    }
+    false
 }
 
 /// Puts a list at the end, and gives the place behind it.

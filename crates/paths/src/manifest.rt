@@ -1,6 +1,6 @@
 //! What build files declare, in numbers.
 
-ghost use Rattle.std.specs.Prelude.{◌≡◌, ◌<◌, ◌≤◌, ◌^◌, ℕ, nat_lt, length, get_or};
+ghost use Rattle.std.specs.Prelude.{◌≡◌, ◌<◌, ◌≤◌, ◌^◌, ℕ, true, length, get_or};
 ghost use Rattle.model.specs.Graph.{has_number};
 ghost use Rattle.paths.specs.Lists.{all_paths};
 ghost use Rattle.paths.specs.Commands.{dyndep_stop, no_action};
@@ -40,7 +40,7 @@ pub enum Action {
 pub struct Manifest {
     /// All paths: first those that build lines name, then others.
     pub paths: Paths,
-    /// How many of the paths are named by build lines.
+    /// How many of the paths are named by build lines. A loaded dyndep file may name more of them.
     pub named: usize,
     /// The paths of the edges, in reading order.
     pub lines: Lines,
@@ -54,7 +54,8 @@ pub struct Manifest {
     ghost few: { length lines ≤ 2 ^ 32 },
     ghost fits: { length actions ≡ length lines },
     ghost names: { named ≤ length paths },
-    ghost numbered: { (p : ℕ) → has_number (all_paths lines) p ≡ nat_lt p named },
+    ghost numbered: { (p : ℕ) → p < named → has_number (all_paths lines) p ≡ true },
+    ghost within: { (p : ℕ) → has_number (all_paths lines) p ≡ true → p < length paths },
     ghost known: { (k : ℕ) → k < length defaults → get_or defaults k 0 < named },
     ghost dyndeps: { (k : ℕ) → dyndep_stop (get_or actions k no_action) ≤ length paths },
 }
@@ -80,12 +81,13 @@ impl Manifest {
         &self.actions.as_slice()[edge.index()]
     }
 
-    /// The number of a path that some build line names; none for any other.
+    /// The number of a path that some edge names; none for any other.
     pub fn number_of(&self, path: &str) -> Option<PathId>
-        ensures { MatchOption result (is_named (graph_of self.now).edges path.now ≡ false) (λ number. (slice_get self.now.paths number ≡ Some path.now) × (number < self.now.named)) }
+        ensures { MatchOption result (is_named (graph_of self.now).edges path.now ≡ false) (λ number. (slice_get self.now.paths number ≡ Some path.now) × (has_number (all_paths self.now.lines) number ≡ true)) }
     {
         let number = self.paths.number_of(path)?;
-        if number.index() < self.named {
+        // a path that no build line names is named by a loaded dyndep file, if by anything
+        if number.index() < self.named || self.lines.name(number) {
             Some(number)
         } else {
             None

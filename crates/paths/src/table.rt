@@ -1,6 +1,6 @@
 //! The table of paths.
 
-ghost use Rattle.std.specs.Prelude.{◌≡◌, ◌<◌, ◌≤◌, ◌^◌, [], false, length, slice_get, Some, MatchOption, IfOk, OnErr};
+ghost use Rattle.std.specs.Prelude.{◌≡◌, ◌<◌, ◌≤◌, ◌^◌, [], false, length, slice_get, take, Some, MatchOption, IfOk, OnErr};
 ghost use Rattle.std.specs.Option.{option_map};
 ghost use Rattle.std.specs.Map.Iter.{deref};
 ghost use Rattle.model.specs.Graph.{has};
@@ -90,5 +90,12 @@ impl Paths {
         };
         self.texts.insert(String::from_str(alloc, path)?)?;
         Ok(number)
+    }
+
+    /// Takes back the paths past the first so many, which takes no memory.
+    pub fn truncate(&mut self, count: usize)
+        ensures { self.new ≡ take count self.old }
+    {
+        self.texts.truncate(count);
     }
 }

@@ -142,6 +142,7 @@ still_more a b c one two = record {
   standings = two.standings ∙ one.standings;
   queue = two.queue ∙ one.queue;
   changed = two.changed ∙ one.changed;
+  loads = two.loads ∙ one.loads;
   running = two.running ∙ one.running;
   failed = two.failed ∙ one.failed;
   well = two.well ∙ one.well;
@@ -233,4 +234,4 @@ come_next paths outputs k old there after lt fits is come =
     or_parts false b h = (refl, h)
 
 pub still_same : (a : Plan) → IsStill a a
-still_same a = record { standings = refl; queue = refl; changed = refl; running = refl; failed = refl; well = refl; jobs = refl; keep = refl }
+still_same a = record { standings = refl; queue = refl; changed = refl; loads = refl; running = refl; failed = refl; well = refl; jobs = refl; keep = refl }

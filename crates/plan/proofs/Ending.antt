@@ -3,7 +3,7 @@ use Rattle.std.proofs.Common.{◌≡◌, ℕ, suc, ◌+◌, ◌-◌, ◌<◌, fi
 use Rattle.std.proofs.Math.ListN.{set}
 use Rattle.std.proofs.lemmas.Bool.{false≢true, eq-eqb}
 use Rattle.model.specs.Graph.{has_number}
-use Rattle.model.specs.Schedule.{Task, Step, Ended, running_in, Done, IsLawful}
+use Rattle.model.specs.Schedule.{Task, Step, Ended, running_in, Done}
 use Rattle.build_theory.proofs.Lists.{has_number-one}
 use Rattle.queue.specs.Turns.{Turns, group_at, runs_at, runs_in, set_runs, with_running}
 use Rattle.links.specs.declared.graph.Graph.{Graph}
@@ -11,7 +11,7 @@ use Rattle.plan.specs.declared.step.Standing.{Standing}
 use Rattle.plan.specs.declared.step.Standing.TheVariants.{Running, Well, Failed}
 use Rattle.plan.specs.Standing.{standing_at, is_running, is_failed, is_well, is_outside, is_phony}
 use Rattle.plan.specs.Plan.{IsTallied, IsPooled}
-use Rattle.plan.specs.Planned.{is_grouped, is_place}
+use Rattle.plan.specs.Planned.{is_grouped, is_place, AreTaken}
 use Rattle.plan.proofs.PlannedSteps.{stands_well, stands_failed, done_new, running_command}
 use Rattle.plan.proofs.PlannedCounts.{stands_within}
 use Rattle.plan.proofs.Runs.{one_if, runs_length, one_less_runs, running_ended}
@@ -51,7 +51,7 @@ module _ (standings : List Standing) (e edge : ℕ) (same : e ≡ edge) (running
         pooled_next standings e s within graph turns new (ap (λ (t : Turns). t.groups) is) (ap (λ (t : Turns). t.depths) is)
         (ap (λ (t : Turns). length t.running) is ∙ runs_length turns.running (group_at turns e) (runs_at turns e - 1)) (inside ∙ sym (ap is_outside stood)) pooled
 
-    module _ (task : Task) (steps : List Step) (lawful : IsLawful task steps) (half : IsHalf task standings turns steps) (runs : has_number (running_in steps) (suc edge) ≡ true) where
+    module _ (task : Task) (steps : List Step) (lawful : AreTaken task steps) (half : IsHalf task standings turns steps) (runs : has_number (running_in steps) (suc edge) ≡ true) where
       runs_here : has_number (running_in steps) (suc e) ≡ true
       runs_here = ap (λ (n : ℕ). has_number (running_in steps) (suc n)) same ∙ runs
 

@@ -4,9 +4,9 @@ use Rattle.std.proofs.lemmas.Bool.{false≢true, true≢false, and_parts, and_fr
 use Rattle.std.proofs.lemmas.List.Sums.{sum_by-cons}
 use Rattle.model.specs.Graph.{has, has_number, edge_at, inputs, maker, IsCommand}
 use Rattle.model.specs.Reading.{IsInCone, Needed}
-use Rattle.model.specs.Schedule.{Task, Step, Judged, failed_in, well_in, clean_in, started_in, out_of_date_in, done_in, IsSettled, Done, Alias as ByAlias, MayBeJudged, NoneMayBeJudged, IsLawfulStep, IsLawful}
+use Rattle.model.specs.Schedule.{Task, Step, Judged, failed_in, well_in, clean_in, started_in, out_of_date_in, done_in, IsSettled, Done, Alias as ByAlias, MayBeJudged, NoneMayBeJudged, IsLawfulStep}
 use Rattle.build_theory.proofs.Lists.{has-cases, has_number-append}
-use Rattle.build_theory.proofs.Steps.{kept_lawful}
+use Rattle.build_theory.proofs.Orderly.{kept_orderly}
 use Rattle.lowest.specs.Flags.{has as flagged, IsFirst, AreNone}
 use Rattle.links.specs.declared.graph.Graph.{Graph}
 use Rattle.links.specs.Links.{links_of, needs_at}
@@ -17,7 +17,7 @@ use Rattle.plan.specs.declared.step.Standing.{Standing}
 use Rattle.plan.specs.declared.step.Standing.TheVariants.{Outside, Unjudged, Clean, OutOfDate, Running, Well, Failed, Alias, Known}
 use Rattle.plan.specs.Standing.{standing_at, is_unjudged, is_alias, is_outside, is_phony, awaits, is_settled, maker_settled}
 use Rattle.plan.specs.Plan.{is_missing}
-use Rattle.plan.specs.Planned.{standing_in, IsPlanned}
+use Rattle.plan.specs.Planned.{standing_in, IsPlanned, AreTaken}
 use Rattle.plan.proofs.PlannedSteps as stands
 use Rattle.plan.proofs.CountBy.{count_none}
 
@@ -72,7 +72,7 @@ count_nothing test (x ∷ xs) none =
         let z : one_if (test x) ≡ 0 = ap one_if is in
         omega (arith, e, z, rest)
 
-module _ (task : Task) (graph : Graph) (plan : Plan) (steps : List Step) (at : IsPlanned task graph plan steps) (lawful : IsLawful task steps) where
+module _ (task : Task) (graph : Graph) (plan : Plan) (steps : List Step) (at : IsPlanned task graph plan steps) (lawful : AreTaken task steps) where
   abbrev pub InCone : ℕ → Type 0
   InCone i = IsInCone task.graph.edges task.recorded task.targets i
 
@@ -96,7 +96,7 @@ module _ (task : Task) (graph : Graph) (plan : Plan) (steps : List Step) (at : I
 
   done_stands : (i : ℕ) → has_number (done_in steps) i ≡ true → is_settled (standing_in steps i) ≡ true
   done_stands i h =
-      let kept = kept_lawful task steps lawful in
+      let kept = kept_orderly task.graph.edges steps lawful.orderly in
       settled_flags (has_number (well_in steps) i) (has_number (failed_in steps) i) (has_number (started_in steps) i) (has_number (out_of_date_in steps) i) (has_number (clean_in steps) i)
       (λ w. false_from_ne_true (has_number (failed_in steps) i) (λ f. kept.well_or_failed i w f))
       (λ c.

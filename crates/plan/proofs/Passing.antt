@@ -4,7 +4,7 @@ use Rattle.std.proofs.Math.ListN.{set}
 use Rattle.std.proofs.lemmas.List.{length-set, get_or-set_other}
 use Rattle.std.proofs.lemmas.Bool.{false≢true, true≢false, and_parts}
 use Rattle.model.specs.Graph.{has_number, edge_at, IsCommand}
-use Rattle.model.specs.Schedule.{Task, Step, Judged, judged_in, running_in, done_in, IsSettled, Done, IsLawful}
+use Rattle.model.specs.Schedule.{Task, Step, Judged, judged_in, running_in, done_in, IsSettled, Done}
 use Rattle.build_theory.proofs.Lists.{has_number-one}
 use Rattle.lowest.specs.Flags.{has}
 use Rattle.queue.specs.Turns.{Turns, with_waiting}
@@ -13,7 +13,8 @@ use Rattle.plan.specs.declared.step.Standing.{Standing}
 use Rattle.plan.specs.declared.step.Standing.TheVariants.{Outside, Unjudged, Clean, OutOfDate, Running, Well, Failed, Alias, Known}
 use Rattle.plan.specs.Standing.{standing_at, is_unjudged, is_alias, is_running, is_failed, is_well, is_outside, is_phony, is_settled}
 use Rattle.plan.specs.Plan.{IsReady, IsTallied, IsPooled, IsSettling}
-use Rattle.plan.specs.Planned.{is_grouped}
+use Rattle.plan.specs.Loads.{IsLoading}
+use Rattle.plan.specs.Planned.{is_grouped, AreTaken}
 use Rattle.plan.proofs.PlannedSteps.{stands_clean, stands_stale, done_new}
 use Rattle.plan.proofs.PlannedCounts.{stands_within}
 use Rattle.plan.proofs.Runs.{one_if, running_judged}
@@ -57,7 +58,7 @@ module _ (standings : List Standing) (left : List ℕ) (ready pending : List Boo
       let c : one_if (is_well (standing_at standings e)) ≡ one_if (is_well s) = ap one_if (ap is_well stood ∙ sym z) in
       tallied_next standings e s within running failed well running failed well tallied (omega (arith, a)) (omega (arith, b)) (omega (arith, c))
 
-  module _ (task : Task) (turns : Turns) (steps : List Step) (lawful : IsLawful task steps) (half : IsHalf task standings turns steps) (once : has_number (judged_in steps) (suc edge) ≡ false) where
+  module _ (task : Task) (turns : Turns) (steps : List Step) (lawful : AreTaken task steps) (half : IsHalf task standings turns steps) (once : has_number (judged_in steps) (suc edge) ≡ false) where
     once_here : has_number (judged_in steps) (suc e) ≡ false
     once_here = ap (λ (n : ℕ). has_number (judged_in steps) (suc n)) same ∙ once
 
@@ -104,6 +105,31 @@ pooled_after graph standings now turns new is each pooled = subst (λ (t : Turns
       | inl old ↦ sym (ap is_outside old)
       | inr alias ↦ ap is_outside alias.0 ∙ sym (ap is_outside alias.1)
     ]
+
+-- what is to be loaded stays so
+pub loads_same : (graph : Graph) (standings now : List Standing) (turns new : Turns) (loads : List ℕ) → new.groups ≡ turns.groups → ((k : ℕ) → is_outside (standing_at standings k) ≡ is_outside (standing_at now k))
+    → IsLoading graph standings turns loads → IsLoading graph now new loads
+loads_same graph standings now turns new loads groups same loading = record {
+  loads_are = record {
+    named = λ file h. let wanted = loading.loads_are.named file h in record { edge = wanted.edge; inside = sym (same wanted.edge) ∙ wanted.inside; names = wanted.names };
+    all = λ e file inside names. loading.loads_are.all e file (same e ∙ inside) names;
+    ordered = loading.loads_are.ordered;
+  };
+  all = λ some e. ap (λ (l : List (Option ℕ)). get_or l e None) groups ∙ loading.all some e;
+}
+
+pub loading_after : (graph : Graph) (standings now : List Standing) (turns new : Turns) (loads after : List ℕ) → new ≡ turns → AliasesOnly standings now → after ≡ loads → IsLoading graph standings turns loads → IsLoading graph now new after
+loading_after graph standings now turns new loads after is each still loading = subst (IsLoading graph now new) (sym {A = List ℕ} still) (loads_same graph standings now turns new loads (ap (λ (t : Turns). t.groups) is) same loading)
+  where
+    same : (k : ℕ) → is_outside (standing_at standings k) ≡ is_outside (standing_at now k)
+    same k = elim (each k) [
+      | inl old ↦ sym (ap is_outside old)
+      | inr alias ↦ ap is_outside alias.0 ∙ sym (ap is_outside alias.1)
+    ]
+
+pub loading_next : (graph : Graph) (standings : List Standing) (e : ℕ) (s : Standing) (lt : e < length standings) (turns new : Turns) (loads : List ℕ) → new.groups ≡ turns.groups → is_outside s ≡ is_outside (standing_at standings e)
+    → IsLoading graph standings turns loads → IsLoading graph (set standings e s) new loads
+loading_next graph standings e s lt turns new loads groups outside loading = loads_same graph standings (set standings e s) turns new loads groups (λ k. sym (test_same standings e s lt is_outside outside k)) loading
 
 module _ (standings : List Standing) (e edge : ℕ) (same : e ≡ edge) (s : Standing) (lt : e < length standings) where
   others_set : (k : ℕ) → k ≢ edge → standing_at (set standings e s) k ≡ standing_at standings k

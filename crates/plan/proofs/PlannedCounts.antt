@@ -5,9 +5,12 @@ use Rattle.std.proofs.lemmas.List.{append-nil, get_or-set_same, get_or-set_other
 use Rattle.std.proofs.lemmas.List.Sums.{sum_by-cons}
 use Rattle.std.proofs.lemmas.Bool.{false≢true, or_left, or_right, eq-eqb, eqb-true, cases_eq, false_from_ne_true, cond-true, cond-false}
 use Rattle.model.specs.Graph.{has_number}
-use Rattle.model.specs.Schedule.{Task, Step, Judged, Started, Ended, started_in, ended_in, well_in, failed_in, running_in, IsLawfulStep, IsLawfulFrom, IsLawful}
+use Rattle.model.specs.Schedule.{Task, Step, Judged, Started, Ended, started_in, ended_in, well_in, failed_in, running_in}
 use Rattle.build_theory.proofs.Lists.{has_number-filter, has_number-push_cases}
-use Rattle.build_theory.proofs.Steps.{kept_lawful, lawful_push, running_parts, started-append, well-append, failed-append}
+use Rattle.build_theory.specs.Order.{IsOrderlyStep, IsOrderlyFrom, IsOrderly}
+use Rattle.build_theory.proofs.Orderly.{kept_orderly, orderly_push}
+use Rattle.build_theory.proofs.Steps.{running_parts, started-append, well-append, failed-append}
+use Rattle.plan.specs.Planned.{AreTaken}
 use Rattle.plan.specs.declared.step.Standing.{Standing}
 use Rattle.plan.specs.declared.step.Standing.TheVariants.{Outside}
 use Rattle.plan.specs.Standing.{standing_at}
@@ -88,47 +91,47 @@ module _ (task : Task) where
   more_list f append steps step i one fresh once =
       subst (λ (l : List ℕ). IsOnce l) (sym (append steps (step ∷ []) ∙ ap (λ (l : List ℕ). f steps ++ l) one)) (once_push (f steps) i once fresh)
 
-  once_step : (steps : List Step) (step : Step) → IsLawful task steps → IsLawfulStep task steps step → AreOnce steps → AreOnce (steps ++ step ∷ [])
-  once_step steps (Judged i b) lawful next once = record {
+  once_step : (steps : List Step) (step : Step) → IsOrderly task.graph.edges steps → IsOrderlyStep task.graph.edges steps step → AreOnce steps → AreOnce (steps ++ step ∷ [])
+  once_step steps (Judged i b) orderly next once = record {
     started = same_list started_in started-append steps (Judged i b) refl once.started;
     well = same_list well_in well-append steps (Judged i b) refl once.well;
     failed = same_list failed_in failed-append steps (Judged i b) refl once.failed;
   }
-  once_step steps (Started i) lawful next once = record {
-    started = more_list started_in started-append steps (Started i) i refl next.1.once once.started;
+  once_step steps (Started i) orderly next once = record {
+    started = more_list started_in started-append steps (Started i) i refl next.1 once.started;
     well = same_list well_in well-append steps (Started i) refl once.well;
     failed = same_list failed_in failed-append steps (Started i) refl once.failed;
   }
-  once_step steps (Ended i true) lawful next once = record {
+  once_step steps (Ended i true) orderly next once = record {
     started = same_list started_in started-append steps (Ended i true) refl once.started;
     well = more_list well_in well-append steps (Ended i true) i refl
-        (false_from_ne_true (has_number (well_in steps) i) (λ h. false≢true (sym (running_parts steps i next.0).1 ∙ (kept_lawful task steps lawful).well i h))) once.well;
+        (false_from_ne_true (has_number (well_in steps) i) (λ h. false≢true (sym (running_parts steps i next).1 ∙ (kept_orderly task.graph.edges steps orderly).well i h))) once.well;
     failed = same_list failed_in failed-append steps (Ended i true) refl once.failed;
   }
-  once_step steps (Ended i false) lawful next once = record {
+  once_step steps (Ended i false) orderly next once = record {
     started = same_list started_in started-append steps (Ended i false) refl once.started;
     well = same_list well_in well-append steps (Ended i false) refl once.well;
     failed = more_list failed_in failed-append steps (Ended i false) i refl
-        (false_from_ne_true (has_number (failed_in steps) i) (λ h. false≢true (sym (running_parts steps i next.0).1 ∙ (kept_lawful task steps lawful).failed i h))) once.failed;
+        (false_from_ne_true (has_number (failed_in steps) i) (λ h. false≢true (sym (running_parts steps i next).1 ∙ (kept_orderly task.graph.edges steps orderly).failed i h))) once.failed;
   }
 
-  once_from : (before steps : List Step) → IsLawful task before → IsLawfulFrom task before steps → AreOnce before → AreOnce (before ++ steps)
-  once_from before [] lawful next once = subst (λ (l : List Step). AreOnce l) (sym (append-nil before)) once
-  once_from before (step ∷ steps) lawful next once =
+  once_from : (before steps : List Step) → IsOrderly task.graph.edges before → IsOrderlyFrom task.graph.edges before steps → AreOnce before → AreOnce (before ++ steps)
+  once_from before [] orderly next once = subst (λ (l : List Step). AreOnce l) (sym (append-nil before)) once
+  once_from before (step ∷ steps) orderly next once =
       subst (λ (l : List Step). AreOnce l) (append_assoc before (step ∷ []) steps)
-      (once_from (before ++ step ∷ []) steps (lawful_push task before step lawful next.0) next.1 (once_step before step lawful next.0 once))
+      (once_from (before ++ step ∷ []) steps (orderly_push task.graph.edges before step orderly next.0) next.1 (once_step before step orderly next.0 once))
 
-  once_lawful : (steps : List Step) → IsLawful task steps → AreOnce steps
-  once_lawful steps lawful = once_from [] steps tt lawful record { started = tt; well = tt; failed = tt }
+  once_lawful : (steps : List Step) → AreTaken task steps → AreOnce steps
+  once_lawful steps lawful = once_from [] steps tt lawful.orderly record { started = tt; well = tt; failed = tt }
 
-  pub failed_once : (steps : List Step) → IsLawful task steps → IsOnce (failed_in steps)
+  pub failed_once : (steps : List Step) → AreTaken task steps → IsOnce (failed_in steps)
   failed_once steps lawful = (once_lawful steps lawful).failed
 
-  pub started_once : (steps : List Step) → IsLawful task steps → IsOnce (started_in steps)
+  pub started_once : (steps : List Step) → AreTaken task steps → IsOnce (started_in steps)
   started_once steps lawful = (once_lawful steps lawful).started
 
-  pub well_once : (steps : List Step) → IsLawful task steps → IsOnce (well_in steps)
+  pub well_once : (steps : List Step) → AreTaken task steps → IsOnce (well_in steps)
   well_once steps lawful = (once_lawful steps lawful).well
 
-  pub running_once : (steps : List Step) → IsLawful task steps → IsOnce (running_in steps)
+  pub running_once : (steps : List Step) → AreTaken task steps → IsOnce (running_in steps)
   running_once steps lawful = once_filter (λ i. not (has_number (ended_in steps) i)) (started_in steps) (once_lawful steps lawful).started

@@ -3,14 +3,15 @@ use Rattle.std.proofs.Common.{◌≡◌, ◌⊎◌, ℕ, ◌==◌, ◌&&◌, ◌
 use Rattle.std.proofs.lemmas.Bool.{false≢true, false_from_ne_true, eqb-true, or_cases, or_left, or_right}
 use Rattle.model.specs.Graph.{has_number, IsCommand}
 use Rattle.model.specs.Reading.{IsInCone}
-use Rattle.model.specs.Schedule.{Task, Step, Judged, Started, Ended, judged_in, clean_in, out_of_date_in, started_in, ended_in, well_in, failed_in, running_in, done_in, MayBeJudged, MayStart, IsLawful}
+use Rattle.model.specs.Schedule.{Task, Step, Judged, Started, Ended, judged_in, clean_in, out_of_date_in, started_in, ended_in, well_in, failed_in, running_in, done_in, MayBeJudged, MayStart}
 use Rattle.build_theory.proofs.Lists.{has_number-append, has_number-one}
 use Rattle.build_theory.proofs.Makers.{command_within}
-use Rattle.build_theory.proofs.Steps.{IsKept, kept_lawful, Appends, in_push, in_right, running_is, running_parts, clean-append, out_of_date-append, started-append, well-append, failed-append}
+use Rattle.build_theory.proofs.Orderly.{IsKept, kept_orderly}
+use Rattle.build_theory.proofs.Steps.{Appends, in_push, in_right, running_is, running_parts, clean-append, out_of_date-append, started-append, well-append, failed-append}
 use Rattle.plan.specs.declared.step.Standing.{Standing}
 use Rattle.plan.specs.declared.step.Standing.TheVariants.{Outside, Unjudged, Clean, OutOfDate, Running, Well, Failed}
 use Rattle.plan.specs.Standing.{is_unjudged, is_out_of_date, is_running, is_failed, is_well}
-use Rattle.plan.specs.Planned.{standing_in}
+use Rattle.plan.specs.Planned.{standing_in, AreTaken}
 use Rattle.plan.specs.Steps.{edge_of}
 
 -- ---- an edge that ended well, failed, was started, was judged out of date, was judged clean, or not
@@ -143,9 +144,9 @@ well_stands steps i = well_flags (has_number (well_in steps) i) (has_number (fai
 
 -- ---- in lawful steps
 
-module _ (task : Task) (steps : List Step) (lawful : IsLawful task steps) where
-  kept : IsKept task steps
-  kept = kept_lawful task steps lawful
+module _ (task : Task) (steps : List Step) (lawful : AreTaken task steps) where
+  kept : IsKept task.graph.edges steps
+  kept = kept_orderly task.graph.edges steps lawful.orderly
 
   pub failed_stands : (i : ℕ) → is_failed (standing_in steps i) ≡ has_number (failed_in steps) i
   failed_stands i = failed_flags (has_number (well_in steps) i) (has_number (failed_in steps) i) (has_number (started_in steps) i) (has_number (out_of_date_in steps) i) (has_number (clean_in steps) i) (kept.well_or_failed i)
@@ -178,7 +179,7 @@ module _ (task : Task) (steps : List Step) (lawful : IsLawful task steps) where
 
   -- edges are in the cone, and have commands
   pub stale_in_cone : (i : ℕ) → has_number (out_of_date_in steps) i ≡ true → IsInCone task.graph.edges task.recorded task.targets i
-  stale_in_cone i h = (kept.judged i (kept.out_of_date i h)).0
+  stale_in_cone i h = lawful.within i (kept.out_of_date i h)
 
   pub started_in_cone : (i : ℕ) → has_number (started_in steps) i ≡ true → IsInCone task.graph.edges task.recorded task.targets i
   started_in_cone i h = stale_in_cone i (kept.started i h)
@@ -193,7 +194,7 @@ module _ (task : Task) (steps : List Step) (lawful : IsLawful task steps) where
   well_in_cone i h = started_in_cone i (kept.ended i (kept.well i h))
 
   pub stale_command : (i : ℕ) → has_number (out_of_date_in steps) i ≡ true → IsCommand task.graph.edges i
-  stale_command i h = (kept.judged i (kept.out_of_date i h)).1
+  stale_command i h = kept.judged i (kept.out_of_date i h)
 
   pub started_command : (i : ℕ) → has_number (started_in steps) i ≡ true → IsCommand task.graph.edges i
   started_command i h = stale_command i (kept.started i h)
@@ -208,7 +209,7 @@ module _ (task : Task) (steps : List Step) (lawful : IsLawful task steps) where
   well_command i h = started_command i (kept.ended i (kept.well i h))
 
   pub never_started : has_number (started_in steps) 0 ≡ false
-  never_started = false_from_ne_true (has_number (started_in steps) 0) (λ h. omega (arith, (command_within task.graph.edges 0 (kept.judged 0 (kept.out_of_date 0 (kept.started 0 h))).1).0))
+  never_started = false_from_ne_true (has_number (started_in steps) 0) (λ h. omega (arith, (command_within task.graph.edges 0 (kept.judged 0 (kept.out_of_date 0 (kept.started 0 h)))).0))
 
   pub never_ended : has_number (ended_in steps) 0 ≡ false
   never_ended = not_ended 0 never_started
@@ -223,7 +224,7 @@ module _ (task : Task) (steps : List Step) (lawful : IsLawful task steps) where
   never_running = running_is steps 0 ∙ ap (λ (b : Bool). b && not (has_number (ended_in steps) 0)) never_started
 
   pub never_may_start : MayStart task steps 0 → ⊥
-  never_may_start may = omega (arith, (command_within task.graph.edges 0 (kept.judged 0 (kept.out_of_date 0 may.stale)).1).0)
+  never_may_start may = omega (arith, (command_within task.graph.edges 0 (kept.judged 0 (kept.out_of_date 0 may.stale))).0)
 
 pub never_judged : (task : Task) (steps : List Step) → MayBeJudged task steps 0 → ⊥
 never_judged task steps may = omega (arith, (command_within task.graph.edges 0 may.command).0)
@@ -304,7 +305,7 @@ module _ (steps : List Step) (step : Step) (j : ℕ) where
       (unchanged out_of_date_in out_of_date-append (other_stale step j other))
       (unchanged clean_in clean-append (other_clean step j other))
 
-module _ (task : Task) (steps : List Step) (lawful : IsLawful task steps) (i : ℕ) where
+module _ (task : Task) (steps : List Step) (lawful : AreTaken task steps) (i : ℕ) where
   more : (step : Step) (f : List Step → List ℕ) → Appends f → has_number (f (step ∷ [])) i ≡ true → has_number (f (steps ++ step ∷ [])) i ≡ true
   more step f append h = in_right f append steps (step ∷ []) i h
 

@@ -5,11 +5,11 @@ use Rattle.std.proofs.lemmas.List.{append-nil, length-set, get_or-set_same, get_
 use Rattle.std.proofs.lemmas.List.Elements.{filter-append}
 use Rattle.std.proofs.lemmas.Bool.{false≢true, or_cases, or_left, or_right, eq-eqb, eqb-true, cases_eq, false_from_ne_true}
 use Rattle.model.specs.Graph.{has_number}
-use Rattle.model.specs.Schedule.{Task, Step, Judged, Started, Ended, started_in, ended_in, running_in, IsLawful}
+use Rattle.model.specs.Schedule.{Task, Step, Judged, Started, Ended, started_in, ended_in, running_in}
 use Rattle.build_theory.proofs.Lists.{has_number-append}
 use Rattle.build_theory.proofs.Steps.{started-append, ended-append, running_parts}
 use Rattle.queue.specs.Turns.{runs_in, set_runs}
-use Rattle.plan.specs.Planned.{is_place}
+use Rattle.plan.specs.Planned.{is_place, AreTaken}
 use Rattle.plan.specs.Steps.{IsOnce}
 use Rattle.plan.proofs.PlannedCounts.{started_once}
 
@@ -96,7 +96,7 @@ module _ (steps : List Step) where
       ∙ (filter-append (ends steps) (started_in steps) (i ∷ [])
       ∙ ap (λ (b : Bool). running_in steps ++ cond (not b) (i ∷ []) []) none))
 
-  pub running_ended : (task : Task) → IsLawful task steps → (p : ℕ → Bool) (i : ℕ) (w : Bool) → has_number (running_in steps) i ≡ true
+  pub running_ended : (task : Task) → AreTaken task steps → (p : ℕ → Bool) (i : ℕ) (w : Bool) → has_number (running_in steps) i ≡ true
       → length (filter p (running_in steps)) ≡ one_if (p i) + length (filter p (running_in (steps ++ Ended i w ∷ [])))
   running_ended task lawful p i w runs =
       let step : Step = Ended i w in

@@ -201,6 +201,7 @@ still_aliases first now after still aliases = record {
   stands = λ e. subst (λ (s : List Standing). (standing_at after.standings.items e ≡ standing_at s e) ⊎ ((standing_at s e ≡ Alias) × (standing_at after.standings.items e ≡ Known))) still.standings (aliases.stands e);
   queue = aliases.queue ∙ still.queue;
   changed = aliases.changed ∙ still.changed;
+  loads = aliases.loads ∙ still.loads;
   running = aliases.running ∙ still.running;
   failed = aliases.failed ∙ still.failed;
   well = aliases.well ∙ still.well;

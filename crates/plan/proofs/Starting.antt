@@ -3,7 +3,7 @@ use Rattle.std.proofs.Common.{◌≡◌, inl, inr, ℕ, zero, suc, ◌<◌, ◌=
 use Rattle.std.proofs.lemmas.Bool.{false≢true, true≢false, or_cases, or_left, or_right, and_parts, and_from, eq-eqb, eqb-true, lt-ltb, ltb-true, cases_Bool, false_from_ne_true}
 use Rattle.model.specs.Graph.{has_number, edge_at, depth_of, IsCommand}
 use Rattle.model.specs.Reading.{IsInCone}
-use Rattle.model.specs.Schedule.{Task, Step, Started, running_in, failed_in, well_in, IsBelow, is_in_pool, MayStart, NoneMayStart, IsLawfulStep, IsLawful}
+use Rattle.model.specs.Schedule.{Task, Step, Started, running_in, failed_in, well_in, IsBelow, is_in_pool, MayStart, NoneMayStart, IsLawfulStep}
 use Rattle.build_theory.proofs.Lists.{same_bytes, bytes_same}
 use Rattle.lowest.specs.Flags.{has as flagged, AreNone}
 use Rattle.queue.specs.Turns.{group_at, room, may, IsFirstTurn, NoTurn}
@@ -14,7 +14,7 @@ use Rattle.plan.specs.declared.step.Standing.TheVariants.{Outside, Unjudged, Cle
 use Rattle.plan.specs.Standing.{standing_at, is_out_of_date, is_running, is_failed, is_well, is_outside, is_phony}
 use Rattle.plan.specs.Pools.{place_of, place_in}
 use Rattle.plan.specs.Plan.{has_limits}
-use Rattle.plan.specs.Planned.{standing_in, is_place, is_grouped, IsPlanned}
+use Rattle.plan.specs.Planned.{standing_in, is_place, is_grouped, IsPlanned, AreTaken}
 use Rattle.plan.proofs.PlannedSteps as stands
 use Rattle.plan.specs.Steps.{IsOnce}
 use Rattle.plan.proofs.PlannedCounts.{count_listed, running_once, failed_once, well_once}
@@ -94,7 +94,7 @@ filter_same p q (x ∷ xs) same =
     one_more false true e rest = absurd (false≢true e)
     one_more false false e rest = rest
 
-module _ (task : Task) (graph : Graph) (plan : Plan) (steps : List Step) (at : IsPlanned task graph plan steps) (lawful : IsLawful task steps) where
+module _ (task : Task) (graph : Graph) (plan : Plan) (steps : List Step) (at : IsPlanned task graph plan steps) (lawful : AreTaken task steps) where
   abbrev stood : ℕ → Standing
   stood e = standing_at plan.standings.items e
 

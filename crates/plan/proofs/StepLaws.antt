@@ -2,16 +2,16 @@
 use Rattle.std.proofs.Common.{◌≡◌, ℕ, ◌||◌, Bool, true, false, List, [], ◌∷◌, ◌++◌, refl, sym, ◌∙◌, ap}
 use Rattle.std.proofs.lemmas.Bool.{false≢true, true≢false, false_from_ne_true}
 use Rattle.model.specs.Graph.{has_number}
-use Rattle.model.specs.Schedule.{Task, Step, Judged, Started, Ended, clean_in, out_of_date_in, started_in, well_in, failed_in, done_in, IsLawfulStep, IsLawful}
+use Rattle.model.specs.Schedule.{Task, Step, Judged, Started, Ended, clean_in, out_of_date_in, started_in, well_in, failed_in, done_in, IsLawfulStep}
 use Rattle.build_theory.proofs.Lists.{has_number-append}
-use Rattle.build_theory.proofs.Steps.{kept_lawful}
+use Rattle.build_theory.proofs.Orderly.{kept_orderly}
 use Rattle.plan.specs.Standing.{is_unjudged, is_out_of_date, is_settled}
-use Rattle.plan.specs.Planned.{standing_in}
+use Rattle.plan.specs.Planned.{standing_in, AreTaken}
 use Rattle.plan.specs.Steps.{edge_of, left_by, StepsMove, StandingsTell, StepsName, ListsCount}
 use Rattle.plan.proofs.PlannedSteps as stands
 use Rattle.plan.proofs.PlannedCounts.{count_listed, running_once, failed_once}
 
-own : (task : Task) (steps : List Step) (step : Step) → IsLawful task steps → IsLawfulStep task steps step → standing_in (steps ++ step ∷ []) (edge_of step) ≡ left_by step
+own : (task : Task) (steps : List Step) (step : Step) → AreTaken task steps → IsLawfulStep task steps step → standing_in (steps ++ step ∷ []) (edge_of step) ≡ left_by step
 own task steps (Judged i true) lawful next = stands.stands_stale task steps lawful i next.0.once
 own task steps (Judged i false) lawful next = stands.stands_clean task steps lawful i next.0.once
 own task steps (Started i) lawful next = stands.stands_started task steps lawful i next.1.once
@@ -30,9 +30,9 @@ settled_flags false false true o true cf h = absurd (true≢false (cf refl).1)
 settled_flags false false false true true cf h = absurd (true≢false (cf refl).2)
 settled_flags false false false false true cf h = refl
 
-done_stands : (task : Task) (steps : List Step) (i : ℕ) → IsLawful task steps → has_number (done_in steps) i ≡ true → is_settled (standing_in steps i) ≡ true
+done_stands : (task : Task) (steps : List Step) (i : ℕ) → AreTaken task steps → has_number (done_in steps) i ≡ true → is_settled (standing_in steps i) ≡ true
 done_stands task steps i lawful h =
-    let kept = kept_lawful task steps lawful in
+    let kept = kept_orderly task.graph.edges steps lawful.orderly in
     settled_flags (has_number (well_in steps) i) (has_number (failed_in steps) i) (has_number (started_in steps) i) (has_number (out_of_date_in steps) i) (has_number (clean_in steps) i)
     (λ c.
     let out : has_number (out_of_date_in steps) i ≡ false = false_from_ne_true (has_number (out_of_date_in steps) i) (λ o. kept.apart i c o) in

@@ -3,7 +3,7 @@ use Rattle.std.proofs.Common.{◌≡◌, ℕ, suc, ◌+◌, ◌<◌, filter, tru
 use Rattle.std.proofs.Math.ListN.{set}
 use Rattle.std.proofs.lemmas.Bool.{false≢true, and_parts, ltb-true}
 use Rattle.model.specs.Graph.{has_number}
-use Rattle.model.specs.Schedule.{Task, Step, Started, started_in, running_in, IsLawful}
+use Rattle.model.specs.Schedule.{Task, Step, Started, started_in, running_in}
 use Rattle.lowest.specs.Flags.{has}
 use Rattle.queue.specs.Turns.{Turns, group_at, room, may, runs_at, runs_in, set_runs, with_waiting, with_running}
 use Rattle.links.specs.declared.graph.Graph.{Graph}
@@ -11,7 +11,7 @@ use Rattle.plan.specs.declared.step.Standing.{Standing}
 use Rattle.plan.specs.declared.step.Standing.TheVariants.{Outside, Unjudged, Clean, OutOfDate, Running, Well, Failed, Alias, Known}
 use Rattle.plan.specs.Standing.{standing_at, is_out_of_date, is_running, is_failed, is_well, is_outside, is_phony}
 use Rattle.plan.specs.Plan.{IsWaiting, IsTallied, IsPooled}
-use Rattle.plan.specs.Planned.{is_grouped, is_place}
+use Rattle.plan.specs.Planned.{is_grouped, is_place, AreTaken}
 use Rattle.plan.proofs.PlannedSteps.{stands_started, not_ended}
 use Rattle.plan.proofs.PlannedCounts.{stands_within}
 use Rattle.plan.proofs.Runs.{one_if, at_least, filter_push, runs_length, one_more_runs, running_started}
@@ -60,7 +60,7 @@ module _ (standings : List Standing) (turns : Turns) (waits : IsWaiting standing
         let deep = at_least turns.depths h (omega (arith, free)) in
         omega (arith, deep, pooled.fits)
 
-    pub half_started : (task : Task) (graph : Graph) (steps : List Step) → IsPooled graph standings turns → IsLawful task steps → has_number (started_in steps) (suc edge) ≡ false
+    pub half_started : (task : Task) (graph : Graph) (steps : List Step) → IsPooled graph standings turns → AreTaken task steps → has_number (started_in steps) (suc edge) ≡ false
         → IsHalf task standings turns steps → IsHalf task (set standings e Running) new (steps ++ Started (suc edge) ∷ [])
     half_started task graph steps pooled lawful fresh half =
         subst (λ (n : ℕ). IsHalf task (set standings e Running) new (steps ++ Started (suc n) ∷ [])) same

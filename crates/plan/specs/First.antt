@@ -13,6 +13,7 @@ use Rattle.plan.specs.declared.step.Standing.TheVariants.{Outside, Unjudged, Ali
 use Rattle.plan.specs.Standing.{standing_at, is_outside, awaits}
 use Rattle.plan.specs.Pools.{place_in, pool_of, depths_of}
 use Rattle.plan.specs.Plan.{is_missing, IsPooled}
+use Rattle.plan.specs.Loads.{IsLoading}
 use Rattle.plan.specs.Planned.{IsOverIn}
 
 -- an edge of the cone waits to be judged or, where it has no command, for its inputs
@@ -51,6 +52,10 @@ pub record AreGroups (graph : Graph) (standings : List Standing) (groups : List 
   pub each : (e : ℕ) → is_outside (standing_at standings e) ≡ false → slice_index_or groups e None ≡ place_in graph.manifest.pools (pool_of (get_or graph.manifest.actions e no_action))
   pub within : AreWithin (length (depths_of graph.manifest.pools)) groups
 
+-- the pool of each edge, in the cone or not, where it has one with a limit
+abbrev pub AreAllGroups : Graph → List (Option ℕ) → Type 0
+AreAllGroups graph groups = (e : ℕ) → slice_index_or groups e None ≡ place_in graph.manifest.pools (pool_of (get_or graph.manifest.actions e no_action))
+
 -- a plan in which nothing is settled
 pub record IsBegun (graph : Graph) (marks : List Mark) (jobs keep : ℕ) (plan : Plan) : Type 0 where
   pub first : AreFirst (links_of graph) marks plan.standings.items
@@ -58,3 +63,4 @@ pub record IsBegun (graph : Graph) (marks : List Mark) (jobs keep : ℕ) (plan :
   pub idle : IsIdle graph plan.standings.items plan.queue
   pub flags : plan.changed.items ≡ replicate (length graph.manifest.paths) false
   pub limits : (plan.jobs ≡ jobs) × (plan.keep ≡ keep)
+  pub loading : IsLoading graph plan.standings.items plan.queue plan.loads.items

@@ -2,7 +2,9 @@ pub mod Standing
 pub mod Pools
 pub mod Places
 pub mod Plan
+pub mod Loads
 pub mod First
 pub mod Planned
 pub mod Settling
 pub mod Steps
+pub mod Extended

@@ -51,6 +51,10 @@ pub record IsPooled (graph : Graph) (standings : List Standing) (turns : Turns) 
   pub fits : length turns.running ≡ length turns.depths
   pub groups : (e : ℕ) → is_outside (standing_at standings e) ≡ false → group_at turns e ≡ place_in graph.manifest.pools (pool_of (get_or graph.manifest.actions e no_action))
 
+-- so is each edge, in the cone or not
+abbrev pub AreAllPooled : Graph → Turns → Type 0
+AreAllPooled graph turns = (e : ℕ) → group_at turns e ≡ place_in graph.manifest.pools (pool_of (get_or graph.manifest.actions e no_action))
+
 -- ---- what is said next, and what a call changes
 
 -- where an edge stands by a verdict over it

@@ -36,6 +36,7 @@ pub record IsStill (old new : Plan) : Type 0 where
   pub standings : new.standings.items ≡ old.standings.items
   pub queue : new.queue ≡ old.queue
   pub changed : new.changed ≡ old.changed
+  pub loads : new.loads ≡ old.loads
   pub running : new.running ≡ old.running
   pub failed : new.failed ≡ old.failed
   pub well : new.well ≡ old.well
@@ -48,6 +49,7 @@ pub record SettlesAliases (old new : Plan) : Type 0 where
   pub stands : (e : ℕ) → StaysOrSettles (standing_at old.standings.items e) (standing_at new.standings.items e)
   pub queue : new.queue ≡ old.queue
   pub changed : new.changed ≡ old.changed
+  pub loads : new.loads ≡ old.loads
   pub running : new.running ≡ old.running
   pub failed : new.failed ≡ old.failed
   pub well : new.well ≡ old.well

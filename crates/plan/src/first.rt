@@ -29,7 +29,7 @@ pub fn first_standings(
     Ok(standings)
 }
 
-fn first_standing(graph: &Graph, cone: &Cone, edge: EdgeId) -> Standing
+pub fn first_standing(graph: &Graph, cone: &Cone, edge: EdgeId) -> Standing
     requires edge { edge < length graph.now.manifest.lines }
     requires marks { vec_len cone.now.marks ≡ length graph.now.manifest.lines }
     ensures { result ≡ first_at (links_of graph.now) cone.now.marks.items edge }
@@ -94,7 +94,7 @@ fn missing_inputs(graph: &Graph, there: &[bool], edge: EdgeId) -> usize
     count
 }
 
-fn is_there(there: &[bool], path: PathId) -> bool
+pub fn is_there(there: &[bool], path: PathId) -> bool
     ensures { result ≡ has there.now path }
 {
     matches!(there.get(path.index()), Some(true))

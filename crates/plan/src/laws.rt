@@ -19,12 +19,12 @@ pub fn steps_move()
     ensures { StepsMove }
 {}
 
-/// Where an edge stands after lawful steps tells whether it was judged, is to be started, runs, failed or is done.
+/// Where an edge stands after steps tells whether it was judged, is to be started, runs, failed or is done.
 pub fn standings_tell()
     ensures { StandingsTell }
 {}
 
-/// The edges that run or have failed after lawful steps are commands of the cone, each listed once.
+/// The edges that run or have failed after steps are commands of the cone, each listed once.
 pub fn steps_name()
     ensures { StepsName }
 {}

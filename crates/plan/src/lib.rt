@@ -2,8 +2,10 @@
 #![tactic(auto)]
 
 mod by_name;
+mod extend;
 mod first;
 mod laws;
+mod loads;
 mod plan;
 mod pools;
 mod settle;

@@ -5,7 +5,8 @@ ghost use Rattle.model.specs.Graph.{has_number};
 ghost use Rattle.links.specs.Held.{StandOnce};
 ghost use Rattle.plan.specs.Plan.{IsReady, IsWaiting, IsTallied, AreFlagged};
 
-use crate::first::{first_counts, first_ready, first_standings, sources};
+use crate::first::{first_counts, first_ready, first_standings, is_there, sources};
+use crate::loads::loads_of;
 use crate::pools::queue_of;
 use crate::step::{End, Standing, Step, Verdict};
 use links::{Cone, Graph};
@@ -14,7 +15,7 @@ use paths::{EdgeId, PathId};
 use queue::Queue;
 use std::alloc::{AllocError, Global};
 
-/// How far each edge of a cone has come. Only `new` takes memory: some 70 bytes for each edge of the graph, and two for
+/// How far each edge of a cone has come. Only `new` and `extend` take memory: some 70 bytes for each edge of the graph, and two for
 /// each path. A whole build takes a time of the order of the inputs of the cone's edges and of the uses of their outputs,
 /// times a logarithm.
 #[derive(Drop)]
@@ -32,6 +33,8 @@ pub struct Plan {
     pub queue: Queue,
     /// For each path, the flag that was handed in for it.
     pub changed: Vec<bool>,
+    /// The dyndep files that edges of the cone name, in the order in which they are loaded.
+    pub loads: Vec<PathId>,
     pub running: usize,
     pub failed: usize,
     pub well: usize,
@@ -49,7 +52,7 @@ pub struct Plan {
 }
 
 impl Plan {
-    ghost use Rattle.std.specs.Prelude.{◌≡◌, ◌<◌, ℕ, suc, true, false, length, vec_len, slice_set, IfOk};
+    ghost use Rattle.std.specs.Prelude.{◌≡◌, ◌<◌, ℕ, suc, true, false, length, vec_len, slice_set, IfOk, MatchOption};
     ghost use Rattle.model.specs.Schedule.{Judged, Started, Ended as Finished, well_in, running_in, failed_in};
     ghost use Rattle.lowest.specs.Flags.{has};
     ghost use Rattle.queue.specs.Turns.{may};
@@ -58,7 +61,8 @@ impl Plan {
     ghost use Rattle.plan.specs.Standing.{standing_at};
     ghost use Rattle.plan.specs.Plan.{standing_by, standing_after, has_limits, IsSettling, AreFlagged};
     ghost use Rattle.plan.specs.First.{IsBegun};
-    ghost use Rattle.plan.specs.Planned.{IsPlanOver, IsFirstPlan, TakesStep, IsCountIn, IsLawfulNext, IsOffered, is_stale};
+    ghost use Rattle.plan.specs.Loads.{NoneIsThere, IsFirstThere};
+    ghost use Rattle.plan.specs.Planned.{IsPlanOver, IsFirstPlan, TakesStep, IsCountIn, IsLawfulNext, IsDueNext, IsOffered, is_stale};
 
     /// A plan in which no edge of the cone is judged. At most `jobs` commands run at once, and after `keep` failures none is
     /// started; 0 is no limit. `AllocError` where memory is refused.
@@ -97,7 +101,8 @@ impl Plan {
         let mut ready = Lowest::new(alloc, edges)?;
         let mut pending = Lowest::new(alloc, edges)?;
         first_ready(&standings, &left, &mut ready, &mut pending);
-        let queue = queue_of(alloc, graph, &standings)?;
+        let loads = loads_of(alloc, graph, &standings)?;
+        let queue = queue_of(alloc, graph, &standings, !loads.is_empty())?;
         let changed = vec![in alloc; false; graph.paths()]?;
         Ok(Plan {
             standings,
@@ -107,6 +112,7 @@ impl Plan {
             pending,
             queue,
             changed,
+            loads,
             running: 0,
             failed: 0,
             well: 0,
@@ -115,11 +121,16 @@ impl Plan {
         })
     }
 
-    /// What is to be done next: a judgement before a start, and the lowest edge first.
+    /// What is to be done next: a load before a judgement, a judgement before a start, and the lowest edge first. Of dyndep files
+    /// one that no edge makes goes before the others, and then the one that is named first.
     pub fn next(&self) -> Step
         ensures offered { IsOffered self.now result }
         ensures lawful { IsLawfulNext self.now result }
+        ensures loads { IsDueNext self.now result }
     {
+        if let Some(file) = self.next_load() {
+            return Step::Load(file);
+        }
         if let Some(place) = self.ready.first() {
             return Step::Judge(EdgeId::at_below(place));
         }
@@ -236,6 +247,18 @@ impl Plan {
         ensures { result ≡ standing_at self.now.standings.items edge }
     {
         self.standings[edge.index()]
+    }
+
+    /// The first dyndep file, in the order of loads, that is there.
+    fn next_load(&self) -> Option<PathId>
+        ensures { MatchOption result (NoneIsThere self.now.there.items self.now.loads.items) (IsFirstThere self.now.there.items self.now.loads.items) }
+    {
+        for file in &self.loads {
+            if is_there(&self.there, *file) {
+                return Some(*file);
+            }
+        }
+        None
     }
 
     /// Whether fewer commands run than may, and fewer have failed.

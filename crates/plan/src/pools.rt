@@ -4,7 +4,7 @@ ghost use Rattle.std.specs.Prelude.{◌≡◌, ◌<◌, IfOk, length, get_or};
 ghost use Rattle.paths.specs.Commands.{no_action};
 ghost use Rattle.plan.specs.Pools.{place_of, place_in, pool_of, depths_of};
 ghost use Rattle.plan.specs.Places.{ArePlaces};
-ghost use Rattle.plan.specs.First.{AreGroups, IsIdle};
+ghost use Rattle.plan.specs.First.{AreGroups, AreAllGroups, AreAllPooled, IsIdle};
 
 use crate::by_name::Places;
 use crate::step::Standing;
@@ -17,32 +17,41 @@ use std::alloc::{AllocError, Global};
 /// The name of the pool for commands at the terminal (manual: "The `console` pool").
 const CONSOLE: &str = "console";
 
-/// No edge waits for its start. The pools are the declared ones, and behind them the one for the terminal.
-pub fn queue_of(alloc: Global, graph: &Graph, standings: &[Standing]) -> Result<Queue, AllocError>
+/// No edge waits for its start. The pools are the declared ones, and behind them the one for the terminal. The edges are those of
+/// the cone, or all where the cone may grow.
+pub fn queue_of(
+    alloc: Global,
+    graph: &Graph,
+    standings: &[Standing],
+    all: bool,
+) -> Result<Queue, AllocError>
     requires { length standings.now ≡ length graph.now.manifest.lines }
-    ensures { IfOk result (IsIdle graph.now standings.now) }
+    ensures idle { IfOk result (IsIdle graph.now standings.now) }
+    ensures all { IfOk result (λ queue. all ≡ true → AreAllPooled graph.now queue) }
 {
-    let groups = groups_of(alloc, graph, standings)?;
+    let groups = groups_of(alloc, graph, standings, all)?;
     let depths = depths_of(alloc, graph.manifest.pools.as_slice())?;
     let queue = Queue::new(alloc, groups, &depths)?;
     Ok(queue)
 }
 
-/// The pool of each edge of the cone, where it has one with a limit.
+/// The pool of each edge of the cone, or of all edges, where it has one with a limit.
 fn groups_of(
     alloc: Global,
     graph: &Graph,
     standings: &[Standing],
+    all: bool,
 ) -> Result<Vec<Option<usize>>, AllocError>
     requires { length standings.now ≡ length graph.now.manifest.lines }
-    ensures { IfOk result (λ groups. AreGroups graph.now standings.now groups.items) }
+    ensures groups { IfOk result (λ groups. AreGroups graph.now standings.now groups.items) }
+    ensures all { IfOk result (λ groups. all ≡ true → AreAllGroups graph.now groups.items) }
 {
     let pools = graph.manifest.pools.as_slice();
     let places = Places::of(alloc, pools)?;
     let mut groups = Vec::with_capacity(alloc, standings.len())?;
     for (place, standing) in standings.iter().enumerate() {
         groups.push(match standing {
-            Standing::Outside => None,
+            Standing::Outside if !all => None,
             _ => group_of(
                 pools,
                 &places,

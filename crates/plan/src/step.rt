@@ -3,7 +3,7 @@
 ghost use Rattle.std.specs.Prelude.{◌≡◌};
 ghost use Rattle.plan.specs.Standing.{is_unjudged, is_alias};
 
-use paths::EdgeId;
+use paths::{EdgeId, PathId};
 
 /// How far an edge has come.
 #[derive(Clone, Copy, Debug, PartialEq, Eq)]
@@ -43,6 +43,8 @@ pub enum End {
 /// What is to be done next.
 #[derive(Clone, Copy, Debug, PartialEq, Eq)]
 pub enum Step {
+    /// Load this dyndep file (manual: "Dynamic Dependencies").
+    Load(PathId),
     /// Judge this edge.
     Judge(EdgeId),
     /// Start the command of this edge.

@@ -50,7 +50,7 @@ impl<'a> PlainRun<'a> {
                 self.plan.started(edge);
             }
             Step::Wait => self.end_one(alloc, chance)?,
-            Step::Ended(_) => {}
+            Step::Load(_) | Step::Ended(_) => {}
         }
         Ok(step)
     }

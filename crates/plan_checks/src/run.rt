@@ -101,7 +101,7 @@ impl<'a> Run<'a> {
                 self.plan.started(edge);
             }
             Step::Wait => self.end_one(alloc, chance)?,
-            Step::Ended(_) => {}
+            Step::Load(_) | Step::Ended(_) => {}
         }
         Ok(step)
     }

@@ -34,7 +34,8 @@ impl Counts {
 
     fn count(&mut self, step: Step) {
         let count = match step {
-            Step::Judge(_) => &mut self.judged,
+            // no edge names a dyndep file
+            Step::Load(_) | Step::Judge(_) => &mut self.judged,
             Step::Start(_) => &mut self.started,
             Step::Wait => &mut self.waited,
             Step::Ended(End::Well) => &mut self.well,

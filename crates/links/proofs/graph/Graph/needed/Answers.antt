@@ -12,9 +12,9 @@ pub mark-requires : goal.mark-requires
 mark-requires c =
     let manifest = c.args.self.now.manifest in
     let inputs = line_inputs (line_at manifest.lines c.edge.result) in
-    let size : length c.deref_mut.result.now ≡ manifest.named = ap length c.deref_mut.ensures.value ∙ c.loop-place.invariant.fits in
+    let size : length c.deref_mut.result.now ≡ length manifest.paths = ap length c.deref_mut.ensures.value ∙ c.loop-place.invariant.fits in
     subst (λ (l : List ℕ). (k d : ℕ) → k < length l → get_or l k d < length c.deref_mut.result.now) (sym {A = List ℕ} c.inputs.ensures)
-    (subst (λ (n : ℕ). (k d : ℕ) → k < length inputs → get_or inputs k d < n) (sym {A = ℕ} size) (all_index manifest.named inputs (within_of manifest.named inputs (input_below manifest c.edge.result))))
+    (subst (λ (n : ℕ). (k d : ℕ) → k < length inputs → get_or inputs k d < n) (sym {A = ℕ} size) (all_index (length manifest.paths) inputs (within_of (length manifest.paths) inputs (input_below manifest c.edge.result))))
 
 pub loop-place-preserved : goal.loop-place-preserved
 loop-place-preserved c =

@@ -6,6 +6,6 @@ use Rattle.links.proofs.graph.Graph.needed.Given as goal
 
 abbrev pub invariant-loop-place : goal.invariant-loop-place
 invariant-loop-place l = record {
-  fits : length l.needed.items ≡ l.self.manifest.named;
+  fits : length l.needed.items ≡ length l.self.manifest.paths;
   marked : (p : ℕ) → get_or l.needed.items p false ≡ has_number (flat_map line_inputs (take l.place l.self.manifest.lines)) p;
 }

@@ -1,4 +1,4 @@
-use Rattle.std.proofs.Common.{◌≡◌, ◌<◌, true, take}
+use Rattle.std.proofs.Common.{◌≡◌, ◌<◌, true, take, length}
 use Rattle.std.specs.List.{AllByRecursion}
 use Rattle.model.specs.Graph.{is_named}
 use Rattle.paths.specs.Told.{texts_at}
@@ -7,7 +7,7 @@ use Rattle.links.proofs.graph.Graph.numbers_of.Given as goal
 
 abbrev pub invariant-loop-place : goal.invariant-loop-place
 invariant-loop-place l = record {
-  within : AllByRecursion (λ p. p < l.self.manifest.named) l.numbers.items;
+  within : AllByRecursion (λ p. p < length l.self.manifest.paths) l.numbers.items;
   texts : texts_at l.self.manifest.paths l.numbers.items ≡ take l.place l.asked;
   named : AllByRecursion (λ p. is_named (declared_by l.self).edges p ≡ true) (take l.place l.asked);
 }

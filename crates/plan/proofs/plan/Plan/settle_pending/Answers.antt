@@ -36,6 +36,7 @@ loop-place-preserved c =
         stands = aliases_next c.args.self.now.standings.items now.standings.items c.arrive_all.new.self.standings.items e before.fits before.stands stands known rest.standings;
         queue = rest.queue ∙ before.queue;
         changed = rest.changed ∙ before.changed;
+        loads = rest.loads ∙ before.loads;
         running = rest.running ∙ before.running;
         failed = rest.failed ∙ before.failed;
         well = rest.well ∙ before.well;

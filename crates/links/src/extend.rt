@@ -1,0 +1,54 @@
+//! What a loaded dyndep file says joins the graph.
+
+ghost use Rattle.std.specs.Prelude.{◌≡◌, ◌<◌, map, length, IfErr, OnOk, OnErr};
+ghost use Rattle.paths.specs.Told.{text_at};
+ghost use Rattle.links.specs.Extended.{HasLoaded, IsRefusedLoad, addition_of};
+
+use crate::fault::ExtendFault;
+use crate::graph::Graph;
+use crate::loaded::load;
+use dyndep::Addition;
+use paths::PathId;
+use std::alloc::Global;
+
+impl Graph {
+    /// Gives each edge that names the file what its statement adds: outputs, inputs, and whether outputs may stay as they were.
+    /// The file is loaded then, and no edge names it any more (manual: "Dynamic Dependencies"). What is recorded stays. It takes
+    /// a time of the order of the whole graph.
+    ///
+    /// `Unfit` where the statements do not fit: it tells of the lowest edge that names the file and has no statement, else of the
+    /// first statement that is of no such edge, or of one that has a statement before. `MadeTwice` tells, where they fit, of
+    /// the first output in reading order that was made before it. Where it is refused, nothing is changed. A cycle that the file
+    /// closes is told by the cone.
+    pub fn extend(
+        &mut self,
+        alloc: Global,
+        additions: &[Addition],
+        file: PathId,
+    ) -> Result<(), ExtendFault>
+        requires { file < length self.old.manifest.paths }
+        ensures loaded { OnOk result (HasLoaded self.old self.new (text_at self.old.manifest.paths file) (map addition_of additions.now)) }
+        ensures fault { IfErr result (IsRefusedLoad self.old (text_at self.old.manifest.paths file) (map addition_of additions.now)) }
+        ensures err { OnErr result (self.new ≡ self.old) }
+    {
+        let chosen = self.statements(alloc, additions, file)?;
+        let known = self.manifest.paths.len();
+        match load(
+            alloc,
+            &mut self.manifest,
+            &self.recorded,
+            additions,
+            &chosen,
+        ) {
+            Ok(parts) => {
+                self.makers = parts.makers;
+                self.users = parts.users;
+                Ok(())
+            }
+            Err(fault) => {
+                self.manifest.paths.truncate(known);
+                Err(fault)
+            }
+        }
+    }
+}

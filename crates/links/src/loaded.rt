@@ -1,0 +1,218 @@
+//! A manifest whose edges have what a dyndep file says.
+
+ghost use Rattle.std.specs.Prelude.{◌≡◌, ◌<◌, ◌^◌, ◌≤◌, ◌++◌, ◌∷◌, ℕ, Some, [], map, length, IfOk, IfErr, OnOk, OnErr};
+ghost use Rattle.std.proofs.Math.ListN.{replicate};
+ghost use Rattle.paths.specs.Numbers.{HaveOnePlace};
+ghost use Rattle.paths.specs.Lists.{line_at};
+ghost use Rattle.links.specs.Held.{AreMakers, DyndepsAreInputs, AreRecorded, AreUsers};
+ghost use Rattle.links.specs.Extended.{addition_of};
+ghost use Rattle.links.specs.Statements.{HasMore, AreNumbersIn, AreGainsIn, AreGrownLines, AreChoicesBelow, line_with, action_with, loaded_action, AreLoadedActions, HasOnlyMore, IsLoadedManifest, IsLoadFault, IsPartsFault, extend_fault_of};
+
+use crate::build::users_of;
+use crate::fault::{ExtendFault, GraphFault};
+use crate::makers::makers_of;
+use crate::recorded::Recorded;
+use crate::users::Users;
+use dyndep::Addition;
+use paths::{Action, EdgeId, Lines, Manifest, PathId, Paths};
+use std::alloc::{AllocError, Global};
+use std::mem;
+use text::{Items, Path};
+
+/// What a statement adds, in numbers.
+#[derive(Drop)]
+pub struct Gain {
+    pub outputs: Items<PathId>,
+    pub inputs: Items<PathId>,
+}
+
+/// Which edge makes each path, and for each path the edges that name it.
+#[derive(Drop)]
+pub struct Parts {
+    pub makers: Vec<Option<EdgeId>>,
+    pub users: Users,
+}
+
+/// Gives edges what the statements add that were chosen for them, whose dyndep file is loaded then; the parts of the graph
+/// that follow from it.
+///
+/// Where it is refused, the manifest has more paths at most.
+pub fn load(
+    alloc: Global,
+    manifest: &mut Manifest,
+    recorded: &Recorded,
+    additions: &[Addition],
+    chosen: &[Option<usize>],
+) -> Result<Parts, ExtendFault>
+    requires recorded { AreRecorded manifest.old recorded.now }
+    requires dyndeps { DyndepsAreInputs manifest.old }
+    requires fits { length chosen.now ≡ length manifest.old.lines }
+    requires below { AreChoicesBelow (length additions.now) chosen.now }
+    ensures loaded { OnOk result (IsLoadedManifest manifest.old manifest.new (map addition_of additions.now) chosen.now) }
+    ensures makers { IfOk result (λ parts. AreMakers manifest.new parts.makers.items) }
+    ensures users { IfOk result (λ parts. AreUsers manifest.new recorded.now parts.users) }
+    ensures apart { OnOk result (HaveOnePlace manifest.new.paths) }
+    ensures err { OnErr result (HasOnlyMore manifest.old manifest.new) }
+    ensures fault { IfErr result (IsLoadFault manifest.old (map addition_of additions.now) chosen.now) }
+{
+    let gains = gains_of(alloc, &mut manifest.paths, additions)?;
+    let lines = grown_lines(alloc, &manifest.lines, chosen, &gains)?;
+    let before = mem::replace(&mut manifest.lines, lines);
+    match parts_of(alloc, manifest, recorded) {
+        Ok(parts) => {
+            let mut actions = mem::replace(&mut manifest.actions, Items::new(alloc)).into_vec();
+            load_actions(&mut actions, additions, chosen);
+            manifest.actions = Items::from_vec(actions);
+            Ok(parts)
+        }
+        Err(fault) => {
+            manifest.lines = before;
+            Err(fault)
+        }
+    }
+}
+
+/// What the statements add, in numbers. Paths that have none get them.
+fn gains_of(
+    alloc: Global,
+    paths: &mut Paths,
+    additions: &[Addition],
+) -> Result<Vec<Gain>, AllocError>
+    ensures more { HasMore paths.old paths.new }
+    ensures gains { IfOk result (λ gains. AreGainsIn paths.new (map addition_of additions.now) gains.items) }
+{
+    let mut gains = Vec::with_capacity(alloc, additions.len())?;
+    for addition in additions {
+        gains.push(Gain {
+            outputs: numbers_of(alloc, paths, addition.outputs.as_slice())?,
+            inputs: numbers_of(alloc, paths, addition.inputs.as_slice())?,
+        })?;
+    }
+    Ok(gains)
+}
+
+fn numbers_of(alloc: Global, paths: &mut Paths, texts: &[Path]) -> Result<Items<PathId>, AllocError>
+    ensures more { HasMore paths.old paths.new }
+    ensures numbers { IfOk result (λ numbers. AreNumbersIn paths.new texts.now numbers) }
+{
+    let mut numbers = Items::from_vec(Vec::with_capacity(alloc, texts.len())?);
+    for text in texts {
+        numbers.push(paths.add(alloc, text.as_str())?)?;
+    }
+    Ok(numbers)
+}
+
+/// The lines of all edges, with what the statements add that were chosen for them.
+fn grown_lines(
+    alloc: Global,
+    lines: &Lines,
+    chosen: &[Option<usize>],
+    gains: &[Gain],
+) -> Result<Lines, AllocError>
+    requires few { length lines.now ≤ 2 ^ 32 }
+    requires fits { length chosen.now ≡ length lines.now }
+    requires below { AreChoicesBelow (length gains.now) chosen.now }
+    ensures { IfOk result (λ grown. AreGrownLines lines.now chosen.now gains.now grown) }
+{
+    let mut grown = Lines::new(alloc);
+    for (place, choice) in chosen.iter().enumerate() {
+        push_line(&mut grown, lines, EdgeId::at_below(place), *choice, gains)?;
+    }
+    Ok(grown)
+}
+
+/// Puts the line of an edge behind the others, with what the statement adds that was chosen for it.
+fn push_line(
+    grown: &mut Lines,
+    lines: &Lines,
+    edge: EdgeId,
+    choice: Option<usize>,
+    gains: &[Gain],
+) -> Result<(), AllocError>
+    requires edge { edge < length lines.now }
+    requires below { (k : ℕ) → choice ≡ Some k → k < length gains.now }
+    ensures { OnOk result (grown.new ≡ grown.old ++ line_with gains.now (line_at lines.now edge) choice ∷ []) }
+{
+    match choice {
+        None => grown.push_grown(lines, edge, &[], &[]),
+        Some(statement) => {
+            let gain = &gains[statement];
+            grown.push_grown(lines, edge, gain.outputs.as_slice(), gain.inputs.as_slice())
+        }
+    }
+}
+
+/// The makers and the users of the paths of a manifest, with recorded inputs.
+fn parts_of(alloc: Global, manifest: &Manifest, recorded: &Recorded) -> Result<Parts, ExtendFault>
+    requires { AreRecorded manifest.now recorded.now }
+    ensures makers { IfOk result (λ parts. AreMakers manifest.now parts.makers.items) }
+    ensures users { IfOk result (λ parts. AreUsers manifest.now recorded.now parts.users) }
+    ensures apart { OnOk result (HaveOnePlace manifest.now.paths) }
+    ensures fault { IfErr result (IsPartsFault manifest.now) }
+{
+    let makers = match makers_of(alloc, manifest) {
+        Ok(makers) => makers,
+        Err(fault) => return Err(extend_fault(fault)),
+    };
+    let mut users = users_of(alloc, manifest)?;
+    use_recorded(&mut users, manifest, recorded)?;
+    Ok(Parts { makers, users })
+}
+
+/// The fault of a graph whose dyndep files are inputs: an edge keeps its inputs.
+fn extend_fault(fault: GraphFault) -> ExtendFault
+    ensures { result ≡ extend_fault_of fault }
+{
+    match fault {
+        GraphFault::MadeTwice(path) => ExtendFault::MadeTwice(path),
+        GraphFault::Memory | GraphFault::NoDyndepInput(_) => ExtendFault::Memory,
+    }
+}
+
+/// Puts each edge behind those that name its recorded inputs.
+fn use_recorded(
+    users: &mut Users,
+    manifest: &Manifest,
+    recorded: &Recorded,
+) -> Result<(), AllocError>
+    requires recorded { AreRecorded manifest.now recorded.now }
+    requires users { AreUsers manifest.now (replicate (length manifest.now.lines) []) users.old }
+    ensures { OnOk result (AreUsers manifest.now recorded.now users.new) }
+{
+    for place in 0..manifest.lines.len() {
+        let edge = manifest.edge(place);
+        users.push_all(recorded.at(edge), edge)?;
+    }
+    Ok(())
+}
+
+/// The dyndep file of each edge that a statement was chosen for is loaded; where that says so its outputs may stay as they
+/// were.
+fn load_actions(actions: &mut [Action], additions: &[Addition], chosen: &[Option<usize>])
+    requires fits { length chosen.now ≡ length actions.old }
+    requires below { AreChoicesBelow (length additions.now) chosen.now }
+    ensures { AreLoadedActions actions.old chosen.now (map addition_of additions.now) actions.new }
+{
+    for (place, choice) in chosen.iter().enumerate() {
+        load_chosen(&mut actions[place], *choice, additions);
+    }
+}
+
+/// The same for one edge.
+fn load_chosen(action: &mut Action, choice: Option<usize>, additions: &[Addition])
+    requires { (k : ℕ) → choice ≡ Some k → k < length additions.now }
+    ensures { action.new ≡ action_with (map addition_of additions.now) action.old choice }
+{
+    if let Some(statement) = choice {
+        load_action(action, additions[statement].restat);
+    }
+}
+
+fn load_action(action: &mut Action, restat: bool)
+    ensures { action.new ≡ loaded_action restat action.old }
+{
+    if let Action::Command(command) = action {
+        command.dyndep = None;
+        command.restat = command.restat || restat;
+    }
+}

@@ -1,0 +1,56 @@
+-- Which dyndep files are loaded, and in which order, by numbers.
+use Rattle.std.specs.Prelude.{◌≡◌, ◌⊎◌, ℕ, ◌<◌, Bool, true, false, List, [], ◌∷◌, ◌++◌, length, Option, None, Some}
+use Rattle.std.specs.List.{AllByRecursion}
+use Rattle.model.specs.Graph.{has_number}
+use Rattle.lowest.specs.Flags.{has}
+use Rattle.links.specs.declared.graph.Graph.{Graph}
+use Rattle.links.specs.Links.{links_of}
+use Rattle.links.specs.Extended.{dyndep_at}
+use Rattle.plan.specs.declared.step.Standing.{Standing}
+use Rattle.queue.specs.Turns.{Turns}
+use Rattle.plan.specs.Standing.{standing_at, is_outside}
+use Rattle.plan.specs.Plan.{AreAllPooled}
+
+-- an edge of the cone names the file, which is not loaded
+pub record IsWanted (graph : Graph) (standings : List Standing) (file : ℕ) : Type 0 where
+  pub edge : ℕ
+  pub inside : is_outside (standing_at standings edge) ≡ false
+  pub names : dyndep_at graph edge ≡ Some file
+
+-- the edge is the first that names the file
+pub record IsFirstToName (graph : Graph) (file edge : ℕ) : Type 0 where
+  pub names : dyndep_at graph edge ≡ Some file
+  pub first : (k : ℕ) → k < edge → dyndep_at graph k ≡ Some file → ⊥
+
+-- a file that no edge makes goes before one that is made, else one that is named before (this project's own)
+pub data LoadsBefore (graph : Graph) (file other : ℕ) : Type 0 where
+  BySource : (d : ℕ) → (links_of graph).maker file ≡ None → (links_of graph).maker other ≡ Some d → LoadsBefore graph file other
+  ByEdge : (d e : ℕ) → ((links_of graph).maker other ≡ None → (links_of graph).maker file ≡ None) → IsFirstToName graph file d → IsFirstToName graph other e → d < e → LoadsBefore graph file other
+
+-- each file goes before those behind it
+abbrev pub AreInOrder : Graph → List ℕ → Type 0
+AreInOrder graph [] = Unit {0}
+AreInOrder graph (file ∷ files) = ((other : ℕ) → has_number files other ≡ true → LoadsBefore graph file other) × AreInOrder graph files
+
+-- just the files that edges of the cone name, in the order in which they are loaded
+pub record AreLoads (graph : Graph) (standings : List Standing) (loads : List ℕ) : Type 0 where
+  pub named : (file : ℕ) → has_number loads file ≡ true → IsWanted graph standings file
+  pub all : (e file : ℕ) → is_outside (standing_at standings e) ≡ false → dyndep_at graph e ≡ Some file → has_number loads file ≡ true
+  pub ordered : AreInOrder graph loads
+
+-- So it is; and while files are left, so that the cone may grow, each edge is in its pool, in the cone or not.
+pub record IsLoading (graph : Graph) (standings : List Standing) (turns : Turns) (loads : List ℕ) : Type 0 where
+  pub loads_are : AreLoads graph standings loads
+  pub all : 0 < length loads → AreAllPooled graph turns
+
+-- none of these paths is there
+abbrev pub NoneIsThere : List Bool → List ℕ → Type 0
+NoneIsThere there paths = AllByRecursion (λ p. has there p ≡ false) paths
+
+-- the first of these paths that is there
+pub record IsFirstThere (there : List Bool) (paths : List ℕ) (p : ℕ) : Type 0 where
+  pub before : List ℕ
+  pub after : List ℕ
+  pub splits : paths ≡ before ++ p ∷ after
+  pub earlier : NoneIsThere there before
+  pub is : has there p ≡ true

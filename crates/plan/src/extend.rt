@@ -1,0 +1,98 @@
+//! A plan goes on over a graph that has grown.
+
+use crate::first::{first_counts, first_ready, first_standing};
+use crate::loads::loads_of;
+use crate::plan::Plan;
+use crate::step::Standing;
+use links::{Cone, Graph};
+use lowest::Lowest;
+use paths::{EdgeId, PathId};
+use std::alloc::{AllocError, Global};
+
+impl Plan {
+    ghost use Rattle.std.specs.Prelude.{◌≡◌, ◌<◌, ℕ, length, vec_len, OnOk, OnErr};
+    ghost use Rattle.lowest.specs.Flags.{has};
+    ghost use Rattle.plan.specs.Planned.{IsPlanOver};
+    ghost use Rattle.plan.specs.Extended.{MayGoOn, GoesOn};
+
+    /// A dyndep file was loaded, and this is the cone of the same targets then. Each command stands as before, and those that are
+    /// new in the cone are not judged. `AllocError` where memory is refused; nothing is changed then.
+    pub fn extend(&mut self, alloc: Global, graph: &Graph, cone: &Cone) -> Result<(), AllocError>
+        requires marks { vec_len cone.now.marks ≡ length graph.now.manifest.lines }
+        requires may { MayGoOn graph.now self.old }
+        ensures over { OnOk result (IsPlanOver graph.now self.new) }
+        ensures flags { OnOk result ((p : ℕ) → has self.new.changed.items p ≡ has self.old.changed.items p) }
+        ensures planned { OnOk result (GoesOn graph.now cone.now self.old self.new) }
+        ensures err { OnErr result (self.new ≡ self.old) }
+    {
+        let edges = graph.edges();
+        let standings = grown_standings(alloc, graph, cone, &self.standings)?;
+        let there = settled_paths(alloc, graph, &standings)?;
+        let left = first_counts(alloc, graph, &standings, &there)?;
+        let mut ready = Lowest::new(alloc, edges)?;
+        let mut pending = Lowest::new(alloc, edges)?;
+        first_ready(&standings, &left, &mut ready, &mut pending);
+        let changed = grown_flags(alloc, &self.changed, graph.paths())?;
+        let loads = loads_of(alloc, graph, &standings)?;
+        self.standings = standings;
+        self.there = there;
+        self.left = left;
+        self.ready = ready;
+        self.pending = pending;
+        self.changed = changed;
+        self.loads = loads;
+        self.settle_pending(graph);
+        Ok(())
+    }
+}
+
+/// Where each edge stands: a command of the cone as before, each other edge as at the beginning.
+fn grown_standings(
+    alloc: Global,
+    graph: &Graph,
+    cone: &Cone,
+    before: &[Standing],
+) -> Result<Vec<Standing>, AllocError> {
+    let mut standings = Vec::with_capacity(alloc, before.len())?;
+    for (place, standing) in before.iter().enumerate() {
+        standings.push(grown_standing(graph, cone, *standing, graph.manifest.edge(place)))?;
+    }
+    Ok(standings)
+}
+
+fn grown_standing(graph: &Graph, cone: &Cone, before: Standing, edge: EdgeId) -> Standing {
+    match before {
+        Standing::Outside | Standing::Alias | Standing::Known => first_standing(graph, cone, edge),
+        _ => before,
+    }
+}
+
+/// For each path, whether it is a source or its maker is settled.
+fn settled_paths(
+    alloc: Global,
+    graph: &Graph,
+    standings: &[Standing],
+) -> Result<Vec<bool>, AllocError> {
+    let mut there = Vec::with_capacity(alloc, graph.paths())?;
+    for place in 0..graph.paths() {
+        there.push(match graph.makers.get(place).copied().flatten() {
+            None => true,
+            Some(maker) => is_settled(standings[maker.index()]),
+        })?;
+    }
+    Ok(there)
+}
+
+/// Whether what the edge makes is there.
+fn is_settled(standing: Standing) -> bool {
+    matches!(standing, Standing::Clean | Standing::Well | Standing::Known)
+}
+
+/// These flags, and false for each place behind them up to a count.
+fn grown_flags(alloc: Global, flags: &[bool], count: usize) -> Result<Vec<bool>, AllocError> {
+    let mut grown = Vec::with_capacity(alloc, count)?;
+    for place in 0..count {
+        grown.push(place < flags.len() && flags[place])?;
+    }
+    Ok(grown)
+}
