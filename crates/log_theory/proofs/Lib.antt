@@ -24,6 +24,7 @@ pub mod Over
 pub mod Stated
 pub mod Builds
 pub mod Alone
+pub mod Phased
 pub mod Ledger
 pub mod TakenIn
 pub mod Readying

@@ -1,0 +1,327 @@
+-- Builds in phases: what was lawful and rightly judged so far goes on through each step, and through each load.
+use Rattle.std.proofs.Common.{◌≡◌, ◌⊎◌, inl, inr, ℕ, cond, Bool, true, false, IsTrue, List, [], ◌∷◌, ◌++◌, Option, Some, None, bytes_eq, refl, sym, ◌∙◌, ap, subst, append_assoc}
+use Rattle.std.proofs.lemmas.List.{append-nil}
+use Rattle.std.proofs.lemmas.Bool.{cases_Bool, false_from_ne_true}
+use Rattle.model.specs.declared.event.Moment.{Moment}
+use Rattle.model.specs.declared.graph.Edge.{Edge}
+use Rattle.model.specs.World.{World, View}
+use Rattle.model.specs.Graph.{has_number, edge_at, Addition, grown_edge}
+use Rattle.model.specs.Outcome.{Behaviour}
+use Rattle.model.specs.Records.{Store, OwnFiles, recorded_inputs}
+use Rattle.model.specs.OutOfDate.{IsVerdict}
+use Rattle.model.specs.Schedule.{Task, Step, Judged, Started, Ended, IsLawfulStep, IsLawfulFrom, running_in, well_in}
+use Rattle.model.specs.Phases.{Phase, IsGrownBy, IsDueLoad, NoLoadIsDue, IsNextLoad, AreUnloadedFrom, IsLawfulPhase, IsLoad, IsInOrderAt, AreTakenIn, ArePhasesFrom, IsLawfulBuild, steps_of, next_edges, task_with}
+use Rattle.model.specs.Premises.{FilesAreKept, RecordedApart}
+use Rattle.model.specs.SingleBuild.{Asked, asked_with, task_of}
+use Rattle.build_theory.specs.Run.{IsRunOrRest}
+use Rattle.build_theory.proofs.Lists.{same_bytes, bytes_same}
+use Rattle.build_theory.proofs.Growth.{cases_named, grown_same}
+use Rattle.build_theory.proofs.Moved.{rest_moved}
+use Rattle.build_theory.proofs.Steps.{lawful_push_from}
+use Rattle.log_theory.specs.Judged.{JudgedOver, AreJudgedOver, ArePhasesJudged}
+use Rattle.log_theory.specs.Ledger.{IsPhased}
+
+-- ---- what loaded files held
+
+abbrev pub with_text : List ℕ → List ℕ → View → View
+with_text file content texts = λ p. cond (bytes_eq file p) (Some content) (texts p)
+
+-- what was held by the files that were loaded is held still
+abbrev pub HoldsAll : View → View → Type 0
+HoldsAll texts more = (p content : List ℕ) → texts p ≡ Some content → more p ≡ Some content
+
+no_text : (content : List ℕ) → None ≡ Some content → ⊥
+no_text content is = cc
+
+pub holds_all : (texts : View) (file content : List ℕ) → texts file ≡ None → HoldsAll texts (with_text file content texts)
+holds_all texts file content none p held is = elim (cases_Bool (bytes_eq file p)) [
+  | inl same ↦ absurd (no_text held (sym none ∙ (ap texts (same_bytes file p same) ∙ is)))
+  | inr other ↦ ap (λ (b : Bool). cond b (Some content) (texts p)) other ∙ is
+]
+
+pub holds_it : (texts : View) (file content : List ℕ) → with_text file content texts file ≡ Some content
+holds_it texts file content = ap (λ (b : Bool). cond b (Some content) (texts file)) (bytes_same file)
+
+load_moved : (reading : List ℕ → Option (List Addition)) (texts more : View) → HoldsAll texts more → (task : Task) (before : List Step) (next : List Edge) → IsLoad reading texts task before next → IsLoad reading more task before next
+load_moved reading texts more holds task before next load = record {
+  file = load.file;
+  is_next = load.is_next;
+  content = load.content;
+  holds = holds load.file load.content load.holds;
+  additions = load.additions;
+  read = load.read;
+  grown = load.grown;
+}
+
+-- ---- lists of phases
+
+pub steps_of-append : (xs ys : List Phase) → steps_of (xs ++ ys) ≡ steps_of xs ++ steps_of ys
+steps_of-append [] ys = refl
+steps_of-append (x ∷ xs) ys = ap (λ (l : List Step). x.steps ++ l) (steps_of-append xs ys) ∙ sym (append_assoc x.steps (steps_of xs) (steps_of ys))
+
+next_edges_of : (phases : List Phase) (last : Phase) (edges : List Edge) → next_edges (phases ++ last ∷ []) edges ≡ next_edges phases last.edges
+next_edges_of [] last edges = refl
+next_edges_of (phase ∷ phases) last edges = refl
+
+pub unloaded_push : (task : Task) (before steps : List Step) (step : Step) → AreUnloadedFrom task before steps → NoLoadIsDue task (before ++ steps) → AreUnloadedFrom task before (steps ++ step ∷ [])
+unloaded_push task before [] step unloaded none = (subst (λ (l : List Step). NoLoadIsDue task l) (append-nil before) none, tt)
+unloaded_push task before (s ∷ steps) step unloaded none =
+    (unloaded.0, unloaded_push task (before ++ s ∷ []) steps step unloaded.1 (subst (λ (l : List Step). NoLoadIsDue task l) (sym (append_assoc before (s ∷ []) steps)) none))
+
+module _ (tells : Bool) (B : Behaviour) (own : OwnFiles) (asked : Asked) (store : Store) (old : World) where
+  abbrev The : Task
+  The = task_of asked store
+
+  abbrev Phased : List Step → World → Type 0
+  Phased steps now = IsPhased tells B own asked store steps old now
+
+  abbrev Over : List Edge → List Step → List Step → World → Type 0
+  Over edges before steps now = AreJudgedOver tells own asked store edges before steps old now
+
+  -- ---- the site goes on
+
+  module _ (now new : World) (ms : List Moment) (grows : IsTrue tells → new.history ≡ now.history ++ ms) where
+    one_on : (edges : List Edge) (before : List Step) (i : ℕ) (b : Bool) → JudgedOver tells own asked store edges before i b old now → JudgedOver tells own asked store edges before i b old new
+    one_on edges before i b was = record {
+      mid = was.mid;
+      run = was.run;
+      more = was.more ++ ms;
+      grows = λ tell. grows tell ∙ (ap (λ (l : List Moment). l ++ ms) (was.grows tell) ∙ append_assoc was.mid.history was.more ms);
+      right = was.right;
+    }
+
+    pub over_on : (edges : List Edge) (before steps : List Step) → Over edges before steps now → Over edges before steps new
+    over_on edges before [] judged = tt
+    over_on edges before (Judged i b ∷ steps) judged = (one_on edges before i b judged.0, over_on edges (before ++ Judged i b ∷ []) steps judged.1)
+    over_on edges before (Started i ∷ steps) judged = over_on edges (before ++ Started i ∷ []) steps judged
+    over_on edges before (Ended i w ∷ steps) judged = over_on edges (before ++ Ended i w ∷ []) steps judged
+
+    pub all_on : (before : List Step) (phases : List Phase) → ArePhasesJudged tells own asked store before phases old now → ArePhasesJudged tells own asked store before phases old new
+    all_on before [] judged = tt
+    all_on before (phase ∷ phases) judged = (over_on phase.edges before phase.steps judged.0, all_on (before ++ phase.steps) phases judged.1)
+
+  abbrev pub phased_on : (steps : List Step) (now new : World) (more : IsTrue tells → List Moment) → ((tell : IsTrue tells) → new.history ≡ now.history ++ more tell) → Phased steps now → Phased steps new
+  phased_on steps now new more grows phased = record {
+    texts = phased.texts;
+    build = phased.build;
+    unread = phased.unread;
+    before = λ tell. all_on now new (more tell) (λ t. grows tell) [] phased.build.earlier (phased.before tell);
+    last = λ tell. over_on now new (more tell) (λ t. grows tell) asked.graph.edges (steps_of phased.build.earlier) phased.build.last (phased.last tell);
+  }
+
+  -- ---- one step more
+
+  pub over_push : (edges : List Edge) (before steps : List Step) (step : Step) (now : World) → ((i : ℕ) (b : Bool) → step ≡ Judged i b → JudgedOver tells own asked store edges (before ++ steps) i b old now)
+      → Over edges before steps now → Over edges before (steps ++ step ∷ []) now
+  over_push edges before [] (Judged i b) now right judged = (subst (λ (l : List Step). JudgedOver tells own asked store edges l i b old now) (append-nil before) (right i b refl), tt)
+  over_push edges before [] (Started i) now right judged = tt
+  over_push edges before [] (Ended i w) now right judged = tt
+  over_push edges before (Judged j c ∷ steps) step now right judged = (judged.0, over_push edges (before ++ Judged j c ∷ []) steps step now (right_on (Judged j c) right) judged.1)
+    where
+      right_on : (s : Step) → ((i : ℕ) (b : Bool) → step ≡ Judged i b → JudgedOver tells own asked store edges (before ++ s ∷ steps) i b old now)
+          → (i : ℕ) (b : Bool) → step ≡ Judged i b → JudgedOver tells own asked store edges ((before ++ s ∷ []) ++ steps) i b old now
+      right_on s right i b is = subst (λ (l : List Step). JudgedOver tells own asked store edges l i b old now) (sym (append_assoc before (s ∷ []) steps)) (right i b is)
+  over_push edges before (Started j ∷ steps) step now right judged =
+      over_push edges (before ++ Started j ∷ []) steps step now
+      (λ i b is. subst (λ (l : List Step). JudgedOver tells own asked store edges l i b old now) (sym (append_assoc before (Started j ∷ []) steps)) (right i b is)) judged
+  over_push edges before (Ended j w ∷ steps) step now right judged =
+      over_push edges (before ++ Ended j w ∷ []) steps step now
+      (λ i b is. subst (λ (l : List Step). JudgedOver tells own asked store edges l i b old now) (sym (append_assoc before (Ended j w ∷ []) steps)) (right i b is)) judged
+
+  -- an edge is judged, rightly by the edges and files of now
+  pub over_now : (steps : List Step) (now : World) (i : ℕ) (b : Bool) → IsRunOrRest tells own The steps old now
+      → (IsTrue tells → FilesAreKept own asked.graph.edges old.history now.history → RecordedApart own (recorded_inputs store asked.graph.edges)
+      → IsVerdict asked.graph.edges store (well_in steps) old.history now.history i b)
+      → (j : ℕ) (c : Bool) → Judged i b ≡ Judged j c → JudgedOver tells own asked store asked.graph.edges steps j c old now
+  over_now steps now i b rest right j c is =
+      let same : i ≡ j = cc in
+      let also : b ≡ c = cc in
+      subst (λ (n : ℕ). JudgedOver tells own asked store asked.graph.edges steps n c old now) same (subst (λ (x : Bool). JudgedOver tells own asked store asked.graph.edges steps i x old now) also
+      (record {
+        mid = now;
+        run = rest_moved tells own The (task_with The store asked.graph.edges) steps old now (grown_same asked.graph.edges) rest;
+        more = [];
+        grows = λ tell. sym (append-nil now.history);
+        right = right;
+      }))
+
+  pub taken_in_push : (before steps : List Step) (i : ℕ) (w : Bool) → AreTakenIn before steps → has_number (running_in (before ++ steps)) i ≡ true → AreTakenIn before (steps ++ Ended i w ∷ [])
+  taken_in_push before [] i w taken runs = (subst (λ (l : List Step). has_number (running_in l) i ≡ true) (append-nil before) runs, tt)
+  taken_in_push before (Judged j b ∷ steps) i w taken runs = absurd taken
+  taken_in_push before (Started j ∷ steps) i w taken runs = absurd taken
+  taken_in_push before (Ended j v ∷ steps) i w taken runs =
+      (taken.0, taken_in_push (before ++ Ended j v ∷ []) steps i w taken.1 (subst (λ (l : List Step). has_number (running_in l) i ≡ true) (sym (append_assoc before (Ended j v ∷ []) steps)) runs))
+
+  -- nothing is loaded yet, and no step was taken
+  abbrev pub phased_entry : (now : World) → asked.graph.edges ≡ asked.declared → Phased [] now
+  phased_entry now same = record {
+    texts = λ p. None;
+    build = record {
+      earlier = [];
+      last = [];
+      taken_in = [];
+      whole = refl;
+      begins = same;
+      phases = tt;
+      lawful = record { lawful = tt; unloaded = tt };
+      rest = tt;
+      cause = inl refl;
+    };
+    unread = λ i file names. refl;
+    before = λ tell. tt;
+    last = λ tell. tt;
+  }
+
+  module _ (steps : List Step) (now : World) (phased : Phased steps now) where
+    -- where no load was refused the steps are those of the phases and of the last one
+    pub so_far : phased.build.taken_in ≡ [] → steps ≡ steps_of phased.build.earlier ++ phased.build.last
+    so_far on = phased.build.whole ∙ ap (λ (l : List Step). steps_of phased.build.earlier ++ l) (ap (λ (l : List Step). phased.build.last ++ l) on ∙ append-nil phased.build.last)
+
+    -- a lawful step, where no load is due
+    abbrev pub phased_step : (step : Step) → phased.build.taken_in ≡ [] → IsLawfulStep The steps step → NoLoadIsDue The steps
+        → (IsTrue tells → (i : ℕ) (b : Bool) → step ≡ Judged i b → JudgedOver tells own asked store asked.graph.edges steps i b old now) → Phased (steps ++ step ∷ []) now
+    phased_step step on next none right = record {
+      texts = phased.texts;
+      build = record {
+        earlier = phased.build.earlier;
+        last = phased.build.last ++ step ∷ [];
+        taken_in = [];
+        whole = ap (λ (l : List Step). l ++ step ∷ []) (so_far on) ∙ (append_assoc (steps_of phased.build.earlier) phased.build.last (step ∷ [])
+            ∙ ap (λ (l : List Step). steps_of phased.build.earlier ++ l) (sym (append-nil (phased.build.last ++ step ∷ []))));
+        begins = phased.build.begins;
+        phases = phased.build.phases;
+        lawful = record {
+          lawful = lawful_push_from The (steps_of phased.build.earlier) phased.build.last step phased.build.lawful.lawful (subst (λ (l : List Step). IsLawfulStep The l step) (so_far on) next);
+          unloaded = unloaded_push The (steps_of phased.build.earlier) phased.build.last step phased.build.lawful.unloaded (subst (λ (l : List Step). NoLoadIsDue The l) (so_far on) none);
+        };
+        rest = tt;
+        cause = inl refl;
+      };
+      unread = phased.unread;
+      before = phased.before;
+      last = λ tell. over_push asked.graph.edges (steps_of phased.build.earlier) phased.build.last step now
+          (λ i b is. subst (λ (l : List Step). JudgedOver tells own asked store asked.graph.edges l i b old now) (so_far on) (right tell i b is)) (phased.last tell);
+    }
+
+    -- A command is taken in after a load that was refused, or behind which an input was missing.
+    abbrev pub phased_taken_in : (i : ℕ) (w : Bool) → has_number (running_in steps) i ≡ true
+        → (phased.build.last ≡ []) ⊎ ((file : List ℕ) × IsDueLoad The (steps_of phased.build.earlier ++ phased.build.last) file) → Phased (steps ++ Ended i w ∷ []) now
+    phased_taken_in i w runs cause = record {
+      texts = phased.texts;
+      build = record {
+        earlier = phased.build.earlier;
+        last = phased.build.last;
+        taken_in = phased.build.taken_in ++ Ended i w ∷ [];
+        whole = ap (λ (l : List Step). l ++ Ended i w ∷ []) phased.build.whole ∙ (append_assoc (steps_of phased.build.earlier) (phased.build.last ++ phased.build.taken_in) (Ended i w ∷ [])
+            ∙ ap (λ (l : List Step). steps_of phased.build.earlier ++ l) (append_assoc phased.build.last phased.build.taken_in (Ended i w ∷ [])));
+        begins = phased.build.begins;
+        phases = phased.build.phases;
+        lawful = phased.build.lawful;
+        rest = taken_in_push (steps_of phased.build.earlier ++ phased.build.last) phased.build.taken_in i w phased.build.rest
+            (subst (λ (l : List Step). has_number (running_in l) i ≡ true) (phased.build.whole ∙ sym (append_assoc (steps_of phased.build.earlier) phased.build.last phased.build.taken_in)) runs);
+        cause = inr cause;
+      };
+      unread = phased.unread;
+      before = phased.before;
+      last = phased.last;
+    }
+
+-- ---- a load
+
+module _ (tells : Bool) (B : Behaviour) (own : OwnFiles) (asked : Asked) (store : Store) (old now : World) (next : List Edge) where
+  abbrev pub More : Asked
+  More = asked_with asked next
+
+  -- the phase that the load ends
+  abbrev pub ended_with : List Step → Phase
+  ended_with steps = record { edges = asked.graph.edges; steps = steps }
+
+  pub phases_push : (texts more : View) → HoldsAll texts more → (before : List Step) (phases : List Phase) (last : List Step) → ArePhasesFrom B.dyndep texts (task_of asked store) store before phases
+      → IsLawfulPhase (task_of asked store) (before ++ steps_of phases) last → IsLoad B.dyndep more (task_of asked store) ((before ++ steps_of phases) ++ last) next → IsInOrderAt store (task_of More store)
+      → ArePhasesFrom B.dyndep more (task_of More store) store before (phases ++ ended_with last ∷ [])
+  phases_push texts more holds before [] last phases lawful load order = (
+    subst (λ (l : List Step). IsLawfulPhase (task_of asked store) l last) (append-nil before) lawful,
+    subst (λ (l : List Step). IsLoad B.dyndep more (task_of asked store) (l ++ last) next) (append-nil before) load,
+    order,
+    tt,
+  )
+  phases_push texts more holds before (phase ∷ phases) last lawfuls lawful load order = (
+    lawfuls.0,
+    subst (λ (es : List Edge). IsLoad B.dyndep more (task_with (task_of asked store) store phase.edges) (before ++ phase.steps) es) (sym (next_edges_of phases (ended_with last) next))
+        (load_moved B.dyndep texts more holds (task_with (task_of asked store) store phase.edges) (before ++ phase.steps) (next_edges phases asked.graph.edges) lawfuls.1),
+    subst (λ (es : List Edge). IsInOrderAt store (task_with (task_of asked store) store es)) (sym (next_edges_of phases (ended_with last) next)) lawfuls.2,
+    phases_push texts more holds (before ++ phase.steps) phases last lawfuls.3
+        (subst (λ (l : List Step). IsLawfulPhase (task_of asked store) l last) (sym (append_assoc before phase.steps (steps_of phases))) lawful)
+        (subst (λ (l : List Step). IsLoad B.dyndep more (task_of asked store) (l ++ last) next) (sym (append_assoc before phase.steps (steps_of phases))) load) order,
+  )
+
+  -- verdicts stay, over the edges of then
+  one_more : (edges : List Edge) (before : List Step) (i : ℕ) (b : Bool) → JudgedOver tells own asked store edges before i b old now → JudgedOver tells own More store edges before i b old now
+  one_more edges before i b was = record { mid = was.mid; run = was.run; more = was.more; grows = was.grows; right = was.right }
+
+  over_more : (edges : List Edge) (before steps : List Step) → AreJudgedOver tells own asked store edges before steps old now → AreJudgedOver tells own More store edges before steps old now
+  over_more edges before [] judged = tt
+  over_more edges before (Judged i b ∷ steps) judged = (one_more edges before i b judged.0, over_more edges (before ++ Judged i b ∷ []) steps judged.1)
+  over_more edges before (Started i ∷ steps) judged = over_more edges (before ++ Started i ∷ []) steps judged
+  over_more edges before (Ended i w ∷ steps) judged = over_more edges (before ++ Ended i w ∷ []) steps judged
+
+  pub judged_push : (before : List Step) (phases : List Phase) (last : List Step) → ArePhasesJudged tells own asked store before phases old now
+      → AreJudgedOver tells own asked store asked.graph.edges (before ++ steps_of phases) last old now → ArePhasesJudged tells own More store before (phases ++ ended_with last ∷ []) old now
+  judged_push before [] last judged over = (over_more asked.graph.edges before last (subst (λ (l : List Step). AreJudgedOver tells own asked store asked.graph.edges l last old now) (append-nil before) over), tt)
+  judged_push before (phase ∷ phases) last judged over = (
+    over_more phase.edges before phase.steps judged.0,
+    judged_push (before ++ phase.steps) phases last judged.1
+        (subst (λ (l : List Step). AreJudgedOver tells own asked store asked.graph.edges l last old now) (sym (append_assoc before phase.steps (steps_of phases))) over),
+  )
+
+  pub begins_push : (phases : List Phase) (last : List Step) → next_edges (phases ++ ended_with last ∷ []) next ≡ next_edges phases asked.graph.edges
+  begins_push phases last = next_edges_of phases (ended_with last) next
+
+  pub steps_push : (phases : List Phase) (last : List Step) → steps_of (phases ++ ended_with last ∷ []) ≡ steps_of phases ++ last
+  steps_push phases last = steps_of-append phases (ended_with last ∷ []) ∙ ap (λ (l : List Step). steps_of phases ++ l) (append-nil last)
+
+  -- A file was loaded: it was the next one, it held this, which can be read, and fits; and what the edges are then is in order.
+  module _ (file content : List ℕ) (additions : List Addition) (grown : IsGrownBy file additions asked.graph.edges next) where
+    -- an edge that names a file still named it before, and another one than this
+    pub named_before : (i : ℕ) (other : List ℕ) → (edge_at next i).dyndep ≡ Some other → ((edge_at asked.graph.edges i).dyndep ≡ Some other) × (bytes_eq file other ≡ false)
+    named_before i other names = elim (cases_named (edge_at asked.graph.edges i).dyndep file) [
+      | inl named ↦ absurd (no_text other (sym (ap (λ (e : Edge). e.dyndep) (grown.named i named).2) ∙ names))
+      | inr apart ↦
+          let was : (edge_at asked.graph.edges i).dyndep ≡ Some other = ap (λ (e : Edge). e.dyndep) (sym (grown.others i apart)) ∙ names in
+          (was, false_from_ne_true (bytes_eq file other) (λ same. apart (was ∙ ap (λ (p : List ℕ). Some p) (sym (same_bytes file other same)))))
+    ]
+
+    pub loads : (steps : List Step) → (phased : IsPhased tells B own asked store steps old now) → phased.build.taken_in ≡ [] → IsNextLoad (task_of asked store) steps file → B.dyndep content ≡ Some additions
+        → IsLoad B.dyndep (with_text file content phased.texts) (task_of asked store) (steps_of phased.build.earlier ++ phased.build.last) next
+    loads steps phased on is_next read = record {
+      file = file;
+      is_next = subst (λ (l : List Step). IsNextLoad (task_of asked store) l file) (so_far tells B own asked store old steps now phased on) is_next;
+      content = content;
+      holds = holds_it phased.texts file content;
+      additions = additions;
+      read = read;
+      grown = grown;
+    }
+
+    abbrev pub phased_load : (steps : List Step) → (phased : IsPhased tells B own asked store steps old now) → phased.build.taken_in ≡ [] → IsNextLoad (task_of asked store) steps file → B.dyndep content ≡ Some additions
+        → IsInOrderAt store (task_of More store) → IsPhased tells B own More store steps old now
+    phased_load steps phased on is_next read order = record {
+      texts = with_text file content phased.texts;
+      build = record {
+        earlier = phased.build.earlier ++ ended_with phased.build.last ∷ [];
+        last = [];
+        taken_in = [];
+        whole = so_far tells B own asked store old steps now phased on ∙ (sym (steps_push phased.build.earlier phased.build.last) ∙ sym (append-nil (steps_of (phased.build.earlier ++ ended_with phased.build.last ∷ []))));
+        begins = begins_push phased.build.earlier phased.build.last ∙ phased.build.begins;
+        phases = phases_push phased.texts (with_text file content phased.texts) (holds_all phased.texts file content (phased.unread is_next.due.edge file is_next.due.names))
+            [] phased.build.earlier phased.build.last phased.build.phases phased.build.lawful (loads steps phased on is_next read) order;
+        lawful = record { lawful = tt; unloaded = tt };
+        rest = tt;
+        cause = inl refl;
+      };
+      unread = λ i other names.
+          let was = named_before i other names in
+          ap (λ (b : Bool). cond b (Some content) (phased.texts other)) was.1 ∙ phased.unread i other was.0;
+      before = λ tell. judged_push [] phased.build.earlier phased.build.last (phased.before tell) (phased.last tell);
+      last = λ tell. tt;
+    }
