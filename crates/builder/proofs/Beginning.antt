@@ -193,7 +193,7 @@ module _ (tells : Bool) (graph : Graph) (request : Request) (cone : Cone) (recor
         plan.flags p ∙ sym (none_anew (edges_of course) (is_same_number (stamp_of (file_at course.entry.history text)) (stamp_of (file_at now.history text))) (maker (edges_of course) text));
     before = λ tell kept e stale. absurd (false≢true stale);
     started = λ e runs. absurd (false≢true runs);
-    removed = λ i well. absurd (false≢true well);
+    removed = record { responses = λ i well. absurd (false≢true well); depfiles = λ i well. absurd (false≢true well); stay = λ i well. absurd (false≢true well) };
     room = record { looks = ap (λ (l : Looks). length l.seen.items) looks_are ∙ fits; starts = omega (arith, starts, state.starts.ok.0) };
     noted = ap (map suc) none;
   }

@@ -64,7 +64,7 @@ use Rattle.builder.specs.declared.report.Refusal.{Refusal}
 use Rattle.builder.specs.declared.report.Refusal.TheVariants as refusal
 use Rattle.builder.specs.declared.report.Report.{Report}
 use Rattle.builder.specs.declared.report.Report.TheVariants.{Success, Failed, Refused, Fault}
-use Rattle.builder.specs.Build.{asked_of, missing_answer, Says, LeavesNoResponses, Builds}
+use Rattle.builder.specs.Build.{asked_of, missing_answer, Says, RemovesFiles, LeavesAlone, Builds}
 use Rattle.builder.specs.Reports.{first_output_of, ungraphed, ShowsFault, SaysNotTaken, SaysNoCone, IsMissingFor, LacksSource, ShowsCause, SaysResult, SaysRun, run_answer}
 use Rattle.builder.specs.Recorded.{IsRecordedBy}
 use Rattle.builder.specs.Taken.{IsTaken}
@@ -130,20 +130,23 @@ passes_after tells entry old new answer looked passes = record {
 abbrev pub none_loaded : View
 none_loaded file = None
 
--- a build, of which the headline holds, and which keeps its logs and leaves no response files
+-- a build, of which the headline holds, and which keeps its logs, leaves files of running commands alone and removes those of
+-- commands that ended well
 pub record Built (tells : Bool) (B : Behaviour) (format : LogFormat) (own : OwnFiles) (asked : Asked) (entry now : World) (answer : Answer) : Type 0 where
   pub build : SingleBuild tells B format own asked entry now answer
   pub headline : IsHeadline tells B format own asked entry now answer build
   pub logs : KeepsLogs tells B format own asked entry now answer build
-  pub responses : LeavesNoResponses build
+  pub alone : LeavesAlone tells own asked entry now
+  pub removed : RemovesFiles build
 
 built_by : (tells : Bool) (B : Behaviour) (format : LogFormat) (own : OwnFiles) (asked : Asked) (entry now : World) (answer : Answer) (build : SingleBuild tells B format own asked entry now answer)
-    → IsRunOf tells B format own asked build.store build.steps build.met entry now → LeavesNoResponses build → Built tells B format own asked entry now answer
-built_by tells B format own asked entry now answer build of_run responses = record {
+    → IsRunOf tells B format own asked build.store build.steps build.met entry now → LeavesAlone tells own asked entry now → RemovesFiles build → Built tells B format own asked entry now answer
+built_by tells B format own asked entry now answer build of_run alone removed = record {
   build = build;
   headline = headline_of_run tells B format own asked entry now answer build build.met of_run;
   logs = logs_of_run tells B format own asked entry now answer build of_run;
-  responses = responses;
+  alone = alone;
+  removed = removed;
 }
 
 -- what a run of a build is of
@@ -201,20 +204,25 @@ module _ (tells : Bool) (B : Behaviour) (format : LogFormat) (own : OwnFiles) (g
   }
 
   -- its run has no step
-  looked_run : OnlyLooks tells entry now → IsRunOf tells B format own (asked_of graph folder limits targets) store [] None entry now
-  looked_run looks =
+  looked_cut : OnlyLooks tells entry now → IsCutOff tells B format own (asked_of graph folder limits targets) store [] None entry now
+  looked_cut looks =
       let asked = asked_of graph folder limits targets in
       let told = store_in format own (view_of entry.history) in
-      run_of tells B format own asked store entry [] None now
-      (cut_off tells B format own asked store entry [] None now
+      cut_off tells B format own asked store entry [] None now
       (carried_found tells B format own asked told entry store None now (λ tell kept. found tell kept.edits)
-      (carried_looks tells B format own asked told entry [] None entry now looks (carried_entry tells B format own asked told entry refl idle))))
-      (inr looks)
+      (carried_looks tells B format own asked told entry [] None entry now looks (carried_entry tells B format own asked told entry refl idle)))
+
+  looked_run : OnlyLooks tells entry now → IsRunOf tells B format own (asked_of graph folder limits targets) store [] None entry now
+  looked_run looks = run_of tells B format own (asked_of graph folder limits targets) store entry [] None now (looked_cut looks) (inr looks)
+
+  -- no command ended well
+  nothing_left : OnlyLooks tells entry now → AreRemoved tells own graph.edges [] None entry now
+  nothing_left looks = record { responses = λ i well. absurd (false≢true well); depfiles = λ i well. absurd (false≢true well); stay = λ i well. absurd (false≢true well) }
 
   built_looking : OnlyLooks tells entry now → (answer : Answer) → (IsSuccess answer → ⊥) → PassesNoFault entry now answer
       → IsAnswer tells B own none_loaded (asked_of graph folder limits targets) store [] [] [] entry now answer → BuiltAs answer
   built_looking looks answer failed passes is =
-      built_by tells B format own (asked_of graph folder limits targets) entry now answer (looking looks answer failed passes is) (looked_run looks) (λ fine i well. absurd (false≢true well))
+      built_by tells B format own (asked_of graph folder limits targets) entry now answer (looking looks answer failed passes is) (looked_run looks) (looked_cut looks).beside.alone (λ fine. nothing_left looks)
 
   built_fault : {T : Type 0} → OnlyLooks tells entry now → (fault : SiteFault) → HasCause {T = T} entry now (Err fault) → BuiltAs (answer.Fault fault)
   built_fault looks Device cause = built_looking looks (answer.Fault Device) (λ h. h) (passes_fault tells entry now looks Device cause) (seen_of entry now (Err Device) cause)
@@ -244,7 +252,8 @@ module _ (tells : Bool) (B : Behaviour) (format : LogFormat) (own : OwnFiles) (g
             build = built.build;
             headline = built.headline;
             logs = built.logs;
-            responses = built.responses;
+            alone = built.alone;
+            removed = built.removed;
           }
       by_report (inr is) =
           let built = built_memory looked in
@@ -255,13 +264,14 @@ module _ (tells : Bool) (B : Behaviour) (format : LogFormat) (own : OwnFiles) (g
             build = built.build;
             headline = built.headline;
             logs = built.logs;
-            responses = built.responses;
+            alone = built.alone;
+            removed = built.removed;
           }
 
   module _ (formed : IsGraph graph) (taken : IsTaken graph.edges) where
     -- all is taken, and the report gives the answer
     builds_as : (report : Report) (said : Answer) → Says graph.edges given targets report said → BuiltAs said → BuildsAs report
-    builds_as report said says built = record { taken = inl taken; answer = said; said = says; build = built.build; headline = built.headline; logs = built.logs; responses = built.responses }
+    builds_as report said says built = record { taken = inl taken; answer = said; said = says; build = built.build; headline = built.headline; logs = built.logs; alone = built.alone; removed = built.removed }
 
     -- ---- refusals and faults before the first judgement
 
@@ -364,7 +374,7 @@ module _ (tells : Bool) (B : Behaviour) (format : LogFormat) (own : OwnFiles) (g
       built_running answer met_fault first later grows of_steps finishes whole is settled ordered passes ended removed =
           built_by tells B format own (asked_of graph folder limits targets) entry now answer
           (running answer met_fault first later grows of_steps finishes whole is settled ordered passes ended)
-          (run_of tells B format own (asked_of graph folder limits targets) store entry steps met now cut (inl once)) removed
+          (run_of tells B format own (asked_of graph folder limits targets) store entry steps met now cut (inl once)) cut.beside.alone removed
 
     module _ (order : List ℕ) (marks : List Mark) (listed : IsConeOf graph.edges (recorded_inputs store graph.edges) (targets_of graph targets) order marks)
         (named : answer.AllNamed (asked_of graph folder limits targets)) (acyclic : answer.HasNoCycle (asked_of graph folder limits targets) store) where

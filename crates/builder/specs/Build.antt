@@ -9,6 +9,7 @@ use Rattle.model.specs.World.{World, View, IsIdle}
 use Rattle.model.specs.Graph.{Addition}
 use Rattle.model.specs.Calls.{OnlyLooks, HasCause}
 use Rattle.model.specs.Outcome.{Behaviour}
+use Rattle.model.specs.Premises.{FilesAreKept}
 use Rattle.model.specs.Records.{LogFormat, OwnFiles, IsOwnIn}
 use Rattle.model.specs.History.{IsHeadline}
 use Rattle.model.specs.Kept.{KeepsLogs}
@@ -30,6 +31,7 @@ use Rattle.builder.specs.Asked.{AreTargets, IsFolder}
 use Rattle.paths.specs.Told.{text_at}
 use Rattle.builder.specs.Taken.{IsTaken, IsFirstNotTaken}
 use Rattle.links.specs.Targets.{IsFirstUnknown}
+use Rattle.log_theory.specs.Alone.{AreLeftAlone}
 use Rattle.runner.specs.Removing.{AreRemoved}
 use Rattle.manifest.specs.Answer.{IsGraph}
 
@@ -73,11 +75,17 @@ pub record IsNotTaken (tells : Bool) (edges : List Edge) (old new : World) (repo
   pub says : (report ≡ Refused (NotTaken path)) ⊎ (report ≡ Fault Memory)
   pub looks : OnlyLooks tells old new
 
--- a build that no fault has cut off leaves no response file of a command that ended well, where files are kept
-abbrev pub LeavesNoResponses : {tells : Bool} → {B : Behaviour} → {format : LogFormat} → {own : OwnFiles} → {asked : Asked} → {old new : World} → {said : Answer} → SingleBuild tells B format own asked old new said → Type 0
-LeavesNoResponses {tells} {B} {format} {own} {asked} {old} {new} {said} build = is_fault said ≡ false → AreRemoved tells own asked.graph.edges build.steps None old new
+-- A build that no fault has cut off has removed the response files of commands that ended well, and of their depfiles just those
+-- that are not to stay, where files are kept.
+abbrev pub RemovesFiles : {tells : Bool} → {B : Behaviour} → {format : LogFormat} → {own : OwnFiles} → {asked : Asked} → {old new : World} → {said : Answer} → SingleBuild tells B format own asked old new said → Type 0
+RemovesFiles {tells} {B} {format} {own} {asked} {old} {new} {said} build = is_fault said ≡ false → AreRemoved tells own asked.graph.edges build.steps None old new
 
--- The graph was built, and the report says how; the build is as the headline says, keeps its logs, and leaves no response files.
+-- a build leaves the depfile and the response file of each command alone while it runs, where files are kept
+abbrev pub LeavesAlone : Bool → OwnFiles → Asked → World → World → Type 0
+LeavesAlone tells own asked old new = IsTrue tells → FilesAreKept own asked.graph.edges old.history new.history → AreLeftAlone asked.graph.edges old.history new.history
+
+-- The graph was built, and the report says how; the build is as the headline says, keeps its logs, leaves the files of running
+-- commands alone, and removes those of commands that ended well.
 pub record Builds (tells : Bool) (B : Behaviour) (format : LogFormat) (own : OwnFiles) (graph : BuildGraph) (folder : List ℕ) (limits : Limits) (given targets : List (List ℕ)) (old new : World) (report : Report) : Type 0 where
   pub taken : IsTaken graph.edges ⊎ IsNotTaken tells graph.edges old new report
   pub answer : Answer
@@ -85,7 +93,8 @@ pub record Builds (tells : Bool) (B : Behaviour) (format : LogFormat) (own : Own
   pub build : SingleBuild tells B format own (asked_of graph folder limits targets) old new answer
   pub headline : IsHeadline tells B format own (asked_of graph folder limits targets) old new answer build
   pub logs : KeepsLogs tells B format own (asked_of graph folder limits targets) old new answer build
-  pub responses : LeavesNoResponses build
+  pub alone : LeavesAlone tells own (asked_of graph folder limits targets) old new
+  pub removed : RemovesFiles build
 
 -- what was asked for was built from an entry on, since which there was only looked: for any own files of the program that lie in
 -- this folder, and for each format and each reading of depfiles by which logs and depfiles are read as they are defined

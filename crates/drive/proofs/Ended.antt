@@ -102,7 +102,7 @@ module _ (tells : Bool) (B : Behaviour) (format : LogFormat) (name : List ℕ) (
     }
 
     pub was_driven : WasDriven tells B format name limits moves reports first now
-    was_driven = record { answers = answers_in gone.visits; driven = driven_so; reported = gone.reported }
+    was_driven = record { answers = answers_in gone.visits; driven = driven_so; reported = gone.reported; files = gone.files }
 
     module _ (rest : List Move) (mid new : World) (ended : asked ≡ false → HaveEnded now) (starts : StartsAgain tells asked now mid) (cut : IsCutNext tells rest mid new) (unrefused : IsUnrefused mid new) where
       idle : HaveEnded mid
@@ -130,6 +130,7 @@ module _ (tells : Bool) (B : Behaviour) (format : LogFormat) (name : List ℕ) (
           driven = driven_so;
           next = inr (mid, subst (λ (b : Bool). StartsAgain tells b now mid) (sym gone.asks) starts, cut);
         };
+        files = gone.files;
         again = mid;
         starts = subst (λ (b : Bool). StartsAgain tells b now mid) (sym gone.asks) starts;
         cut = cut;

@@ -24,7 +24,7 @@ use Rattle.depfile.specs.Depfile.{IsReading, HasReading}
 use Rattle.manifest.specs.Answer.{site_part}
 use Rattle.manifest.specs.declared.fault.ReadError.{ReadError}
 use Rattle.manifest.specs.declared.fault.ReadError.TheVariants as read
-use Rattle.builder.specs.Build.{Says, Builds, IsUnread, IsBuilt, IsBuild, asked_of, unread}
+use Rattle.builder.specs.Build.{Says, Builds, IsUnread, IsBuilt, IsBuild, RemovesFiles, LeavesAlone, asked_of, unread}
 use Rattle.builder.specs.declared.asked.Limits.{Limits}
 use Rattle.builder.specs.declared.report.Report.{Report}
 use Rattle.drive.specs.Driven.{unread_answer, behaving}
@@ -41,7 +41,7 @@ pub write_done : (tells : Bool) (outcome : Act → View → Outcome) (name : Lis
 write_done tells outcome name limits path content again old new idle edited = record {
   counted = refl;
   ended = λ is. idle_over old new edited.edit.events idle;
-  visited = λ format depfile dyndep depfiles reads. record { visit = Edited path (Some content) old new edited.edit; entry = refl; exit = refl; does = (refl, refl); headline = tt; logs = tt; asks = edited.stopped; reported = tt };
+  visited = λ format depfile dyndep depfiles reads. record { visit = Edited path (Some content) old new edited.edit; entry = refl; exit = refl; does = (refl, refl); headline = tt; logs = tt; files = tt; asks = edited.stopped; reported = tt };
 }
 
 pub delete_done : (tells : Bool) (outcome : Act → View → Outcome) (name : List ℕ) (limits : Limits) (path : List ℕ) (again : Bool) (old new : World) → IsIdle old.events
@@ -49,7 +49,7 @@ pub delete_done : (tells : Bool) (outcome : Act → View → Outcome) (name : Li
 delete_done tells outcome name limits path again old new idle edited = record {
   counted = refl;
   ended = λ is. idle_over old new edited.edit.events idle;
-  visited = λ format depfile dyndep depfiles reads. record { visit = Edited path None old new edited.edit; entry = refl; exit = refl; does = (refl, refl); headline = tt; logs = tt; asks = edited.stopped; reported = tt };
+  visited = λ format depfile dyndep depfiles reads. record { visit = Edited path None old new edited.edit; entry = refl; exit = refl; does = (refl, refl); headline = tt; logs = tt; files = tt; asks = edited.stopped; reported = tt };
 }
 
 -- ---- a build that read nothing
@@ -108,6 +108,7 @@ unread_done tells outcome name limits words old new report idle un = record {
     does = (report, (un, refl));
     headline = tt;
     logs = tt;
+    files = tt;
     asks = fault_of_unread un.error ∙ ap reports_fault (sym un.is);
     reported = ((un, refl), tt);
   };
@@ -122,11 +123,13 @@ some_own folder = record { build_log = file_in folder build_log_name; deps_log =
 some_in : (folder : List ℕ) → IsOwnIn (some_own folder) folder
 some_in folder = record { build_log = refl; deps_log = refl; is_log = refl; is_deps = refl; tick = refl; new_log = refl; new_deps = refl; outputs = λ digits are. refl }
 
--- a build with this answer, as the headline says and with its logs kept
+-- a build with this answer, as the headline says, with its logs kept, and its files left alone and removed as they should
 record IsSound (tells : Bool) (B : Behaviour) (format : LogFormat) (own : OwnFiles) (asked : Asked) (old new : World) (said : Answer) : Type 0 where
   build : SingleBuild tells B format own asked old new said
   headline : IsHeadline tells B format own asked old new said build
   logs : KeepsLogs tells B format own asked old new said build
+  alone : LeavesAlone tells own asked old new
+  removed : RemovesFiles build
 
 module _ (tells : Bool) (B : Behaviour) (format : LogFormat) (graph : BuildGraph) (folder : List ℕ) (limits : Limits) (given targets : List (List ℕ)) (old new : World) (report : Report) where
   -- FOR ALL OWN FILES ONE ANSWER: that of some own files
@@ -134,7 +137,7 @@ module _ (tells : Bool) (B : Behaviour) (format : LogFormat) (graph : BuildGraph
       → ((a : Answer) → Says graph.edges given targets report a → a ≡ said) → IsSound tells B format own (asked_of graph folder limits targets) old new said
   sound_by own said builds once =
       subst (λ (a : Answer). IsSound tells B format own (asked_of graph folder limits targets) old new a) (once builds.answer builds.said)
-      (record { build = builds.build; headline = builds.headline; logs = builds.logs })
+      (record { build = builds.build; headline = builds.headline; logs = builds.logs; alone = builds.alone; removed = builds.removed })
 
 module _ (tells : Bool) (outcome : Act → View → Outcome) (name : List ℕ) (limits : Limits) (words : List (List ℕ)) (old new : World) (report : Report) (built : IsBuilt tells outcome name limits words old new report) where
   module _ (format : LogFormat) (depfile : List ℕ → Option (List (List ℕ))) (dyndep : List ℕ → Option (List Addition)) (depfiles : IsReading depfile) (reads : ReadsLogs format) where
@@ -163,6 +166,7 @@ module _ (tells : Bool) (outcome : Act → View → Outcome) (name : List ℕ) (
       does = record { graph = built.graph; formed = built.formed; file = built.file; targets = built.targets; canonical = built.canonical; folder = built.folder; in_folder = built.in_folder; is = refl };
       headline = λ own fits. (sound own fits).headline;
       logs = λ own fits. (sound own fits).logs;
+      files = λ own fits. let one = sound own fits in (one.alone, one.removed);
       asks = fault_same built.graph.edges words built.targets report first.answer first.said;
       reported = ((first.said, first.taken), tt);
     }

@@ -13,7 +13,7 @@ use Rattle.model.specs.Graph.{Addition}
 use Rattle.model.specs.History.{Visit, Edited, Built, Unread, Restarted, LeavesOutputs, Keeps, last_edges}
 use Rattle.model.specs.Outcome.{Behaviour}
 use Rattle.model.specs.Premises.{StampsGrow, KeepToOutputs, NothingIsEdited}
-use Rattle.model.specs.Records.{LogFormat, OwnFiles}
+use Rattle.model.specs.Records.{LogFormat, OwnFiles, IsOwnIn}
 use Rattle.model.specs.SingleBuild as answer
 use Rattle.model.specs.SingleBuild.{Asked, Answer}
 use Rattle.model.specs.World.{World, View}
@@ -23,7 +23,7 @@ use Rattle.manifest.specs.Answer.{IsGraph, ReadsFile}
 use Rattle.manifest.specs.declared.fault.ReadError.{ReadError}
 use Rattle.manifest.specs.declared.fault.ReadError.TheVariants as read
 use Rattle.builder.specs.Asked.{AreTargets, IsFolder}
-use Rattle.builder.specs.Build.{Says, IsNotTaken, IsUnread, asked_of}
+use Rattle.builder.specs.Build.{Says, IsNotTaken, IsUnread, RemovesFiles, LeavesAlone, asked_of}
 use Rattle.builder.specs.Taken.{IsTaken}
 use Rattle.builder.specs.declared.asked.Limits.{Limits}
 use Rattle.builder.specs.declared.report.Report.{Report}
@@ -93,17 +93,28 @@ ReportEach name (words ∷ others) [] reports = ⊥
 ReportEach name (words ∷ others) (v ∷ visits) [] = ⊥
 ReportEach name (words ∷ others) (v ∷ visits) (report ∷ reports) = Reports name words v report × ReportEach name others visits reports
 
+-- ---- files of commands
+
+-- a build among the visits leaves the files of running commands alone, and removes those of commands that ended well, as `build`
+-- promises it
+abbrev pub HasFiles : {tells : Bool} {B : Behaviour} {format : LogFormat} → Visit tells B format → Type 0
+HasFiles (Edited path content old new edit) = Unit {0}
+HasFiles {tells} {B} {format} (Built asked old new said build) = (own : OwnFiles) (fits : IsOwnIn own asked.folder) → LeavesAlone tells own asked old new × RemovesFiles (build own fits)
+HasFiles (Unread old new said cause) = Unit {0}
+HasFiles (Restarted edges old new restart) = Unit {0}
+
 -- ---- a list of moves
 
 abbrev pub behaving : (Act → View → Outcome) → (List ℕ → Option (List (List ℕ))) → (List ℕ → Option (List Addition)) → Behaviour
 behaving outcome depfile dyndep = record { outcome = outcome; depfile = depfile; dyndep = dyndep }
 
 -- The moves were carried out: by visits under the headline, with a restart just where one was asked for, and these are the reports
--- of the builds among them.
+-- of the builds among them, which leave and remove the files of commands as they should.
 pub record WasDriven (tells : Bool) (B : Behaviour) (format : LogFormat) (name : List ℕ) (limits : Limits) (moves : List Move) (reports : List Report) (first last : World) : Type 0 where
   pub answers : List Answer
   pub driven : IsDriven tells B format (words_in tells name limits) moves answers first last
   pub reported : ReportEach name (words_of moves) (builds_in driven.visits) reports
+  pub files : AllByRecursion HasFiles driven.visits
 
 -- so it is for each format and each reading of depfiles by which logs and depfiles are read as they are defined, and whatever dyndep
 -- files say
@@ -129,6 +140,7 @@ IsUnrefused old new = (new.failures ≡ old.failures) × (new.stopped ≡ false)
 -- left by half. A faithful store stays faithful over that too, where all of it keeps the premises.
 pub record IsCutInEdit (tells : Bool) (B : Behaviour) (format : LogFormat) (R : Reader) (moves : List Move) (first last : World) : Type 0 where
   pub short : IsCutShort tells B format R moves first last
+  pub files : AllByRecursion HasFiles short.driven.visits
   pub again : World
   pub starts : StartsAgain tells (asks_at_end false short.driven.visits) short.before again
   pub cut : IsCutNext tells short.rest again last

@@ -21,7 +21,7 @@ use Rattle.builder.specs.Build.{IsBuild}
 use Rattle.builder.specs.declared.asked.Limits.{Limits}
 use Rattle.builder.specs.declared.report.Report.{Report}
 use Rattle.builder.specs.declared.report.Report.TheVariants.{Success, Failed, Refused, Fault}
-use Rattle.drive.specs.Driven.{words_in, words_of, builds_in, ReportEach, behaving}
+use Rattle.drive.specs.Driven.{words_in, words_of, builds_in, ReportEach, HasFiles, behaving}
 
 -- the report is a fault
 abbrev pub reports_fault : Report → Bool
@@ -70,6 +70,7 @@ pub record IsVisited (tells : Bool) (B : Behaviour) (format : LogFormat) (name :
   pub does : Does (words_in tells name limits) move visit
   pub headline : HasHeadline visit
   pub logs : HasLogs visit
+  pub files : HasFiles visit
   pub asks : asks_restart visit ≡ again
   pub reported : ReportEach name (words_of (move ∷ [])) (builds_in (visit ∷ [])) told
 
@@ -94,6 +95,7 @@ pub record IsGone (tells : Bool) (B : Behaviour) (format : LogFormat) (name : Li
   pub history : IsHistory visits first now
   pub headlines : AllByRecursion HasHeadline visits
   pub logs : AllByRecursion HasLogs visits
+  pub files : AllByRecursion HasFiles visits
   pub carries : CarriesOut (words_in tells name limits) moves visits
   pub restarts : RestartsFrom false visits
   pub asks : asks_at_end false visits ≡ again

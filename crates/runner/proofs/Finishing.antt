@@ -9,7 +9,7 @@ use Rattle.model.specs.declared.event.Moment.{Moment}
 use Rattle.model.specs.declared.event.Moment.TheVariants.{Happened}
 use Rattle.model.specs.declared.graph.BuildGraph.{BuildGraph}
 use Rattle.model.specs.declared.graph.Edge.{Edge}
-use Rattle.model.specs.World.{World, file_at, stamp_of, IsRunning}
+use Rattle.model.specs.World.{World, file_at, stamp_of, view_of, IsRunning}
 use Rattle.model.specs.Calls.{IsByOthers, AllByOthers, OnlyLooks, Finishes}
 use Rattle.model.specs.Judgement.{is_same_number}
 use Rattle.model.specs.OutOfDate.{is_made_anew, input_facts}
@@ -27,7 +27,7 @@ use Rattle.build_theory.proofs.Runs.{run_looks, run_takes_in}
 use Rattle.build_theory.proofs.Starting.{OthersRun}
 use Rattle.log_theory.specs.Ledger.{IsCutOff}
 use Rattle.log_theory.proofs.Ledger.{SaysAtEnd, command_of, running_of, carried_well, carried_failed, cut_in_reading, cut_off, cut_looks, cut_finishes}
-use Rattle.log_theory.proofs.TakenIn.{ended_here}
+use Rattle.log_theory.proofs.TakenIn.{ended_here, depfile_since}
 use Rattle.lowest.specs.Flags as flags
 use Rattle.paths.specs.Told.{text_at}
 use Rattle.links.specs.declared.graph.Graph.{Graph}
@@ -50,7 +50,7 @@ use Rattle.runner.specs.declared.reported.Told.{Told}
 use Rattle.runner.specs.declared.state.State.{State}
 use Rattle.runner.specs.Course.{Course, Suits, edges_of, is_quiet, IsSeenStill, AreAnew, AreSeenBefore, AreTold, HasRoom, IsOn}
 use Rattle.runner.specs.Going.{IsCut, IsInHand, HasEnded, failed_after}
-use Rattle.runner.specs.Removing.{AreRemoved}
+use Rattle.runner.specs.Removing.{DepfilesStay, AreRemoved}
 use Rattle.runner.specs.Restat.{is_same_look, IsFlagged}
 use Rattle.runner.specs.Starting.{in_hand_after, IsTakenIn}
 use Rattle.runner.specs.Telling.{WasRead, IsEnding, ended_well}
@@ -58,7 +58,7 @@ use Rattle.runner.proofs.Depfiles.{OneAnswer, went_well, said_by, unnamed_end, h
 use Rattle.runner.proofs.Quiet.{RunBy, quiet_parts, quiet_from, quiet_adds, quiet_looks}
 use Rattle.runner.proofs.Anew.{as_new, file_still, made_quiet}
 use Rattle.runner.proofs.Noticed.{differs_as}
-use Rattle.runner.proofs.Removing.{WellRest, removed_looks, removed_adds}
+use Rattle.runner.proofs.Removed.{WellRest, StaysSinceEnd, stay_adds, removed_adds}
 use Rattle.runner.proofs.Keeping.{Carried, Logging, Quietly, run_by, grown, well_rest, looks_leave, logging_with, told_over, seen_over, started_more, well_ended as well_before, cut_free, cut_met}
 use Rattle.runner.proofs.Running.{IsRunningEdge, running_edge}
 
@@ -276,18 +276,47 @@ module _ (tells : Bool) (course : Course) (tick : List ℕ) (graph : Graph) (sui
     pub end_cut : (plan : Plan) → TakesStep graph state.plan plan (Ended (suc e) well) → IsCut tells course graph plan new
     end_cut plan takes = cut_hand tells course graph plan new more (suc e) well (in_hand well) (end_planned well plan takes) end_carried
 
-    -- its response file is removed when that is recorded
+    -- its files are removed when that is recorded
     end_removed : AreRemoved tells course.own (edges_of course) more (in_hand_after (suc e) well) course.entry new
-    end_removed = removed_looks tells course.own (edges_of course) more course.entry mid new (λ tell. let told = cut_mid.run.history tell in (told.more, told.grows)) rest_mid (in_hand_after (suc e) well)
-        (removed_adds tells course.own (edges_of course) on.steps course.entry now mid (grown tells course graph on.steps None now on.carried) (well_rest tells course graph on.steps None now on.carried)
-        None on.removed more (in_hand_after (suc e) well) rest_mid (λ i is free. (ended_before on.steps (suc e) i well is free, nothing i)) (Finish (suc e) ok) finish.history) looks
+    end_removed = removed_adds tells course.own (edges_of course) on.steps course.entry now new (grown tells course graph on.steps None now on.carried) (well_rest tells course graph on.steps None now on.carried)
+        None on.removed more (in_hand_after (suc e) well) rest_new (Finish (suc e) ok) ends.history (λ i is free. (ended_before on.steps (suc e) i well is free, nothing i)) end_stay
       where
         nothing : (i : ℕ) → None ≡ Some i → ⊥
         nothing i is = cc
 
-        rest_mid : WellRest (edges_of course) more mid
-        rest_mid = subst (λ (events : List Event). (i : ℕ) → has_number (well_in more) i ≡ true → IsCommand (edges_of course) i × OthersRun (edges_of course) i (IsRunning events)) looks.events
-            (well_rest tells course graph more (in_hand_after (suc e) well) new end_carried)
+        ends : Finishes tells (suc e) ok now new
+        ends = finishes_looks tells (suc e) ok now mid new finish looks
+
+        rest_new : WellRest (edges_of course) more new
+        rest_new = well_rest tells course graph more (in_hand_after (suc e) well) new end_carried
+
+        -- its depfile is as it was when its command ended
+        own_stay : has_number (well_in more) (suc e) ≡ true → (edge_at (edges_of course) (suc e)).act.depfile ≢ [] → StaysSinceEnd tells course.own (edges_of course) course.entry (suc e) new
+        own_stay is named at ended tell files =
+            let seen = looks.history tell in
+            ap (λ (h : List Moment). view_of h (edge_at (edges_of course) (suc e)).act.depfile) seen.grows
+            ∙ depfile_since tells course.behaviour course.format course.own course.asked course.store course.entry on.steps now mid new (suc e) ok finish looks on.carried
+            (went_well ok told (well_by_end on.steps (suc e) well is not_before)) named tell files seen.more [] at (seen.grows ∙ ap (λ (l : List Moment). mid.history ++ l) (sym (append-nil seen.more))) ended
+          where
+            not_before : has_number (well_in on.steps) (suc e) ≡ true → ⊥
+            not_before came = false≢true (sym (running_parts on.steps (suc e) edge.running).1 ∙ well_before tells course graph on.steps None now on.carried (suc e) came)
+
+        end_stay : DepfilesStay tells course.own (edges_of course) more course.entry new
+        end_stay i is unset named = elim (cases_Bool (suc e == i)) [
+          | inl here ↦
+              let one : suc e ≡ i = eqb-true (suc e) i here in
+              subst (λ (n : ℕ). StaysSinceEnd tells course.own (edges_of course) course.entry n new) one
+              (own_stay (subst (λ (n : ℕ). has_number (well_in more) n ≡ true) (sym one) is) (subst (λ (n : ℕ). (edge_at (edges_of course) n).act.depfile ≢ []) (sym one) named))
+          | inr apart ↦ stay_adds tells course.own (edges_of course) on.steps course.entry now new (grown tells course graph on.steps None now on.carried) (well_rest tells course graph on.steps None now on.carried)
+              None on.removed more (in_hand_after (suc e) well) rest_new (Finish (suc e) ok) ends.history i
+              (sym (well_others on.steps (suc e) i well (other i apart)) ∙ is) is (λ same. other i apart (same_job i same)) unset named
+        ]
+          where
+            other : (i : ℕ) → (suc e == i) ≡ false → suc e ≡ i → ⊥
+            other i apart one = false≢true (sym apart ∙ eq-eqb (suc e) i one)
+
+            same_job : (i : ℕ) → Finish (suc e) ok ≡ Finish i true → suc e ≡ i
+            same_job i same = cc
 
 -- ---- its end is noted
 

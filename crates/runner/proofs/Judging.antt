@@ -45,7 +45,7 @@ use Rattle.runner.specs.declared.state.State.{State}
 use Rattle.runner.specs.Course.{Course, Suits, edges_of, is_quiet, AreAnew, AreSeenBefore, AreStarted, IsOn}
 use Rattle.runner.proofs.Places.{phony_is}
 use Rattle.runner.proofs.Quiet.{all_kept, quiet_less}
-use Rattle.runner.proofs.Removing.{removed_steps}
+use Rattle.runner.proofs.Removed.{removed_steps}
 use Rattle.runner.proofs.Keeping.{Carried, grown, looks_carried, looks_leave, looks_quiet, looks_removed, logging_over, told_over, started_more, well_ended, still_anew, still_before}
 use Rattle.runner.proofs.Anew.{anew_over}
 use Rattle.runner.proofs.Finishing.{makes_it}

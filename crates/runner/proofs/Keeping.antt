@@ -1,17 +1,18 @@
 -- What a run keeps goes on over the calls of its site: one lemma for each part, and one for each kind of call.
-use Rattle.std.proofs.Common.{◌≡◌, ◌≢◌, inl, ℕ, suc, ◌≤◌, ◌<◌, Bool, true, IsTrue, List, [], ◌∷◌, ◌++◌, length, Option, Some, None, refl, sym, ◌∙◌, ap, subst, append_assoc, arith}
+use Rattle.std.proofs.Common.{◌≡◌, ◌≢◌, inl, ℕ, suc, ◌≤◌, ◌<◌, Bool, true, false, IsTrue, List, [], ◌∷◌, ◌++◌, length, Option, Some, None, refl, sym, ◌∙◌, ap, subst, append_assoc, arith}
 use Rattle.std.proofs.lemmas.List.{append-nil, length-append}
 use Rattle.std.proofs.lemmas.Bool.{false≢true}
 use Rattle.model.specs.declared.event.Event.{Event}
 use Rattle.model.specs.declared.event.Event.TheVariants.{Start}
 use Rattle.model.specs.declared.event.Moment.{Moment}
+use Rattle.model.specs.declared.graph.Deps.TheVariants.{Unset}
 use Rattle.model.specs.declared.record.Record.{Record}
 use Rattle.model.specs.declared.record.DepsRecord.{DepsRecord}
 use Rattle.model.specs.World.{World, File, file_at, stamp_of, runs}
 use Rattle.model.specs.Calls.{OnlyLooks, Ticks, WritesOrNot}
 use Rattle.model.specs.Graph.{has_number, edge_at, IsCommand, IsMadeOnce}
 use Rattle.model.specs.Records.{OwnFiles, in_force, deps_in_force}
-use Rattle.model.specs.Schedule.{Step as Done, ended_in, out_of_date_in, well_in}
+use Rattle.model.specs.Schedule.{Step as Done, started_in, ended_in, out_of_date_in, running_in, well_in}
 use Rattle.model.specs.SingleBuild.{task_of}
 use Rattle.model.specs.Kept.{StartedUnder}
 use Rattle.build_theory.specs.Run.{IsRunOrRest}
@@ -45,7 +46,7 @@ use Rattle.runner.specs.Removing.{AreRemoved}
 use Rattle.runner.specs.Going.{IsInHand, IsCut}
 use Rattle.runner.proofs.Quiet.{KeepsQuiet, RunBy, quiet_own, quiet_response, quiet_depfile, quiet_looks}
 use Rattle.runner.proofs.Anew.{anew_over, before_over}
-use Rattle.runner.proofs.Removing.{WellRest, removed_looks, removed_own, removed_depfile, removed_response, removed_hand}
+use Rattle.runner.proofs.Removed.{WellRest, removed_looks, removed_own, removed_depfile, removed_response, removed_hand}
 
 -- ---- the parts
 
@@ -118,6 +119,10 @@ module _ (tells : Bool) (course : Course) (graph : Graph) where
 
     pub well_ended : (i : ℕ) → has_number (well_in steps) i ≡ true → has_number (ended_in steps) i ≡ true
     well_ended i well = (kept_lawful (task_of course.asked course.store) steps carried.run.lawful).well i well
+
+    -- one that was not started did not end well
+    pub not_well_yet : (i : ℕ) → has_number (started_in steps) i ≡ false → has_number (well_in steps) i ≡ true → ⊥
+    not_well_yet i unstarted well = false≢true (sym unstarted ∙ (kept_lawful (task_of course.asked course.store) steps carried.run.lawful).ended i (well_ended i well))
 
     -- an edge that ended well is that of a command, which does not run
     pub well_rest : WellRest (edges_of course) steps now
@@ -228,13 +233,13 @@ module _ (tells : Bool) (course : Course) (graph : Graph) where
       abbrev pub on_ticks : (stamp : ℕ) → Ticks tells tick stamp now new → IsOn tells course graph hand state new
       on_ticks stamp ticks = on_over suits.once (ticks_carried stamp ticks) (ticks_leave stamp ticks) (ticks_quiet stamp ticks) ticks.events (ticks_removed stamp ticks)
 
-    -- the response file of the edge in hand, which was judged out of date, is written, or removed
-    module _ (i : ℕ) (stale : has_number (out_of_date_in on.steps) i ≡ true) (writes : WritesAt tells (edge_at (edges_of course) i).act.response_path now new) where
+    -- the response file of the edge in hand, which was judged out of date and whose command does not run, is written, or removed
+    module _ (i : ℕ) (stale : has_number (out_of_date_in on.steps) i ≡ true) (rests : has_number (running_in on.steps) i ≡ false) (writes : WritesAt tells (edge_at (edges_of course) i).act.response_path now new) where
       command : IsCommand (edges_of course) i
       command = stale_is_command on.steps hand now on.carried i stale
 
       pub response_carried : Carried on.steps hand new
-      response_carried = carried_response tells course.behaviour course.format course.own course.asked course.store course.entry on.steps hand now new i stale writes on.carried
+      response_carried = carried_response tells course.behaviour course.format course.own course.asked course.store course.entry on.steps hand now new i stale rests writes on.carried
 
       pub response_quiet : Quietly on.steps now new
       response_quiet = quiet_response tells course.own (edges_of course) on.steps course.entry now new (grown on.steps hand now on.carried) (run_by on.steps hand now on.carried) i command writes.history
@@ -256,8 +261,8 @@ module _ (tells : Bool) (course : Course) (graph : Graph) where
       abbrev pub on_response : IsMadeOnce (edges_of course) → hand ≡ Some i → IsOn tells course graph hand state new
       on_response once held = on_over once response_carried response_leaves response_quiet writes.events (response_removed held)
 
-    -- the depfile of an edge that was judged out of date is removed, or not
-    module _ (i : ℕ) (stale : has_number (out_of_date_in on.steps) i ≡ true) (removes : WritesOrNot tells (edge_at (edges_of course) i).act.depfile None now new) where
+    -- the depfile of such an edge is removed, or not
+    module _ (i : ℕ) (stale : has_number (out_of_date_in on.steps) i ≡ true) (rests : has_number (running_in on.steps) i ≡ false) (removes : WritesOrNot tells (edge_at (edges_of course) i).act.depfile None now new) where
       reads : IsCommand (edges_of course) i
       reads = stale_is_command on.steps hand now on.carried i stale
 
@@ -265,7 +270,7 @@ module _ (tells : Bool) (course : Course) (graph : Graph) where
       depfile_at = writes_or_not_at tells (edge_at (edges_of course) i).act.depfile None now new removes
 
       pub depfile_carried : Carried on.steps hand new
-      depfile_carried = carried_depfile tells course.behaviour course.format course.own course.asked course.store course.entry on.steps hand now new i stale removes on.carried
+      depfile_carried = carried_depfile tells course.behaviour course.format course.own course.asked course.store course.entry on.steps hand now new i stale rests removes on.carried
 
       pub depfile_quiet : Quietly on.steps now new
       depfile_quiet = quiet_depfile tells course.own (edges_of course) on.steps course.entry now new (grown on.steps hand now on.carried) (run_by on.steps hand now on.carried) i reads depfile_at.history
@@ -281,11 +286,15 @@ module _ (tells : Bool) (course : Course) (graph : Graph) where
         history = depfile_at.history;
       })
 
-      pub depfile_removed : Removed
-      depfile_removed = removed_depfile tells course.own (edges_of course) on.steps course.entry now new (grown on.steps hand now on.carried) rest hand on.removed i reads depfile_at.history
+      -- one that is to stay is left alone behind a good end
+      abbrev pub Spares : Type 0
+      Spares = has_number (well_in on.steps) i ≡ true → (edge_at (edges_of course) i).deps ≡ Unset → new ≡ now
 
-      abbrev pub on_depfile : IsMadeOnce (edges_of course) → IsOn tells course graph hand state new
-      on_depfile once = on_over once depfile_carried depfile_leaves depfile_quiet depfile_at.events depfile_removed
+      pub depfile_removed : hand ≡ Some i → Spares → Removed
+      depfile_removed held spares = removed_depfile tells course.own (edges_of course) on.steps course.entry now new (grown on.steps hand now on.carried) rest hand on.removed i held reads spares depfile_at.history
+
+      abbrev pub on_depfile : IsMadeOnce (edges_of course) → hand ≡ Some i → Spares → IsOn tells course graph hand state new
+      on_depfile once held spares = on_over once depfile_carried depfile_leaves depfile_quiet depfile_at.events (depfile_removed held spares)
 
   -- ---- an edge is taken in hand
 

@@ -9,12 +9,13 @@ use Rattle.model.specs.declared.event.Event.TheVariants.{Start}
 use Rattle.model.specs.declared.graph.BuildGraph.{BuildGraph}
 use Rattle.model.specs.World.{World, runs}
 use Rattle.model.specs.Calls.{OnlyLooks, Ticks, TicksOrNot, Starts, StartsOrNot, Writes, WritesOrNot}
-use Rattle.model.specs.Graph.{edge_at, IsCommand}
-use Rattle.model.specs.Schedule.{Step as Done, Started}
+use Rattle.model.specs.Graph.{has_number, edge_at, IsCommand}
+use Rattle.model.specs.Schedule.{Step as Done, Started, running_in}
 use Rattle.model.specs.SingleBuild.{task_of}
 use Rattle.build_theory.proofs.Runs.{not_running}
 use Rattle.log_theory.specs.Writes.{WritesAt}
 use Rattle.log_theory.specs.Ledger.{IsReadyToStart}
+use Rattle.log_theory.proofs.Alone.{rests_unstarted}
 use Rattle.log_theory.proofs.Ledger.{carried_ticks_or_not}
 use Rattle.links.specs.declared.graph.Graph.{Graph}
 use Rattle.links.specs.Told.{declared_by}
@@ -26,7 +27,7 @@ use Rattle.runner.specs.Course.{Course, Suits, edges_of, IsOn}
 use Rattle.runner.specs.Going.{IsInHand, IsCut}
 use Rattle.runner.specs.Starting.{IsBegun}
 use Rattle.runner.proofs.Places.{within}
-use Rattle.runner.proofs.Keeping.{stale_is_command, looks_carried, on_depfile, on_response, on_ticks, cut_free, cut_met}
+use Rattle.runner.proofs.Keeping.{not_well_yet, stale_is_command, looks_carried, on_depfile, on_response, on_ticks, cut_free, cut_met}
 use Rattle.runner.proofs.Launching.{with_starts, with_plan, on_stamped, on_starts, start_carried, start_planned, ready_to_start}
 
 pub err_then : {T E : Type 0} {P Q : Type 0} (r : Result T E) → OnErr r P → (P → Q) → OnErr r Q
@@ -87,8 +88,13 @@ module _ (tells : Bool) (course : Course) (graph : Graph) (stays : LogStays) (ti
   depfile_removes : WritesOrNot tells (edge_at (edges_of course) (suc e)).act.depfile None now gone
   depfile_removes = subst (λ (a : Act). WritesOrNot tells a.depfile None now gone) is removes
 
+  -- its command does not run yet
+  rests : has_number (running_in steps) (suc e) ≡ false
+  rests = rests_unstarted steps (suc e) begun.next.1.once
+
   abbrev on_gone : On gone
-  on_gone = on_depfile tells course graph stays (Some (suc e)) state now gone begun.on (suc e) begun.next.1.stale depfile_removes suits.once
+  on_gone = on_depfile tells course graph stays (Some (suc e)) state now gone begun.on (suc e) begun.next.1.stale rests depfile_removes suits.once refl
+      (λ well. absurd (not_well_yet tells course graph steps (Some (suc e)) now begun.on.carried (suc e) begun.next.1.once well))
 
   -- its old depfile could not be removed
   pub cut_clearing : IsCut tells course graph state.plan gone
@@ -99,7 +105,7 @@ module _ (tells : Bool) (course : Course) (graph : Graph) (stays : LogStays) (ti
     response_at = subst (λ (a : Act). WritesAt tells a.response_path gone mid) is at
 
     abbrev on_mid : On mid
-    on_mid = on_response tells course graph stays (Some (suc e)) state gone mid on_gone (suc e) begun.next.1.stale response_at suits.once refl
+    on_mid = on_response tells course graph stays (Some (suc e)) state gone mid on_gone (suc e) begun.next.1.stale rests response_at suits.once refl
 
     -- its response file could not be written
     pub cut_writing : IsCut tells course graph state.plan mid

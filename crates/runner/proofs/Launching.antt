@@ -3,7 +3,7 @@ use Rattle.std.proofs.Common.{◌≡◌, ◌≢◌, ◌⊎◌, inl, inr, ℕ, su
 use Rattle.std.proofs.lemmas.List.{append-nil, length-set, get_or-set_other}
 use Rattle.std.proofs.lemmas.Bool.{false≢true}
 use Rattle.model.specs.declared.act.Act.{Act}
-use Rattle.model.specs.declared.event.Event.TheVariants.{Start}
+use Rattle.model.specs.declared.event.Event.TheVariants.{Start, Finish}
 use Rattle.model.specs.World.{World, IsRunning}
 use Rattle.model.specs.Calls.{Starts, Ticks, Writes, WritesOrNot}
 use Rattle.model.specs.Graph.{has_number, edge_at, IsCommand, IsMadeOnce}
@@ -16,6 +16,7 @@ use Rattle.build_theory.proofs.Lists.{has_number-is}
 use Rattle.log_theory.specs.Writes.{GrewAt, WritesAt}
 use Rattle.log_theory.specs.Ledger.{HasNoRecord, HoldsStill, IsReadyToStart}
 use Rattle.build_theory.proofs.Starting.{IsPrivate}
+use Rattle.log_theory.proofs.Alone.{rests_unstarted}
 use Rattle.log_theory.proofs.Readying.{tick_given, holds_written, holds_over_own, depfile_over_response, no_record_apart}
 use Rattle.log_theory.proofs.Writing.{ticks_grew}
 use Rattle.log_theory.proofs.Ledger.{carried_starts, started_under}
@@ -29,9 +30,9 @@ use Rattle.runner.specs.declared.state.State.{State}
 use Rattle.runner.specs.Course.{Course, Suits, edges_of, AreAnew, AreSeenBefore, AreStarted, IsSeenStill, IsOn}
 use Rattle.runner.specs.Removing.{AreRemoved}
 use Rattle.runner.proofs.Quiet.{RunBy, quiet_adds, quiet_less, running_started}
-use Rattle.runner.proofs.Keeping.{Carried, Quietly, run_by, grown, well_rest, well_ended, stale_is_command, response_carried, depfile_at, on_depfile, logging_over, told_over, seen_over, started_more}
+use Rattle.runner.proofs.Keeping.{Carried, Quietly, run_by, grown, well_rest, well_ended, not_well_yet, stale_is_command, response_carried, depfile_at, on_depfile, logging_over, told_over, seen_over, started_more}
 use Rattle.runner.proofs.Anew.{anew_over, before_over}
-use Rattle.runner.proofs.Removing.{removed_adds}
+use Rattle.runner.proofs.Removed.{stay_adds, removed_adds}
 
 -- ---- steps
 
@@ -145,21 +146,26 @@ module _ (tells : Bool) (course : Course) (graph : Graph) where
 
     pub start_removed : AreRemoved tells course.own (edges_of course) more None course.entry new
     start_removed = removed_adds tells course.own (edges_of course) on.steps course.entry now new (grown tells course graph on.steps (Some (suc e)) now on.carried) (well_rest tells course graph on.steps (Some (suc e)) now on.carried)
-        (Some (suc e)) on.removed more None (well_rest tells course graph more None new start_carried) before (Start (suc e) act now.ticked) starts.history
+        (Some (suc e)) on.removed more None (well_rest tells course graph more None new start_carried) (Start (suc e) act now.ticked) starts.history before
+        (λ i well unset named. stay_adds tells course.own (edges_of course) on.steps course.entry now new (grown tells course graph on.steps (Some (suc e)) now on.carried) (well_rest tells course graph on.steps (Some (suc e)) now on.carried)
+        (Some (suc e)) on.removed more None (well_rest tells course graph more None new start_carried) (Start (suc e) act now.ticked) starts.history i (was i well) well (no_finish i) unset named)
       where
+        was : (i : ℕ) → has_number (well_in more) i ≡ true → has_number (well_in on.steps) i ≡ true
+        was i well = ap (λ (l : List ℕ). has_number l i) (sym (well_started on.steps (suc e))) ∙ well
+
+        no_finish : (i : ℕ) → Start (suc e) act now.ticked ≡ Finish i true → ⊥
+        no_finish i is = cc
+
         kept : IsKept (task_of course.asked course.store) on.steps
         kept = kept_lawful (task_of course.asked course.store) on.steps on.carried.run.lawful
 
         before : (i : ℕ) → has_number (well_in more) i ≡ true → (None ≡ Some i → ⊥) → (has_number (well_in on.steps) i ≡ true) × (Some (suc e) ≡ Some i → ⊥)
         before i well free = (
-          was,
+          was i well,
           λ same.
               let here : suc e ≡ i = cc in
-              false≢true (sym next.1.once ∙ (ap (λ (n : ℕ). has_number (started_in on.steps) n) here ∙ kept.ended i (kept.well i was))),
+              false≢true (sym next.1.once ∙ (ap (λ (n : ℕ). has_number (started_in on.steps) n) here ∙ kept.ended i (kept.well i (was i well)))),
         )
-          where
-            was : has_number (well_in on.steps) i ≡ true
-            was = ap (λ (l : List ℕ). has_number l i) (sym (well_started on.steps (suc e))) ∙ well
 
     pub start_planned : TakesStep graph state.plan plan (Started (suc e)) → IsPlanned (task_of course.asked course.store) graph plan more
     start_planned takes = takes (task_of course.asked course.store) on.steps on.planned on.carried.run.lawful next
@@ -207,11 +213,15 @@ module _ (tells : Bool) (course : Course) (graph : Graph) where
     response_written : response ≢ [] → Writes tells response (Some (edge_at (edges_of course) i).act.response_content) gone mid
     response_written = subst (λ (a : Act). a.response_path ≢ [] → Writes tells a.response_path (Some a.response_content) gone mid) is written
 
+    -- its command does not run yet
+    rests : has_number (running_in on.steps) i ≡ false
+    rests = rests_unstarted on.steps i next.1.once
+
     abbrev on_gone : IsOn tells course graph (Some i) state gone
-    on_gone = on_depfile tells course graph stays (Some i) state now gone on i next.1.stale depfile_removes suits.once
+    on_gone = on_depfile tells course graph stays (Some i) state now gone on i next.1.stale rests depfile_removes suits.once refl (λ well. absurd (not_well_yet tells course graph on.steps (Some i) now on.carried i next.1.once well))
 
     carried_mid : Carried tells course graph on.steps (Some i) mid
-    carried_mid = response_carried tells course graph stays (Some i) state gone mid on_gone i next.1.stale response_at
+    carried_mid = response_carried tells course graph stays (Some i) state gone mid on_gone i next.1.stale rests response_at
 
     tick_grew : IsTrue tells → GrewAt tick (IsRunning mid.events) mid.history new.history
     tick_grew = ticks_grew tells tick stamp mid new ticks
@@ -236,7 +246,7 @@ module _ (tells : Bool) (course : Course) (graph : Graph) where
           (record { named = named; is = inr refl }) (Some (edge_at (edges_of course) i).act.response_content) (response_written named));
       begun = no_record_apart tells course.behaviour course.format course.own course.asked course.store course.entry on.steps (Some i) mid new carried_mid i next.1.stale next.1.once tick
           (λ files. (suits.no_build_log, suits.no_deps_log)) tick_grew (begun_over gone mid on_gone.carried response response_at (λ files. files.responses i command)
-          (begun_over now gone on.carried depfile (depfile_at tells course graph stays (Some i) state now gone on i next.1.stale depfile_removes) (λ files. files.depfiles i command) begun));
+          (begun_over now gone on.carried depfile (depfile_at tells course graph stays (Some i) state now gone on i next.1.stale rests depfile_removes) (λ files. files.depfiles i command) begun));
     }
       where
         command : IsCommand (edges_of course) i

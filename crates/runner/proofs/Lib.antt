@@ -1,5 +1,6 @@
 pub mod Quiet
 pub mod Removing
+pub mod Removed
 pub mod Anew
 pub mod Keeping
 pub mod Noticed

@@ -1,23 +1,29 @@
--- The end of a command that went well is put into the log, and its response file is removed.
+-- The end of a command that went well is put into the log; its depfile, where that is not to stay, and its response file are
+-- removed.
 use Rattle.std.proofs.lemmas.List.{append-nil}
-use Rattle.std.proofs.Common.{◌≡◌, ◌≢◌, inl, inr, ℕ, suc, ◌<◌, Bool, true, List, [], ◌∷◌, ◌++◌, length, Option, Some, None, refl, sym, ◌∙◌, ap, subst, arith}
+use Rattle.std.proofs.Common.{◌≡◌, ◌≢◌, inl, inr, ℕ, suc, ◌<◌, Bool, true, false, List, [], ◌∷◌, ◌++◌, length, Option, Some, None, refl, sym, ◌∙◌, ap, subst, arith}
 use Rattle.model.specs.declared.graph.BuildGraph.{BuildGraph}
+use Rattle.model.specs.declared.graph.Deps.{Deps}
+use Rattle.model.specs.declared.graph.Deps.TheVariants.{Unset, Gcc}
 use Rattle.model.specs.declared.act.Act.{Act}
 use Rattle.model.specs.declared.event.Event.TheVariants.{Finish}
 use Rattle.model.specs.declared.event.Moment.{Moment}
 use Rattle.model.specs.declared.event.Moment.TheVariants.{Happened}
-use Rattle.model.specs.World.{World, view_of}
+use Rattle.model.specs.World.{World, view_of, IsRunning}
 use Rattle.model.specs.Calls.{Writes, WritesOrNot}
 use Rattle.model.specs.Graph.{has_number, edge_at, outputs, IsCommand, IsMadeOnce}
 use Rattle.model.specs.Outcome.{Behaviour, depfile_in, listed}
 use Rattle.model.specs.Records.{LogFormat, OwnFiles, Store, ListsOnce}
 use Rattle.model.specs.Premises.{EndedAt}
-use Rattle.model.specs.Schedule.{Task, Step as Done, Ended, started_in, ended_in, out_of_date_in}
+use Rattle.model.specs.Schedule.{Task, Step as Done, Ended, started_in, ended_in, running_in, out_of_date_in}
 use Rattle.model.specs.SingleBuild.{task_of}
 use Rattle.build_theory.proofs.Lists.{has_number-one}
 use Rattle.build_theory.proofs.Looks.{kept_before}
 use Rattle.build_theory.proofs.Steps.{IsKept, kept_lawful, ended-append, in_right}
+use Rattle.build_theory.proofs.Starting.{OthersRun}
+use Rattle.log_theory.specs.Ledger.{HoldsStill}
 use Rattle.log_theory.specs.Writes.{WritesAt}
+use Rattle.log_theory.proofs.Alone.{rests_ended}
 use Rattle.log_theory.proofs.Growing.{longer}
 use Rattle.log_theory.proofs.Ledger.{carried_depfile, carried_response}
 use Rattle.links.specs.declared.graph.Graph.{Graph}
@@ -34,7 +40,7 @@ use Rattle.runner.specs.Going.{IsCut, IsInHand}
 use Rattle.runner.specs.Starting.{IsTakenIn, MayBeDone}
 use Rattle.runner.specs.Telling.{HasTold, WentWell}
 use Rattle.runner.proofs.Keeping.{Carried, Logging, with_records, on_log, log_carried, build_log_writes, deps_log_writes, logging_with, logging_over, hand_carried, grown, well_rest, started_more, depfile_leaves, on_depfile, response_leaves, on_response, cut_free, cut_met}
-use Rattle.runner.proofs.Removing.{removed_last}
+use Rattle.runner.proofs.Removed.{is_removed, removed_last}
 use Rattle.runner.proofs.Running.{cone_within}
 
 -- ---- the display shows something
@@ -243,7 +249,8 @@ module _ (tells : Bool) (course : Course) (tick : List ℕ) (graph : Graph) (sui
   module _ (records : Records) (same : AreSameLogs state.records.logs records.logs) (places : records.places.items ≡ state.records.places.items) (deps_places : records.deps_places.items ≡ state.records.deps_places.items)
       (all : (B : Behaviour) (format : LogFormat) (own : OwnFiles) (steps : List Done) (entry : Store) (first : World) → EndedWell tells B format own (declared_by graph).edges steps job start first now
       → IsLogging tells B format own (declared_by graph).edges steps (Some job) entry first now state.records.logs → IsLogging tells B format own (declared_by graph).edges steps None entry first mid records.logs)
-      (stays : LogStays) (act : Act) (act_is : act ≡ (edge_at (declared_by graph).edges job).act) (gone : World) (clears : WritesOrNot tells act.depfile None mid gone) where
+      (stays : LogStays) (act : Act) (act_is : act ≡ (edge_at (declared_by graph).edges job).act) (deps : Deps) (deps_is : deps ≡ (edge_at (declared_by graph).edges job).deps)
+      (gone : World) (clears : WritesOrNot tells act.depfile None mid gone) (spares : deps ≢ Gcc → gone ≡ mid) where
     abbrev After : State
     After = with_records tells course graph state records
 
@@ -257,8 +264,22 @@ module _ (tells : Bool) (course : Course) (tick : List ℕ) (graph : Graph) (sui
     pub act_here : act ≡ (edge_at (edges_of course) job).act
     act_here = act_is ∙ ap (λ (g : BuildGraph). (edge_at g.edges job).act) (sym suits.same)
 
+    pub deps_here : deps ≡ (edge_at (edges_of course) job).deps
+    deps_here = deps_is ∙ ap (λ (g : BuildGraph). (edge_at g.edges job).deps) (sym suits.same)
+
     pub clears_it : WritesOrNot tells (edge_at (edges_of course) job).act.depfile None mid gone
     clears_it = subst (λ (a : Act). WritesOrNot tells a.depfile None mid gone) act_here clears
+
+    -- without `deps` its depfile stays
+    pub spares_it : (edge_at (edges_of course) job).deps ≡ Unset → gone ≡ mid
+    spares_it unset = spares (λ gcc. unset_no_gcc (sym unset ∙ (sym deps_here ∙ gcc)))
+      where
+        unset_no_gcc : Unset ≡ Gcc → ⊥
+        unset_no_gcc is = cc
+
+    -- its command has ended
+    pub rests : has_number (running_in steps) job ≡ false
+    rests = rests_ended steps job (ended tells course tick graph suits state now e done.on done.before done.last)
 
     -- it is in hand until its response file is removed
     abbrev recorded : IsOn tells course graph (Some job) After mid
@@ -266,13 +287,13 @@ module _ (tells : Bool) (course : Course) (tick : List ℕ) (graph : Graph) (sui
         (logging_with tells course graph steps steps None (Some job) mid records.logs (hand_carried tells course graph steps mid job carried_then) logging_then) refl
 
     abbrev cleared : IsOn tells course graph (Some job) After gone
-    cleared = on_depfile tells course graph stays (Some job) After mid gone recorded job stale_here clears_it suits.once
+    cleared = on_depfile tells course graph stays (Some job) After mid gone recorded job stale_here rests clears_it suits.once refl (λ well. spares_it)
 
     pub carried_gone : Carried tells course graph steps None gone
-    carried_gone = carried_depfile tells course.behaviour course.format course.own course.asked course.store course.entry steps None mid gone job stale_here clears_it carried_then
+    carried_gone = carried_depfile tells course.behaviour course.format course.own course.asked course.store course.entry steps None mid gone job stale_here rests clears_it carried_then
 
     pub logging_gone : Logging tells course graph steps None gone records.logs
-    logging_gone = logging_over tells course graph stays steps steps None None mid gone records.logs (depfile_leaves tells course graph stays (Some job) After mid gone recorded job stale_here clears_it) carried_gone logging_then
+    logging_gone = logging_over tells course graph stays steps steps None None mid gone records.logs (depfile_leaves tells course graph stays (Some job) After mid gone recorded job stale_here rests clears_it) carried_gone logging_then
 
     -- its depfile could not be removed
     pub cut_clearing : IsCut tells course graph state.plan gone
@@ -283,24 +304,34 @@ module _ (tells : Bool) (course : Course) (tick : List ℕ) (graph : Graph) (sui
       removes_it = subst (λ (a : Act). WritesAt tells a.response_path gone new) act_here removes
 
       abbrev held : IsOn tells course graph (Some job) After new
-      held = on_response tells course graph stays (Some job) After gone new cleared job stale_here removes_it suits.once refl
+      held = on_response tells course graph stays (Some job) After gone new cleared job stale_here rests removes_it suits.once refl
 
       pub carried_new : Carried tells course graph steps None new
-      carried_new = carried_response tells course.behaviour course.format course.own course.asked course.store course.entry steps None gone new job stale_here removes_it carried_gone
+      carried_new = carried_response tells course.behaviour course.format course.own course.asked course.store course.entry steps None gone new job stale_here rests removes_it carried_gone
 
-      abbrev pub removed : (act.response_path ≢ [] → Writes tells act.response_path None gone new) → IsOn tells course graph None After new
-      removed writes_it = record {
+      -- with `deps = gcc` its depfile is gone
+      pub depfile_gone : (deps ≡ Gcc → act.depfile ≢ [] → Writes tells act.depfile None mid gone) → (edge_at (edges_of course) job).deps ≡ Gcc → (edge_at (edges_of course) job).act.depfile ≢ []
+          → HoldsStill tells course.own (edges_of course) (edge_at (edges_of course) job).act.depfile None course.entry gone
+      depfile_gone removes_depfile gcc named = is_removed tells course.own (edges_of course) course.entry mid gone (grown tells course graph steps None mid carried_then) job own_rest.0 own_rest.1
+          (edge_at (edges_of course) job).act.depfile (record { named = named; is = inl refl })
+          (subst (λ (a : Act). a.depfile ≢ [] → Writes tells a.depfile None mid gone) act_here (removes_depfile (deps_here ∙ gcc)) named)
+        where
+          own_rest : IsCommand (edges_of course) job × OthersRun (edges_of course) job (IsRunning mid.events)
+          own_rest = well_rest tells course graph steps None mid carried_then job done.well.well
+
+      abbrev pub removed : (deps ≡ Gcc → act.depfile ≢ [] → Writes tells act.depfile None mid gone) → (act.response_path ≢ [] → Writes tells act.response_path None gone new) → IsOn tells course graph None After new
+      removed removes_depfile writes_it = record {
         steps = steps;
         planned = done.on.planned;
         carried = carried_new;
-        logging = logging_over tells course graph stays steps steps None None gone new records.logs (response_leaves tells course graph stays (Some job) After gone new cleared job stale_here removes_it) carried_new logging_gone;
+        logging = logging_over tells course graph stays steps steps None None gone new records.logs (response_leaves tells course graph stays (Some job) After gone new cleared job stale_here rests removes_it) carried_new logging_gone;
         told = held.told;
         seen = held.seen;
         anew = held.anew;
         before = held.before;
         started = held.started;
         removed = removed_last tells course.own (edges_of course) steps course.entry gone new (grown tells course graph steps None gone carried_gone) (well_rest tells course graph steps None gone carried_gone)
-            (Some job) cleared.removed job refl (command_here tells course tick graph suits state now e done.on done.before done.last)
+            (Some job) cleared.removed job refl (command_here tells course tick graph suits state now e done.on done.before done.last) (depfile_gone removes_depfile)
             (subst (λ (a : Act). a.response_path ≢ [] → Writes tells a.response_path None gone new) act_here writes_it) removes_it.history;
         room = held.room;
         noted = held.noted;

@@ -40,7 +40,7 @@ pub record Course : Type 0 where
 abbrev pub edges_of : Course → List Edge
 edges_of course = course.asked.graph.edges
 
--- The graph declares what was asked, with the recorded inputs that are in use; each path is made once; a command has outputs, and
+-- The graph declares what was asked, with the recorded inputs that are in use; each path is made once; a command has outputs;
 -- depfiles are read as their grammar says; both logs are files of the program's own; ticks touch another such file, that is no log;
 -- no command ran at the entry.
 pub record Suits (course : Course) (tick : List ℕ) (graph : Graph) : Type 0 where

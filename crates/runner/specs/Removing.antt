@@ -1,15 +1,18 @@
--- The response file of a command that ended well is removed.
+-- What becomes of the files of commands that ended well: the response file is removed, and the depfile where `deps = gcc` asks for
+-- that (manual: "deps"); without `deps` it stays.
 use Rattle.std.specs.Prelude.{◌≡◌, ◌≢◌, ℕ, Bool, true, IsTrue, List, [], ◌∷◌, ◌++◌, Option, Some, None}
 use Rattle.model.specs.declared.act.Act.{Act}
 use Rattle.model.specs.declared.event.Moment.{Moment}
 use Rattle.model.specs.declared.event.Moment.TheVariants.{Wrote}
 use Rattle.model.specs.declared.event.Writer.TheVariants.{Program}
+use Rattle.model.specs.declared.graph.Deps.TheVariants.{Unset, Gcc}
 use Rattle.model.specs.declared.graph.Edge.{Edge}
-use Rattle.model.specs.World.{World, IsRunning}
+use Rattle.model.specs.World.{World, IsRunning, view_of}
 use Rattle.model.specs.Calls.{AllByOthers}
 use Rattle.model.specs.Graph.{has_number, edge_at}
 use Rattle.model.specs.Records.{OwnFiles}
 use Rattle.model.specs.Schedule.{Step as Done, well_in}
+use Rattle.model.specs.Premises.{EndedAt}
 use Rattle.log_theory.specs.Ledger.{HoldsStill}
 
 -- The program removed the file, and since then it wrote nothing, and nothing was started or ended.
@@ -24,8 +27,27 @@ pub record IsRemovedLast (path : List ℕ) (running : ℕ → Type 0) (old new :
 abbrev pub EndsByRemoving : Bool → Act → World → World → Type 0
 EndsByRemoving tells act old new = act.response_path ≢ [] → IsTrue tells → IsRemovedLast act.response_path (IsRunning new.events) old.history new.history
 
--- No command that ended well has left its response file, but for that of the edge in hand, where files are kept.
-abbrev pub AreRemoved : Bool → OwnFiles → List Edge → List Done → Option ℕ → World → World → Type 0
-AreRemoved tells own edges steps hand old now =
+-- No command that ended well has left its response file, but for that of the edge in hand.
+abbrev pub AreResponsesRemoved : Bool → OwnFiles → List Edge → List Done → Option ℕ → World → World → Type 0
+AreResponsesRemoved tells own edges steps hand old now =
     (i : ℕ) → has_number (well_in steps) i ≡ true → (hand ≡ Some i → ⊥) → (edge_at edges i).act.response_path ≢ []
     → HoldsStill tells own edges (edge_at edges i).act.response_path None old now
+
+-- With `deps = gcc` none has left its depfile, but for that of the edge in hand.
+abbrev pub AreDepfilesRemoved : Bool → OwnFiles → List Edge → List Done → Option ℕ → World → World → Type 0
+AreDepfilesRemoved tells own edges steps hand old now =
+    (i : ℕ) → has_number (well_in steps) i ≡ true → (hand ≡ Some i → ⊥) → (edge_at edges i).deps ≡ Gcc → (edge_at edges i).act.depfile ≢ []
+    → HoldsStill tells own edges (edge_at edges i).act.depfile None old now
+
+-- Without `deps` the depfile of each holds what it held when the command ended.
+abbrev pub DepfilesStay : Bool → OwnFiles → List Edge → List Done → World → World → Type 0
+DepfilesStay tells own edges steps old now =
+    (i : ℕ) → has_number (well_in steps) i ≡ true → (edge_at edges i).deps ≡ Unset → (edge_at edges i).act.depfile ≢ []
+    → (at : List Moment) → EndedAt i old.history now.history at → HoldsStill tells own edges (edge_at edges i).act.depfile (view_of at (edge_at edges i).act.depfile) old now
+
+-- The files of commands that ended well are removed where they are not to stay, but for those of the edge in hand, where files are
+-- kept.
+pub record AreRemoved (tells : Bool) (own : OwnFiles) (edges : List Edge) (steps : List Done) (hand : Option ℕ) (old now : World) : Type 0 where
+  pub responses : AreResponsesRemoved tells own edges steps hand old now
+  pub depfiles : AreDepfilesRemoved tells own edges steps hand old now
+  pub stay : DepfilesStay tells own edges steps old now

@@ -1,6 +1,7 @@
-use Rattle.std.proofs.Common.{ℕ, ◌∙◌, None, get_or, ap, refl, sym, subst, arith}
+use Rattle.std.proofs.Common.{◌≡◌, ◌≢◌, ℕ, [], ◌∙◌, None, get_or, ap, refl, sym, subst, arith}
 use Rattle.model.specs.declared.act.Act.{Act}
-use Rattle.model.specs.Calls.{WritesOrNot}
+use Rattle.model.specs.declared.graph.Deps.TheVariants.{Gcc}
+use Rattle.model.specs.Calls.{Writes, WritesOrNot}
 use Rattle.log_theory.proofs.Writing.{writes_or_not_at}
 use Rattle.runner.proofs.Places.{read_item}
 use Rattle.runner.specs.Removing.{EndsByRemoving}
@@ -72,7 +73,7 @@ returns-in_err-remove_read_depfile-clause-cut g c =
     cut_clearing g.S.Texts.tells course c.args.setting.tick.now c.args.setting.graph.now suits c.report.new.state (g.S.Texts.world c.report.new.site) c.args.edge c.index-start.result.now
     (c.in_ok-report.ensures.on course suits (taken_under g.S.Texts.tells course c.args.setting.tick.now c.args.setting.graph.now suits c.args.state.now (g.S.Texts.world c.args.site.now) c.args.edge (get_or c.args.state.now.starts.items c.args.edge 0) c.args.ok c.if-not-ok.false c.args.told.now taken c.index-start.result.now (read_item c.args.state.now.starts.items c.index.result c.index-start.result.now c.index-start.ensures (omega (arith, lt, c.index.ensures.place)) ∙ ap (λ (k : ℕ). get_or c.args.state.now.starts.items k 0) c.index.ensures.place)))
     (g.S.Texts.world c.done.new.site) c.done.ensures.writes c.index-start.result.now refl
-    c.done.new.self c.done.ensures.same c.done.ensures.places c.done.ensures.deps_places c.in_ok-done.ensures.ok c.log_stays.ensures c.command.result.now.act c.command.ensures.act (g.S.Texts.world c.remove_read_depfile.new.site) c.remove_read_depfile.ensures.at)
+    c.done.new.self c.done.ensures.same c.done.ensures.places c.done.ensures.deps_places c.in_ok-done.ensures.ok c.log_stays.ensures c.command.result.now.act c.command.ensures.act c.command.result.now.deps c.command.ensures.deps (g.S.Texts.world c.remove_read_depfile.new.site) c.remove_read_depfile.ensures.at (λ other. (c.remove_read_depfile.ensures.stays other).1))
 
 pub returns-clause-on : goal.returns-clause-on
 returns-clause-on g c =
@@ -81,8 +82,9 @@ returns-clause-on g c =
     removed g.S.Texts.tells course c.args.setting.tick.now c.args.setting.graph.now suits c.report.new.state (g.S.Texts.world c.report.new.site) c.args.edge c.index-start.result.now
     (c.in_ok-report.ensures.on course suits (taken_under g.S.Texts.tells course c.args.setting.tick.now c.args.setting.graph.now suits c.args.state.now (g.S.Texts.world c.args.site.now) c.args.edge (get_or c.args.state.now.starts.items c.args.edge 0) c.args.ok c.if-not-ok.false c.args.told.now taken c.index-start.result.now (read_item c.args.state.now.starts.items c.index.result c.index-start.result.now c.index-start.ensures (omega (arith, lt, c.index.ensures.place)) ∙ ap (λ (k : ℕ). get_or c.args.state.now.starts.items k 0) c.index.ensures.place)))
     (g.S.Texts.world c.done.new.site) c.done.ensures.writes c.index-start.result.now refl
-    c.done.new.self c.done.ensures.same c.done.ensures.places c.done.ensures.deps_places c.in_ok-done.ensures.ok c.log_stays.ensures c.act.result.now c.act.ensures (g.S.Texts.world c.remove_read_depfile.new.site)
-    (subst (λ (a : Act). WritesOrNot g.S.Texts.tells a.depfile None (g.S.Texts.world c.done.new.site) (g.S.Texts.world c.remove_read_depfile.new.site)) (c.command.ensures.act ∙ sym c.act.ensures) c.remove_read_depfile.ensures.at) (g.S.Texts.world c.remove_response.new.site) c.remove_response.ensures.at gone)
+    c.done.new.self c.done.ensures.same c.done.ensures.places c.done.ensures.deps_places c.in_ok-done.ensures.ok c.log_stays.ensures c.act.result.now c.act.ensures c.command.result.now.deps c.command.ensures.deps (g.S.Texts.world c.remove_read_depfile.new.site)
+    (subst (λ (a : Act). WritesOrNot g.S.Texts.tells a.depfile None (g.S.Texts.world c.done.new.site) (g.S.Texts.world c.remove_read_depfile.new.site)) (c.command.ensures.act ∙ sym c.act.ensures) c.remove_read_depfile.ensures.at) (λ other. (c.remove_read_depfile.ensures.stays other).1) (g.S.Texts.world c.remove_response.new.site) c.remove_response.ensures.at
+    (subst (λ (a : Act). c.command.result.now.deps ≡ Gcc → a.depfile ≢ [] → Writes g.S.Texts.tells a.depfile None (g.S.Texts.world c.done.new.site) (g.S.Texts.world c.remove_read_depfile.new.site)) (c.command.ensures.act ∙ sym c.act.ensures) c.in_ok-remove_read_depfile.ensures.removed) gone)
 
 pub returns-clause-cut : goal.returns-clause-cut
 returns-clause-cut g c =
@@ -91,8 +93,8 @@ returns-clause-cut g c =
     cut_removing g.S.Texts.tells course c.args.setting.tick.now c.args.setting.graph.now suits c.report.new.state (g.S.Texts.world c.report.new.site) c.args.edge c.index-start.result.now
     (c.in_ok-report.ensures.on course suits (taken_under g.S.Texts.tells course c.args.setting.tick.now c.args.setting.graph.now suits c.args.state.now (g.S.Texts.world c.args.site.now) c.args.edge (get_or c.args.state.now.starts.items c.args.edge 0) c.args.ok c.if-not-ok.false c.args.told.now taken c.index-start.result.now (read_item c.args.state.now.starts.items c.index.result c.index-start.result.now c.index-start.ensures (omega (arith, lt, c.index.ensures.place)) ∙ ap (λ (k : ℕ). get_or c.args.state.now.starts.items k 0) c.index.ensures.place)))
     (g.S.Texts.world c.done.new.site) c.done.ensures.writes c.index-start.result.now refl
-    c.done.new.self c.done.ensures.same c.done.ensures.places c.done.ensures.deps_places c.in_ok-done.ensures.ok c.log_stays.ensures c.act.result.now c.act.ensures (g.S.Texts.world c.remove_read_depfile.new.site)
-    (subst (λ (a : Act). WritesOrNot g.S.Texts.tells a.depfile None (g.S.Texts.world c.done.new.site) (g.S.Texts.world c.remove_read_depfile.new.site)) (c.command.ensures.act ∙ sym c.act.ensures) c.remove_read_depfile.ensures.at) (g.S.Texts.world c.remove_response.new.site) c.remove_response.ensures.at)
+    c.done.new.self c.done.ensures.same c.done.ensures.places c.done.ensures.deps_places c.in_ok-done.ensures.ok c.log_stays.ensures c.act.result.now c.act.ensures c.command.result.now.deps c.command.ensures.deps (g.S.Texts.world c.remove_read_depfile.new.site)
+    (subst (λ (a : Act). WritesOrNot g.S.Texts.tells a.depfile None (g.S.Texts.world c.done.new.site) (g.S.Texts.world c.remove_read_depfile.new.site)) (c.command.ensures.act ∙ sym c.act.ensures) c.remove_read_depfile.ensures.at) (λ other. (c.remove_read_depfile.ensures.stays other).1) (g.S.Texts.world c.remove_response.new.site) c.remove_response.ensures.at)
 
 pub returns-clause-removed : goal.returns-clause-removed
 returns-clause-removed g c =
