@@ -222,10 +222,10 @@ module _ (tells : Bool) (B : Behaviour) (format : LogFormat) (own : OwnFiles) (a
   -- ---- the entry
 
   -- a site on which nothing runs, and no step
-  pub carried_entry : asked.graph.edges ≡ asked.declared → store ≡ store_in format own (view_of old.history) → IsIdle old.events → IsCarried tells B format own asked store true [] None old old
-  carried_entry same found idle = record {
+  pub carried_entry : asked.graph.edges ≡ asked.declared → ((file : List ℕ) → NamesOther asked.graph.edges file → ⊥) → store ≡ store_in format own (view_of old.history) → IsIdle old.events → IsCarried tells B format own asked store true [] None old old
+  carried_entry same others found idle = record {
     run = run_begins tells own (task_of asked store) old;
-    phased = phased_entry tells B own asked store old old same;
+    phased = phased_entry tells B own asked store old old same others;
     goes = λ on. refl;
     refused = λ off. absurd (true≢false off);
     beside = record {
@@ -239,10 +239,10 @@ module _ (tells : Bool) (B : Behaviour) (format : LogFormat) (own : OwnFiles) (a
   }
 
   -- The logs were read, while nothing was judged: the same of any records that are those of the entry, where nothing is edited.
-  pub carried_found : asked.graph.edges ≡ asked.declared → (other : Store) (hand : Option ℕ) (now : World) → (IsTrue tells → Kept now → other ≡ store) → IsCarried tells B format own asked store true [] hand old now
+  pub carried_found : asked.graph.edges ≡ asked.declared → ((file : List ℕ) → NamesOther asked.graph.edges file → ⊥) → (other : Store) (hand : Option ℕ) (now : World) → (IsTrue tells → Kept now → other ≡ store) → IsCarried tells B format own asked store true [] hand old now
       → IsCarried tells B format own asked other true [] hand old now
-  carried_found unloaded other hand now same carried = record {
-    phased = phased_entry tells B own asked other old now unloaded;
+  carried_found unloaded others other hand now same carried = record {
+    phased = phased_entry tells B own asked other old now unloaded others;
     goes = λ on. refl;
     refused = λ off. absurd (true≢false off);
     run = record { orderly = tt; events = carried.run.events; grows = carried.run.grows; of_steps = carried.run.of_steps; history = carried.run.history };

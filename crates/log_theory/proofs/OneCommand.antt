@@ -9,7 +9,7 @@ use Rattle.model.specs.OutOfDate.{IsVerdict}
 use Rattle.model.specs.Schedule.{Step, Judged, Started, Ended, IsLawfulStep, NoneMayBeJudged, NoneMayStart, well_in}
 use Rattle.model.specs.Phases.{NoLoadIsDue}
 use Rattle.model.specs.Premises.{FilesAreKept, RecordedApart, NothingIsEdited}
-use Rattle.model.specs.SingleBuild.{Asked, Answer, SingleBuild, task_of, IsJudged}
+use Rattle.model.specs.SingleBuild.{NamesOther, Asked, Answer, SingleBuild, task_of, IsJudged}
 use Rattle.model.specs.History.{IsHeadline}
 use Rattle.log_theory.specs.Builds.{IsRunOf}
 use Rattle.log_theory.specs.Logged.{IsLoggedAt}
@@ -22,7 +22,7 @@ use Rattle.log_theory.proofs.TakenIn as taken
 use Rattle.log_theory.proofs.Writing as writing
 
 one : (tells : Bool) (B : Behaviour) (format : LogFormat) (own : OwnFiles) (asked : Asked) (store : Store) (old a b c d e f g h j k l m : World) (i stamp : ℕ) (tick : List ℕ) (seen : Option (List ℕ))
-    → IsIdle old.events → IsMadeOnce asked.graph.edges → asked.graph.edges ≡ asked.declared → ((before : List Step) → NoLoadIsDue (task_of asked store) before)
+    → IsIdle old.events → IsMadeOnce asked.graph.edges → asked.graph.edges ≡ asked.declared → ((file : List ℕ) → NamesOther asked.graph.edges file → ⊥) → ((before : List Step) → NoLoadIsDue (task_of asked store) before)
     → OnlyLooks tells old a → (IsTrue tells → NothingIsEdited old.history a.history → store ≡ store_in format own (view_of old.history))
     → IsLawfulStep (task_of asked store) [] (Judged i true)
     → (IsTrue tells → FilesAreKept own asked.graph.edges old.history a.history → RecordedApart own (recorded_inputs store asked.graph.edges) → IsVerdict asked.graph.edges store [] old.history a.history i true)
@@ -45,7 +45,7 @@ one : (tells : Bool) (B : Behaviour) (format : LogFormat) (own : OwnFiles) (aske
     → (IsTrue tells → FilesAreKept own asked.graph.edges old.history l.history → IsLoggedAt B format own asked.graph.edges (Judged i true ∷ Started i ∷ Ended i true ∷ []) (Some i) store old k
     → IsLoggedAt B format own asked.graph.edges (Judged i true ∷ Started i ∷ Ended i true ∷ []) None store old l)
     → IsRunOf tells B format own asked store (Judged i true ∷ Started i ∷ Ended i true ∷ []) None old l
-one tells B format own asked store old a b c d e f g h j k l m i stamp tick seen idle once unloaded no_load looks found judge verdict mine t1 t2 log_mine dep resp ticks writes removes begin begin_log none looks_f start starts no_judge no_start finish looks_j looks_k sees says done done_log =
+one tells B format own asked store old a b c d e f g h j k l m i stamp tick seen idle once unloaded others no_load looks found judge verdict mine t1 t2 log_mine dep resp ticks writes removes begin begin_log none looks_f start starts no_judge no_start finish looks_j looks_k sees says done done_log =
     ledger.run_of tells B format own asked store old (Judged i true ∷ Started i ∷ Ended i true ∷ []) None l
     (ledger.cut_off tells B format own asked store old true (Judged i true ∷ Started i ∷ Ended i true ∷ []) None l at_l) (inl once)
   where
@@ -59,10 +59,10 @@ one tells B format own asked store old a b c d e f g h j k l m i stamp tick seen
     stale = start.1.stale
 
     at_a0 : IsCarried tells B format own asked (store_in format own (view_of old.history)) true [] None old a
-    at_a0 = ledger.carried_looks tells B format own asked (store_in format own (view_of old.history)) old true [] None old a looks (ledger.carried_entry tells B format own asked (store_in format own (view_of old.history)) old unloaded refl idle)
+    at_a0 = ledger.carried_looks tells B format own asked (store_in format own (view_of old.history)) old true [] None old a looks (ledger.carried_entry tells B format own asked (store_in format own (view_of old.history)) old unloaded others refl idle)
 
     at_a : IsCarried tells B format own asked store true [] None old a
-    at_a = ledger.carried_found tells B format own asked (store_in format own (view_of old.history)) old unloaded store None a (λ tell files. found tell files.edits) at_a0
+    at_a = ledger.carried_found tells B format own asked (store_in format own (view_of old.history)) old unloaded others store None a (λ tell files. found tell files.edits) at_a0
 
     judged : IsCarried tells B format own asked store true (Judged i true ∷ []) (Some i) old a
     judged = ledger.carried_hand tells B format own asked store old true (Judged i true ∷ []) a i (ledger.carried_judged tells B format own asked store old true [] None a i true refl judge (no_load []) verdict at_a)

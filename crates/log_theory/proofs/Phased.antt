@@ -1,23 +1,23 @@
 -- Builds in phases: what was lawful and rightly judged so far goes on through each step, and through each load.
 use Rattle.std.proofs.Common.{◌≡◌, ◌⊎◌, inl, inr, ℕ, cond, Bool, true, false, IsTrue, List, [], ◌∷◌, ◌++◌, Option, Some, None, bytes_eq, refl, sym, ◌∙◌, ap, subst, append_assoc}
 use Rattle.std.proofs.lemmas.List.{append-nil}
-use Rattle.std.proofs.lemmas.Bool.{cases_Bool, false_from_ne_true}
+use Rattle.std.proofs.lemmas.Bool.{cases_Bool, false≢true, false_from_ne_true}
 use Rattle.model.specs.declared.event.Moment.{Moment}
 use Rattle.model.specs.declared.graph.Edge.{Edge}
 use Rattle.model.specs.World.{World, View}
-use Rattle.model.specs.Graph.{has_number, edge_at, Addition, grown_edge}
+use Rattle.model.specs.Graph.{has, has_number, edge_at, inputs, Addition, grown_edge}
 use Rattle.model.specs.Outcome.{Behaviour}
 use Rattle.model.specs.Records.{Store, OwnFiles, recorded_inputs}
 use Rattle.model.specs.OutOfDate.{IsVerdict}
-use Rattle.model.specs.Schedule.{Task, Step, Judged, Started, Ended, IsLawfulStep, IsLawfulFrom, running_in, well_in}
+use Rattle.model.specs.Schedule.{Task, Step, Judged, Started, Ended, IsLawfulStep, IsLawfulFrom, judged_in, running_in, well_in}
 use Rattle.model.specs.Phases.{Phase, IsGrownBy, IsDueLoad, NoLoadIsDue, IsNextLoad, AreUnloadedFrom, IsLawfulPhase, IsLoad, IsInOrderAt, AreTakenIn, ArePhasesFrom, IsLawfulBuild, steps_of, next_edges, task_with}
 use Rattle.model.specs.Premises.{FilesAreKept, RecordedApart}
-use Rattle.model.specs.SingleBuild.{Asked, asked_with, task_of}
+use Rattle.model.specs.SingleBuild.{Asked, NamesOther, asked_with, task_of}
 use Rattle.build_theory.specs.Run.{IsRunOrRest}
-use Rattle.build_theory.proofs.Lists.{same_bytes, bytes_same}
-use Rattle.build_theory.proofs.Growth.{cases_named, grown_same}
+use Rattle.build_theory.proofs.Lists.{same_bytes, bytes_same, has-left, has_number-is}
+use Rattle.build_theory.proofs.Growth.{cases_named, grown_same, grown_by, still_loaded}
 use Rattle.build_theory.proofs.Moved.{rest_moved}
-use Rattle.build_theory.proofs.Steps.{lawful_push_from}
+use Rattle.build_theory.proofs.Steps.{lawful_push_from, in_either, judged-append}
 use Rattle.log_theory.specs.Judged.{JudgedOver, AreJudgedOver, ArePhasesJudged}
 use Rattle.log_theory.specs.Ledger.{IsPhased}
 
@@ -105,6 +105,8 @@ module _ (tells : Bool) (B : Behaviour) (own : OwnFiles) (asked : Asked) (store 
     texts = phased.texts;
     build = phased.build;
     unread = phased.unread;
+    inputs = phased.inputs;
+    loaded = phased.loaded;
     before = λ tell. all_on now new (more tell) (λ t. grows tell) [] phased.build.earlier (phased.before tell);
     last = λ tell. over_on now new (more tell) (λ t. grows tell) asked.graph.edges (steps_of phased.build.earlier) phased.build.last (phased.last tell);
   }
@@ -153,8 +155,8 @@ module _ (tells : Bool) (B : Behaviour) (own : OwnFiles) (asked : Asked) (store 
       (taken.0, taken_in_push (before ++ Ended j v ∷ []) steps i w taken.1 (subst (λ (l : List Step). has_number (running_in l) i ≡ true) (sym (append_assoc before (Ended j v ∷ []) steps)) runs))
 
   -- nothing is loaded yet, and no step was taken
-  abbrev pub phased_entry : (now : World) → asked.graph.edges ≡ asked.declared → Phased [] now
-  phased_entry now same = record {
+  abbrev pub phased_entry : (now : World) → asked.graph.edges ≡ asked.declared → ((file : List ℕ) → NamesOther asked.graph.edges file → ⊥) → Phased [] now
+  phased_entry now same others = record {
     texts = λ p. None;
     build = record {
       earlier = [];
@@ -168,6 +170,11 @@ module _ (tells : Bool) (B : Behaviour) (own : OwnFiles) (asked : Asked) (store 
       cause = inl refl;
     };
     unread = λ i file names. refl;
+    inputs = λ i file names. elim (cases_Bool (has (inputs (edge_at asked.graph.edges i)) file)) [
+      | inl is ↦ is
+      | inr other ↦ absurd (others file (record { edge = i; names = names; other = other }))
+    ];
+    loaded = λ i judged. absurd (false≢true judged);
     before = λ tell. tt;
     last = λ tell. tt;
   }
@@ -176,6 +183,30 @@ module _ (tells : Bool) (B : Behaviour) (own : OwnFiles) (asked : Asked) (store 
     -- where no load was refused the steps are those of the phases and of the last one
     pub so_far : phased.build.taken_in ≡ [] → steps ≡ steps_of phased.build.earlier ++ phased.build.last
     so_far on = phased.build.whole ∙ ap (λ (l : List Step). steps_of phased.build.earlier ++ l) (ap (λ (l : List Step). phased.build.last ++ l) on ∙ append-nil phased.build.last)
+
+    -- an edge that is judged where no load is due has its dyndep file loaded
+    pub judged_loaded : (i : ℕ) (b : Bool) → IsLawfulStep The steps (Judged i b) → NoLoadIsDue The steps → (edge_at asked.graph.edges i).dyndep ≡ None
+    judged_loaded i b next none = by_name (edge_at asked.graph.edges i).dyndep refl
+      where
+        by_name : (d : Option (List ℕ)) → (edge_at asked.graph.edges i).dyndep ≡ d → (edge_at asked.graph.edges i).dyndep ≡ None
+        by_name None is = is
+        by_name (Some file) is = absurd (none file (record {
+          edge = i;
+          within = next.0.within;
+          names = is;
+          settled = next.0.ready file (has-left (inputs (edge_at asked.graph.edges i)) (recorded_inputs store asked.graph.edges i) file (phased.inputs i file is));
+        }))
+
+    pub loaded_then : (step : Step) → IsLawfulStep The steps step → NoLoadIsDue The steps → (i : ℕ) → has_number (judged_in (steps ++ step ∷ [])) i ≡ true → (edge_at asked.graph.edges i).dyndep ≡ None
+    loaded_then step next none i judged = elim (in_either judged_in judged-append steps (step ∷ []) i judged) [
+      | inl before ↦ phased.loaded i before
+      | inr now ↦ here step next now
+    ]
+      where
+        here : (s : Step) → IsLawfulStep The steps s → has_number (judged_in (s ∷ [])) i ≡ true → (edge_at asked.graph.edges i).dyndep ≡ None
+        here (Judged j b) next is = subst (λ (n : ℕ). (edge_at asked.graph.edges n).dyndep ≡ None) (has_number-is j i is) (judged_loaded j b next none)
+        here (Started j) next is = absurd (false≢true is)
+        here (Ended j w) next is = absurd (false≢true is)
 
     -- a lawful step, where no load is due
     abbrev pub phased_step : (step : Step) → phased.build.taken_in ≡ [] → IsLawfulStep The steps step → NoLoadIsDue The steps
@@ -198,6 +229,8 @@ module _ (tells : Bool) (B : Behaviour) (own : OwnFiles) (asked : Asked) (store 
         cause = inl refl;
       };
       unread = phased.unread;
+      inputs = phased.inputs;
+      loaded = λ i judged. loaded_then step next none i judged;
       before = phased.before;
       last = λ tell. over_push asked.graph.edges (steps_of phased.build.earlier) phased.build.last step now
           (λ i b is. subst (λ (l : List Step). JudgedOver tells own asked store asked.graph.edges l i b old now) (so_far on) (right tell i b is)) (phased.last tell);
@@ -222,6 +255,11 @@ module _ (tells : Bool) (B : Behaviour) (own : OwnFiles) (asked : Asked) (store 
         cause = inr cause;
       };
       unread = phased.unread;
+      inputs = phased.inputs;
+      loaded = λ j judged. elim (in_either judged_in judged-append steps (Ended i w ∷ []) j judged) [
+        | inl before ↦ phased.loaded j before
+        | inr now ↦ absurd (false≢true now)
+      ];
       before = phased.before;
       last = phased.last;
     }
@@ -322,6 +360,10 @@ module _ (tells : Bool) (B : Behaviour) (own : OwnFiles) (asked : Asked) (store 
       unread = λ i other names.
           let was = named_before i other names in
           ap (λ (b : Bool). cond b (Some content) (phased.texts other)) was.1 ∙ phased.unread i other was.0;
+      inputs = λ i other names.
+          let was = named_before i other names in
+          (grown_by file additions asked.graph.edges next grown).inputs i other (phased.inputs i other was.0);
+      loaded = λ i judged. still_loaded asked.graph.edges next (grown_by file additions asked.graph.edges next grown) i (phased.loaded i judged);
       before = λ tell. judged_push [] phased.build.earlier phased.build.last (phased.before tell) (phased.last tell);
       last = λ tell. tt;
     }

@@ -4,10 +4,10 @@ use Rattle.std.specs.Prelude.{◌≡◌, ◌≢◌, ◌⊎◌, ℕ, Bool, true, 
 use Rattle.model.specs.declared.event.Moment.{Moment}
 use Rattle.model.specs.declared.graph.Edge.{Edge}
 use Rattle.model.specs.World.{World, View, view_of, IsIdle}
-use Rattle.model.specs.Graph.{has, edge_at, outputs}
+use Rattle.model.specs.Graph.{has, has_number, edge_at, inputs, outputs}
 use Rattle.model.specs.Outcome.{Behaviour}
 use Rattle.model.specs.Records.{Store, LogFormat, OwnFiles, store_in, in_force}
-use Rattle.model.specs.Schedule.{Step}
+use Rattle.model.specs.Schedule.{Step, judged_in}
 use Rattle.model.specs.Phases.{steps_of, IsDueLoad, IsLawfulBuild}
 use Rattle.model.specs.Premises.{FilesAreKept}
 use Rattle.model.specs.SingleBuild.{Asked, task_of}
@@ -16,12 +16,14 @@ use Rattle.log_theory.specs.Logged.{IsLoggedAt, IsTickedAt, StartsAreTicked}
 use Rattle.log_theory.specs.Judged.{AreJudgedOver, ArePhasesJudged, AreTakenIn}
 use Rattle.log_theory.specs.Alone.{AreLeftAlone}
 
--- The phases so far: `texts` are what the loaded files held, none of a file that an edge names still; each verdict was right by the
--- edges and files of then.
+-- The phases so far: `texts` are what the loaded files held, none of a file that an edge names still; an edge that names one has it
+-- as an input, and was not judged; each verdict was right by the edges and files of then.
 pub record IsPhased (tells : Bool) (B : Behaviour) (own : OwnFiles) (asked : Asked) (store : Store) (steps : List Step) (old now : World) : Type 0 where
   pub texts : View
   pub build : IsLawfulBuild B.dyndep texts asked.declared (task_of asked store) store steps
   pub unread : (i : ℕ) (file : List ℕ) → (edge_at asked.graph.edges i).dyndep ≡ Some file → texts file ≡ None
+  pub inputs : (i : ℕ) (file : List ℕ) → (edge_at asked.graph.edges i).dyndep ≡ Some file → has (inputs (edge_at asked.graph.edges i)) file ≡ true
+  pub loaded : (i : ℕ) → has_number (judged_in steps) i ≡ true → (edge_at asked.graph.edges i).dyndep ≡ None
   pub before : IsTrue tells → ArePhasesJudged tells own asked store [] build.earlier old now
   pub last : IsTrue tells → AreJudgedOver tells own asked store asked.graph.edges (steps_of build.earlier) build.last old now
 
