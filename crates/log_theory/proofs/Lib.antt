@@ -26,6 +26,7 @@ pub mod Builds
 pub mod Alone
 pub mod Phased
 pub mod Ledger
+pub mod Loading
 pub mod TakenIn
 pub mod Readying
 pub mod Driving
