@@ -43,10 +43,11 @@ module _ (tells : Bool) (B : Behaviour) (format : LogFormat) (own : OwnFiles) (a
 
   -- The file was loaded, which was the next one: it held this, which can be read, and fits; and the edges are in order with it.
   pub carried_load : (steps : List Step) → IsCarried tells B format own asked store true steps None old now → IsNextLoad (task_of asked store) steps file → B.dyndep content ≡ Some additions
-      → IsInOrderAt store (task_of (asked_with asked next) store) → IsCarried tells B format own (asked_with asked next) store true steps None old now
-  carried_load steps carried is_next read order = record {
+      → IsInOrderAt store (task_of (asked_with asked next) store) → (IsTrue tells → FilesAreKept own asked.graph.edges old.history now.history → view_of now.history file ≡ Some content)
+      → IsCarried tells B format own (asked_with asked next) store true steps None old now
+  carried_load steps carried is_next read order holds = record {
     run = run_moved tells own (task_of asked store) (task_of (asked_with asked next) store) steps old now more carried.run;
-    phased = phased_load tells B own asked store old now next file content additions grown steps carried.phased (carried.goes refl) is_next read order;
+    phased = phased_load tells B own asked store old now next file content additions grown steps carried.phased (carried.goes refl) is_next read order rest carried.beside.idle holds;
     goes = λ on. refl;
     refused = λ off. absurd (true≢false off);
     beside = record {

@@ -4,22 +4,26 @@ use Rattle.std.proofs.lemmas.List.{append-nil}
 use Rattle.std.proofs.lemmas.Bool.{cases_Bool, false≢true, false_from_ne_true}
 use Rattle.model.specs.declared.event.Moment.{Moment}
 use Rattle.model.specs.declared.graph.Edge.{Edge}
-use Rattle.model.specs.World.{World, View}
-use Rattle.model.specs.Graph.{has, has_number, edge_at, inputs, Addition, grown_edge}
+use Rattle.model.specs.World.{World, View, view_of, IsIdle}
+use Rattle.model.specs.Graph.{has, has_number, edge_at, maker, inputs, IsCommand, IsMadeOnce, Addition, grown_edge}
 use Rattle.model.specs.Outcome.{Behaviour}
 use Rattle.model.specs.Records.{Store, OwnFiles, recorded_inputs}
 use Rattle.model.specs.OutOfDate.{IsVerdict}
-use Rattle.model.specs.Schedule.{Task, Step, Judged, Started, Ended, IsLawfulStep, IsLawfulFrom, judged_in, running_in, well_in}
+use Rattle.model.specs.Schedule.{Task, Step, Judged, Started, Ended, IsLawfulStep, IsLawfulFrom, judged_in, started_in, running_in, well_in, done_in}
 use Rattle.model.specs.Phases.{Phase, IsGrownBy, IsDueLoad, NoLoadIsDue, IsNextLoad, AreUnloadedFrom, IsLawfulPhase, IsLoad, IsInOrderAt, AreTakenIn, ArePhasesFrom, IsLawfulBuild, steps_of, next_edges, task_with}
 use Rattle.model.specs.Premises.{FilesAreKept, RecordedApart}
 use Rattle.model.specs.SingleBuild.{Asked, NamesOther, asked_with, task_of}
 use Rattle.build_theory.specs.Run.{IsRunOrRest}
-use Rattle.build_theory.proofs.Lists.{same_bytes, bytes_same, has-left, has_number-is}
-use Rattle.build_theory.proofs.Growth.{cases_named, grown_same, grown_by, still_loaded}
+use Rattle.build_theory.proofs.Lists.{same_bytes, bytes_same, same_some, has-left, has_number-is}
+use Rattle.build_theory.proofs.Settled.{settled_command}
+use Rattle.build_theory.proofs.Growth.{HasGrown, cases_named, grown_same, grown_by, still_loaded, maker_still, once_back}
+use Rattle.build_theory.proofs.Loads.{rest_has_grown}
+use Rattle.build_theory.proofs.Orderly.{kept_orderly}
 use Rattle.build_theory.proofs.Moved.{rest_moved}
-use Rattle.build_theory.proofs.Steps.{lawful_push_from, in_either, judged-append}
+use Rattle.build_theory.proofs.Steps.{lawful_push_from, in_either, in_left, judged-append, started-append}
 use Rattle.log_theory.specs.Judged.{JudgedOver, AreJudgedOver, ArePhasesJudged}
-use Rattle.log_theory.specs.Ledger.{IsPhased}
+use Rattle.log_theory.specs.Ledger.{LoadedThen, IsPhased}
+use Rattle.log_theory.proofs.Turned.{kept_then}
 
 -- ---- what loaded files held
 
@@ -30,7 +34,7 @@ with_text file content texts = λ p. cond (bytes_eq file p) (Some content) (text
 abbrev pub HoldsAll : View → View → Type 0
 HoldsAll texts more = (p content : List ℕ) → texts p ≡ Some content → more p ≡ Some content
 
-no_text : (content : List ℕ) → None ≡ Some content → ⊥
+pub no_text : (content : List ℕ) → None ≡ Some content → ⊥
 no_text content is = cc
 
 pub holds_all : (texts : View) (file content : List ℕ) → texts file ≡ None → HoldsAll texts (with_text file content texts)
@@ -100,6 +104,35 @@ module _ (tells : Bool) (B : Behaviour) (own : OwnFiles) (asked : Asked) (store 
     all_on before [] judged = tt
     all_on before (phase ∷ phases) judged = (over_on phase.edges before phase.steps judged.0, all_on (before ++ phase.steps) phases judged.1)
 
+  pub held_on : (now new : World) (ms : List Moment) → new.history ≡ now.history ++ ms → (file content : List ℕ) (steps : List Step) → LoadedThen tells own asked store file content steps old now
+      → LoadedThen tells own asked store file content steps old new
+  held_on now new ms grows file content steps was = record {
+    before = was.before;
+    later = was.later;
+    splits = was.splits;
+    mid = was.mid;
+    run = was.run;
+    more = was.more ++ ms;
+    grows = grows ∙ (ap (λ (l : List Moment). l ++ ms) was.grows ∙ append_assoc was.mid.history was.more ms);
+    holds = was.holds;
+    input = was.input;
+    settled = was.settled;
+  }
+
+  pub held_push : (file content : List ℕ) (steps : List Step) (step : Step) (now : World) → LoadedThen tells own asked store file content steps old now → LoadedThen tells own asked store file content (steps ++ step ∷ []) old now
+  held_push file content steps step now was = record {
+    before = was.before;
+    later = was.later ++ step ∷ [];
+    splits = ap (λ (l : List Step). l ++ step ∷ []) was.splits ∙ append_assoc was.before was.later (step ∷ []);
+    mid = was.mid;
+    run = was.run;
+    more = was.more;
+    grows = was.grows;
+    holds = was.holds;
+    input = was.input;
+    settled = was.settled;
+  }
+
   abbrev pub phased_on : (steps : List Step) (now new : World) (more : IsTrue tells → List Moment) → ((tell : IsTrue tells) → new.history ≡ now.history ++ more tell) → Phased steps now → Phased steps new
   phased_on steps now new more grows phased = record {
     texts = phased.texts;
@@ -107,6 +140,7 @@ module _ (tells : Bool) (B : Behaviour) (own : OwnFiles) (asked : Asked) (store 
     unread = phased.unread;
     inputs = phased.inputs;
     loaded = phased.loaded;
+    held = λ tell file content is. held_on now new (more tell) (grows tell) file content steps (phased.held tell file content is);
     before = λ tell. all_on now new (more tell) (λ t. grows tell) [] phased.build.earlier (phased.before tell);
     last = λ tell. over_on now new (more tell) (λ t. grows tell) asked.graph.edges (steps_of phased.build.earlier) phased.build.last (phased.last tell);
   }
@@ -175,6 +209,7 @@ module _ (tells : Bool) (B : Behaviour) (own : OwnFiles) (asked : Asked) (store 
       | inr other ↦ absurd (others file (record { edge = i; names = names; other = other }))
     ];
     loaded = λ i judged. absurd (false≢true judged);
+    held = λ tell file content is. absurd (no_text content is);
     before = λ tell. tt;
     last = λ tell. tt;
   }
@@ -231,6 +266,7 @@ module _ (tells : Bool) (B : Behaviour) (own : OwnFiles) (asked : Asked) (store 
       unread = phased.unread;
       inputs = phased.inputs;
       loaded = λ i judged. loaded_then step next none i judged;
+      held = λ tell file content is. held_push file content steps step now (phased.held tell file content is);
       before = phased.before;
       last = λ tell. over_push asked.graph.edges (steps_of phased.build.earlier) phased.build.last step now
           (λ i b is. subst (λ (l : List Step). JudgedOver tells own asked store asked.graph.edges l i b old now) (so_far on) (right tell i b is)) (phased.last tell);
@@ -260,6 +296,7 @@ module _ (tells : Bool) (B : Behaviour) (own : OwnFiles) (asked : Asked) (store 
         | inl before ↦ phased.loaded j before
         | inr now ↦ absurd (false≢true now)
       ];
+      held = λ tell file content is. held_push file content steps (Ended i w) now (phased.held tell file content is);
       before = phased.before;
       last = phased.last;
     }
@@ -341,9 +378,81 @@ module _ (tells : Bool) (B : Behaviour) (own : OwnFiles) (asked : Asked) (store 
       grown = grown;
     }
 
+    more_edges : HasGrown asked.graph.edges next
+    more_edges = grown_by file additions asked.graph.edges next grown
+
+    -- one that was loaded before
+    pub held_before : IsMadeOnce next → (steps : List Step) → IsTrue tells → IsIdle old.events → (declared : HasGrown asked.declared asked.graph.edges) → (p held : List ℕ) → LoadedThen tells own asked store p held steps old now
+        → ((i : ℕ) → has_number (started_in steps) i ≡ true → (edge_at asked.graph.edges i).dyndep ≡ None)
+        → LoadedThen tells own More store p held steps old now
+    held_before once steps tell idle declared p held was loaded = record {
+      before = was.before;
+      later = was.later;
+      splits = was.splits;
+      mid = was.mid;
+      run = rest_moved tells own (task_of asked store) (task_of More store) was.before old was.mid more_edges was.run;
+      more = was.more;
+      grows = was.grows;
+      holds = λ files. was.holds (kept_then tells own (task_of asked store) next more_edges was.before old was.mid tell idle was.run
+          (λ i started. loaded i (subst (λ (l : List Step). has_number (started_in l) i ≡ true) (sym was.splits) (in_left started_in started-append was.before was.later i started))) files);
+      input = (was.input.0, more_edges.inputs was.input.0 p was.input.1);
+      settled = λ same j makes command. by_maker same j makes command (maker asked.graph.edges p) refl;
+    }
+      where
+        some_none_at : (d : ℕ) → None ≡ Some d → ⊥
+        some_none_at d is = cc
+
+        by_maker : (maker asked.declared p ≡ None → maker next p ≡ None) → (j : ℕ) → maker next p ≡ Some j → IsCommand next j → (m : Option ℕ) → maker asked.graph.edges p ≡ m → has_number (done_in was.before) j ≡ true
+        by_maker same j makes command None none = absurd (some_none_at j (sym (same undeclared) ∙ makes))
+          where
+            undeclared : maker asked.declared p ≡ None
+            undeclared = by_declared (maker asked.declared p) refl
+              where
+                by_declared : (d : Option ℕ) → maker asked.declared p ≡ d → maker asked.declared p ≡ None
+                by_declared None is = is
+                by_declared (Some d) is = absurd (some_none_at d (sym none ∙ maker_still asked.declared asked.graph.edges declared (once_back asked.graph.edges next more_edges once) p d is))
+        by_maker same j makes command (Some d) is = was.settled (λ undeclared. absurd (some_none_at d (sym (lacks undeclared) ∙ still))) j
+            (is ∙ ap (λ (n : ℕ). Some n) (same_some d j (sym still ∙ makes))) (sym (more_edges.phony j) ∙ command)
+          where
+            still : maker next p ≡ Some d
+            still = maker_still asked.graph.edges next more_edges once p d is
+
+            lacks : maker asked.declared p ≡ None → maker next p ≡ None
+            lacks undeclared = same undeclared
+
+    -- this one
+    pub held_here : (steps : List Step) → IsRunOrRest tells own (task_of asked store) steps old now → IsTrue tells → IsIdle old.events → IsMadeOnce next → HasGrown asked.declared asked.graph.edges
+        → IsDueLoad (task_of asked store) steps file → ((i : ℕ) (f : List ℕ) → (edge_at asked.graph.edges i).dyndep ≡ Some f → has (inputs (edge_at asked.graph.edges i)) f ≡ true)
+        → ((i : ℕ) → has_number (started_in steps) i ≡ true → (edge_at asked.graph.edges i).dyndep ≡ None) → (FilesAreKept own asked.graph.edges old.history now.history → view_of now.history file ≡ Some content)
+        → LoadedThen tells own More store file content steps old now
+    held_here steps rest tell idle once declared due inputs_named loaded holds = held_before once steps tell idle declared file content (record {
+      before = steps;
+      later = [];
+      splits = sym (append-nil steps);
+      mid = now;
+      run = rest;
+      more = [];
+      grows = sym (append-nil now.history);
+      holds = holds;
+      input = (due.edge, inputs_named due.edge file due.names);
+      settled = λ same j makes command. settled_command asked.graph.edges (done_in steps) j command (due.settled j makes);
+    }) loaded
+
+    pub has_grown : (steps : List Step) → IsPhased tells B own asked store steps old now → HasGrown asked.declared asked.graph.edges
+    has_grown steps phased = subst (λ (es : List Edge). HasGrown es asked.graph.edges) phased.build.begins
+        (rest_has_grown B.dyndep phased.texts asked.declared (task_of asked store) store [] phased.build.earlier phased.build.phases)
+
+    -- what was started has its dyndep file loaded
+    pub loaded_of : (steps : List Step) → IsPhased tells B own asked store steps old now → IsRunOrRest tells own (task_of asked store) steps old now → (i : ℕ) → has_number (started_in steps) i ≡ true
+        → (edge_at asked.graph.edges i).dyndep ≡ None
+    loaded_of steps phased rest i started =
+        let kept = kept_orderly asked.graph.edges steps rest.orderly in
+        phased.loaded i (kept.out_of_date i (kept.started i started))
+
     abbrev pub phased_load : (steps : List Step) → (phased : IsPhased tells B own asked store steps old now) → phased.build.taken_in ≡ [] → IsNextLoad (task_of asked store) steps file → B.dyndep content ≡ Some additions
-        → IsInOrderAt store (task_of More store) → IsPhased tells B own More store steps old now
-    phased_load steps phased on is_next read order = record {
+        → IsInOrderAt store (task_of More store) → IsRunOrRest tells own (task_of asked store) steps old now → IsIdle old.events
+        → (IsTrue tells → FilesAreKept own asked.graph.edges old.history now.history → view_of now.history file ≡ Some content) → IsPhased tells B own More store steps old now
+    phased_load steps phased on is_next read order rest idle holds = record {
       texts = with_text file content phased.texts;
       build = record {
         earlier = phased.build.earlier ++ ended_with phased.build.last ∷ [];
@@ -364,6 +473,13 @@ module _ (tells : Bool) (B : Behaviour) (own : OwnFiles) (asked : Asked) (store 
           let was = named_before i other names in
           (grown_by file additions asked.graph.edges next grown).inputs i other (phased.inputs i other was.0);
       loaded = λ i judged. still_loaded asked.graph.edges next (grown_by file additions asked.graph.edges next grown) i (phased.loaded i judged);
+      held = λ tell p held is. elim (cases_Bool (bytes_eq file p)) [
+        | inl same ↦ subst (λ (q : List ℕ). LoadedThen tells own More store q held steps old now) (same_bytes file p same)
+            (subst (λ (c : List ℕ). LoadedThen tells own More store file c steps old now) (same_some content held (sym (ap (λ (b : Bool). cond b (Some content) (phased.texts p)) same) ∙ is))
+            (held_here steps rest tell idle order.once (has_grown steps phased) is_next.due phased.inputs (loaded_of steps phased rest) (holds tell)))
+        | inr other ↦ held_before order.once steps tell idle (has_grown steps phased) p held
+            (phased.held tell p held (sym (ap (λ (b : Bool). cond b (Some content) (phased.texts p)) other) ∙ is)) (loaded_of steps phased rest)
+      ];
       before = λ tell. judged_push [] phased.build.earlier phased.build.last (phased.before tell) (phased.last tell);
       last = λ tell. tt;
     }

@@ -4,10 +4,10 @@ use Rattle.std.specs.Prelude.{◌≡◌, ◌≢◌, ◌⊎◌, ℕ, Bool, true, 
 use Rattle.model.specs.declared.event.Moment.{Moment}
 use Rattle.model.specs.declared.graph.Edge.{Edge}
 use Rattle.model.specs.World.{World, View, view_of, IsIdle}
-use Rattle.model.specs.Graph.{has, has_number, edge_at, inputs, outputs}
+use Rattle.model.specs.Graph.{has, has_number, edge_at, maker, inputs, outputs, IsCommand}
 use Rattle.model.specs.Outcome.{Behaviour}
 use Rattle.model.specs.Records.{Store, LogFormat, OwnFiles, store_in, in_force}
-use Rattle.model.specs.Schedule.{Step, judged_in}
+use Rattle.model.specs.Schedule.{Step, judged_in, done_in}
 use Rattle.model.specs.Phases.{steps_of, IsDueLoad, IsLawfulBuild}
 use Rattle.model.specs.Premises.{FilesAreKept}
 use Rattle.model.specs.SingleBuild.{Asked, task_of}
@@ -15,6 +15,20 @@ use Rattle.build_theory.specs.Run.{IsRun, IsRunOrRest, AreStartsReady}
 use Rattle.log_theory.specs.Logged.{IsLoggedAt, IsTickedAt, StartsAreTicked}
 use Rattle.log_theory.specs.Judged.{AreJudgedOver, ArePhasesJudged, AreTakenIn}
 use Rattle.log_theory.specs.Alone.{AreLeftAlone}
+
+-- a loaded file held this when just these steps were done, and what makes it was settled then
+pub record LoadedThen (tells : Bool) (own : OwnFiles) (asked : Asked) (store : Store) (file content : List ℕ) (steps : List Step) (old now : World) : Type 0 where
+  pub before : List Step
+  pub later : List Step
+  pub splits : steps ≡ before ++ later
+  pub mid : World
+  pub run : IsRunOrRest tells own (task_of asked store) before old mid
+  pub more : List Moment
+  pub grows : now.history ≡ mid.history ++ more
+  pub holds : FilesAreKept own asked.graph.edges old.history mid.history → view_of mid.history file ≡ Some content
+  pub input : (i : ℕ) × (has (inputs (edge_at asked.graph.edges i)) file ≡ true)
+  pub settled : (maker asked.declared file ≡ None → maker asked.graph.edges file ≡ None)
+      → (j : ℕ) → maker asked.graph.edges file ≡ Some j → IsCommand asked.graph.edges j → has_number (done_in before) j ≡ true
 
 -- The phases so far: `texts` are what the loaded files held, none of a file that an edge names still; an edge that names one has it
 -- as an input, and was not judged; each verdict was right by the edges and files of then.
@@ -24,6 +38,7 @@ pub record IsPhased (tells : Bool) (B : Behaviour) (own : OwnFiles) (asked : Ask
   pub unread : (i : ℕ) (file : List ℕ) → (edge_at asked.graph.edges i).dyndep ≡ Some file → texts file ≡ None
   pub inputs : (i : ℕ) (file : List ℕ) → (edge_at asked.graph.edges i).dyndep ≡ Some file → has (inputs (edge_at asked.graph.edges i)) file ≡ true
   pub loaded : (i : ℕ) → has_number (judged_in steps) i ≡ true → (edge_at asked.graph.edges i).dyndep ≡ None
+  pub held : IsTrue tells → (file content : List ℕ) → texts file ≡ Some content → LoadedThen tells own asked store file content steps old now
   pub before : IsTrue tells → ArePhasesJudged tells own asked store [] build.earlier old now
   pub last : IsTrue tells → AreJudgedOver tells own asked store asked.graph.edges (steps_of build.earlier) build.last old now
 
