@@ -48,9 +48,9 @@ module _ (tells : Bool) (own : OwnFiles) (asked : Asked) (store : Store) (steps 
     }
 
     -- a run that was not cut off may give any answer
-    abbrev pub scheduled_run : (answer : Answer) → IsRun tells own (task_of asked store) steps old now → IsScheduled B texts asked store steps old now answer
-    scheduled_run answer run = record {
-      lawful = one_phase B.dyndep texts asked.declared (task_of asked store) store steps same none run.lawful;
+    abbrev pub scheduled_run : (answer : Answer) → IsLawful (task_of asked store) steps → IsRun tells own (task_of asked store) steps old now → IsScheduled B texts asked store steps old now answer
+    scheduled_run answer lawful run = record {
+      lawful = one_phase B.dyndep texts asked.declared (task_of asked store) store steps same none lawful;
       first = run.events;
       later = [];
       grows = run.grows ∙ ap (λ (l : List Event). old.events ++ l) (sym (append-nil run.events));

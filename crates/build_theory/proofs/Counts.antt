@@ -4,10 +4,12 @@ use Rattle.std.proofs.lemmas.List.{append-nil, length-append}
 use Rattle.std.proofs.lemmas.List.Elements.{filter-append}
 use Rattle.std.proofs.lemmas.Bool.{false≢true, or_left, or_right, eq-eqb, cond-true, cond-false, not_from_true, not_from_false, false_from_ne_true}
 use Rattle.model.specs.Graph.{has_number}
-use Rattle.model.specs.Schedule.{Task, Step, Judged, Started, Ended, started_in, ended_in, well_in, failed_in, running_in, IsLawfulStep, IsLawfulFrom, IsLawful}
+use Rattle.model.specs.declared.graph.Edge.{Edge}
+use Rattle.model.specs.Schedule.{Step, Judged, Started, Ended, started_in, ended_in, well_in, failed_in, running_in}
+use Rattle.build_theory.specs.Order.{IsOrderlyStep, IsOrderlyFrom, IsOrderly}
 use Rattle.build_theory.proofs.Lists.{IsPlace, place_of, has_number-right, has_number-push, has_number-push_other}
-use Rattle.build_theory.proofs.Orderly.{orderly_of}
-use Rattle.build_theory.proofs.Steps.{IsKept, kept_lawful, lawful_push, started-append, ended-append, running_parts}
+use Rattle.build_theory.proofs.Orderly.{IsKept, kept_orderly, orderly_push}
+use Rattle.build_theory.proofs.Steps.{started-append, ended-append, running_parts}
 use Rattle.build_theory.proofs.Exit.{distinct_from}
 
 -- ---- lists
@@ -26,12 +28,12 @@ running_judged steps i out_of_date =
     ap (λ (l : List ℕ). filter (λ j. not (has_number (ended_in (steps ++ Judged i out_of_date ∷ [])) j)) l) (started-append steps (Judged i out_of_date ∷ []) ∙ append-nil (started_in steps))
     ∙ ap (λ (l : List ℕ). filter (λ j. not (has_number l j)) (started_in steps)) (ended-append steps (Judged i out_of_date ∷ []) ∙ append-nil (ended_in steps))
 
-module _ (task : Task) (steps : List Step) (lawful : IsLawful task steps) where
-  kept : IsKept task steps
-  kept = kept_lawful task steps lawful
+module _ (edges : List Edge) (steps : List Step) (orderly : IsOrderly edges steps) where
+  kept : IsKept edges steps
+  kept = kept_orderly edges steps orderly
 
   -- a started command runs, behind those that ran before
-  pub running_started : (i : ℕ) → IsLawfulStep task steps (Started i) → running_in (steps ++ Started i ∷ []) ≡ running_in steps ++ i ∷ []
+  pub running_started : (i : ℕ) → IsOrderlyStep edges steps (Started i) → running_in (steps ++ Started i ∷ []) ≡ running_in steps ++ i ∷ []
   running_started i next =
       ap (λ (l : List ℕ). filter (λ j. not (has_number (ended_in (steps ++ Started i ∷ [])) j)) l) (started-append steps (Started i ∷ []))
       ∙ (ap (λ (l : List ℕ). filter (λ j. not (has_number l j)) (started_in steps ++ i ∷ [])) (ended-append steps (Started i ∷ []) ∙ append-nil (ended_in steps))
@@ -39,7 +41,7 @@ module _ (task : Task) (steps : List Step) (lawful : IsLawful task steps) where
       ∙ ap (λ (l : List ℕ). running_in steps ++ l) (cond-true (not (has_number (ended_in steps) i)) (i ∷ []) [] (not_from_false (has_number (ended_in steps) i) fresh))))
     where
       fresh : has_number (ended_in steps) i ≡ false
-      fresh = false_from_ne_true (has_number (ended_in steps) i) (λ h. false≢true (sym next.1.once ∙ kept.ended i h))
+      fresh = false_from_ne_true (has_number (ended_in steps) i) (λ h. false≢true (sym next.1 ∙ kept.ended i h))
 
   -- no edge is started again
   not_again : (before after : List ℕ) (i : ℕ) → started_in steps ≡ before ++ i ∷ after → has_number after i ≡ false
@@ -49,12 +51,12 @@ module _ (task : Task) (steps : List Step) (lawful : IsLawful task steps) where
       twice place =
           let all : started_in steps ≡ (before ++ i ∷ place.before) ++ i ∷ place.after =
           splits ∙ (ap (λ (l : List ℕ). before ++ i ∷ l) place.splits ∙ sym (append_assoc before (i ∷ place.before) (i ∷ place.after))) in
-          false≢true (sym (distinct_from task.graph.edges [] steps (orderly_of task steps lawful) (before ++ i ∷ place.before) place.after i all)
+          false≢true (sym (distinct_from edges [] steps orderly (before ++ i ∷ place.before) place.after i all)
           ∙ has_number-right before (i ∷ place.before) i (or_left (i == i) (has_number place.before i) (eq-eqb i i refl)))
 
   -- one command less runs when one has ended
-  pub running_ended : (i : ℕ) (well : Bool) → IsLawfulStep task steps (Ended i well) → length (running_in steps) ≡ length (running_in (steps ++ Ended i well ∷ [])) + 1
-  running_ended i well next = by_place (place_of (started_in steps) i (running_parts steps i next.0).0)
+  pub running_ended : (i : ℕ) (well : Bool) → IsOrderlyStep edges steps (Ended i well) → length (running_in steps) ≡ length (running_in (steps ++ Ended i well ∷ [])) + 1
+  running_ended i well next = by_place (place_of (started_in steps) i (running_parts steps i next).0)
     where
       agree : (xs : List ℕ) → has_number xs i ≡ false → filter (λ j. not (has_number (ended_in steps) j)) xs ≡ filter (λ j. not (has_number (ended_in steps ++ i ∷ []) j)) xs
       agree xs none = filter_same (λ j. not (has_number (ended_in steps) j)) (λ j. not (has_number (ended_in steps ++ i ∷ []) j)) xs
@@ -66,7 +68,7 @@ module _ (task : Task) (steps : List Step) (lawful : IsLawful task steps) where
           let g : ℕ → Bool = λ j. not (has_number (ended_in steps ++ i ∷ []) j) in
           let was : running_in steps ≡ filter f place.before ++ (i ∷ filter f place.after) =
           ap (λ (l : List ℕ). filter f l) place.splits ∙ (filter-append f place.before (i ∷ place.after)
-          ∙ ap (λ (l : List ℕ). filter f place.before ++ l) (cond-true (f i) (i ∷ filter f place.after) (filter f place.after) (not_from_false (has_number (ended_in steps) i) (running_parts steps i next.0).1))) in
+          ∙ ap (λ (l : List ℕ). filter f place.before ++ l) (cond-true (f i) (i ∷ filter f place.after) (filter f place.after) (not_from_false (has_number (ended_in steps) i) (running_parts steps i next).1))) in
           let is : running_in (steps ++ Ended i well ∷ []) ≡ filter g place.before ++ filter g place.after =
           ap (λ (l : List ℕ). filter (λ j. not (has_number (ended_in (steps ++ Ended i well ∷ [])) j)) l) (started-append steps (Ended i well ∷ []) ∙ append-nil (started_in steps))
           ∙ (ap (λ (l : List ℕ). filter (λ j. not (has_number l j)) (started_in steps)) (ended-append steps (Ended i well ∷ []))
@@ -87,17 +89,17 @@ ended_length (Started i ∷ steps) = ended_length steps
 ended_length (Ended i true ∷ steps) = let rest = ended_length steps in omega (arith, rest)
 ended_length (Ended i false ∷ steps) = let rest = ended_length steps in omega (arith, rest)
 
-module _ (task : Task) where
+module _ (edges : List Edge) where
   abbrev Sums : List Step → Type 0
   Sums steps = length (started_in steps) ≡ length (running_in steps) + length (ended_in steps)
 
-  started_length_from : (before steps : List Step) → IsLawful task before → IsLawfulFrom task before steps → Sums before → Sums (before ++ steps)
-  started_length_from before [] lawful next sums = subst (λ (l : List Step). Sums l) (sym (append-nil before)) sums
-  started_length_from before (step ∷ steps) lawful next sums =
+  started_length_from : (before steps : List Step) → IsOrderly edges before → IsOrderlyFrom edges before steps → Sums before → Sums (before ++ steps)
+  started_length_from before [] orderly next sums = subst (λ (l : List Step). Sums l) (sym (append-nil before)) sums
+  started_length_from before (step ∷ steps) orderly next sums =
       subst (λ (l : List Step). Sums l) (append_assoc before (step ∷ []) steps)
-      (started_length_from (before ++ step ∷ []) steps (lawful_push task before step lawful next.0) next.1 (one_more step next.0))
+      (started_length_from (before ++ step ∷ []) steps (orderly_push edges before step orderly next.0) next.1 (one_more step next.0))
     where
-      one_more : (s : Step) → IsLawfulStep task before s → Sums (before ++ s ∷ [])
+      one_more : (s : Step) → IsOrderlyStep edges before s → Sums (before ++ s ∷ [])
       one_more (Judged i b) next =
           let a = ap length (started-append before (Judged i b ∷ []) ∙ append-nil (started_in before)) in
           let c = ap length (ended-append before (Judged i b ∷ []) ∙ append-nil (ended_in before)) in
@@ -106,14 +108,14 @@ module _ (task : Task) where
       one_more (Started i) next =
           let a = ap length (started-append before (Started i ∷ [])) ∙ length-append (started_in before) (i ∷ []) in
           let c = ap length (ended-append before (Started i ∷ []) ∙ append-nil (ended_in before)) in
-          let d = ap length (running_started task before lawful i next) ∙ length-append (running_in before) (i ∷ []) in
+          let d = ap length (running_started edges before orderly i next) ∙ length-append (running_in before) (i ∷ []) in
           omega (arith, a, c, d, sums)
       one_more (Ended i w) next =
           let a = ap length (started-append before (Ended i w ∷ []) ∙ append-nil (started_in before)) in
           let c = ap length (ended-append before (Ended i w ∷ [])) ∙ length-append (ended_in before) (i ∷ []) in
-          let d = running_ended task before lawful i w next in
+          let d = running_ended edges before orderly i w next in
           omega (arith, a, c, d, sums)
 
   -- each started command runs or has ended
-  pub started_length : (steps : List Step) → IsLawful task steps → length (started_in steps) ≡ length (running_in steps) + length (ended_in steps)
-  started_length steps lawful = started_length_from [] steps tt lawful refl
+  pub started_length : (steps : List Step) → IsOrderly edges steps → length (started_in steps) ≡ length (running_in steps) + length (ended_in steps)
+  started_length steps orderly = started_length_from [] steps tt orderly refl

@@ -61,7 +61,7 @@ grown_further few some many first second = record {
   ];
 }
 
-cases_named : (d : Option (List ℕ)) (file : List ℕ) → (d ≡ Some file) ⊎ (d ≡ Some file → ⊥)
+pub cases_named : (d : Option (List ℕ)) (file : List ℕ) → (d ≡ Some file) ⊎ (d ≡ Some file → ⊥)
 cases_named None file = inr (λ is. cc)
 cases_named (Some f) file = elim (cases_Bool (bytes_eq f file)) [
   | inl same ↦ inl (ap (λ (x : List ℕ). Some x) (same_bytes f file same))

@@ -13,7 +13,7 @@ use Rattle.model.specs.Records.{OwnFiles}
 use Rattle.model.specs.Schedule.{Task, Step, Judged, Started, Ended, IsEndOf, AreEventsOf}
 use Rattle.model.specs.SingleBuild.{IsOwnWrite}
 use Rattle.build_theory.specs.Order.{IsOrderlyStep, IsOrderlyFrom}
-use Rattle.build_theory.specs.Run.{steps_until, AreOfRun, IsRunOrRest}
+use Rattle.build_theory.specs.Run.{steps_until, AreOfRun, IsRun, IsRunOrRest}
 use Rattle.build_theory.proofs.Growth.{HasGrown}
 
 module _ (few many : List Edge) (grown : HasGrown few many) where
@@ -64,6 +64,22 @@ rest_moved tells own few many steps old now grown rest = record {
   finishes = rest.finishes;
   history = λ tell.
       let told = rest.history tell in
+      record {
+        more = told.more;
+        grows = told.grows;
+        happened = told.happened;
+        all = of_run_moved few.graph.edges many.graph.edges grown own steps old.events [] told.more told.all;
+      };
+}
+
+pub run_moved : (tells : Bool) (own : OwnFiles) (few many : Task) (steps : List Step) (old now : World) → HasGrown few.graph.edges many.graph.edges → IsRun tells own few steps old now → IsRun tells own many steps old now
+run_moved tells own few many steps old now grown run = record {
+  orderly = orderly_moved few.graph.edges many.graph.edges grown [] steps run.orderly;
+  events = run.events;
+  grows = run.grows;
+  of_steps = events_moved few.graph.edges many.graph.edges grown steps run.events run.of_steps;
+  history = λ tell.
+      let told = run.history tell in
       record {
         more = told.more;
         grows = told.grows;

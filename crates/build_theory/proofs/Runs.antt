@@ -14,10 +14,11 @@ use Rattle.model.specs.Calls.{AllByOthers, OnlyLooks, Adds, Ticks, TicksOrNot, S
 use Rattle.model.specs.Graph.{has_number, edge_at}
 use Rattle.model.specs.Records.{OwnFiles}
 use Rattle.model.specs.SingleBuild.{IsOwnWrite}
-use Rattle.model.specs.Schedule.{Task, Step, Judged, Started, Ended, IsLawfulStep, IsEndOf, AreEventsOf, started_in, running_in, NoneMayBeJudged, NoneMayStart}
+use Rattle.model.specs.Schedule.{Task, Step, Judged, Started, Ended, IsEndOf, AreEventsOf, started_in, running_in}
+use Rattle.build_theory.specs.Order.{IsOrderlyStep}
 use Rattle.build_theory.specs.Run.{events_in, steps_until, AreOfRun, IsToldBy, IsRun, IsRunOrRest}
-use Rattle.build_theory.proofs.Steps.{running_parts, lawful_push}
-use Rattle.build_theory.proofs.Orderly.{orderly_of}
+use Rattle.build_theory.proofs.Steps.{running_parts}
+use Rattle.build_theory.proofs.Orderly.{orderly_push}
 use Rattle.build_theory.proofs.Events.{events-append, events_judged, finishes_push, runs_now}
 use Rattle.build_theory.proofs.Moments.{until_all, until_more, events_in-append, of_run_append, no_events, others_of_run, told_on, told_more, told_nothing}
 
@@ -86,18 +87,18 @@ module _ (tells : Bool) (own : OwnFiles) (task : Task) (old : World) where
   -- at the entry
   pub run_begins : IsRun tells own task [] old old
   run_begins = record {
-    lawful = tt;
+    orderly = tt;
     events = [];
     grows = sym (append-nil old.events);
     of_steps = tt;
     history = λ tell. told_nothing own task.graph.edges [] old.events old.history;
   }
 
-  -- an edge was judged, and its turn had come
-  pub run_judged : (steps : List Step) (now : World) (i : ℕ) (out_of_date : Bool) → IsRun tells own task steps old now → IsLawfulStep task steps (Judged i out_of_date)
+  -- an edge was judged
+  pub run_judged : (steps : List Step) (now : World) (i : ℕ) (out_of_date : Bool) → IsRun tells own task steps old now → IsOrderlyStep task.graph.edges steps (Judged i out_of_date)
       → IsRun tells own task (steps ++ Judged i out_of_date ∷ []) old now
   run_judged steps now i out_of_date run next = record {
-    lawful = lawful_push task steps (Judged i out_of_date) run.lawful next;
+    orderly = orderly_push task.graph.edges steps (Judged i out_of_date) run.orderly next;
     events = run.events;
     grows = run.grows;
     of_steps = events_judged task.graph.edges steps i out_of_date run.events run.of_steps;
@@ -107,7 +108,7 @@ module _ (tells : Bool) (own : OwnFiles) (task : Task) (old : World) where
   -- a call that only looks
   pub run_looks : (steps : List Step) (now new : World) → IsRun tells own task steps old now → OnlyLooks tells now new → IsRun tells own task steps old new
   run_looks steps now new run looks = record {
-    lawful = run.lawful;
+    orderly = run.orderly;
     events = run.events;
     grows = looks.events ∙ run.grows;
     of_steps = run.of_steps;
@@ -117,7 +118,7 @@ module _ (tells : Bool) (own : OwnFiles) (task : Task) (old : World) where
   -- a tick of one of the program's own files
   pub run_ticks : (steps : List Step) (now new : World) (path : List ℕ) (stamp : ℕ) → IsRun tells own task steps old now → own.files path ≡ true → Ticks tells path stamp now new → IsRun tells own task steps old new
   run_ticks steps now new path stamp run mine ticks = record {
-    lawful = run.lawful;
+    orderly = run.orderly;
     events = run.events;
     grows = ticks.events ∙ run.grows;
     of_steps = run.of_steps;
@@ -132,7 +133,7 @@ module _ (tells : Bool) (own : OwnFiles) (task : Task) (old : World) where
   pub run_writes : (steps : List Step) (now new : World) (path : List ℕ) (content : Option (List ℕ)) (stamp : ℕ) → IsRun tells own task steps old now → IsOwnWrite own task.graph.edges steps path content
       → new.events ≡ now.events → (IsTrue tells → Adds (IsRunning now.events) (IsRunning now.events) (Wrote Program path content stamp) now.history new.history) → IsRun tells own task steps old new
   run_writes steps now new path content stamp run may same adds = record {
-    lawful = run.lawful;
+    orderly = run.orderly;
     events = run.events;
     grows = same ∙ run.grows;
     of_steps = run.of_steps;
@@ -145,11 +146,11 @@ module _ (tells : Bool) (own : OwnFiles) (task : Task) (old : World) where
       all_so_far : (steps : List Step) (events : List Event) → AreEventsOf task.graph.edges steps events → steps_until steps (length events) ≡ steps
       all_so_far steps events of_steps = ap (λ (l : List Event). steps_until steps (length l)) (sym (append-nil events)) ∙ until_all task.graph.edges steps events [] of_steps
 
-  -- the command of an edge was started, whose turn had come
-  pub run_starts : (steps : List Step) (now new : World) (i : ℕ) (act : Act) → IsRun tells own task steps old now → IsLawfulStep task steps (Started i) → act ≡ (edge_at task.graph.edges i).act
+  -- the command of an edge was started
+  pub run_starts : (steps : List Step) (now new : World) (i : ℕ) (act : Act) → IsRun tells own task steps old now → IsOrderlyStep task.graph.edges steps (Started i) → act ≡ (edge_at task.graph.edges i).act
       → Starts tells i act now new → IsRun tells own task (steps ++ Started i ∷ []) old new
   run_starts steps now new i act run next is starts = record {
-    lawful = lawful_push task steps (Started i) run.lawful next;
+    orderly = orderly_push task.graph.edges steps (Started i) run.orderly next;
     events = run.events ++ Start i act now.ticked ∷ [];
     grows = starts.events ∙ (ap (λ (l : List Event). l ++ Start i act now.ticked ∷ []) run.grows ∙ append_assoc old.events run.events (Start i act now.ticked ∷ []));
     of_steps = events-append task.graph.edges steps (Started i ∷ []) run.events (Start i act now.ticked ∷ []) run.of_steps (refl, is, tt);
@@ -158,16 +159,16 @@ module _ (tells : Bool) (own : OwnFiles) (task : Task) (old : World) where
   }
 
   -- a start that failed has started its command or has not
-  pub run_starts_or_not : (steps : List Step) (now new : World) (i : ℕ) (act : Act) → IsRun tells own task steps old now → IsLawfulStep task steps (Started i) → act ≡ (edge_at task.graph.edges i).act
+  pub run_starts_or_not : (steps : List Step) (now new : World) (i : ℕ) (act : Act) → IsRun tells own task steps old now → IsOrderlyStep task.graph.edges steps (Started i) → act ≡ (edge_at task.graph.edges i).act
       → StartsOrNot tells i act now new → IsRun tells own task steps old new ⊎ IsRun tells own task (steps ++ Started i ∷ []) old new
   run_starts_or_not steps now new i act run next is (inl looks) = inl (run_looks steps now new run looks)
   run_starts_or_not steps now new i act run next is (inr starts) = inr (run_starts steps now new i act run next is starts)
 
-  -- a command ended, and nothing might be judged or started
-  pub run_finishes : (steps : List Step) (now new : World) (i : ℕ) (well ok : Bool) → IsRun tells own task steps old now → IsLawfulStep task steps (Ended i well) → IsEndOf (edge_at task.graph.edges i) well ok
+  -- a command that ran has ended
+  pub run_finishes : (steps : List Step) (now new : World) (i : ℕ) (well ok : Bool) → IsRun tells own task steps old now → IsOrderlyStep task.graph.edges steps (Ended i well) → IsEndOf (edge_at task.graph.edges i) well ok
       → Finishes tells i ok now new → IsRun tells own task (steps ++ Ended i well ∷ []) old new
   run_finishes steps now new i well ok run next is finish = record {
-    lawful = lawful_push task steps (Ended i well) run.lawful next;
+    orderly = orderly_push task.graph.edges steps (Ended i well) run.orderly next;
     events = run.events ++ Finish i ok ∷ [];
     grows = finish.events ∙ (ap (λ (l : List Event). l ++ Finish i ok ∷ []) run.grows ∙ append_assoc old.events run.events (Finish i ok ∷ []));
     of_steps = events-append task.graph.edges steps (Ended i well ∷ []) run.events (Finish i ok ∷ []) run.of_steps (refl, is, tt);
@@ -178,25 +179,25 @@ module _ (tells : Bool) (own : OwnFiles) (task : Task) (old : World) where
   -- from a site that was idle, the commands that run are those of the steps
   pub running_now : (steps : List Step) (now : World) → IsIdle old.events → IsRun tells own task steps old now → (j : ℕ) → runs j now.events ≡ has_number (running_in steps) j
   running_now steps now idle run j =
-      ap (λ (l : List Event). runs j l) run.grows ∙ runs_now task steps old.events run.events idle (orderly_of task steps run.lawful) run.of_steps j
+      ap (λ (l : List Event). runs j l) run.grows ∙ runs_now task steps old.events run.events idle run.orderly run.of_steps j
 
   -- a command that was not started does not run, so that it may be started
   pub not_running : (steps : List Step) (now : World) (i : ℕ) → IsIdle old.events → IsRun tells own task steps old now → has_number (started_in steps) i ≡ false → runs i now.events ≡ false
   not_running steps now i idle run fresh =
       running_now steps now idle run i ∙ false_from_ne_true (has_number (running_in steps) i) (λ h. false≢true (sym fresh ∙ (running_parts steps i h).0))
 
-  -- a command that runs on the site is taken in, where nothing may be judged or started
-  pub run_takes_in : (steps : List Step) (now new : World) (job : ℕ) (well ok : Bool) → IsIdle old.events → IsRun tells own task steps old now → NoneMayBeJudged task steps → NoneMayStart task steps
+  -- a command that runs on the site is taken in
+  pub run_takes_in : (steps : List Step) (now new : World) (job : ℕ) (well ok : Bool) → IsIdle old.events → IsRun tells own task steps old now
       → IsEndOf (edge_at task.graph.edges job) well ok → Finishes tells job ok now new → IsRun tells own task (steps ++ Ended job well ∷ []) old new
-  run_takes_in steps now new job well ok idle run unjudged unstarted is finish =
-      run_finishes steps now new job well ok run (sym (running_now steps now idle run job) ∙ finish.ran, unjudged, unstarted) is finish
+  run_takes_in steps now new job well ok idle run is finish =
+      run_finishes steps now new job well ok run (sym (running_now steps now idle run job) ∙ finish.ran) is finish
 
   -- ---- after a fault
 
   -- a fault cuts the run off
   pub rest_begins : (steps : List Step) (now : World) → IsRun tells own task steps old now → IsRunOrRest tells own task steps old now
   rest_begins steps now run = record {
-    orderly = orderly_of task steps run.lawful;
+    orderly = run.orderly;
     first = run.events;
     later = [];
     grows = run.grows ∙ ap (λ (l : List Event). old.events ++ l) (sym (append-nil run.events));

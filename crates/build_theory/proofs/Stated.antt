@@ -57,7 +57,7 @@ starts_once task before after i lawful = (
 pub running_is_as_told : RunningIsAsTold
 running_is_as_told tells own task s old now idle run = (
   (λ j. runs.running_now tells own task old s now idle run j),
-  counts.started_length task s run.lawful ∙ ap (λ (n : ℕ). length (running_in s) + n) (counts.ended_length s),
+  counts.started_length task.graph.edges s run.orderly ∙ ap (λ (n : ℕ). length (running_in s) + n) (counts.ended_length s),
 )
 
 pub loads_come_first : LoadsComeFirst

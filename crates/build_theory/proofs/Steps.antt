@@ -157,7 +157,7 @@ running_parts steps i h =
 
 -- ---- lawful schedules grow
 
-lawful_push_from : (task : Task) (before steps : List Step) (step : Step) → IsLawfulFrom task before steps → IsLawfulStep task (before ++ steps) step → IsLawfulFrom task before (steps ++ step ∷ [])
+pub lawful_push_from : (task : Task) (before steps : List Step) (step : Step) → IsLawfulFrom task before steps → IsLawfulStep task (before ++ steps) step → IsLawfulFrom task before (steps ++ step ∷ [])
 lawful_push_from task before [] step lawful next = (subst (λ (l : List Step). IsLawfulStep task l step) (append-nil before) next, tt)
 lawful_push_from task before (s ∷ steps) step lawful next =
     (lawful.0, lawful_push_from task (before ++ s ∷ []) steps step lawful.1 (subst (λ (l : List Step). IsLawfulStep task l step) (sym (append_assoc before (s ∷ []) steps)) next))

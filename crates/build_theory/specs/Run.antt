@@ -14,7 +14,7 @@ use Rattle.model.specs.Graph.{has_number}
 use Rattle.model.specs.Records.{OwnFiles}
 use Rattle.model.specs.Premises.{FilesAreKept}
 use Rattle.model.specs.SingleBuild.{IsOwnWrite, IsReadyFor}
-use Rattle.model.specs.Schedule.{Task, Step, Judged, Started, Ended, IsLawful, AreEventsOf, AreFinishes, started_in}
+use Rattle.model.specs.Schedule.{Task, Step, Judged, Started, Ended, AreEventsOf, AreFinishes, started_in}
 use Rattle.build_theory.specs.Order.{IsOrderly}
 
 -- the starts and finishes among these moments
@@ -55,9 +55,10 @@ pub record IsToldBy (own : OwnFiles) (edges : List Edge) (steps : List Step) (be
   pub happened : events_in more ≡ events
   pub all : AreOfRun own edges steps before [] more
 
--- A run that goes on: its steps are lawful, and the site's events and its history grew by what they say.
+-- A run that goes on: its steps are orderly, and the site's events and its history grew by what they say. Whether they are lawful
+-- is said beside it, as the edges that they are lawful for grow by what is loaded.
 pub record IsRun (tells : Bool) (own : OwnFiles) (task : Task) (steps : List Step) (old now : World) : Type 0 where
-  pub lawful : IsLawful task steps
+  pub orderly : IsOrderly task.graph.edges steps
   pub events : List Event
   pub grows : now.events ≡ old.events ++ events
   pub of_steps : AreEventsOf task.graph.edges steps events

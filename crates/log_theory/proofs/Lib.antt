@@ -24,7 +24,9 @@ pub mod Over
 pub mod Stated
 pub mod Builds
 pub mod Alone
+pub mod Phased
 pub mod Ledger
+pub mod Loading
 pub mod TakenIn
 pub mod Readying
 pub mod Driving

@@ -26,8 +26,8 @@ use Rattle.log_theory.proofs.Growing.{longer}
 use Rattle.log_theory.proofs.Ledger.{SaysAtEnd, command_of}
 use Rattle.log_theory.proofs.Once.{not_ended_again, one_end}
 
-module _ (tells : Bool) (B : Behaviour) (format : LogFormat) (own : OwnFiles) (asked : Asked) (store : Store) (old : World) (steps : List Step) (now mid new : World) (i : ℕ) (ok : Bool)
-    (finish : Finishes tells i ok now mid) (looks : OnlyLooks tells mid new) (carried : IsCarried tells B format own asked store steps None old now) where
+module _ (tells : Bool) (B : Behaviour) (format : LogFormat) (own : OwnFiles) (asked : Asked) (store : Store) (old : World) (goes_on : Bool) (steps : List Step) (now mid new : World) (i : ℕ) (ok : Bool)
+    (finish : Finishes tells i ok now mid) (looks : OnlyLooks tells mid new) (carried : IsCarried tells B format own asked store goes_on steps None old now) where
   idle : IsIdle old.events
   idle = carried.beside.idle
 

@@ -13,7 +13,7 @@ use Rattle.model.specs.Graph.{has, has_number, edge_at, inputs, outputs, IsMadeO
 use Rattle.model.specs.Outcome.{Behaviour}
 use Rattle.model.specs.Records.{Store, OwnFiles, recorded_of, recorded_inputs}
 use Rattle.model.specs.OutOfDate.{Counted, IsVerdict}
-use Rattle.model.specs.Schedule.{Step, Judged, Started, Ended, started_in, well_in, done_in}
+use Rattle.model.specs.Schedule.{Task, Step, Judged, Started, Ended, started_in, well_in, done_in}
 use Rattle.model.specs.Phases.{Phase, steps_of, task_with, ArePhasesFrom, AreTakenIn, IsLawfulBuild}
 use Rattle.model.specs.Premises.{InputsAreKnown, FilesAreKept, RecordedApart, OwnFilesApart, SharesNone, IsWithinEdge, Matters, DyndepOutputsAreReadBelow}
 use Rattle.model.specs.SingleBuild.{Asked, NamesOther, IsOfBuild, task_of}
@@ -77,6 +77,28 @@ module _ (own : OwnFiles) (few many : List Edge) (grown : HasGrown few many) whe
   within_before steps loaded (Wrote Someone path content stamp ∷ ms) build within = (tt, within_before steps loaded ms build.1 within.1)
   within_before steps loaded (Happened event ∷ ms) build within = (tt, within_before steps loaded ms build.1 within.1)
 
+-- files that are kept over the edges of the end are kept over those of a run so far, where each command that it started has its dyndep
+-- file loaded
+pub kept_then : (tells : Bool) (own : OwnFiles) (few : Task) (many : List Edge) → HasGrown few.graph.edges many → (steps : List Step) (old now : World) → IsTrue tells → IsIdle old.events
+    → IsRunOrRest tells own few steps old now → ((i : ℕ) → has_number (started_in steps) i ≡ true → (edge_at few.graph.edges i).dyndep ≡ None)
+    → FilesAreKept own many old.history now.history → FilesAreKept own few.graph.edges old.history now.history
+kept_then tells own few many grown steps old now tell idle rest loaded files = record {
+  commands = λ more is. subst (λ (l : List Moment). AllByRecursion (IsWithinEdge few.graph.edges) l) (same_rest old.history told.more more (sym told.grows ∙ is))
+      (within_before own few.graph.edges many grown steps loaded told.more of_build_then (files.commands told.more told.grows));
+  own_files = apart_before own few.graph.edges many grown files.own_files;
+  edits = files.edits;
+}
+  where
+    told : IsToldBy own few.graph.edges steps old.events (rest.first ++ rest.later) old.history now.history
+    told = rest.history tell
+
+    starts_are : starts_in (rest.first ++ rest.later) ≡ started_in steps
+    starts_are = starts_of_all few.graph.edges steps rest.first (old.events ++ rest.first) rest.later rest.of_steps rest.finishes
+
+    of_build_then : AllByRecursion (IsOfBuild own few.graph.edges steps) told.more
+    of_build_then = of_build own few.graph.edges steps old.events [] told.more idle told.all
+        (λ j h. subst (λ (l : List ℕ). has_number l j ≡ true) (ap starts_in told.happened ∙ starts_are) h)
+
 -- ---- from a phase to the exit
 
 module _ (tells : Bool) (B : Behaviour) (own : OwnFiles) (texts : View) (asked : Asked) (store : Store) (steps : List Step) (old now : World)
@@ -112,30 +134,15 @@ module _ (tells : Bool) (B : Behaviour) (own : OwnFiles) (texts : View) (asked :
       (subst (λ (l : List Step). IsRunOrRest tells own (task_of asked store) l old now) splits rest) (was.grows tell) files apart counted
       (turn.verdict old.history was.mid.history (was.right tell files_then (recorded_before own edges asked.graph.edges grown store apart)))
     where
-      told : IsToldBy own edges before old.events (was.run.first ++ was.run.later) old.history was.mid.history
-      told = was.run.history tell
-
       kept : IsKept edges before
       kept = kept_orderly edges before was.run.orderly
 
       files_mid : FilesAreKept own asked.graph.edges old.history was.mid.history
       files_mid = kept_before own asked.graph.edges old.history was.mid.history now.history was.more (was.grows tell) files
 
-      of_build_then : AllByRecursion (IsOfBuild own edges before) told.more
-      of_build_then = of_build own edges before old.events [] told.more idle told.all
-          (λ j h. subst (λ (l : List ℕ). has_number l j ≡ true) (ap starts_in told.happened ∙ starts_are) h)
-        where
-          starts_are : starts_in (was.run.first ++ was.run.later) ≡ started_in before
-          starts_are =
-              starts_of_all edges before was.run.first (old.events ++ was.run.first) was.run.later was.run.of_steps was.run.finishes
-
       files_then : FilesAreKept own edges old.history was.mid.history
-      files_then = record {
-        commands = λ more is. subst (λ (l : List Moment). AllByRecursion (IsWithinEdge edges) l) (same_rest old.history told.more more (sym told.grows ∙ is))
-            (within_before own edges asked.graph.edges grown before (λ k started. turn.loaded k (kept.out_of_date k (kept.started k started))) told.more of_build_then (files_mid.commands told.more told.grows));
-        own_files = apart_before own edges asked.graph.edges grown files.own_files;
-        edits = files_mid.edits;
-      }
+      files_then = kept_then tells own (task_with (task_of asked store) store edges) asked.graph.edges grown before old was.mid tell idle was.run
+          (λ k started. turn.loaded k (kept.out_of_date k (kept.started k started))) files_mid
 
       counted : IsReadAfter asked.graph.edges (λ k p. Counted asked.graph.edges store now.history k p) (done_in before) i
       counted p j (inl read) made command = first before after i b splits p j (inl read) made command

@@ -142,7 +142,7 @@ module _ (tells : Bool) (own : OwnFiles) (task : Task) (path : List ℕ) where
   pub run_at : (steps : List Step) (old now new : World) → ((content : Option (List ℕ)) → IsOwnWrite own task.graph.edges steps path content) → new.events ≡ now.events
       → (IsTrue tells → GrewAt path (IsRunning now.events) now.history new.history) → IsRun tells own task steps old now → IsRun tells own task steps old new
   run_at steps old now new may events grew run = record {
-    lawful = run.lawful;
+    orderly = run.orderly;
     events = run.events;
     grows = events ∙ run.grows;
     of_steps = run.of_steps;

@@ -350,10 +350,12 @@ pub record SingleBuild (tells : Bool) (B : Behaviour) (format : LogFormat) (own 
   -- the records that the build found; where the site tells its files, those of its logs
   pub store : Store
   pub logs : IsTrue tells → NothingIsEdited old.history new.history → store ≡ store_in format own (view_of old.history)
-  -- what the loaded dyndep files held
+  -- what the loaded dyndep files held, and hold still: but for one that a dyndep file alone names as an output, whose maker may come
+  -- after the load
   pub texts : View
   pub held : IsTrue tells → FilesAreKept own asked.graph.edges old.history new.history
-      → (file content : List ℕ) → texts file ≡ Some content → view_of new.history file ≡ Some content
+      → (file content : List ℕ) → texts file ≡ Some content → (maker asked.declared file ≡ None → maker asked.graph.edges file ≡ None)
+      → view_of new.history file ≡ Some content
   pub steps : List Step
   pub schedule : IsScheduled B texts asked store steps old new answer
   -- the edge whose start or taking in met the fault, if one did
