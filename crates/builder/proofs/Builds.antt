@@ -185,7 +185,7 @@ module _ (tells : Bool) (B : Behaviour) (format : LogFormat) (own : OwnFiles) (g
     store = store;
     logs = found;
     texts = none_loaded;
-    held = λ tell kept file content loaded. absurd (nothing_held content loaded);
+    held = λ tell kept file content loaded _. absurd (nothing_held content loaded);
     steps = [];
     schedule = nothing_scheduled looks answer;
     met = None;
@@ -346,7 +346,7 @@ module _ (tells : Bool) (B : Behaviour) (format : LogFormat) (own : OwnFiles) (g
         store = store;
         logs = found;
         texts = none_loaded;
-        held = λ tell kept file content loaded. absurd (nothing_held content loaded);
+        held = λ tell kept file content loaded _. absurd (nothing_held content loaded);
         steps = steps;
         schedule = scheduled steps cut.lawful answer first later grows of_steps finishes whole;
         met = met;

@@ -124,7 +124,7 @@ module _ (reading : List ℕ → Option (List (List ℕ))) (dyndep : List ℕ �
     store = no_store;
     logs = λ tells unedited. at_named format reads_logs all fits;
     texts = λ p. None;
-    held = λ tells kept file content is. absurd (none_some content is);
+    held = λ tells kept file content is _. absurd (none_some content is);
     steps = failing_steps;
     schedule = record {
       lawful = in_one_phase reading dyndep no_store [] refl refl tt (λ p. None) failing_steps (
@@ -199,7 +199,7 @@ module _ (reading : List ℕ → Option (List (List ℕ))) (dyndep : List ℕ �
     store = failed_store;
     logs = λ tells unedited. at_edited format reads_logs all fits;
     texts = λ p. None;
-    held = λ tells kept file content is. absurd (none_some content is);
+    held = λ tells kept file content is _. absurd (none_some content is);
     steps = stopping_steps;
     schedule = record {
       lawful = in_one_phase reading dyndep failed_store [] refl refl tt (λ p. None) stopping_steps
@@ -231,7 +231,7 @@ module _ (reading : List ℕ → Option (List (List ℕ))) (dyndep : List ℕ �
     store = stopped_store;
     logs = λ tells unedited. at_stopped format reads_logs all fits;
     texts = λ p. None;
-    held = λ tells kept file content is. absurd (none_some content is);
+    held = λ tells kept file content is _. absurd (none_some content is);
     steps = good_steps;
     schedule = record {
       lawful = in_one_phase reading dyndep stopped_store [] refl refl tt (λ p. None) good_steps (
@@ -280,7 +280,7 @@ module _ (reading : List ℕ → Option (List (List ℕ))) (dyndep : List ℕ �
     store = built_store;
     logs = λ tells unedited. at_edited_again format reads_logs all fits;
     texts = λ p. None;
-    held = λ tells kept file content is. absurd (none_some content is);
+    held = λ tells kept file content is _. absurd (none_some content is);
     steps = all_steps;
     schedule = record {
       lawful = in_one_phase reading dyndep built_store (codes "h" ∷ []) refl refl (refl, tt) (λ p. None) all_steps (
