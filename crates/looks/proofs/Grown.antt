@@ -1,14 +1,13 @@
 -- Room for paths that a graph got.
-use Rattle.std.proofs.Common.{◌≡◌, ◌⊎◌, inl, inr, ℕ, ◌<◌, ◌≤◌, ◌-◌, Bool, true, false, List, [], ◌∷◌, ◌++◌, Option, length, get_or, take, sym, refl, ◌∙◌, ap, arith}
+use Rattle.std.proofs.Common.{◌≡◌, inl, inr, ℕ, ◌<◌, ◌-◌, true, List, [], ◌++◌, length, sym, refl, ◌∙◌, ap, arith}
 use Rattle.std.proofs.Math.ListN.{replicate}
 use Rattle.std.proofs.lemmas.Bool.{false≢true, cases_lt}
 use Rattle.std.proofs.lemmas.List.{get_or_past, get_or_append_left, get_or-append_right, get_or-replicate, length-replicate}
-use Rattle.model.specs.declared.event.Moment.{Moment}
-use Rattle.model.specs.World.{File, file_at, stamp_of}
+use Rattle.model.specs.World.{file_at, stamp_of}
 use Rattle.paths.specs.Told.{text_at}
 use Rattle.looks.specs.declared.table.Look.{Look}
 use Rattle.looks.specs.declared.table.Look.TheVariants.{Unasked}
-use Rattle.looks.specs.Seen.{look_at, look_of, is_asked, AreSeen, AreSeenOf, StaysSeen}
+use Rattle.looks.specs.Seen.{look_at, look_of, is_asked, StaysSeen}
 
 -- more places that were not asked for show what was shown before
 filled : (n p : ℕ) → look_at (replicate n Unasked) p ≡ Unasked
