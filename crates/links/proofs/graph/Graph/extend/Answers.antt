@@ -29,7 +29,7 @@ returns-in-Ok-clause-loaded c =
     let are : AreChosen graph c.args.file additions c.deref.result.now = subst (AreChosen graph c.args.file additions) (sym {A = List (Option ℕ)} c.deref.ensures.value) c.in_ok-chosen.ensures.chosen in
     record {
       grown = is_grown graph once c.args.file c.requires additions c.deref.result.now are now.paths loaded.paths loaded.gains loaded.gained now.lines loaded.lines now.actions loaded.actions;
-      once = none_twice now c.in-Ok.parts.makers.items c.in-Ok.ensures.makers c.in-Ok.ensures.apart;
+      once = none_twice now c.in-Ok.loaded.makers.items c.in-Ok.ensures.makers c.in-Ok.ensures.apart;
       pools = loaded.pools;
       defaults = ap (texts_at now.paths) loaded.defaults ∙ defaults_same graph now.paths loaded.paths;
       builddir = loaded.builddir;
