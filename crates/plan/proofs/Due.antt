@@ -1,5 +1,5 @@
 -- The load that a plan says is the one that is due.
-use Rattle.std.proofs.Common.{◌≡◌, ◌⊎◌, inl, inr, ℕ, zero, suc, ◌<◌, ◌==◌, ◌||◌, cond, Bool, true, false, List, [], ◌∷◌, ◌++◌, Option, None, Some, length, refl, sym, ◌∙◌, ap, subst, arith}
+use Rattle.std.proofs.Common.{◌≡◌, ◌⊎◌, inl, inr, ℕ, zero, suc, ◌<◌, ◌==◌, ◌||◌, cond, Bool, true, false, List, [], ◌∷◌, ◌++◌, Option, None, Some, take, drop, length, get_or, refl, sym, ◌∙◌, ap, subst, arith}
 use Rattle.std.specs.Option.{option_map}
 use Rattle.std.specs.List.{AllByRecursion}
 use Rattle.std.proofs.lemmas.Bool.{false≢true, or_cases, eqb-true}
@@ -29,6 +29,25 @@ each_number P (x ∷ xs) n all h = elim (or_cases (x == n) (has_number xs n) h) 
   | inl same ↦ subst P (eqb-true x n same) all.0
   | inr later ↦ each_number P xs n all.1 later
 ]
+
+parted : (xs : List ℕ) (k : ℕ) → k < length xs → xs ≡ take k xs ++ get_or xs k 0 ∷ drop (suc k) xs
+parted [] k lt = absurd (omega (arith, lt))
+parted (x ∷ xs) zero lt = refl
+parted (x ∷ xs) (suc k) lt = ap (λ (l : List ℕ). x ∷ l) (parted xs k (omega (arith, lt)))
+
+pub first_there : (there : List Bool) (paths : List ℕ) (k p : ℕ) → k < length paths → p ≡ get_or paths k 0 → NoneIsThere there (take k paths) → has there p ≡ true → IsFirstThere there paths p
+first_there there paths k p lt at none is = record {
+  before = take k paths;
+  after = drop (suc k) paths;
+  splits = subst (λ (n : ℕ). paths ≡ take k paths ++ n ∷ drop (suc k) paths) (sym at) (parted paths k lt);
+  earlier = none;
+  is = is;
+}
+
+-- the file stands in the list
+pub first_listed : (there : List Bool) (paths : List ℕ) (p : ℕ) → IsFirstThere there paths p → has_number paths p ≡ true
+first_listed there paths p first =
+    subst (λ (l : List ℕ). has_number l p ≡ true) (sym first.splits) (has_number-right first.before (p ∷ first.after) p (has_number-left (p ∷ []) first.after p (has_number-one p)))
 
 -- a file goes before each one behind it
 before_rest : (graph : Graph) (before : List ℕ) (file : ℕ) (after : List ℕ) → AreInOrder graph (before ++ file ∷ after) → (other : ℕ) → has_number after other ≡ true → LoadsBefore graph file other
@@ -137,8 +156,7 @@ module _ (task : Task) (graph : Graph) (plan : Plan) (steps : List Step) (at : I
   next_load p first = record { due = due_load p wanted first.is; lowest = lowest }
     where
       wanted : IsWanted graph plan.standings.items p
-      wanted = at.over.loading.loads_are.named p (subst (λ (l : List ℕ). has_number l p ≡ true) (sym first.splits)
-          (has_number-right first.before (p ∷ first.after) p (has_number-left (p ∷ []) first.after p (has_number-one p))))
+      wanted = at.over.loading.loads_are.named p (first_listed plan.there.items plan.loads.items p first)
 
       lowest : (other : List ℕ) → IsDueLoad task steps other → (other ≡ text p) ⊎ GoesBefore edges (text p) other
       lowest other due =

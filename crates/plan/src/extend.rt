@@ -125,7 +125,13 @@ fn grown_flags(alloc: Global, flags: &[bool], count: usize) -> Result<Vec<bool>,
 {
     let mut grown = Vec::with_capacity(alloc, count)?;
     for place in 0..count {
-        grown.push(place < flags.len() && flags[place])?;
+        grown.push(is_set(flags, place))?;
     }
     Ok(grown)
+}
+
+fn is_set(flags: &[bool], place: usize) -> bool
+    ensures { result ≡ has flags.now place }
+{
+    matches!(flags.get(place), Some(true))
 }
