@@ -5,7 +5,7 @@ use Rattle.std.proofs.lemmas.List.{length-append}
 use Rattle.std.proofs.lemmas.List.Sums.{sum_by-cons}
 use Rattle.model.specs.declared.graph.Edge.{Edge}
 use Rattle.model.specs.declared.graph.Pool.{Pool}
-use Rattle.model.specs.Graph.{has, has_number, edge_at, inputs, maker, IsCommand, Addition}
+use Rattle.model.specs.Graph.{has, has_number, edge_at, inputs, maker, no_edge, IsCommand, Addition}
 use Rattle.model.specs.Reading.{needs, IsInCone, Wanted, Needed, Validating}
 use Rattle.model.specs.Schedule.{Task, Step, Judged, Started, Ended, judged_in, done_in, IsSettled, Done}
 use Rattle.build_theory.specs.Order.{IsOrderly, IsOrderlyStep, IsOrderlyFrom}
@@ -17,9 +17,9 @@ use Rattle.queue.specs.Turns.{Turns}
 use Rattle.paths.specs.declared.line.Line.{Line}
 use Rattle.paths.specs.declared.manifest.Action.{Action}
 use Rattle.paths.specs.declared.manifest.Action.TheVariants as action
-use Rattle.paths.specs.Lists.{line_at}
+use Rattle.paths.specs.Lists.{line_at, line_outputs}
 use Rattle.paths.specs.Commands.{no_action}
-use Rattle.paths.specs.Told.{edge_of}
+use Rattle.paths.specs.Told.{edge_of, edges_of}
 use Rattle.links.specs.declared.cone.Mark.{Mark}
 use Rattle.links.specs.declared.cone.Mark.TheVariants.{Unseen}
 use Rattle.links.specs.declared.graph.Graph.{Graph}
@@ -28,7 +28,6 @@ use Rattle.links.specs.Links.{Links, links_of}
 use Rattle.links.specs.Linked.{IsConeOf}
 use Rattle.links.specs.Told.{declared_by}
 use Rattle.links.specs.Extended.{HasLoaded}
-use Rattle.links.proofs.GraphIs.{edge_is}
 use Rattle.plan.specs.declared.plan.Plan.{Plan}
 use Rattle.plan.specs.declared.step.Standing.{Standing}
 use Rattle.plan.specs.declared.step.Standing.TheVariants.{Outside, Unjudged, Clean, OutOfDate, Running, Well, Failed, Alias, Known}
@@ -101,7 +100,7 @@ module _ (links : Links) (marks : List Mark) (old new : List Standing) (grown : 
     waits = λ e. waiting.waits e ∙ sym (test_same is_out_of_date refl refl refl refl e);
   }
 
-lower_or_past : (a b : ℕ) → (a < b) ⊎ (b ≤ a)
+pub lower_or_past : (a b : ℕ) → (a < b) ⊎ (b ≤ a)
 lower_or_past a zero = inr (omega arith)
 lower_or_past zero (suc b) = inl (omega arith)
 lower_or_past (suc a) (suc b) = elim (lower_or_past a b) [
@@ -109,7 +108,7 @@ lower_or_past (suc a) (suc b) = elim (lower_or_past a b) [
   | inr past ↦ inr (omega (arith, past))
 ]
 
-past_end : {X : Type 0} (xs : List X) (k : ℕ) (d : X) → length xs ≤ k → get_or xs k d ≡ d
+pub past_end : {X : Type 0} (xs : List X) (k : ℕ) (d : X) → length xs ≤ k → get_or xs k d ≡ d
 past_end [] k d past = refl
 past_end (x ∷ xs) zero d past = absurd (omega (arith, past))
 past_end (x ∷ xs) (suc k) d past = past_end xs k d (omega (arith, past))
@@ -135,6 +134,15 @@ flags_all flags grown count fits few each p = elim (lower_or_past p count) [
   | inr past ↦ past_end grown p false (omega (arith, fits, past)) ∙ sym (past_end flags p false (omega (arith, few, past)))
 ]
 
+-- who makes a path is an edge of the graph
+pub maker_below : (graph : Graph) (p e : ℕ) → (links_of graph).maker p ≡ Some e → e < length graph.manifest.lines
+maker_below graph p e is = below graph.manifest.lines e (graph.making.made p e is)
+  where
+    below : (lines : List Line) (k : ℕ) → has_number (line_outputs (line_at lines k)) p ≡ true → k < length lines
+    below [] k h = absurd (false≢true h)
+    below (line ∷ lines) zero h = omega arith
+    below (line ∷ lines) (suc k) h = let low = below lines k h in omega (arith, low)
+
 -- what is there, and what edges wait for
 pub over_grown : (links : Links) (paths : ℕ) (standings : List Standing) (there : List Bool) (left : List ℕ) → length standings ≡ links.count → AreThere links paths standings there → AreCounts links standings there left
     → IsOver links paths standings left there
@@ -152,8 +160,15 @@ pub pool_is : (paths : List (List ℕ)) (line : Line) (a : Action) → (edge_of 
 pool_is paths line action.Alias = refl
 pool_is paths line (action.Command command) = refl
 
+pool_get : (paths : List (List ℕ)) (lines : List Line) (actions : List Action) (e : ℕ) → length actions ≡ length lines → (get_or (edges_of paths lines actions) e no_edge).pool ≡ pool_of (get_or actions e no_action)
+pool_get paths [] [] e fits = refl
+pool_get paths [] (a ∷ actions) e fits = absurd (omega (arith, fits))
+pool_get paths (line ∷ lines) [] e fits = absurd (omega (arith, fits))
+pool_get paths (line ∷ lines) (a ∷ actions) zero fits = pool_is paths line a
+pool_get paths (line ∷ lines) (a ∷ actions) (suc e) fits = pool_get paths lines actions e (omega (arith, fits))
+
 pool_at : (graph : Graph) (e : ℕ) → (edge_at (declared_by graph).edges (suc e)).pool ≡ pool_of (get_or graph.manifest.actions e no_action)
-pool_at graph e = ap (λ (edge : Edge). edge.pool) (edge_is graph e) ∙ pool_is graph.manifest.paths (line_at graph.manifest.lines e) (get_or graph.manifest.actions e no_action)
+pool_at graph e = pool_get graph.manifest.paths graph.manifest.lines graph.manifest.actions e graph.manifest.fits
 
 pub all_pooled : (graph : Graph) (plan : Plan) → MayGoOn graph plan → AreAllPooled graph plan.queue
 all_pooled graph plan may = λ e.

@@ -3,6 +3,7 @@ use Rattle.links.specs.Links.{links_of}
 use Rattle.plan.specs.declared.step.Standing.{Standing}
 use Rattle.plan.specs.Plan.{IsReady}
 use Rattle.plan.specs.First.{AreCounts, IsIdle}
+use Rattle.plan.specs.Loads.{AreLoads}
 use Rattle.plan.proofs.Begun.{none_counted, none_waits, over_first}
 use Rattle.plan.proofs.plan.Plan.begin.Goals as goal
 
@@ -34,7 +35,7 @@ invariant_of-result-clause-sets c =
 pub invariant_of-result-clause-waits : goal.invariant_of-result-clause-waits
 invariant_of-result-clause-waits c =
     none_waits (links_of c.args.graph.now) c.args.cone.now.marks.items c.in_ok-standings.standings.items c.in_ok-standings.ensures c.args.graph.now c.in_ok-queue.queue
-    (subst (λ (l : List Standing). IsIdle c.args.graph.now l c.in_ok-queue.queue) c.deref-5.ensures.value c.in_ok-queue.ensures)
+    (subst (λ (l : List Standing). IsIdle c.args.graph.now l c.in_ok-queue.queue) c.deref-6.ensures.value c.in_ok-queue.ensures.idle)
 
 pub invariant_of-result-clause-tallied : goal.invariant_of-result-clause-tallied
 invariant_of-result-clause-tallied c = none_counted (links_of c.args.graph.now) c.args.cone.now.marks.items c.in_ok-standings.standings.items c.in_ok-standings.ensures
@@ -48,7 +49,11 @@ returns c =
       over = over_first links c.args.cone.now.marks.items standings c.in_ok-standings.ensures (length c.args.graph.now.manifest.paths) c.in_ok-there.there.items c.in_ok-left.left.items c.in_ok-there.ensures
           (subst (λ (l : List Standing). AreCounts links l c.in_ok-there.there.items c.in_ok-left.left.items) c.deref.ensures.value
           (subst (λ (l : List Bool). AreCounts links c.deref.result.now l c.in_ok-left.left.items) c.deref-2.ensures.value c.in_ok-left.ensures));
-      idle = subst (λ (l : List Standing). IsIdle c.args.graph.now l c.in_ok-queue.queue) c.deref-5.ensures.value c.in_ok-queue.ensures;
+      idle = subst (λ (l : List Standing). IsIdle c.args.graph.now l c.in_ok-queue.queue) c.deref-6.ensures.value c.in_ok-queue.ensures.idle;
       flags = c.in_ok-changed.ensures.items_if_clones_equal (λ y h. h) ∙ ap (λ (n : ℕ). replicate n false) c.paths.ensures;
       limits = (refl, refl);
+      loading = record {
+        loads_are = subst (λ (l : List Standing). AreLoads c.args.graph.now l c.in_ok-loads.loads.items) c.deref-5.ensures.value c.in_ok-loads.ensures;
+        all = λ some. c.in_ok-queue.ensures.all ?;
+      };
     }
