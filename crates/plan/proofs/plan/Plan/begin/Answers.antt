@@ -1,4 +1,4 @@
-use Rattle.std.proofs.Common.{◌∙◌, ℕ, List, Bool, false, length, replicate, refl, ap, subst, arith}
+use Rattle.std.proofs.Common.{◌≡◌, ◌∙◌, ℕ, zero, suc, ◌<◌, ◌==◌, not, List, Bool, true, false, length, replicate, refl, ap, subst, arith}
 use Rattle.links.specs.Links.{links_of}
 use Rattle.plan.specs.declared.step.Standing.{Standing}
 use Rattle.plan.specs.Plan.{IsReady}
@@ -40,6 +40,10 @@ invariant_of-result-clause-waits c =
 pub invariant_of-result-clause-tallied : goal.invariant_of-result-clause-tallied
 invariant_of-result-clause-tallied c = none_counted (links_of c.args.graph.now) c.args.cone.now.marks.items c.in_ok-standings.standings.items c.in_ok-standings.ensures
 
+some_left : (n : ℕ) → 0 < n → not (n == 0) ≡ true
+some_left zero some = absurd (omega (arith, some))
+some_left (suc n) some = refl
+
 pub returns : goal.returns
 returns c =
     let links = links_of c.args.graph.now in
@@ -54,6 +58,6 @@ returns c =
       limits = (refl, refl);
       loading = record {
         loads_are = subst (λ (l : List Standing). AreLoads c.args.graph.now l c.in_ok-loads.loads.items) c.deref-5.ensures.value c.in_ok-loads.ensures;
-        all = λ some. c.in_ok-queue.ensures.all ?;
+        all = λ some. c.in_ok-queue.ensures.all (ap not c.is_empty.ensures ∙ some_left c.in_ok-loads.loads.len (omega (arith, some, c.in_ok-loads.loads.ok.0)));
       };
     }
