@@ -115,12 +115,7 @@ pub fn push_made_up(
 }
 
 /// Whether the text, read again, tells what it told.
-fn is_told_again(
-    alloc: Global,
-    kind: Kind,
-    text: &[u8],
-    told: &Told,
-) -> Result<bool, AllocError> {
+fn is_told_again(alloc: Global, kind: Kind, text: &[u8], told: &Told) -> Result<bool, AllocError> {
     let again = Told::of(alloc, kind, text)?;
     Ok(
         again.tail == told.tail
