@@ -16,7 +16,7 @@ struct Counts {
 }
 
 /// What a reading gives.
-#[derive(Clone, Copy, PartialEq, Eq)]
+#[derive(Clone, Copy)]
 enum Given {
     Manifest,
     Refusal,
@@ -32,12 +32,7 @@ impl Counts {
 
     /// One reading more.
     fn count(&mut self, alloc: Global, files: &mut Files) -> Result<(), AllocError> {
-        let given = if is_told_again(alloc, files)? {
-            given(alloc, files)
-        } else {
-            Given::Wrong
-        };
-        let count = match given {
+        let count = match given_again(alloc, files)? {
             Given::Manifest => &mut self.read,
             Given::Refusal => &mut self.refused,
             Given::Wrong => &mut self.wrong,
@@ -50,6 +45,15 @@ impl Counts {
         let (read, refused, wrong) = (self.read, self.refused, self.wrong);
         let counts = format!(in alloc; "{read} read, {refused} refused, {wrong} wrong")?;
         told.push_str(counts.as_str())
+    }
+}
+
+/// What a read gives, where a second one tells the same.
+fn given_again(alloc: Global, files: &mut Files) -> Result<Given, AllocError> {
+    if is_told_again(alloc, files)? {
+        Ok(given(alloc, files))
+    } else {
+        Ok(Given::Wrong)
     }
 }
 

@@ -13,6 +13,14 @@ struct Counts {
     wrong: u32,
 }
 
+/// How a script ended.
+#[derive(Clone, Copy)]
+enum End {
+    Whole,
+    BadLine,
+    Wrong,
+}
+
 /// What a script answers, and what it prints.
 #[derive(Drop)]
 struct Run {
@@ -28,12 +36,27 @@ impl Run {
         Run { answer, printed }
     }
 
-    fn is_bad_line(&self) -> bool {
-        self.answer == Ok(2) && self.printed.as_slice().ends_with(b"bad line\n")
+    fn end(&self) -> End {
+        match self.answer {
+            Ok(0) => End::Whole,
+            Ok(2) if self.printed.as_slice().ends_with(b"bad line\n") => End::BadLine,
+            _ => End::Wrong,
+        }
     }
 
     fn is_as(&self, other: &Run) -> bool {
         self.answer == other.answer && self.printed.as_slice() == other.printed.as_slice()
+    }
+}
+
+/// How a script ends, both times that it is run.
+fn end_of(alloc: Global, text: &[u8]) -> End {
+    let run = Run::of(alloc, text);
+    let again = Run::of(alloc, text);
+    if run.is_as(&again) {
+        run.end()
+    } else {
+        End::Wrong
     }
 }
 
@@ -46,17 +69,10 @@ impl Counts {
 
     /// One script more.
     fn count(&mut self, alloc: Global, text: &[u8]) {
-        let run = Run::of(alloc, text);
-        let again = Run::of(alloc, text);
-        let is_steady = run.is_as(&again);
-        let count = if !is_steady {
-            &mut self.wrong
-        } else if run.answer == Ok(0) {
-            &mut self.ended
-        } else if run.is_bad_line() {
-            &mut self.bad_lines
-        } else {
-            &mut self.wrong
+        let count = match end_of(alloc, text) {
+            End::Whole => &mut self.ended,
+            End::BadLine => &mut self.bad_lines,
+            End::Wrong => &mut self.wrong,
         };
         *count = count.saturating_add(1);
     }
