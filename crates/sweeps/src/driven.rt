@@ -27,9 +27,10 @@ fn try_on<W: Write>(
 ) -> io::Result<()> {
     let options = options(alloc, 3, 1)?;
     let moves = moves(alloc, row.moves)?;
-    write!(writer, "{}: ", row.name)?;
-    if !is_driven(alloc, site, &options, moves.as_slice(), writer)? {
-        is_driven(alloc, site, &options, moves.as_slice(), writer)?;
+    let name = row.name;
+    write!(writer, "{name}: ")?;
+    if !carry_out(alloc, site, &options, moves.as_slice(), writer)? {
+        carry_out(alloc, site, &options, moves.as_slice(), writer)?;
     }
     let given = last(alloc, site, &options, row.outputs)?;
     writer.write_all(b"at last ")?;
@@ -38,7 +39,7 @@ fn try_on<W: Write>(
 }
 
 /// Carries out the moves, and tells the reports. Whether memory was not wanting.
-fn is_driven<W: Write>(
+fn carry_out<W: Write>(
     alloc: Global,
     site: &mut Sim<Toy>,
     options: &Options,
