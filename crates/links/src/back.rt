@@ -104,7 +104,12 @@ pub(crate) fn loaded_edges(
 {
     let mut edges = Vec::new(alloc);
     for place in 0..chosen.len() {
-        push_loaded(&mut edges, &actions[place], EdgeId::at_below(place), chosen[place])?;
+        push_loaded(
+            &mut edges,
+            &actions[place],
+            EdgeId::at_below(place),
+            chosen[place],
+        )?;
     }
     Ok(edges)
 }

@@ -103,11 +103,7 @@ impl<L: Records> LogFile<L> {
     }
 
     /// The same where the log has records, one path after the other.
-    fn look_up_each(
-        &self,
-        graph: &Graph,
-        places: &mut Vec<Option<usize>>,
-    ) -> Result<(), AllocError>
+    fn look_up_each(&self, graph: &Graph, places: &mut Vec<Option<usize>>) -> Result<(), AllocError>
         ensures longer { IsLonger places.old.items places.new.items }
         ensures fits { OnOk result (length places.old.items ≤ length graph.now.manifest.paths → length places.new.items ≡ length graph.now.manifest.paths) }
         ensures made { OnOk result ((rs : List L.Record) → L.Keeps rs self.now.log → AreMadeFrom L.told L.in_force (length places.old.items) (length graph.now.manifest.paths) rs graph.now.manifest.paths places.new.items) }

@@ -19,7 +19,7 @@ restore-requires c =
     let may = c.requires.1.1 in (
       old.manifest,
       subst (λ (x : List LoadedEdge). IsManifestBefore old.manifest c.args.self.now.manifest c.args.before.lines x c.args.before.file c.args.before.paths) (sym {A = List LoadedEdge} c.deref-2.ensures.value)
-      (still_before old c.requires.1.0 c.args.self.now c.args.before.lines c.args.before.edges.items c.args.before.file c.args.before.paths may.undoes.manifest may.gained),
+          (still_before old c.requires.1.0 c.args.self.now c.args.before.lines c.args.before.edges.items c.args.before.file c.args.before.paths may.undoes.manifest may.gained),
     )
 
 pub invariant_of-self : goal.invariant_of-self
