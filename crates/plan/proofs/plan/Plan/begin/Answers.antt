@@ -1,4 +1,5 @@
-use Rattle.std.proofs.Common.{◌≡◌, ◌∙◌, ℕ, zero, suc, ◌<◌, ◌==◌, not, List, Bool, true, false, length, replicate, refl, ap, subst, arith}
+use Rattle.std.proofs.Common.{◌≡◌, ◌∙◌, ℕ, ◌<◌, ◌==◌, not, List, Bool, true, false, length, replicate, refl, ap, subst, arith}
+use Rattle.std.proofs.lemmas.Bool.{eqb-true, false_from_ne_true}
 use Rattle.links.specs.Links.{links_of}
 use Rattle.plan.specs.declared.step.Standing.{Standing}
 use Rattle.plan.specs.Plan.{IsReady}
@@ -41,8 +42,7 @@ pub invariant_of-result-clause-tallied : goal.invariant_of-result-clause-tallied
 invariant_of-result-clause-tallied c = none_counted (links_of c.args.graph.now) c.args.cone.now.marks.items c.in_ok-standings.standings.items c.in_ok-standings.ensures
 
 some_left : (n : ℕ) → 0 < n → not (n == 0) ≡ true
-some_left zero some = absurd (omega (arith, some))
-some_left (suc n) some = refl
+some_left n some = ap not (false_from_ne_true (n == 0) (λ h. omega (arith, eqb-true n 0 h, some)))
 
 pub returns : goal.returns
 returns c =
