@@ -3,6 +3,7 @@
 
 ghost use Rattle.model.specs.Schedule.{Task};
 ghost use Rattle.plan.specs.Planned.{IsDeclaredTask, IsTaskOf};
+ghost use Rattle.plan.specs.Extended.{LoadsGoOn};
 ghost use Rattle.plan.specs.Steps.{StepsMove, StandingsTell, StepsName, ListsCount};
 
 use links::{Graph, lists_stand, numbers_stand};
@@ -33,4 +34,9 @@ pub fn steps_name()
 /// As many edges pass a test as a list names, if it names just these and each once.
 pub fn lists_count()
     ensures { ListsCount }
+{}
+
+/// A plan that says a load may go on by `extend` once the graph has loaded the file.
+pub fn loads_go_on()
+    ensures { LoadsGoOn }
 {}

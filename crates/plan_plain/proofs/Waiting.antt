@@ -8,14 +8,18 @@ use Rattle.model.specs.Graph.{has, edge_at, inputs, maker}
 use Rattle.model.specs.Reading.{needs}
 use Rattle.model.specs.Schedule.{Task, IsSettled, Alias as ByAlias}
 use Rattle.build_theory.proofs.Lists.{has-left}
+use Rattle.paths.specs.Commands.{no_action}
 use Rattle.paths.specs.Told.{text_at}
 use Rattle.links.specs.declared.graph.Graph.{Graph}
+use Rattle.links.specs.Held.{dyndep_of}
 use Rattle.links.specs.Links.{Links, links_of, needs_at}
 use Rattle.links.specs.Cone.{maker_at}
+use Rattle.links.specs.Extended.{dyndep_at}
 use Rattle.links.specs.Linked.{HasMaker}
 use Rattle.plan.specs.declared.step.Standing.{Standing}
 use Rattle.plan.specs.Standing.{standing_at, is_settled, maker_settled}
 use Rattle.plan.specs.Planned.{IsTaskOf}
+use Rattle.plan.proofs.Grown.{lower_or_past, past_end}
 use Rattle.plan_plain.specs.Scan.{is_there, waits_for_nothing}
 use Rattle.plan_plain.specs.Planned.{NamesNone, IsSound}
 
@@ -80,3 +84,10 @@ module _ (task : Task) (graph : Graph) (stated : IsTaskOf task graph) (done : Li
 pub none_named : (task : Task) (graph : Graph) → IsTaskOf task graph → NamesNone graph → (i : ℕ) → (edge_at task.graph.edges i).dyndep ≡ None
 none_named task graph stated none zero = refl
 none_named task graph stated none (suc e) = stated.files e ∙ ap (option_map (text_at graph.manifest.paths)) (none e)
+
+-- none of the edges of a graph names a file
+pub none_of_edges : (graph : Graph) (count : ℕ) → count ≡ length graph.manifest.lines → ((e : ℕ) → e < count → dyndep_at graph e ≡ None) → NamesNone graph
+none_of_edges graph count whole none e = elim (lower_or_past e count) [
+  | inl less ↦ none e less
+  | inr past ↦ ap dyndep_of (past_end graph.manifest.actions e no_action (omega (arith, graph.manifest.fits, whole, past)))
+]

@@ -1,6 +1,6 @@
 //! The plan, and what it is told.
 
-ghost use Rattle.std.specs.Prelude.{◌≡◌, ◌↔◌, IsTrue};
+ghost use Rattle.std.specs.Prelude.{◌≡◌, ◌↔◌, true};
 ghost use Rattle.plan.specs.Plan.{standing_by, standing_after};
 ghost use Rattle.plan_plain.specs.Planned.{NamesNone};
 
@@ -153,7 +153,7 @@ impl Plan {
 
 /// Whether no edge names a dyndep file.
 pub fn names_none(graph: &Graph) -> bool
-    ensures { IsTrue result ↔ NamesNone graph.now }
+    ensures { result ≡ true ↔ NamesNone graph.now }
 {
     for place in 0..graph.edges() {
         if graph.dyndep(graph.manifest.edge(place)).is_some() {
