@@ -57,6 +57,10 @@ IsSourceIn set graph p = (links_of graph).maker p ≡ None → set (text_at grap
 abbrev pub AreSourcesIn : (List ℕ → Bool) → Graph → List ℕ → Type 0
 AreSourcesIn set graph ps = AllByRecursion (IsSourceIn set graph) ps
 
+-- the sources among the inputs of all edges are in the set
+abbrev pub HasAllSources : (List ℕ → Bool) → Graph → Type 0
+HasAllSources set graph = (e : ℕ) → AreSourcesIn set graph ((links_of graph).inputs e)
+
 abbrev pub IsAbsentAt : Graph → ℕ → Bool → (List ℕ → Bool) → List Moment → Type 0
 IsAbsentAt graph p is set files = set (text_at graph.manifest.paths p) ≡ true → is ≡ is_absent graph.manifest.paths files p
 
