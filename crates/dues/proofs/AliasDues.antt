@@ -1,5 +1,5 @@
 -- Which phony edges are due.
-use Rattle.std.proofs.Common.{◌≡◌, ◌↔◌, inl, inr, ℕ, suc, ◌<◌, ◌==◌, cond, Bool, true, List, [], ◌∷◌, Option, Some, None, map, length, refl, sym, ◌∙◌, ap, subst, arith}
+use Rattle.std.proofs.Common.{◌≡◌, ◌↔◌, inl, inr, ℕ, suc, ◌<◌, ◌==◌, cond, Bool, true, false, List, [], ◌∷◌, Option, Some, None, map, length, refl, sym, ◌∙◌, ap, subst, arith}
 use Rattle.std.specs.List.{list_any}
 use Rattle.std.specs.Option.{is_none}
 use Rattle.std.proofs.lemmas.Bool.{false≢true, cases_Bool, eqb-true}
@@ -44,6 +44,17 @@ nothing_named f (x ∷ xs) is = cc
 empty_by : (xs : List ℕ) → (length xs == 0) ≡ true → xs ≡ []
 empty_by [] is = refl
 empty_by (x ∷ xs) is = let long : length (x ∷ xs) ≡ 0 = eqb-true (length (x ∷ xs)) 0 is in absurd (omega (arith, long))
+
+-- ---- the answer for an alias, by its outputs or its inputs
+
+abbrev if_inputs_of : List (List ℕ) → Links → List Moment → List Bool → ℕ → Bool → Bool
+if_inputs_of paths links files due e empty = cond empty (list_any (is_absent paths files) (links.outputs e)) (list_any (is_due_path paths links files due) (links.regular e))
+
+pub alias_by_outputs : (paths : List (List ℕ)) (links : Links) (files : List Moment) (due : List Bool) (e : ℕ) → (length (links.inputs e) == 0) ≡ true → list_any (is_absent paths files) (links.outputs e) ≡ is_due_alias paths links files due e
+alias_by_outputs paths links files due e empty = sym (ap (if_inputs_of paths links files due e) empty)
+
+pub alias_by_inputs : (paths : List (List ℕ)) (links : Links) (files : List Moment) (due : List Bool) (e : ℕ) → (length (links.inputs e) == 0) ≡ false → list_any (is_due_path paths links files due) (links.regular e) ≡ is_due_alias paths links files due e
+alias_by_inputs paths links files due e some = sym (ap (if_inputs_of paths links files due e) some)
 
 -- ---- one alias
 
@@ -137,19 +148,16 @@ module _ (edges : List Edge) (paths : List (List ℕ)) (links : Links) (files : 
     in_range : (n : ℕ) → has_number (links.regular e) n ≡ true → n < length paths
     in_range n h = stands.regular_within e n h
 
-    abbrev if_inputs : Bool → Bool
-    if_inputs empty = cond empty (list_any (is_absent paths files) (links.outputs e)) (list_any (is_due_path paths links files due) (links.regular e))
-
     pub alias_due : (is_due_alias paths links files due e ≡ true) ↔ IsDue edges store before files (suc e)
     alias_due = elim (cases_Bool (length (links.inputs e) == 0)) [
       | inl empty ↦
           let none : inputs (edge_at edges (suc e)) ≡ [] = sym (stands.inputs_are e) ∙ ap (map (text_at paths)) (empty_by (links.inputs e) empty) in
-          let whole : is_due_alias paths links files due e ≡ list_any (is_absent paths files) (links.outputs e) = ap if_inputs empty in (
+          let whole : is_due_alias paths links files due e ≡ list_any (is_absent paths files) (links.outputs e) = sym (alias_by_outputs paths links files due e empty) in (
             (λ is. nothing_due (suc e) (links.outputs e) (stands.outputs_are e) phony none (sym whole ∙ is)),
             (λ is. whole ∙ due_by_nothing (suc e) (links.outputs e) (stands.outputs_are e) phony none is),
           )
       | inr some ↦
-          let whole : is_due_alias paths links files due e ≡ list_any (is_due_path paths links files due) (links.regular e) = ap if_inputs some in
+          let whole : is_due_alias paths links files due e ≡ list_any (is_due_path paths links files due) (links.regular e) = sym (alias_by_inputs paths links files due e some) in
           let named : (inputs (edge_at edges (suc e)) ≡ [] → ⊥) = (λ none. false≢true (sym some ∙ nothing_named (text_at paths) (links.inputs e) (stands.inputs_are e ∙ none))) in (
             (λ is. inputs_due (suc e) (links.regular e) (stands.regular_are e) in_range known phony (sym whole ∙ is)),
             (λ is. whole ∙ due_by_inputs (suc e) (links.regular e) (stands.regular_are e) in_range known phony named is),

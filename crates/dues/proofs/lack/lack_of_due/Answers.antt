@@ -1,3 +1,4 @@
+use Rattle.std.proofs.Common.{arith}
 use Rattle.build_theory.proofs.Calls.{unrefused_call, unrefused_then}
 use Rattle.dues.proofs.Lacking.{edge_passed, edge_found}
 use Rattle.dues.proofs.Stays.{looked_then}
@@ -23,3 +24,6 @@ loop-place-preserved g c = record {
   none = edge_passed c.looks_follow.ensures.follow c.looks_follow.ensures.stay g.S.Texts.tells c.args.graph.now (g.S.Texts.world c.args.site.now) (g.S.Texts.world c.loop-place.site) (g.S.Texts.world c.missing_of_edge.new.site) c.args.looks.now c.loop-place.looks c.loop-place.invariant.looked c.missing_of_edge.ensures.looked.looks c.args.due.now c.loop-place.place c.loop-place.invariant.none c.edge-edge.result c.edge-edge.ensures
     c.in_ok-path.field-0 c.in_ok-path.ensures.first (cc);
 }
+
+pub returns-clause-found : goal.returns-clause-found
+returns-clause-found g c told set kept seen files same all e lt due = c.loop-place.invariant.none told set kept seen files same all e (omega (arith, lt, c.loop-place-test.false, c.edges-place-end.ensures)) due
