@@ -1,12 +1,12 @@
 -- What is found of all sources, by one look after another.
-use Rattle.std.proofs.Common.{◌≡◌, ℕ, ◌<◌, Bool, List, Option, Some, None, All, length, subst}
+use Rattle.std.proofs.Common.{ℕ, ◌<◌, Bool, List, Option, Some, None, All, length, subst}
 use Rattle.model.specs.declared.event.Moment.{Moment}
 use Rattle.model.specs.declared.graph.Edge.{Edge}
 use Rattle.model.specs.World.{World}
 use Rattle.model.specs.OutOfDate.{NoneIsMissing, IsFirstMissing}
 use Rattle.model.specs.Records.{Store}
 use Rattle.model.specs.Schedule.{Step}
-use Rattle.paths.specs.Told.{text_at, texts_at}
+use Rattle.paths.specs.Told.{text_at}
 use Rattle.links.specs.declared.cone.Cone.{Cone}
 use Rattle.links.specs.declared.graph.Graph.{Graph}
 use Rattle.links.specs.Linked.{StandFor}

@@ -1,5 +1,5 @@
 -- Which edges are due after some steps, by the numbers of edges and paths.
-use Rattle.std.specs.Prelude.{◌≡◌, ◌↔◌, ◌||◌, ℕ, suc, ◌==◌, Bool, true, false, if◌then◌else◌, List, [], length, slice_index_or, Option, Some, None}
+use Rattle.std.specs.Prelude.{◌≡◌, ◌↔◌, ◌||◌, ℕ, suc, ◌==◌, Bool, true, false, if◌then◌else◌, List, length, slice_index_or, Option, Some, None}
 use Rattle.std.specs.List.{AllByRecursion, list_any}
 use Rattle.std.specs.Option.{is_none}
 use Rattle.model.specs.declared.event.Moment.{Moment}

@@ -25,8 +25,8 @@ loop-path-preserved g c = record {
   looked = looked_then c.looks_follow.ensures.follow g.S.Texts.tells c.args.graph.now (g.S.Texts.world c.args.site.now) (g.S.Texts.world c.loop-path.site) (g.S.Texts.world c.is_absent.new.site) c.args.looks.now c.loop-path.looks c.is_absent.new.looks c.loop-path.invariant.looked c.is_absent.ensures.looked;
   unrefused = unrefused_then (g.S.Texts.world c.args.site.now) (g.S.Texts.world c.loop-path.site) (g.S.Texts.world c.is_absent.new.site) c.loop-path.invariant.unrefused (unrefused_call (g.S.Texts.world c.loop-path.site) (g.S.Texts.world c.is_absent.new.site) _ c.in_ok-is_absent.ensures.cause);
   none = passed_by c.looks_follow.ensures.follow c.looks_follow.ensures.stay g.S.Texts.tells c.args.graph.now (g.S.Texts.world c.args.site.now) (g.S.Texts.world c.loop-path.site) (g.S.Texts.world c.is_absent.new.site) c.args.looks.now c.loop-path.looks c.loop-path.invariant.looked c.is_absent.ensures.looked.looks (λ set p. set (text_at c.args.graph.now.manifest.paths p) ≡ true)
-    (λ files. is_absent c.args.graph.now.manifest.paths files) c.args.paths.now c.loop-path.path-index c.path-item.result c.loop-path-test.true c.loop-path.invariant.none c.in_ok-is_absent.field-0
-    (λ told set kept seen files same fit. c.in_ok-is_absent.ensures.absent told set kept seen files same (subst (λ (p : ℕ). set (text_at c.args.graph.now.manifest.paths p) ≡ true) (sym {A = ℕ} c.path-item.is) fit) ∙ ap (is_absent c.args.graph.now.manifest.paths files) c.path-item.is) (cc);
+      (λ files. is_absent c.args.graph.now.manifest.paths files) c.args.paths.now c.loop-path.path-index c.path-item.result c.loop-path-test.true c.loop-path.invariant.none c.in_ok-is_absent.field-0
+      (λ told set kept seen files same fit. c.in_ok-is_absent.ensures.absent told set kept seen files same (subst (λ (p : ℕ). set (text_at c.args.graph.now.manifest.paths p) ≡ true) (sym {A = ℕ} c.path-item.is) fit) ∙ ap (is_absent c.args.graph.now.manifest.paths files) c.path-item.is) (cc);
 }
 
 pub returns-clause-has : goal.returns-clause-has

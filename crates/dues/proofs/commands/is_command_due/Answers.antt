@@ -1,4 +1,4 @@
-use Rattle.std.proofs.Common.{◌≡◌, List, [], true, false, suc, refl, sym, ◌∙◌, subst, is_some, rules}
+use Rattle.std.proofs.Common.{◌≡◌, [], true, false, suc, refl, sym, ◌∙◌, is_some, rules}
 use Rattle.build_theory.proofs.Orderly.{kept_orderly}
 use Rattle.links.specs.Links.{links_of}
 use Rattle.links.specs.Told.{declared_by}

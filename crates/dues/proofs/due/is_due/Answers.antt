@@ -1,6 +1,6 @@
 use Rattle.std.proofs.Common.{◌≡◌, Some, None, true, false, suc, sym, ◌∙◌, ap, rules}
 use Rattle.std.proofs.lemmas.Bool.{false≢true, false_from_ne_true}
-use Rattle.model.specs.Graph.{has_number, IsCommand}
+use Rattle.model.specs.Graph.{has_number}
 use Rattle.model.specs.Schedule.{out_of_date_in}
 use Rattle.build_theory.proofs.Orderly.{kept_orderly}
 use Rattle.links.specs.Links.{links_of}

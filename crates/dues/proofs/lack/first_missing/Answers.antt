@@ -26,7 +26,7 @@ loop-path-preserved g c = record {
   looked = looked_then c.looks_follow.ensures.follow g.S.Texts.tells c.args.graph.now (g.S.Texts.world c.args.site.now) (g.S.Texts.world c.loop-path.site) (g.S.Texts.world c.is_missing.new.site) c.args.looks.now c.loop-path.looks c.is_missing.new.looks c.loop-path.invariant.looked c.is_missing.ensures.looked;
   unrefused = unrefused_then (g.S.Texts.world c.args.site.now) (g.S.Texts.world c.loop-path.site) (g.S.Texts.world c.is_missing.new.site) c.loop-path.invariant.unrefused (unrefused_call (g.S.Texts.world c.loop-path.site) (g.S.Texts.world c.is_missing.new.site) _ c.in_ok-is_missing.ensures.cause);
   none = missing_passed c.looks_follow.ensures.follow c.looks_follow.ensures.stay g.S.Texts.tells c.args.graph.now (g.S.Texts.world c.args.site.now) (g.S.Texts.world c.loop-path.site) (g.S.Texts.world c.is_missing.new.site) c.args.looks.now c.loop-path.looks c.loop-path.invariant.looked c.is_missing.ensures.looked.looks c.args.paths.now c.loop-path.path-index c.path-item.result c.loop-path-test.true c.loop-path.invariant.none
-    c.path-item.result c.path-item.is c.in_ok-is_missing.field-0 c.in_ok-is_missing.ensures.missing (cc);
+      c.path-item.result c.path-item.is c.in_ok-is_missing.field-0 c.in_ok-is_missing.ensures.missing (cc);
 }
 
 pub returns-clause-first : goal.returns-clause-first

@@ -22,7 +22,7 @@ loop-place-preserved g c = record {
   looked = looked_then c.looks_follow.ensures.follow g.S.Texts.tells c.args.graph.now (g.S.Texts.world c.args.site.now) (g.S.Texts.world c.loop-place.site) (g.S.Texts.world c.missing_of_edge.new.site) c.args.looks.now c.loop-place.looks c.missing_of_edge.new.looks c.loop-place.invariant.looked c.missing_of_edge.ensures.looked;
   unrefused = unrefused_then (g.S.Texts.world c.args.site.now) (g.S.Texts.world c.loop-place.site) (g.S.Texts.world c.missing_of_edge.new.site) c.loop-place.invariant.unrefused (unrefused_call (g.S.Texts.world c.loop-place.site) (g.S.Texts.world c.missing_of_edge.new.site) _ c.in_ok-path.ensures.cause);
   none = edge_passed c.looks_follow.ensures.follow c.looks_follow.ensures.stay g.S.Texts.tells c.args.graph.now (g.S.Texts.world c.args.site.now) (g.S.Texts.world c.loop-place.site) (g.S.Texts.world c.missing_of_edge.new.site) c.args.looks.now c.loop-place.looks c.loop-place.invariant.looked c.missing_of_edge.ensures.looked.looks c.args.due.now c.loop-place.place c.loop-place.invariant.none c.edge-edge.result c.edge-edge.ensures
-    c.in_ok-path.field-0 c.in_ok-path.ensures.first (cc);
+      c.in_ok-path.field-0 c.in_ok-path.ensures.first (cc);
 }
 
 pub returns-clause-found : goal.returns-clause-found

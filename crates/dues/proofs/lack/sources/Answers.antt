@@ -1,7 +1,6 @@
 use Rattle.std.proofs.Common.{List, ℕ, Bool, Some, None, sym, subst}
-use Rattle.links.specs.Links.{links_of}
 use Rattle.dues.specs.Dues.{AreSourcesIn}
-use Rattle.dues.specs.Lacks.{IsFirstIn, IsFound, IsFoundOfDue}
+use Rattle.dues.specs.Lacks.{IsFirstIn, IsFoundOfDue}
 use Rattle.dues.proofs.Finding.{target_found, due_told, all_found}
 use Rattle.dues.proofs.Stays.{looked_then}
 use Rattle.dues.proofs.lack.sources.Goals as goal
