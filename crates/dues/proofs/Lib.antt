@@ -7,3 +7,4 @@ pub mod DueEdges
 pub mod Lacking
 pub mod Finding
 pub mod Callers
+pub mod Points
