@@ -164,7 +164,7 @@ module _ (tells : Bool) (own : OwnFiles) (task : Task) (before : List Step) (old
       private = λ j out is.
           let other : i ≢ j = (λ same. false≢true (sym fresh ∙ subst (λ (n : ℕ). has_number (judged_in before) n ≡ true) (sym same) (kept.out_of_date j out))) in
           let apart = files.own_files.apart i j command (kept.judged j (kept.out_of_date j out)) other in
-          elim is [ | inl one ↦ apart.0 named one | inr one ↦ apart.2 named one ];
+          elim is [ inl one ↦ apart.0 named one | inr one ↦ apart.2 named one ];
       rests = λ j runs made. false≢true (sym (files.own_files.outputs j (edge_at edges i).act.depfile made) ∙ (files.own_files.depfiles i command).0);
     }
 
