@@ -7,6 +7,7 @@ use Rattle.links.specs.declared.graph.Graph.{Graph}
 use Rattle.links.specs.declared.cone.Cone.{Cone}
 use Rattle.links.specs.Linked.{IsConeOf}
 use Rattle.links.specs.Told.{declared_by}
+use Rattle.links.specs.Extended.{HasLoaded}
 use Rattle.plan.specs.declared.plan.Plan.{Plan}
 use Rattle.plan.specs.Planned.{IsPlanOver, IsPlanned, IsTaskOf, AreTaken}
 
@@ -38,3 +39,9 @@ GoesOn graph cone old new =
     (before : Graph) (earlier task : Task) (steps : List Done) → IsPlanned earlier before old steps → AreTaken earlier steps
     → IsTaskOf task graph → IsGrownTask earlier task → IsConeOf task.graph.edges task.recorded task.targets cone.order.items cone.marks.items
     → IsPlanned task graph new steps × AreTaken task steps
+
+-- a plan with a file to be loaded may go on over the graph that has loaded one
+abbrev pub LoadsGoOn : Type 0
+LoadsGoOn =
+    (before after : Graph) (file : List ℕ) (additions : List Addition) (plan : Plan) → IsPlanOver before plan → 0 < length plan.loads.items
+    → HasLoaded before after file additions → MayGoOn after plan

@@ -3,15 +3,17 @@
 
 ghost use Rattle.model.specs.Schedule.{Task};
 ghost use Rattle.plan.specs.Planned.{IsDeclaredTask, IsTaskOf};
+ghost use Rattle.plan.specs.Extended.{LoadsGoOn};
 ghost use Rattle.plan.specs.Steps.{StepsMove, StandingsTell, StepsName, ListsCount};
 
-use links::{Graph, numbers_stand};
+use links::{Graph, lists_stand, numbers_stand};
 
 /// To build what a graph declares is a task of that graph.
 pub fn task_of(graph: &Graph)
     ensures { (task : Task) → IsDeclaredTask task graph.now → IsTaskOf task graph.now }
 {
     numbers_stand(graph);
+    lists_stand(graph);
 }
 
 /// A lawful step moves its edge to where it has to stand after it, and no other edge.
@@ -32,4 +34,9 @@ pub fn steps_name()
 /// As many edges pass a test as a list names, if it names just these and each once.
 pub fn lists_count()
     ensures { ListsCount }
+{}
+
+/// A plan that says a load may go on by `extend` once the graph has loaded the file.
+pub fn loads_go_on()
+    ensures { LoadsGoOn }
 {}

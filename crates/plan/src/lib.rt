@@ -11,6 +11,6 @@ mod pools;
 mod settle;
 mod step;
 
-pub use laws::{lists_count, standings_tell, steps_move, steps_name, task_of};
+pub use laws::{lists_count, loads_go_on, standings_tell, steps_move, steps_name, task_of};
 pub use plan::{Plan, note_changes};
 pub use step::{End, Standing, Step, Verdict};

@@ -1,5 +1,7 @@
 //! The graph that a build file declares.
 
+ghost use Rattle.std.specs.Prelude.{◌≡◌, ◌<◌, All, IfOk, length, vec_len};
+
 use links::{Cone, ConeFault, Graph, GraphFault};
 use manifest::read;
 use site::{SiteFault, Texts};
@@ -42,7 +44,10 @@ pub fn graph_of(alloc: Global, text: String) -> Result<Graph, Fail> {
 }
 
 /// The cone of this target, or of what is built where there is none.
-pub fn cone_of(alloc: Global, graph: &Graph, target: Option<&str>) -> Result<Cone, Fail> {
+pub fn cone_of(alloc: Global, graph: &Graph, target: Option<&str>) -> Result<Cone, Fail>
+    ensures marks { IfOk result (λ cone. vec_len cone.marks ≡ length graph.now.manifest.lines) }
+    ensures within { IfOk result (λ cone. All (λ p. p < length graph.now.manifest.paths) cone.targets.items) }
+{
     let mut targets = Vec::new(alloc);
     if let Some(target) = target {
         targets.push(Path::from_str(alloc, target)?)?;

@@ -1,5 +1,6 @@
 //! Builds that load dyndep files.
 
+ghost use Rattle.std.specs.Prelude.{◌<◌, All, length};
 ghost use Rattle.plan.specs.Planned.{IsPlanOver};
 
 use crate::graphs::{cone_of, graph_of};
@@ -23,15 +24,13 @@ struct Run {
     running: Vec<EdgeId>,
     told: String,
     ghost over: { IsPlanOver graph plan },
+    ghost within: { All (λ p. p < length graph.manifest.paths) targets.items },
 }
 
 impl Run {
     fn new(alloc: Global, text: &str, target: Option<&str>, jobs: usize) -> Result<Run, Fail> {
         let graph = graph_of(alloc, String::from_str(alloc, text)?)?;
         let cone = cone_of(alloc, &graph, target)?;
-        if cone.marks.len() != graph.edges() {
-            return Err("a cone of another graph".into());
-        }
         let plan = Plan::new(alloc, &graph, &cone, jobs, 1)?;
         Ok(Run {
             graph,
@@ -114,6 +113,9 @@ impl Run {
     fn load(mut self, alloc: Global, file: PathId, files: &[File]) -> Result<Run, Fail> {
         let name = self.text_of(alloc, file)?;
         self.tell("load ", name.as_str())?;
+        if file.index() >= self.graph.paths() || self.plan.loads.is_empty() {
+            return Err("nothing is to be loaded".into());
+        }
         let additions = additions_of(alloc, name.as_str(), files)?;
         let Run {
             mut graph,
@@ -122,9 +124,9 @@ impl Run {
             running,
             told,
         } = self;
-        if graph.extend(alloc, additions.as_slice(), file).is_err() {
+        let Ok(_) = graph.extend(alloc, additions.as_slice(), file) else {
             return Err("the file does not fit".into());
-        }
+        };
         let Ok(cone) = graph.cone_again(alloc, targets) else {
             return Err("no cone".into());
         };
