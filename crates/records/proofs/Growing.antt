@@ -6,7 +6,7 @@ use Rattle.model.specs.declared.record.DepsRecord.{DepsRecord}
 use Rattle.model.specs.Graph.{has_number}
 use Rattle.model.specs.Records.{in_force, deps_in_force}
 use Rattle.links.specs.declared.graph.Graph.{Graph}
-use Rattle.links.specs.Links.{links_of}
+use Rattle.links.proofs.Makes.{output_below}
 use Rattle.build_log.specs.Log.{Keeps, makings}
 use Rattle.deps_log.specs.Log.{Keeps as KeepsDeps, tolds}
 use Rattle.records.specs.Held.{ArePlaces}
@@ -18,6 +18,13 @@ pub known_front : (graph before : Graph) (more : List (List ℕ)) (rs : List Rec
     → graph.manifest.paths ≡ known.paths ++ (known.more ++ more)
 known_front graph before more rs ds records grows known = grows ∙ (ap (λ (l : List (List ℕ)). l ++ more) known.grown ∙ append_assoc known.paths known.more more)
 
+-- none of the numbers that were known is past these paths
+pub known_fits : (graph before : Graph) (more : List (List ℕ)) (rs : List Record) (ds : List DepsRecord) (records : Records) → graph.manifest.paths ≡ before.manifest.paths ++ more → (known : AreKnown before rs ds records) → length known.paths ≤ length graph.manifest.paths
+known_fits graph before more rs ds records grows known =
+    let is = ap (λ (l : List (List ℕ)). length l) (known_front graph before more rs ds records grows known) in
+    let size = length-append known.paths (known.more ++ more) in
+    omega (arith, is, size)
+
 -- what is known of all paths of a graph is known
 pub known_all : (graph : Graph) (rs : List Record) (ds : List DepsRecord) (records : Records) → Keeps rs records.logs.build_log.log → KeepsDeps ds records.logs.deps_log.log
     → length records.places.items ≤ length graph.manifest.paths → ArePlaces makings in_force rs graph.manifest.paths records.places.items
@@ -27,7 +34,7 @@ known_all graph rs ds records keeps keeps_deps fits made deps_fits told = record
   paths = graph.manifest.paths;
   more = [];
   grown = sym (append-nil graph.manifest.paths);
-  outputs = λ e p h. output_within graph e p h;
+  outputs = λ e p h. output_below graph.manifest e p h;
   known = record { keeps = keeps; fits = fits; made = made };
   told = record { keeps = keeps_deps; fits = deps_fits; told = told };
 }

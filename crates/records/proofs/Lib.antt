@@ -13,3 +13,4 @@ pub mod Standing
 pub mod Reading
 pub mod Beginning
 pub mod Leaving
+pub mod Growing

@@ -93,6 +93,10 @@ module _ {R X : Type 0} (told : List R → List X) (in_force : List R → List �
       empty [] none o = nothing o
       empty (r ∷ rs) none o = absurd (omega (arith, none))
 
+-- of no paths all have their numbers
+pub placed_none : {R X : Type 0} (told : List R → List X) (in_force : List R → List ℕ → Option X) (rs : List R) (places : List (Option ℕ)) → ArePlaces told in_force rs [] places
+placed_none told in_force rs places p low = absurd (omega (arith, low))
+
 -- ---- texts of numbers
 
 -- one more of what numbers stand for
