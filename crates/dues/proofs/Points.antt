@@ -1,7 +1,7 @@
 -- The points of a run at which just some steps were done: nobody wrote a quiet path between them and the present.
 use Rattle.std.proofs.Common.{◌≡◌, ◌≢◌, ◌⊎◌, inl, inr, ℕ, suc, ◌+◌, Bool, true, false, IsTrue, List, [], ◌∷◌, ◌++◌, Option, None, Some, bytes_eq, length, refl, sym, ◌∙◌, ap, subst, append_assoc, arith}
 use Rattle.std.specs.List.{AllByRecursion}
-use Rattle.std.proofs.lemmas.Bool.{false≢true, true≢false, false_from_ne_true}
+use Rattle.std.proofs.lemmas.Bool.{false≢true, false_from_ne_true}
 use Rattle.std.proofs.lemmas.List.{append-nil, length-append}
 use Rattle.model.specs.declared.event.Event.{Event}
 use Rattle.model.specs.declared.event.Event.TheVariants.{Start, Finish}
@@ -10,7 +10,7 @@ use Rattle.model.specs.declared.event.Moment.TheVariants.{Wrote, Happened}
 use Rattle.model.specs.declared.event.Writer.TheVariants.{Program, Command, Someone}
 use Rattle.model.specs.declared.graph.Edge.{Edge}
 use Rattle.model.specs.World.{World, file_at, runs, IsIdle}
-use Rattle.model.specs.Graph.{has, has_number, edge_at, maker, outputs, inputs, IsCommand, IsMadeOnce}
+use Rattle.model.specs.Graph.{has, has_number, edge_at, maker, outputs, IsCommand, IsMadeOnce}
 use Rattle.model.specs.OutOfDate.{NothingIsMissing}
 use Rattle.model.specs.Phases.{happened_in, IsPointAfter, IsNothingMissing}
 use Rattle.model.specs.Premises.{FilesAreKept, OwnFilesApart, RecordedApart, IsWithinEdge, IsNoEdit}
@@ -19,14 +19,14 @@ use Rattle.model.specs.Schedule.{Task, Step, Judged, Started, Ended, judged_in, 
 use Rattle.model.specs.SingleBuild.{IsOwnWrite}
 use Rattle.build_theory.specs.Run.{events_in, steps_until, AreOfRun, IsToldBy, IsRun}
 use Rattle.build_theory.proofs.Files.{IsElsewhere, file_stays}
-use Rattle.build_theory.proofs.Lists.{same_bytes, bytes_same, same_rest, same_some, some_none}
+use Rattle.build_theory.proofs.Lists.{same_bytes, same_rest, same_some, some_none}
 use Rattle.build_theory.proofs.Makers.{maker_is}
 use Rattle.build_theory.proofs.Moments.{events_in-append, until_within, of_run_parts}
 use Rattle.build_theory.proofs.Orderly.{IsKept, kept_orderly}
 use Rattle.build_theory.proofs.Starting.{since}
 use Rattle.build_theory.proofs.Stated.{running_is_as_told}
 use Rattle.build_theory.proofs.Steps.{running_parts}
-use Rattle.dues.specs.Quiet.{IsUnmade, HasPathsFor, AreAlike}
+use Rattle.dues.specs.Quiet.{HasPathsFor, AreAlike}
 use Rattle.dues.proofs.Callers.{nothing_missing}
 
 -- ---- which paths may be looked at
