@@ -137,7 +137,7 @@ returns-then-ok-clause-planned c = λ task steps at lawful next.
     let size : length c.note_changes.new.flags ≡ plan.changed.len = omega (arith, c.note_changes.ensures.length, ap (λ (l : List Bool). length l) c.deref_mut.ensures.value, plan.changed.ok.0) in
     let flags = ap (λ (l : List Bool). length l) (with_items_is plan.changed c.note_changes.new.flags size) ∙ (c.note_changes.ensures.length ∙ (ap (λ (l : List Bool). length l) c.deref_mut.ensures.value ∙ c.requires.over.flags)) in
     let rest = c.settle.ensures.rest in
-    let half = half_well plan.standings.items e c.args.edge c.index-place.ensures.place c.requires.running plan.queue c.release.new.self c.release.ensures task steps lawful (half_of task c.args.graph.now plan steps at) next.0 in
+    let half = half_well plan.standings.items e c.args.edge c.index-place.ensures.place c.requires.running plan.queue c.release.new.self c.release.ensures task steps lawful (half_of task c.args.graph.now plan steps at) next in
     let last = half_after task _ c.settle.new.self.standings.items c.release.new.self c.settle.new.self.queue (steps ++ Ended (suc c.args.edge) true ∷ []) half rest.queue rest.stands
     (λ phony old. c.settle.ensures.sound task (done_in (steps ++ Ended (suc c.args.edge) true ∷ [])) at.stated phony old) in
     subst (λ (b : Bool). IsPlanned task c.args.graph.now c.settle.new.self (steps ++ Ended (suc c.args.edge) b ∷ [])) (sym c.if-ok.true) record {
@@ -167,7 +167,7 @@ returns-else-ok-clause-planned c = λ task steps at lawful next.
     let size : length c.note_changes.new.flags ≡ plan.changed.len = omega (arith, c.note_changes.ensures.length, ap (λ (l : List Bool). length l) c.deref_mut.ensures.value, plan.changed.ok.0) in
     let flags = ap (λ (l : List Bool). length l) (with_items_is plan.changed c.note_changes.new.flags size) ∙ (c.note_changes.ensures.length ∙ (ap (λ (l : List Bool). length l) c.deref_mut.ensures.value ∙ c.requires.over.flags)) in
     let half = subst (λ (b : Bool). IsHalf task (set plan.standings.items e Failed) c.release.new.self (steps ++ Ended (suc c.args.edge) b ∷ [])) (sym c.if-ok.false)
-    (half_failed plan.standings.items e c.args.edge c.index-place.ensures.place c.requires.running plan.queue c.release.new.self c.release.ensures task steps lawful (half_of task c.args.graph.now plan steps at) next.0) in
+    (half_failed plan.standings.items e c.args.edge c.index-place.ensures.place c.requires.running plan.queue c.release.new.self c.release.ensures task steps lawful (half_of task c.args.graph.now plan steps at) next) in
     record {
       stated = at.stated;
       limits = at.limits;
