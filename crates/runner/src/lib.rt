@@ -3,6 +3,7 @@
 
 mod counts;
 mod cut;
+mod finish;
 mod folders;
 mod judge;
 mod outputs;
@@ -19,7 +20,9 @@ mod taken;
 mod turn;
 
 pub use cut::Cut;
+pub use finish::finish;
+pub use rest::give_up;
 pub use run::run_plan;
 pub use setting::Setting;
 pub use state::State;
-pub use summary::Summary;
+pub use summary::{Pause, Summary};
