@@ -14,7 +14,7 @@ use Rattle.model.specs.Outcome.{Behaviour, depfile_in, is_accepted}
 use Rattle.model.specs.Records.{Store, LogFormat, OwnFiles, store_in, recorded_inputs}
 use Rattle.model.specs.OutOfDate.{IsVerdict}
 use Rattle.model.specs.Schedule.{Step, Judged, Started, Ended, IsLawfulStep, IsEndOf, NoneMayBeJudged, NoneMayStart, started_in, out_of_date_in, ended_in, well_in, running_in}
-use Rattle.model.specs.Phases.{NoLoadIsDue}
+use Rattle.model.specs.Phases.{Phase, NoLoadIsDue}
 use Rattle.model.specs.Premises.{FilesAreKept, RecordedApart, EndedAt, InputsAreKnown, LiesIn}
 use Rattle.model.specs.SingleBuild.{WasTakenIn, NamesOther, Asked, task_of, IsJudged, IsFrame}
 use Rattle.model.specs.Kept.{StartedUnder, KeepsRecords, store_at}
@@ -90,8 +90,8 @@ one_end_of steps j ok fresh (x ∷ xs) ys i is =
     no_ends steps xs ys i tail
 
 -- the phases of a run that goes on, or that a refused load has ended
-record ArePhases (tells : Bool) (B : Behaviour) (own : OwnFiles) (asked : Asked) (store : Store) (goes_on : Bool) (steps : List Step) (old now : World) : Type 0 where
-  phased : IsPhased tells B own asked store steps old now
+record ArePhases (tells : Bool) (B : Behaviour) (own : OwnFiles) (asked : Asked) (store : Store) (phases : List Phase) (goes_on : Bool) (steps : List Step) (old now : World) : Type 0 where
+  phased : IsPhased tells B own asked store phases steps old now
   goes : goes_on ≡ true → phased.build.taken_in ≡ []
   refused : goes_on ≡ false → IsRefused phased
 
@@ -99,8 +99,8 @@ module _ (tells : Bool) (B : Behaviour) (format : LogFormat) (own : OwnFiles) (a
   abbrev Beside : List Step → Option ℕ → Option ℕ → World → Type 0
   Beside steps met hand now = IsBeside tells B format own asked store steps met hand old now
 
-  abbrev CutOff : List Step → Option ℕ → World → Type 0
-  CutOff steps met now = IsCutOff tells B format own asked store steps met old now
+  abbrev CutOff : List Phase → List Step → Option ℕ → World → Type 0
+  CutOff phases steps met now = IsCutOff tells B format own asked store phases steps met old now
 
   abbrev Rest : List Step → World → Type 0
   Rest steps now = IsRunOrRest tells own (task_of asked store) steps old now
@@ -222,7 +222,7 @@ module _ (tells : Bool) (B : Behaviour) (format : LogFormat) (own : OwnFiles) (a
   -- ---- the entry
 
   -- a site on which nothing runs, and no step
-  pub carried_entry : asked.graph.edges ≡ asked.declared → ((file : List ℕ) → NamesOther asked.graph.edges file → ⊥) → store ≡ store_in format own (view_of old.history) → IsIdle old.events → IsCarried tells B format own asked store true [] None old old
+  pub carried_entry : asked.graph.edges ≡ asked.declared → ((file : List ℕ) → NamesOther asked.graph.edges file → ⊥) → store ≡ store_in format own (view_of old.history) → IsIdle old.events → IsCarried tells B format own asked store [] true [] None old old
   carried_entry same others found idle = record {
     run = run_begins tells own (task_of asked store) old;
     phased = phased_entry tells B own asked store old old same others;
@@ -239,8 +239,8 @@ module _ (tells : Bool) (B : Behaviour) (format : LogFormat) (own : OwnFiles) (a
   }
 
   -- The logs were read, while nothing was judged: the same of any records that are those of the entry, where nothing is edited.
-  pub carried_found : asked.graph.edges ≡ asked.declared → ((file : List ℕ) → NamesOther asked.graph.edges file → ⊥) → (other : Store) (hand : Option ℕ) (now : World) → (IsTrue tells → Kept now → other ≡ store) → IsCarried tells B format own asked store true [] hand old now
-      → IsCarried tells B format own asked other true [] hand old now
+  pub carried_found : asked.graph.edges ≡ asked.declared → ((file : List ℕ) → NamesOther asked.graph.edges file → ⊥) → (other : Store) (hand : Option ℕ) (now : World) → (IsTrue tells → Kept now → other ≡ store) → IsCarried tells B format own asked store [] true [] hand old now
+      → IsCarried tells B format own asked other [] true [] hand old now
   carried_found unloaded others other hand now same carried = record {
     phased = phased_entry tells B own asked other old now unloaded others;
     goes = λ on. refl;
@@ -256,12 +256,12 @@ module _ (tells : Bool) (B : Behaviour) (format : LogFormat) (own : OwnFiles) (a
     };
   }
 
-  module _ (goes_on : Bool) where
+  module _ (phases : List Phase) (goes_on : Bool) where
     abbrev Carried : List Step → Option ℕ → World → Type 0
-    Carried steps hand now = IsCarried tells B format own asked store goes_on steps hand old now
+    Carried steps hand now = IsCarried tells B format own asked store phases goes_on steps hand old now
 
     abbrev Phased : List Step → World → Type 0
-    Phased steps now = IsPhased tells B own asked store steps old now
+    Phased steps now = IsPhased tells B own asked store phases steps old now
 
     -- ---- a run that goes on
 
@@ -271,7 +271,7 @@ module _ (tells : Bool) (B : Behaviour) (format : LogFormat) (own : OwnFiles) (a
     pub carried_looks : (steps : List Step) (hand : Option ℕ) (now new : World) → OnlyLooks tells now new → Carried steps hand now → Carried steps hand new
     carried_looks steps hand now new looks carried = record {
       run = run_looks tells own (task_of asked store) old steps now new carried.run looks;
-      phased = phased_on tells B own asked store old steps now new (λ tell. (looks.history tell).more) (λ tell. (looks.history tell).grows) carried.phased;
+      phased = phased_on tells B own asked store old phases steps now new (λ tell. (looks.history tell).more) (λ tell. (looks.history tell).grows) carried.phased;
       goes = carried.goes;
       refused = carried.refused;
       beside = beside_looks steps None hand now new (rest_of steps hand now carried) looks carried.beside;
@@ -283,7 +283,7 @@ module _ (tells : Bool) (B : Behaviour) (format : LogFormat) (own : OwnFiles) (a
         → Carried steps hand now → Carried (steps ++ Judged i out_of_date ∷ []) hand now
     carried_judged steps hand now i b on next none right carried = record {
       run = run_judged tells own (task_of asked store) old steps now i b carried.run (orderly_step (task_of asked store) steps (Judged i b) next);
-      phased = phased_step tells B own asked store old steps now carried.phased (Judged i b) (carried.goes on) next none
+      phased = phased_step tells B own asked store old phases steps now carried.phased (Judged i b) (carried.goes on) next none
           (λ tell. over_now tells B own asked store old steps now i b (rest_of steps hand now carried) right);
       goes = λ h. refl;
       refused = λ off. absurd (true≢false (sym on ∙ off));
@@ -326,7 +326,7 @@ module _ (tells : Bool) (B : Behaviour) (format : LogFormat) (own : OwnFiles) (a
           → (IsTrue tells → Kept new → (j : ℕ) → has_number (running_in steps) j ≡ true → IsCommand asked.graph.edges j → IsNoFileOf asked.graph.edges j path) → Carried steps hand now → Carried steps next new
       at_path run events grew logs apart carried = record {
         run = run;
-        phased = phased_on tells B own asked store old steps now new (λ tell. (grew tell).more) (λ tell. (grew tell).grows) carried.phased;
+        phased = phased_on tells B own asked store old phases steps now new (λ tell. (grew tell).more) (λ tell. (grew tell).grows) carried.phased;
         goes = carried.goes;
         refused = carried.refused;
         beside = beside_on steps now new rest [] (λ tell. grew_at path (IsRunning now.events) now.history new.history (grew tell)) None hand next refl (no_ends steps) logs alone carried.beside;
@@ -429,7 +429,7 @@ module _ (tells : Bool) (B : Behaviour) (format : LogFormat) (own : OwnFiles) (a
         → Starts tells i act now new → Carried steps (Some i) now → Carried (steps ++ Started i ∷ []) None new
     carried_starts steps now new i act on next none is ready starts carried = record {
       run = run;
-      phased = phased_step tells B own asked store old steps new (phased_on tells B own asked store old steps now new (λ tell. (grew tell).more) (λ tell. (grew tell).grows) carried.phased)
+      phased = phased_step tells B own asked store old phases steps new (phased_on tells B own asked store old phases steps now new (λ tell. (grew tell).more) (λ tell. (grew tell).grows) carried.phased)
           (Started i) (carried.goes on) next none (λ tell k b is. absurd (no_judgement k b is));
       goes = λ h. refl;
       refused = λ off. absurd (true≢false (sym on ∙ off));
@@ -510,8 +510,8 @@ module _ (tells : Bool) (B : Behaviour) (format : LogFormat) (own : OwnFiles) (a
       grew_ending tell = grew_adding own asked.graph.edges (IsRunning now.events) (IsRunning mid.events) (Finish i ok) now.history mid.history (finish.history tell)
 
       abbrev phased_then : Phased steps new
-      phased_then = phased_on tells B own asked store old steps mid new (λ tell. (looks.history tell).more) (λ tell. (looks.history tell).grows)
-          (phased_on tells B own asked store old steps now mid (λ tell. (grew_ending tell).more) (λ tell. (grew_ending tell).grows) carried.phased)
+      phased_then = phased_on tells B own asked store old phases steps mid new (λ tell. (looks.history tell).more) (λ tell. (looks.history tell).grows)
+          (phased_on tells B own asked store old phases steps now mid (λ tell. (grew_ending tell).more) (λ tell. (grew_ending tell).grows) carried.phased)
 
       fresh : has_number (well_in steps) i ≡ false
       fresh = not_well steps now carried.beside.idle rest i (unended steps now carried.beside.idle rest i finish.ran)
@@ -520,9 +520,9 @@ module _ (tells : Bool) (B : Behaviour) (format : LogFormat) (own : OwnFiles) (a
       as_failed tell files was = record { readable = was.readable; logged = logged_as_failed B asked.graph.edges store old steps (store_in format own (view_of new.history)) new i was.logged }
 
       -- It ended well, and is in hand until it is recorded.
-      ended_phases : (w : Bool) (b : Bool) → goes_on ≡ b → ArePhases tells B own asked store goes_on (steps ++ Ended i w ∷ []) old new
+      ended_phases : (w : Bool) (b : Bool) → goes_on ≡ b → ArePhases tells B own asked store phases goes_on (steps ++ Ended i w ∷ []) old new
       ended_phases w true on = record {
-        phased = phased_step tells B own asked store old steps new phased_then (Ended i w) (carried.goes on) (runs_yet, (lawful on).0, (lawful on).1) (lawful on).2 (λ tell k b is. absurd (no_judgement k b is));
+        phased = phased_step tells B own asked store old phases steps new phased_then (Ended i w) (carried.goes on) (runs_yet, (lawful on).0, (lawful on).1) (lawful on).2 (λ tell k b is. absurd (no_judgement k b is));
         goes = λ h. refl;
         refused = λ off. absurd (true≢false (sym on ∙ off));
       }
@@ -530,7 +530,7 @@ module _ (tells : Bool) (B : Behaviour) (format : LogFormat) (own : OwnFiles) (a
           no_judgement : (k : ℕ) (b : Bool) → Ended i w ≡ Judged k b → ⊥
           no_judgement k b is = cc
       ended_phases w false off = record {
-        phased = phased_taken_in tells B own asked store old steps new phased_then i w runs_yet (carried.refused off);
+        phased = phased_taken_in tells B own asked store old phases steps new phased_then i w runs_yet (carried.refused off);
         goes = λ on. absurd (true≢false (sym on ∙ off));
         refused = λ h. carried.refused off;
       }
@@ -538,31 +538,31 @@ module _ (tells : Bool) (B : Behaviour) (format : LogFormat) (own : OwnFiles) (a
       pub carried_well : ok ≡ true → SaysAtEnd i true new → Carried (steps ++ Ended i true ∷ []) (Some i) new
       carried_well went says = record {
         run = run_taken true ((λ h. went), (λ none. sym went));
-        phased = phases.phased;
-        goes = phases.goes;
-        refused = phases.refused;
+        phased = these.phased;
+        goes = these.goes;
+        refused = these.refused;
         beside = beside_ended steps i true None (Some i) new fresh (inl says)
             (λ tell files was. record { readable = was.readable; logged = logged_as_well B asked.graph.edges store old steps (store_in format own (view_of new.history)) new i was.logged }) ended_yet;
       }
         where
-          phases : ArePhases tells B own asked store goes_on (steps ++ Ended i true ∷ []) old new
-          phases = ended_phases true goes_on refl
+          these : ArePhases tells B own asked store phases goes_on (steps ++ Ended i true ∷ []) old new
+          these = ended_phases true goes_on refl
 
       -- It failed, or its depfile is refused.
       pub carried_failed : ((edge_at asked.graph.edges i).act.depfile ≡ [] → ok ≡ false) → SaysAtEnd i false new → Carried (steps ++ Ended i false ∷ []) None new
       carried_failed went says = record {
         run = run_taken false ((λ h. absurd (false≢true h)), (λ none. sym (went none)));
-        phased = phases.phased;
-        goes = phases.goes;
-        refused = phases.refused;
+        phased = these.phased;
+        goes = these.goes;
+        refused = these.refused;
         beside = beside_ended steps i false None None new fresh (inl says) as_failed ended_yet;
       }
         where
-          phases : ArePhases tells B own asked store goes_on (steps ++ Ended i false ∷ []) old new
-          phases = ended_phases false goes_on refl
+          these : ArePhases tells B own asked store phases goes_on (steps ++ Ended i false ∷ []) old new
+          these = ended_phases false goes_on refl
 
       -- The reading of its depfile met a fault.
-      pub cut_in_reading : (edge_at asked.graph.edges i).act.depfile ≢ [] → CutOff (steps ++ Ended i false ∷ []) (Some i) new
+      pub cut_in_reading : (edge_at asked.graph.edges i).act.depfile ≢ [] → CutOff phases (steps ++ Ended i false ∷ []) (Some i) new
       cut_in_reading named = record {
         phased = (ended_phases false goes_on refl).phased;
         run = rest_begins tells own (task_of asked store) old (steps ++ Ended i false ∷ []) new run;
@@ -577,7 +577,7 @@ module _ (tells : Bool) (B : Behaviour) (format : LogFormat) (own : OwnFiles) (a
     -- ---- after a fault, and at the exit
 
     -- the run has ended, or a fault cuts it off
-    pub cut_off : (steps : List Step) (hand : Option ℕ) (now : World) → Carried steps hand now → CutOff steps hand now
+    pub cut_off : (steps : List Step) (hand : Option ℕ) (now : World) → Carried steps hand now → CutOff phases steps hand now
     cut_off steps hand now carried = record {
       phased = carried.phased;
       run = rest_of steps hand now carried;
@@ -597,17 +597,17 @@ module _ (tells : Bool) (B : Behaviour) (format : LogFormat) (own : OwnFiles) (a
         nothing i is = cc
 
   -- a wait that was refused, and each call that only looks
-  pub cut_looks : (steps : List Step) (met : Option ℕ) (now new : World) → OnlyLooks tells now new → CutOff steps met now → CutOff steps met new
-  cut_looks steps met now new looks cut = record {
-    phased = phased_on tells B own asked store old steps now new (λ tell. (looks.history tell).more) (λ tell. (looks.history tell).grows) cut.phased;
+  pub cut_looks : (phases : List Phase) (steps : List Step) (met : Option ℕ) (now new : World) → OnlyLooks tells now new → CutOff phases steps met now → CutOff phases steps met new
+  cut_looks phases steps met now new looks cut = record {
+    phased = phased_on tells B own asked store old phases steps now new (λ tell. (looks.history tell).more) (λ tell. (looks.history tell).grows) cut.phased;
     run = rest_looks tells own (task_of asked store) old steps now new cut.run looks;
     beside = beside_looks steps met met now new cut.run looks cut.beside;
   }
 
   -- a command that ran is taken in
-  pub cut_finishes : (steps : List Step) (met : Option ℕ) (now new : World) (i : ℕ) (ok : Bool) → Finishes tells i ok now new → CutOff steps met now → CutOff steps met new
-  cut_finishes steps met now new i ok finish cut = record {
-    phased = phased_on tells B own asked store old steps now new (λ tell. (ends tell).more) (λ tell. (ends tell).grows) cut.phased;
+  pub cut_finishes : (phases : List Phase) (steps : List Step) (met : Option ℕ) (now new : World) (i : ℕ) (ok : Bool) → Finishes tells i ok now new → CutOff phases steps met now → CutOff phases steps met new
+  cut_finishes phases steps met now new i ok finish cut = record {
+    phased = phased_on tells B own asked store old phases steps now new (λ tell. (ends tell).more) (λ tell. (ends tell).grows) cut.phased;
     run = rest_finishes tells own (task_of asked store) old steps now new i ok cut.run finish;
     beside = beside_finishes steps met met now new i ok cut.run finish cut.beside;
   }
@@ -615,7 +615,7 @@ module _ (tells : Bool) (B : Behaviour) (format : LogFormat) (own : OwnFiles) (a
       ends : IsTrue tells → GrewBy (Finish i ok ∷ []) now.history new.history
       ends tell = grew_adding own asked.graph.edges (IsRunning now.events) (IsRunning new.events) (Finish i ok) now.history new.history (finish.history tell)
 
-  module _ (steps : List Step) (met : Option ℕ) (now : World) (cut : CutOff steps met now) where
+  module _ (phases : List Phase) (steps : List Step) (met : Option ℕ) (now : World) (cut : CutOff phases steps met now) where
     pub run_of : IsMadeOnce asked.graph.edges ⊎ OnlyLooks tells old now → IsRunOf tells B format own asked store steps met old now
     run_of once = record { idle = cut.beside.idle; run = cut.run; made_once = once; logged = cut.beside.logged; ticked = cut.beside.ticked }
 

@@ -9,7 +9,7 @@ use Rattle.model.specs.Graph.{has_number, edge_at, Addition}
 use Rattle.model.specs.Outcome.{Behaviour, depfile_in, is_accepted}
 use Rattle.model.specs.Records.{Store, LogFormat, OwnFiles}
 use Rattle.model.specs.Schedule.{Task, Step, started_in, well_in}
-use Rattle.model.specs.Phases.{IsGrownBy, IsNextLoad, IsInOrderAt}
+use Rattle.model.specs.Phases.{Phase, IsGrownBy, IsNextLoad, IsInOrderAt}
 use Rattle.model.specs.Premises.{FilesAreKept, SharesNone}
 use Rattle.model.specs.SingleBuild.{Asked, asked_with, task_of}
 use Rattle.model.specs.Kept.{store_at}
@@ -36,18 +36,18 @@ module _ (few many : List Edge) (grown : HasGrown few many) where
   alone_moved old now alone before after path content stamp splits i runs =
       subst (λ (a : Act). SharesNone a.depfile path × SharesNone a.response_path path) (sym (grown.act i)) (alone before after path content stamp splits i runs)
 
-module _ (tells : Bool) (B : Behaviour) (format : LogFormat) (own : OwnFiles) (asked : Asked) (store : Store) (old now : World) (next : List Edge)
+module _ (tells : Bool) (B : Behaviour) (format : LogFormat) (own : OwnFiles) (asked : Asked) (store : Store) (phases : List Phase) (old now : World) (next : List Edge)
     (file content : List ℕ) (additions : List Addition) (grown : IsGrownBy file additions asked.graph.edges next) where
   more : HasGrown asked.graph.edges next
   more = grown_by file additions asked.graph.edges next grown
 
   -- The file was loaded, which was the next one: it held this, which can be read, and fits; and the edges are in order with it.
-  pub carried_load : (steps : List Step) → IsCarried tells B format own asked store true steps None old now → IsNextLoad (task_of asked store) steps file → B.dyndep content ≡ Some additions
+  pub carried_load : (steps : List Step) → (carried : IsCarried tells B format own asked store phases true steps None old now) → IsNextLoad (task_of asked store) steps file → B.dyndep content ≡ Some additions
       → IsInOrderAt store (task_of (asked_with asked next) store) → (IsTrue tells → FilesAreKept own asked.graph.edges old.history now.history → view_of now.history file ≡ Some content)
-      → IsCarried tells B format own (asked_with asked next) store true steps None old now
+      → IsCarried tells B format own (asked_with asked next) store (phases ++ record { edges = asked.graph.edges; steps = carried.phased.build.last } ∷ []) true steps None old now
   carried_load steps carried is_next read order holds = record {
     run = run_moved tells own (task_of asked store) (task_of (asked_with asked next) store) steps old now more carried.run;
-    phased = phased_load tells B own asked store old now next file content additions grown steps carried.phased (carried.goes refl) is_next read order rest carried.beside.idle holds;
+    phased = phased_load tells B own asked store phases old now next file content additions grown steps carried.phased (carried.goes refl) is_next read order rest carried.beside.idle holds;
     goes = λ on. refl;
     refused = λ off. absurd (true≢false off);
     beside = record {

@@ -46,8 +46,8 @@ one : (tells : Bool) (B : Behaviour) (format : LogFormat) (own : OwnFiles) (aske
     → IsLoggedAt B format own asked.graph.edges (Judged i true ∷ Started i ∷ Ended i true ∷ []) None store old l)
     → IsRunOf tells B format own asked store (Judged i true ∷ Started i ∷ Ended i true ∷ []) None old l
 one tells B format own asked store old a b c d e f g h j k l m i stamp tick seen idle once unloaded others no_load looks found judge verdict mine t1 t2 log_mine dep resp ticks writes removes begin begin_log none looks_f start starts no_judge no_start finish looks_j looks_k sees says done done_log =
-    ledger.run_of tells B format own asked store old (Judged i true ∷ Started i ∷ Ended i true ∷ []) None l
-    (ledger.cut_off tells B format own asked store old true (Judged i true ∷ Started i ∷ Ended i true ∷ []) None l at_l) (inl once)
+    ledger.run_of tells B format own asked store old [] (Judged i true ∷ Started i ∷ Ended i true ∷ []) None l
+    (ledger.cut_off tells B format own asked store old [] true (Judged i true ∷ Started i ∷ Ended i true ∷ []) None l at_l) (inl once)
   where
     J : List Step
     J = Judged i true ∷ []
@@ -58,60 +58,60 @@ one tells B format own asked store old a b c d e f g h j k l m i stamp tick seen
     stale : has_number (i ∷ []) i ≡ true
     stale = start.1.stale
 
-    at_a0 : IsCarried tells B format own asked (store_in format own (view_of old.history)) true [] None old a
-    at_a0 = ledger.carried_looks tells B format own asked (store_in format own (view_of old.history)) old true [] None old a looks (ledger.carried_entry tells B format own asked (store_in format own (view_of old.history)) old unloaded others refl idle)
+    at_a0 : IsCarried tells B format own asked (store_in format own (view_of old.history)) [] true [] None old a
+    at_a0 = ledger.carried_looks tells B format own asked (store_in format own (view_of old.history)) old [] true [] None old a looks (ledger.carried_entry tells B format own asked (store_in format own (view_of old.history)) old unloaded others refl idle)
 
-    at_a : IsCarried tells B format own asked store true [] None old a
+    at_a : IsCarried tells B format own asked store [] true [] None old a
     at_a = ledger.carried_found tells B format own asked (store_in format own (view_of old.history)) old unloaded others store None a (λ tell files. found tell files.edits) at_a0
 
-    judged : IsCarried tells B format own asked store true (Judged i true ∷ []) (Some i) old a
-    judged = ledger.carried_hand tells B format own asked store old true (Judged i true ∷ []) a i (ledger.carried_judged tells B format own asked store old true [] None a i true refl judge (no_load []) verdict at_a)
+    judged : IsCarried tells B format own asked store [] true (Judged i true ∷ []) (Some i) old a
+    judged = ledger.carried_hand tells B format own asked store old [] true (Judged i true ∷ []) a i (ledger.carried_judged tells B format own asked store old [] true [] None a i true refl judge (no_load []) verdict at_a)
 
-    at_b : IsCarried tells B format own asked store true (Judged i true ∷ []) (Some i) old b
-    at_b = ledger.carried_ticks tells B format own asked store old true (Judged i true ∷ []) (Some i) a b tick mine t1 t2 stamp ticks judged
+    at_b : IsCarried tells B format own asked store [] true (Judged i true ∷ []) (Some i) old b
+    at_b = ledger.carried_ticks tells B format own asked store old [] true (Judged i true ∷ []) (Some i) a b tick mine t1 t2 stamp ticks judged
 
     resp_c : WritesAt tells (edge_at asked.graph.edges i).act.response_path b c
     resp_c = writing.writes_at tells (edge_at asked.graph.edges i).act.response_path (Some (edge_at asked.graph.edges i).act.response_content) b c writes
 
-    at_c : IsCarried tells B format own asked store true (Judged i true ∷ []) (Some i) old c
-    at_c = ledger.carried_response tells B format own asked store old true (Judged i true ∷ []) (Some i) b c i stale refl resp_c at_b
+    at_c : IsCarried tells B format own asked store [] true (Judged i true ∷ []) (Some i) old c
+    at_c = ledger.carried_response tells B format own asked store old [] true (Judged i true ∷ []) (Some i) b c i stale refl resp_c at_b
 
     dep_d : WritesAt tells (edge_at asked.graph.edges i).act.depfile c d
     dep_d = writing.writes_at tells (edge_at asked.graph.edges i).act.depfile None c d removes
 
-    at_d : IsCarried tells B format own asked store true (Judged i true ∷ []) (Some i) old d
-    at_d = ledger.carried_depfile tells B format own asked store old true (Judged i true ∷ []) (Some i) c d i stale refl (inr removes) at_c
+    at_d : IsCarried tells B format own asked store [] true (Judged i true ∷ []) (Some i) old d
+    at_d = ledger.carried_depfile tells B format own asked store old [] true (Judged i true ∷ []) (Some i) c d i stale refl (inr removes) at_c
 
-    at_e : IsCarried tells B format own asked store true (Judged i true ∷ []) (Some i) old e
-    at_e = ledger.carried_log tells B format own asked store old true (Judged i true ∷ []) (Some i) (Some i) d e own.build_log log_mine begin begin_log at_d
+    at_e : IsCarried tells B format own asked store [] true (Judged i true ∷ []) (Some i) old e
+    at_e = ledger.carried_log tells B format own asked store old [] true (Judged i true ∷ []) (Some i) (Some i) d e own.build_log log_mine begin begin_log at_d
 
     ready_e : IsReadyToStart tells format own asked.graph.edges i old e
     ready_e = record {
-      ticked = readying.tick_kept tells B format own asked store old true (Judged i true ∷ []) (Some i) d e at_d own.build_log begin
-          (readying.tick_kept tells B format own asked store old true (Judged i true ∷ []) (Some i) c d at_c (edge_at asked.graph.edges i).act.depfile dep_d
-          (readying.tick_kept tells B format own asked store old true (Judged i true ∷ []) (Some i) b c at_b (edge_at asked.graph.edges i).act.response_path resp_c
-          (readying.tick_given tells B format own asked store old true (Judged i true ∷ []) (Some i) a b judged tick stamp ticks)));
-      depfile = λ named. readying.holds_over_own tells B format own asked store old true (Judged i true ∷ []) (Some i) d e at_d i stale start.1.once (edge_at asked.graph.edges i).act.depfile (record { named = named; is = inl refl }) None own.build_log log_mine begin.history
-          (readying.holds_written tells B format own asked store old true (Judged i true ∷ []) (Some i) c d at_c i stale start.1.once (edge_at asked.graph.edges i).act.depfile (record { named = named; is = inl refl }) None removes);
-      response = λ named. readying.holds_over_own tells B format own asked store old true (Judged i true ∷ []) (Some i) d e at_d i stale start.1.once (edge_at asked.graph.edges i).act.response_path (record { named = named; is = inr refl }) (Some (edge_at asked.graph.edges i).act.response_content) own.build_log log_mine begin.history
-          (readying.response_over_depfile tells B format own asked store old true (Judged i true ∷ []) (Some i) c d at_c i stale start.1.once named (Some (edge_at asked.graph.edges i).act.response_content) dep_d
-          (readying.holds_written tells B format own asked store old true (Judged i true ∷ []) (Some i) b c at_b i stale start.1.once (edge_at asked.graph.edges i).act.response_path (record { named = named; is = inr refl }) (Some (edge_at asked.graph.edges i).act.response_content) writes));
+      ticked = readying.tick_kept tells B format own asked store old [] true (Judged i true ∷ []) (Some i) d e at_d own.build_log begin
+          (readying.tick_kept tells B format own asked store old [] true (Judged i true ∷ []) (Some i) c d at_c (edge_at asked.graph.edges i).act.depfile dep_d
+          (readying.tick_kept tells B format own asked store old [] true (Judged i true ∷ []) (Some i) b c at_b (edge_at asked.graph.edges i).act.response_path resp_c
+          (readying.tick_given tells B format own asked store old [] true (Judged i true ∷ []) (Some i) a b judged tick stamp ticks)));
+      depfile = λ named. readying.holds_over_own tells B format own asked store old [] true (Judged i true ∷ []) (Some i) d e at_d i stale start.1.once (edge_at asked.graph.edges i).act.depfile (record { named = named; is = inl refl }) None own.build_log log_mine begin.history
+          (readying.holds_written tells B format own asked store old [] true (Judged i true ∷ []) (Some i) c d at_c i stale start.1.once (edge_at asked.graph.edges i).act.depfile (record { named = named; is = inl refl }) None removes);
+      response = λ named. readying.holds_over_own tells B format own asked store old [] true (Judged i true ∷ []) (Some i) d e at_d i stale start.1.once (edge_at asked.graph.edges i).act.response_path (record { named = named; is = inr refl }) (Some (edge_at asked.graph.edges i).act.response_content) own.build_log log_mine begin.history
+          (readying.response_over_depfile tells B format own asked store old [] true (Judged i true ∷ []) (Some i) c d at_c i stale start.1.once named (Some (edge_at asked.graph.edges i).act.response_content) dep_d
+          (readying.holds_written tells B format own asked store old [] true (Judged i true ∷ []) (Some i) b c at_b i stale start.1.once (edge_at asked.graph.edges i).act.response_path (record { named = named; is = inr refl }) (Some (edge_at asked.graph.edges i).act.response_content) writes));
       begun = none;
     }
 
-    at_f : IsCarried tells B format own asked store true (Judged i true ∷ []) (Some i) old f
-    at_f = ledger.carried_looks tells B format own asked store old true (Judged i true ∷ []) (Some i) e f looks_f at_e
+    at_f : IsCarried tells B format own asked store [] true (Judged i true ∷ []) (Some i) old f
+    at_f = ledger.carried_looks tells B format own asked store old [] true (Judged i true ∷ []) (Some i) e f looks_f at_e
 
-    at_g : IsCarried tells B format own asked store true (Judged i true ∷ Started i ∷ []) None old g
-    at_g = ledger.carried_starts tells B format own asked store old true (Judged i true ∷ []) f g i (edge_at asked.graph.edges i).act refl start (no_load J) refl
-        (readying.ready_looking tells B format own asked store old true (Judged i true ∷ []) (Some i) e f at_e i stale start.1.once looks_f ready_e) starts at_f
+    at_g : IsCarried tells B format own asked store [] true (Judged i true ∷ Started i ∷ []) None old g
+    at_g = ledger.carried_starts tells B format own asked store old [] true (Judged i true ∷ []) f g i (edge_at asked.graph.edges i).act refl start (no_load J) refl
+        (readying.ready_looking tells B format own asked store old [] true (Judged i true ∷ []) (Some i) e f at_e i stale start.1.once looks_f ready_e) starts at_f
 
     looks_hk : OnlyLooks tells h k
     looks_hk = looks_then tells h j k looks_j looks_k
 
-    at_k : IsCarried tells B format own asked store true (Judged i true ∷ Started i ∷ Ended i true ∷ []) (Some i) old k
-    at_k = ledger.carried_well tells B format own asked store old true (Judged i true ∷ Started i ∷ []) g h k i true (λ on. (no_judge, no_start, no_load S)) finish looks_hk at_g refl
-        (taken.says_seen tells B format own asked store old true (Judged i true ∷ Started i ∷ []) g h k i true finish looks_hk at_g refl dep seen h j (looks_nothing tells h) sees looks_k true says)
+    at_k : IsCarried tells B format own asked store [] true (Judged i true ∷ Started i ∷ Ended i true ∷ []) (Some i) old k
+    at_k = ledger.carried_well tells B format own asked store old [] true (Judged i true ∷ Started i ∷ []) g h k i true (λ on. (no_judge, no_start, no_load S)) finish looks_hk at_g refl
+        (taken.says_seen tells B format own asked store old [] true (Judged i true ∷ Started i ∷ []) g h k i true finish looks_hk at_g refl dep seen h j (looks_nothing tells h) sees looks_k true says)
 
-    at_l : IsCarried tells B format own asked store true (Judged i true ∷ Started i ∷ Ended i true ∷ []) None old l
-    at_l = ledger.carried_log tells B format own asked store old true (Judged i true ∷ Started i ∷ Ended i true ∷ []) (Some i) None k l own.build_log log_mine done done_log at_k
+    at_l : IsCarried tells B format own asked store [] true (Judged i true ∷ Started i ∷ Ended i true ∷ []) None old l
+    at_l = ledger.carried_log tells B format own asked store old [] true (Judged i true ∷ Started i ∷ Ended i true ∷ []) (Some i) None k l own.build_log log_mine done done_log at_k

@@ -76,8 +76,8 @@ module _ (tells : Bool) (B : Behaviour) (own : OwnFiles) (asked : Asked) (store 
   abbrev The : Task
   The = task_of asked store
 
-  abbrev Phased : List Step → World → Type 0
-  Phased steps now = IsPhased tells B own asked store steps old now
+  abbrev Phased : List Phase → List Step → World → Type 0
+  Phased phases steps now = IsPhased tells B own asked store phases steps old now
 
   abbrev Over : List Edge → List Step → List Step → World → Type 0
   Over edges before steps now = AreJudgedOver tells own asked store edges before steps old now
@@ -133,10 +133,11 @@ module _ (tells : Bool) (B : Behaviour) (own : OwnFiles) (asked : Asked) (store 
     settled = was.settled;
   }
 
-  abbrev pub phased_on : (steps : List Step) (now new : World) (more : IsTrue tells → List Moment) → ((tell : IsTrue tells) → new.history ≡ now.history ++ more tell) → Phased steps now → Phased steps new
-  phased_on steps now new more grows phased = record {
+  abbrev pub phased_on : (phases : List Phase) (steps : List Step) (now new : World) (more : IsTrue tells → List Moment) → ((tell : IsTrue tells) → new.history ≡ now.history ++ more tell) → Phased phases steps now → Phased phases steps new
+  phased_on phases steps now new more grows phased = record {
     texts = phased.texts;
     build = phased.build;
+    so = phased.so;
     unread = phased.unread;
     inputs = phased.inputs;
     loaded = phased.loaded;
@@ -189,7 +190,7 @@ module _ (tells : Bool) (B : Behaviour) (own : OwnFiles) (asked : Asked) (store 
       (taken.0, taken_in_push (before ++ Ended j v ∷ []) steps i w taken.1 (subst (λ (l : List Step). has_number (running_in l) i ≡ true) (sym (append_assoc before (Ended j v ∷ []) steps)) runs))
 
   -- nothing is loaded yet, and no step was taken
-  abbrev pub phased_entry : (now : World) → asked.graph.edges ≡ asked.declared → ((file : List ℕ) → NamesOther asked.graph.edges file → ⊥) → Phased [] now
+  abbrev pub phased_entry : (now : World) → asked.graph.edges ≡ asked.declared → ((file : List ℕ) → NamesOther asked.graph.edges file → ⊥) → Phased [] [] now
   phased_entry now same others = record {
     texts = λ p. None;
     build = record {
@@ -203,6 +204,7 @@ module _ (tells : Bool) (B : Behaviour) (own : OwnFiles) (asked : Asked) (store 
       rest = tt;
       cause = inl refl;
     };
+    so = refl;
     unread = λ i file names. refl;
     inputs = λ i file names. elim (cases_Bool (has (inputs (edge_at asked.graph.edges i)) file)) [
       | inl is ↦ is
@@ -214,7 +216,7 @@ module _ (tells : Bool) (B : Behaviour) (own : OwnFiles) (asked : Asked) (store 
     last = λ tell. tt;
   }
 
-  module _ (steps : List Step) (now : World) (phased : Phased steps now) where
+  module _ (phases : List Phase) (steps : List Step) (now : World) (phased : Phased phases steps now) where
     -- where no load was refused the steps are those of the phases and of the last one
     pub so_far : phased.build.taken_in ≡ [] → steps ≡ steps_of phased.build.earlier ++ phased.build.last
     so_far on = phased.build.whole ∙ ap (λ (l : List Step). steps_of phased.build.earlier ++ l) (ap (λ (l : List Step). phased.build.last ++ l) on ∙ append-nil phased.build.last)
@@ -245,7 +247,7 @@ module _ (tells : Bool) (B : Behaviour) (own : OwnFiles) (asked : Asked) (store 
 
     -- a lawful step, where no load is due
     abbrev pub phased_step : (step : Step) → phased.build.taken_in ≡ [] → IsLawfulStep The steps step → NoLoadIsDue The steps
-        → (IsTrue tells → (i : ℕ) (b : Bool) → step ≡ Judged i b → JudgedOver tells own asked store asked.graph.edges steps i b old now) → Phased (steps ++ step ∷ []) now
+        → (IsTrue tells → (i : ℕ) (b : Bool) → step ≡ Judged i b → JudgedOver tells own asked store asked.graph.edges steps i b old now) → Phased phases (steps ++ step ∷ []) now
     phased_step step on next none right = record {
       texts = phased.texts;
       build = record {
@@ -263,6 +265,7 @@ module _ (tells : Bool) (B : Behaviour) (own : OwnFiles) (asked : Asked) (store 
         rest = tt;
         cause = inl refl;
       };
+      so = phased.so;
       unread = phased.unread;
       inputs = phased.inputs;
       loaded = λ i judged. loaded_then step next none i judged;
@@ -274,7 +277,7 @@ module _ (tells : Bool) (B : Behaviour) (own : OwnFiles) (asked : Asked) (store 
 
     -- A command is taken in after a load that was refused, or behind which an input was missing.
     abbrev pub phased_taken_in : (i : ℕ) (w : Bool) → has_number (running_in steps) i ≡ true
-        → (phased.build.last ≡ []) ⊎ ((file : List ℕ) × IsDueLoad The (steps_of phased.build.earlier ++ phased.build.last) file) → Phased (steps ++ Ended i w ∷ []) now
+        → (phased.build.last ≡ []) ⊎ ((file : List ℕ) × IsDueLoad The (steps_of phased.build.earlier ++ phased.build.last) file) → Phased phases (steps ++ Ended i w ∷ []) now
     phased_taken_in i w runs cause = record {
       texts = phased.texts;
       build = record {
@@ -290,6 +293,7 @@ module _ (tells : Bool) (B : Behaviour) (own : OwnFiles) (asked : Asked) (store 
             (subst (λ (l : List Step). has_number (running_in l) i ≡ true) (phased.build.whole ∙ sym (append_assoc (steps_of phased.build.earlier) phased.build.last phased.build.taken_in)) runs);
         cause = inr cause;
       };
+      so = phased.so;
       unread = phased.unread;
       inputs = phased.inputs;
       loaded = λ j judged. elim (in_either judged_in judged-append steps (Ended i w ∷ []) j judged) [
@@ -303,7 +307,7 @@ module _ (tells : Bool) (B : Behaviour) (own : OwnFiles) (asked : Asked) (store 
 
 -- ---- a load
 
-module _ (tells : Bool) (B : Behaviour) (own : OwnFiles) (asked : Asked) (store : Store) (old now : World) (next : List Edge) where
+module _ (tells : Bool) (B : Behaviour) (own : OwnFiles) (asked : Asked) (store : Store) (phases : List Phase) (old now : World) (next : List Edge) where
   abbrev pub More : Asked
   More = asked_with asked next
 
@@ -366,11 +370,11 @@ module _ (tells : Bool) (B : Behaviour) (own : OwnFiles) (asked : Asked) (store 
           (was, false_from_ne_true (bytes_eq file other) (λ same. apart (was ∙ ap (λ (p : List ℕ). Some p) (sym (same_bytes file other same)))))
     ]
 
-    pub loads : (steps : List Step) → (phased : IsPhased tells B own asked store steps old now) → phased.build.taken_in ≡ [] → IsNextLoad (task_of asked store) steps file → B.dyndep content ≡ Some additions
+    pub loads : (steps : List Step) → (phased : IsPhased tells B own asked store phases steps old now) → phased.build.taken_in ≡ [] → IsNextLoad (task_of asked store) steps file → B.dyndep content ≡ Some additions
         → IsLoad B.dyndep (with_text file content phased.texts) (task_of asked store) (steps_of phased.build.earlier ++ phased.build.last) next
     loads steps phased on is_next read = record {
       file = file;
-      is_next = subst (λ (l : List Step). IsNextLoad (task_of asked store) l file) (so_far tells B own asked store old steps now phased on) is_next;
+      is_next = subst (λ (l : List Step). IsNextLoad (task_of asked store) l file) (so_far tells B own asked store old phases steps now phased on) is_next;
       content = content;
       holds = holds_it phased.texts file content;
       additions = additions;
@@ -438,27 +442,27 @@ module _ (tells : Bool) (B : Behaviour) (own : OwnFiles) (asked : Asked) (store 
       settled = λ same j makes command. settled_command asked.graph.edges (done_in steps) j command (due.settled j makes);
     }) loaded
 
-    pub has_grown : (steps : List Step) → IsPhased tells B own asked store steps old now → HasGrown asked.declared asked.graph.edges
+    pub has_grown : (steps : List Step) → IsPhased tells B own asked store phases steps old now → HasGrown asked.declared asked.graph.edges
     has_grown steps phased = subst (λ (es : List Edge). HasGrown es asked.graph.edges) phased.build.begins
         (rest_has_grown B.dyndep phased.texts asked.declared (task_of asked store) store [] phased.build.earlier phased.build.phases)
 
     -- what was started has its dyndep file loaded
-    pub loaded_of : (steps : List Step) → IsPhased tells B own asked store steps old now → IsRunOrRest tells own (task_of asked store) steps old now → (i : ℕ) → has_number (started_in steps) i ≡ true
+    pub loaded_of : (steps : List Step) → IsPhased tells B own asked store phases steps old now → IsRunOrRest tells own (task_of asked store) steps old now → (i : ℕ) → has_number (started_in steps) i ≡ true
         → (edge_at asked.graph.edges i).dyndep ≡ None
     loaded_of steps phased rest i started =
         let kept = kept_orderly asked.graph.edges steps rest.orderly in
         phased.loaded i (kept.out_of_date i (kept.started i started))
 
-    abbrev pub phased_load : (steps : List Step) → (phased : IsPhased tells B own asked store steps old now) → phased.build.taken_in ≡ [] → IsNextLoad (task_of asked store) steps file → B.dyndep content ≡ Some additions
+    abbrev pub phased_load : (steps : List Step) → (phased : IsPhased tells B own asked store phases steps old now) → phased.build.taken_in ≡ [] → IsNextLoad (task_of asked store) steps file → B.dyndep content ≡ Some additions
         → IsInOrderAt store (task_of More store) → IsRunOrRest tells own (task_of asked store) steps old now → IsIdle old.events
-        → (IsTrue tells → FilesAreKept own asked.graph.edges old.history now.history → view_of now.history file ≡ Some content) → IsPhased tells B own More store steps old now
+        → (IsTrue tells → FilesAreKept own asked.graph.edges old.history now.history → view_of now.history file ≡ Some content) → IsPhased tells B own More store (phases ++ ended_with phased.build.last ∷ []) steps old now
     phased_load steps phased on is_next read order rest idle holds = record {
       texts = with_text file content phased.texts;
       build = record {
         earlier = phased.build.earlier ++ ended_with phased.build.last ∷ [];
         last = [];
         taken_in = [];
-        whole = so_far tells B own asked store old steps now phased on ∙ (sym (steps_push phased.build.earlier phased.build.last) ∙ sym (append-nil (steps_of (phased.build.earlier ++ ended_with phased.build.last ∷ []))));
+        whole = so_far tells B own asked store old phases steps now phased on ∙ (sym (steps_push phased.build.earlier phased.build.last) ∙ sym (append-nil (steps_of (phased.build.earlier ++ ended_with phased.build.last ∷ []))));
         begins = begins_push phased.build.earlier phased.build.last ∙ phased.build.begins;
         phases = phases_push phased.texts (with_text file content phased.texts) (holds_all phased.texts file content (phased.unread is_next.due.edge file is_next.due.names))
             [] phased.build.earlier phased.build.last phased.build.phases phased.build.lawful (loads steps phased on is_next read) order;
@@ -466,6 +470,7 @@ module _ (tells : Bool) (B : Behaviour) (own : OwnFiles) (asked : Asked) (store 
         rest = tt;
         cause = inl refl;
       };
+      so = ap (λ (l : List Phase). l ++ ended_with phased.build.last ∷ []) phased.so;
       unread = λ i other names.
           let was = named_before i other names in
           ap (λ (b : Bool). cond b (Some content) (phased.texts other)) was.1 ∙ phased.unread i other was.0;

@@ -11,6 +11,7 @@ use Rattle.model.specs.Outcome.{Behaviour}
 use Rattle.model.specs.Records.{Store, LogFormat, OwnFiles, store_in, in_force}
 use Rattle.model.specs.Schedule.{Step, started_in, out_of_date_in}
 use Rattle.model.specs.Premises.{FilesAreKept, LiesIn}
+use Rattle.model.specs.Phases.{Phase}
 use Rattle.model.specs.SingleBuild.{Asked, task_of}
 use Rattle.build_theory.specs.Run.{IsRunOrRest}
 use Rattle.build_theory.proofs.Files.{file_stays}
@@ -27,8 +28,8 @@ use Rattle.log_theory.proofs.Less.{store_same}
 use Rattle.log_theory.proofs.Ticking.{tick_now, tick_on}
 use Rattle.log_theory.proofs.Writing.{no_events_at, at_elsewhere, looks_at, build_log_stays, deps_log_stays}
 
-module _ (tells : Bool) (B : Behaviour) (format : LogFormat) (own : OwnFiles) (asked : Asked) (store : Store) (old : World) (goes_on : Bool) (steps : List Step) (hand : Option ℕ) (now new : World)
-    (carried : IsCarried tells B format own asked store goes_on steps hand old now) where
+module _ (tells : Bool) (B : Behaviour) (format : LogFormat) (own : OwnFiles) (asked : Asked) (store : Store) (old : World) (phases : List Phase) (goes_on : Bool) (steps : List Step) (hand : Option ℕ) (now new : World)
+    (carried : IsCarried tells B format own asked store phases goes_on steps hand old now) where
   abbrev rest : IsRunOrRest tells own (task_of asked store) steps old now
   rest = rest_begins tells own (task_of asked store) old steps now carried.run
 

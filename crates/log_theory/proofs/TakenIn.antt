@@ -13,6 +13,7 @@ use Rattle.model.specs.Outcome.{Behaviour, read_depfile, depfile_in, is_accepted
 use Rattle.model.specs.Records.{Store, LogFormat, OwnFiles}
 use Rattle.model.specs.Schedule.{Step}
 use Rattle.model.specs.Premises.{FilesAreKept, EndedAt, AllSince, IsWithinEdge, IsNoEdit}
+use Rattle.model.specs.Phases.{Phase}
 use Rattle.model.specs.SingleBuild.{Asked, task_of}
 use Rattle.build_theory.specs.Run.{events_in, IsRunOrRest}
 use Rattle.build_theory.proofs.Lists.{same_rest, place_in, all_append, all_parts}
@@ -26,8 +27,8 @@ use Rattle.log_theory.proofs.Growing.{longer}
 use Rattle.log_theory.proofs.Ledger.{SaysAtEnd, command_of}
 use Rattle.log_theory.proofs.Once.{not_ended_again, one_end}
 
-module _ (tells : Bool) (B : Behaviour) (format : LogFormat) (own : OwnFiles) (asked : Asked) (store : Store) (old : World) (goes_on : Bool) (steps : List Step) (now mid new : World) (i : ℕ) (ok : Bool)
-    (finish : Finishes tells i ok now mid) (looks : OnlyLooks tells mid new) (carried : IsCarried tells B format own asked store goes_on steps None old now) where
+module _ (tells : Bool) (B : Behaviour) (format : LogFormat) (own : OwnFiles) (asked : Asked) (store : Store) (old : World) (phases : List Phase) (goes_on : Bool) (steps : List Step) (now mid new : World) (i : ℕ) (ok : Bool)
+    (finish : Finishes tells i ok now mid) (looks : OnlyLooks tells mid new) (carried : IsCarried tells B format own asked store phases goes_on steps None old now) where
   idle : IsIdle old.events
   idle = carried.beside.idle
 

@@ -8,7 +8,7 @@ use Rattle.model.specs.Graph.{has, has_number, edge_at, maker, inputs, outputs, 
 use Rattle.model.specs.Outcome.{Behaviour}
 use Rattle.model.specs.Records.{Store, LogFormat, OwnFiles, store_in, in_force}
 use Rattle.model.specs.Schedule.{Step, judged_in, done_in}
-use Rattle.model.specs.Phases.{steps_of, IsDueLoad, IsLawfulBuild}
+use Rattle.model.specs.Phases.{Phase, steps_of, IsDueLoad, IsLawfulBuild}
 use Rattle.model.specs.Premises.{FilesAreKept}
 use Rattle.model.specs.SingleBuild.{Asked, task_of}
 use Rattle.build_theory.specs.Run.{IsRun, IsRunOrRest, AreStartsReady}
@@ -30,11 +30,12 @@ pub record LoadedThen (tells : Bool) (own : OwnFiles) (asked : Asked) (store : S
   pub settled : (maker asked.declared file ≡ None → maker asked.graph.edges file ≡ None)
       → (j : ℕ) → maker asked.graph.edges file ≡ Some j → IsCommand asked.graph.edges j → has_number (done_in before) j ≡ true
 
--- The phases so far: `texts` are what the loaded files held, none of a file that an edge names still; an edge that names one has it
--- as an input, and was not judged; each verdict was right by the edges and files of then.
-pub record IsPhased (tells : Bool) (B : Behaviour) (own : OwnFiles) (asked : Asked) (store : Store) (steps : List Step) (old now : World) : Type 0 where
+-- The phases so far, `phases` before the present one: `texts` are what the loaded files held, none of a file that an edge names still;
+-- an edge that names one has it as an input, and was not judged; each verdict was right by the edges and files of then.
+pub record IsPhased (tells : Bool) (B : Behaviour) (own : OwnFiles) (asked : Asked) (store : Store) (phases : List Phase) (steps : List Step) (old now : World) : Type 0 where
   pub texts : View
   pub build : IsLawfulBuild B.dyndep texts asked.declared (task_of asked store) store steps
+  pub so : build.earlier ≡ phases
   pub unread : (i : ℕ) (file : List ℕ) → (edge_at asked.graph.edges i).dyndep ≡ Some file → texts file ≡ None
   pub inputs : (i : ℕ) (file : List ℕ) → (edge_at asked.graph.edges i).dyndep ≡ Some file → has (inputs (edge_at asked.graph.edges i)) file ≡ true
   pub loaded : (i : ℕ) → has_number (judged_in steps) i ≡ true → (edge_at asked.graph.edges i).dyndep ≡ None
@@ -53,23 +54,23 @@ pub record IsBeside (tells : Bool) (B : Behaviour) (format : LogFormat) (own : O
   pub alone : IsTrue tells → FilesAreKept own asked.graph.edges old.history now.history → AreLeftAlone asked.graph.edges old.history now.history
 
 -- a load is due that was refused; or one was made just before, and an input is missing
-abbrev pub IsRefused : {tells : Bool} → {B : Behaviour} → {own : OwnFiles} → {asked : Asked} → {store : Store} → {steps : List Step} → {old now : World} → IsPhased tells B own asked store steps old now → Type 0
-IsRefused {tells} {B} {own} {asked} {store} {steps} {old} {now} phased =
+abbrev pub IsRefused : {tells : Bool} → {B : Behaviour} → {own : OwnFiles} → {asked : Asked} → {store : Store} → {phases : List Phase} → {steps : List Step} → {old now : World} → IsPhased tells B own asked store phases steps old now → Type 0
+IsRefused {tells} {B} {own} {asked} {store} {phases} {steps} {old} {now} phased =
     (phased.build.last ≡ []) ⊎ ((file : List ℕ) × IsDueLoad (task_of asked store) (steps_of phased.build.earlier ++ phased.build.last) file)
 
 -- A run that goes on, or that a refused load has ended, and then what runs is taken in. The depfile of each command that it took in
 -- was read; `hand` is the edge whose start or recording is under way.
-pub record IsCarried (tells : Bool) (B : Behaviour) (format : LogFormat) (own : OwnFiles) (asked : Asked) (store : Store) (goes_on : Bool) (steps : List Step) (hand : Option ℕ) (old now : World) : Type 0 where
+pub record IsCarried (tells : Bool) (B : Behaviour) (format : LogFormat) (own : OwnFiles) (asked : Asked) (store : Store) (phases : List Phase) (goes_on : Bool) (steps : List Step) (hand : Option ℕ) (old now : World) : Type 0 where
   pub run : IsRun tells own (task_of asked store) steps old now
-  pub phased : IsPhased tells B own asked store steps old now
+  pub phased : IsPhased tells B own asked store phases steps old now
   pub goes : goes_on ≡ true → phased.build.taken_in ≡ []
   pub refused : goes_on ≡ false → IsRefused phased
   pub beside : IsBeside tells B format own asked store steps None hand old now
 
 -- A run that has ended, or that a fault has cut off, in the start or the taking in of the edge `met`: since then commands were
 -- taken in, and nothing else was done.
-pub record IsCutOff (tells : Bool) (B : Behaviour) (format : LogFormat) (own : OwnFiles) (asked : Asked) (store : Store) (steps : List Step) (met : Option ℕ) (old now : World) : Type 0 where
-  pub phased : IsPhased tells B own asked store steps old now
+pub record IsCutOff (tells : Bool) (B : Behaviour) (format : LogFormat) (own : OwnFiles) (asked : Asked) (store : Store) (phases : List Phase) (steps : List Step) (met : Option ℕ) (old now : World) : Type 0 where
+  pub phased : IsPhased tells B own asked store phases steps old now
   pub run : IsRunOrRest tells own (task_of asked store) steps old now
   pub beside : IsBeside tells B format own asked store steps met met old now
 
