@@ -23,9 +23,9 @@ module _ (tells : Bool) (course : Course) (graph : Graph) (now : World) where
   nothing task steps i is = cc
 
   -- it was not cut off
-  abbrev whole : (steps : List Done) → Carried tells course graph steps None now → IsCutOff tells course.behaviour course.format course.own course.asked course.store steps None course.entry now
+  abbrev whole : (steps : List Done) → Carried tells course graph steps None now → IsCutOff tells course.behaviour course.format course.own course.asked course.store course.phases steps None course.entry now
   whole steps carried =
-      let cut = cut_off tells course.behaviour course.format course.own course.asked course.store course.entry (goes_on course) steps None now carried in
+      let cut = cut_off tells course.behaviour course.format course.own course.asked course.store course.entry course.phases (goes_on course) steps None now carried in
       record { phased = carried.phased; run = cut.run; beside = cut.beside }
 
   -- all went well
@@ -59,11 +59,11 @@ module _ (tells : Bool) (course : Course) (graph : Graph) (now : World) where
   pub cut_looking : (state : State) (plan : Plan) (new : World) → plan ≡ state.plan → OnlyLooks tells now new → IsOn tells course graph None state now → IsCut tells course graph plan new
   cut_looking state plan new same looks on =
       subst (λ (p : Plan). IsCut tells course graph p new) (sym {A = Plan} same)
-      (cut_free tells course graph state.plan new on.steps on.planned on.taken (carried_looks tells course.behaviour course.format course.own course.asked course.store course.entry (goes_on course) on.steps None now new looks on.carried))
+      (cut_free tells course graph state.plan new on.steps on.planned on.taken (carried_looks tells course.behaviour course.format course.own course.asked course.store course.entry course.phases (goes_on course) on.steps None now new looks on.carried))
 
   -- a fault has cut it off, and since then commands were taken in
   pub ran_cut : (plan : Plan) (last : World) (cut : Cut) → IsCut tells course graph plan now
-      → ((steps : List Done) (met : Option ℕ) → IsCutOff tells course.behaviour course.format course.own course.asked course.store steps met course.entry now
-      → IsCutOff tells course.behaviour course.format course.own course.asked course.store steps met course.entry last)
+      → ((steps : List Done) (met : Option ℕ) → IsCutOff tells course.behaviour course.format course.own course.asked course.store course.phases steps met course.entry now
+      → IsCutOff tells course.behaviour course.format course.own course.asked course.store course.phases steps met course.entry last)
       → HasRun tells course last (Err cut)
   ran_cut plan last cut at rest = record { steps = at.steps; met = at.met; cut = rest at.steps at.met at.cut; in_hand = at.in_hand; ends = tt; goes = tt; removed = tt }

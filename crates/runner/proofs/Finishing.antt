@@ -216,18 +216,18 @@ module _ (tells : Bool) (course : Course) (tick : List ℕ) (graph : Graph) (sui
     taken = end_tells false;
     run = run_looks tells course.own task course.entry (After false) mid new
         (run_takes_in tells course.own task course.entry on.steps now mid (suc e) false ok on.carried.beside.idle on.carried.run ((λ well. absurd (false≢true well)), (λ none. absurd (named none))) finish) looks;
-    cut = cut_in_reading tells course.behaviour course.format course.own course.asked course.store course.entry (goes_on course) on.steps now mid new (suc e) ok turn.lawful finish looks on.carried named;
+    cut = cut_in_reading tells course.behaviour course.format course.own course.asked course.store course.entry course.phases (goes_on course) on.steps now mid new (suc e) ok turn.lawful finish looks on.carried named;
     in_hand = λ i is. subst (λ (n : ℕ). IsInHand task (After false) n) (same_some (suc e) i is) (in_hand false);
   }
 
   -- ---- the calls, while it is no step yet
 
-  cut_mid : IsCutOff tells course.behaviour course.format course.own course.asked course.store on.steps None course.entry mid
-  cut_mid = cut_finishes tells course.behaviour course.format course.own course.asked course.store course.entry on.steps None now mid (suc e) ok finish
-      (cut_off tells course.behaviour course.format course.own course.asked course.store course.entry (goes_on course) on.steps None now on.carried)
+  cut_mid : IsCutOff tells course.behaviour course.format course.own course.asked course.store course.phases on.steps None course.entry mid
+  cut_mid = cut_finishes tells course.behaviour course.format course.own course.asked course.store course.entry course.phases on.steps None now mid (suc e) ok finish
+      (cut_off tells course.behaviour course.format course.own course.asked course.store course.entry course.phases (goes_on course) on.steps None now on.carried)
 
-  cut_new : IsCutOff tells course.behaviour course.format course.own course.asked course.store on.steps None course.entry new
-  cut_new = cut_looks tells course.behaviour course.format course.own course.asked course.store course.entry on.steps None mid new looks cut_mid
+  cut_new : IsCutOff tells course.behaviour course.format course.own course.asked course.store course.phases on.steps None course.entry new
+  cut_new = cut_looks tells course.behaviour course.format course.own course.asked course.store course.entry course.phases on.steps None mid new looks cut_mid
 
   by_rest : (world : World) → IsRunOrRest tells course.own task on.steps course.entry world → RunBy (edges_of course) on.steps world
   by_rest world rest job is = (
@@ -272,10 +272,10 @@ module _ (tells : Bool) (course : Course) (tick : List ℕ) (graph : Graph) (sui
       where
         by_end : (b : Bool) → ended_well ok told ≡ b → Carried tells course graph (After b) (in_hand_after (suc e) b) new
         by_end true went =
-            carried_well tells course.behaviour course.format course.own course.asked course.store course.entry (goes_on course) on.steps now mid new (suc e) ok turn.lawful finish looks on.carried (went_well ok told went)
+            carried_well tells course.behaviour course.format course.own course.asked course.store course.entry course.phases (goes_on course) on.steps now mid new (suc e) ok turn.lawful finish looks on.carried (went_well ok told went)
             (subst (λ (w : Bool). SaysAtEnd tells course.behaviour course.format course.own course.asked course.store course.entry (suc e) w new) went (said_by tells course tick graph suits one state now mid new (suc e) ok on finish looks told read))
         by_end false failed =
-            carried_failed tells course.behaviour course.format course.own course.asked course.store course.entry (goes_on course) on.steps now mid new (suc e) ok turn.lawful finish looks on.carried
+            carried_failed tells course.behaviour course.format course.own course.asked course.store course.entry course.phases (goes_on course) on.steps now mid new (suc e) ok turn.lawful finish looks on.carried
             (λ none. unnamed_end tells course tick graph suits one state now mid new (suc e) ok on finish looks told read none failed)
             (subst (λ (w : Bool). SaysAtEnd tells course.behaviour course.format course.own course.asked course.store course.entry (suc e) w new) failed (said_by tells course tick graph suits one state now mid new (suc e) ok on finish looks told read))
 
@@ -302,7 +302,7 @@ module _ (tells : Bool) (course : Course) (tick : List ℕ) (graph : Graph) (sui
         own_stay is named at ended tell files =
             let seen = looks.history tell in
             ap (λ (h : List Moment). view_of h (edge_at (edges_of course) (suc e)).act.depfile) seen.grows
-            ∙ depfile_since tells course.behaviour course.format course.own course.asked course.store course.entry (goes_on course) on.steps now mid new (suc e) ok finish looks on.carried
+            ∙ depfile_since tells course.behaviour course.format course.own course.asked course.store course.entry course.phases (goes_on course) on.steps now mid new (suc e) ok finish looks on.carried
             (went_well ok told (well_by_end on.steps (suc e) well is not_before)) named tell files seen.more [] at (seen.grows ∙ ap (λ (l : List Moment). mid.history ++ l) (sym (append-nil seen.more))) ended
           where
             not_before : has_number (well_in on.steps) (suc e) ≡ true → ⊥
@@ -520,7 +520,7 @@ module _ (tells : Bool) (course : Course) (tick : List ℕ) (graph : Graph) (sui
       well = λ went. record {
         well = well_ended on.steps (suc e) is_well went;
         started = stamp_kept e edge_here.running;
-        ended = λ tell. (_, ended_here tells course.behaviour course.format course.own course.asked course.store course.entry (goes_on course) on.steps now mid new (suc e) ok finish looked on.carried tell (went_well ok told went));
+        ended = λ tell. (_, ended_here tells course.behaviour course.format course.own course.asked course.store course.entry course.phases (goes_on course) on.steps now mid new (suc e) ok finish looked on.carried tell (went_well ok told went));
         none = none_in_force tells course tick graph suits state now mid new e ok on turn finish looked stays none;
         told = has_told tells course tick graph suits one state now mid new (suc e) ok on finish looked told read_new went;
       };

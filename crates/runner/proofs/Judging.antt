@@ -167,7 +167,7 @@ module _ (tells : Bool) (course : Course) (graph : Graph) (stays : LogStays) (ti
         record { read = over.read; counted = over.counted; verdict = told ∙ ap (λ (r : Option Reason). is_some r) over.is }
 
     pub judged_carried : Carried tells course graph more None new
-    judged_carried = carried_judged tells course.behaviour course.format course.own course.asked course.store course.entry (goes_on course) on.steps None new (suc e) stale said.goes (said.lawful stale) said.loads right carried_new
+    judged_carried = carried_judged tells course.behaviour course.format course.own course.asked course.store course.entry course.phases (goes_on course) on.steps None new (suc e) stale said.goes (said.lawful stale) said.loads right carried_new
 
     pub judged_seen : IsTrue tells → FilesAreKept course.own (edges_of course) course.entry.history new.history → AreSeenOf (is_quiet course.own (edges_of course) more) graph.manifest.paths new.history after.seen.items
     judged_seen tell files p asked quiet_so =

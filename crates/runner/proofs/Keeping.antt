@@ -86,7 +86,7 @@ not_deps own same = omega (arith, (longer_than_both own).1, ap length same)
 
 module _ (tells : Bool) (course : Course) (graph : Graph) where
   abbrev pub Carried : List Done → Option ℕ → World → Type 0
-  Carried steps hand now = IsCarried tells course.behaviour course.format course.own course.asked course.store (goes_on course) steps hand course.entry now
+  Carried steps hand now = IsCarried tells course.behaviour course.format course.own course.asked course.store course.phases (goes_on course) steps hand course.entry now
 
   abbrev pub Logging : List Done → Option ℕ → World → Logs → Type 0
   Logging steps hand now logs = IsLogging tells course.behaviour course.format course.own (edges_of course) steps hand course.store course.entry now logs
@@ -208,7 +208,7 @@ module _ (tells : Bool) (course : Course) (graph : Graph) where
     looks_quiet looks = quiet_looks tells course.own (edges_of course) on.steps course.entry now new (grown on.steps hand now on.carried) (run_by on.steps hand now on.carried) looks
 
     pub looks_carried : OnlyLooks tells now new → Carried on.steps hand new
-    looks_carried looks = carried_looks tells course.behaviour course.format course.own course.asked course.store course.entry (goes_on course) on.steps hand now new looks on.carried
+    looks_carried looks = carried_looks tells course.behaviour course.format course.own course.asked course.store course.entry course.phases (goes_on course) on.steps hand now new looks on.carried
 
     pub looks_removed : OnlyLooks tells now new → Removed
     looks_removed looks = removed_looks tells course.own (edges_of course) on.steps course.entry now new (grown on.steps hand now on.carried) rest hand on.removed looks
@@ -220,7 +220,7 @@ module _ (tells : Bool) (course : Course) (graph : Graph) where
     module _ (tick : List ℕ) (suits : Suits course tick graph) where
       pub ticks_carried : (stamp : ℕ) → Ticks tells tick stamp now new → Carried on.steps hand new
       ticks_carried stamp ticks =
-          carried_ticks tells course.behaviour course.format course.own course.asked course.store course.entry (goes_on course) on.steps hand now new tick suits.owned suits.no_build_log suits.no_deps_log stamp ticks on.carried
+          carried_ticks tells course.behaviour course.format course.own course.asked course.store course.entry course.phases (goes_on course) on.steps hand now new tick suits.owned suits.no_build_log suits.no_deps_log stamp ticks on.carried
 
       pub ticks_quiet : (stamp : ℕ) → Ticks tells tick stamp now new → Quietly on.steps now new
       ticks_quiet stamp ticks =
@@ -242,7 +242,7 @@ module _ (tells : Bool) (course : Course) (graph : Graph) where
       command = stale_is_command on.steps hand now on.carried i stale
 
       pub response_carried : Carried on.steps hand new
-      response_carried = carried_response tells course.behaviour course.format course.own course.asked course.store course.entry (goes_on course) on.steps hand now new i stale rests writes on.carried
+      response_carried = carried_response tells course.behaviour course.format course.own course.asked course.store course.entry course.phases (goes_on course) on.steps hand now new i stale rests writes on.carried
 
       pub response_quiet : Quietly on.steps now new
       response_quiet = quiet_response tells course.own (edges_of course) on.steps course.entry now new (grown on.steps hand now on.carried) (run_by on.steps hand now on.carried) i command writes.history
@@ -273,7 +273,7 @@ module _ (tells : Bool) (course : Course) (graph : Graph) where
       depfile_at = writes_or_not_at tells (edge_at (edges_of course) i).act.depfile None now new removes
 
       pub depfile_carried : Carried on.steps hand new
-      depfile_carried = carried_depfile tells course.behaviour course.format course.own course.asked course.store course.entry (goes_on course) on.steps hand now new i stale rests removes on.carried
+      depfile_carried = carried_depfile tells course.behaviour course.format course.own course.asked course.store course.entry course.phases (goes_on course) on.steps hand now new i stale rests removes on.carried
 
       pub depfile_quiet : Quietly on.steps now new
       depfile_quiet = quiet_depfile tells course.own (edges_of course) on.steps course.entry now new (grown on.steps hand now on.carried) (run_by on.steps hand now on.carried) i reads depfile_at.history
@@ -302,7 +302,7 @@ module _ (tells : Bool) (course : Course) (graph : Graph) where
   -- ---- an edge is taken in hand
 
   pub hand_carried : (steps : List Done) (now : World) (i : ℕ) → Carried steps None now → Carried steps (Some i) now
-  hand_carried steps now i carried = carried_hand tells course.behaviour course.format course.own course.asked course.store course.entry (goes_on course) steps now i carried
+  hand_carried steps now i carried = carried_hand tells course.behaviour course.format course.own course.asked course.store course.entry course.phases (goes_on course) steps now i carried
 
   abbrev pub on_hand : (state : State) (now : World) (i : ℕ) → IsOn tells course graph None state now → IsOn tells course graph (Some i) state now
   on_hand state now i on = record {
@@ -364,7 +364,7 @@ module _ (tells : Bool) (course : Course) (graph : Graph) where
     -- whether it stands there or not
     pub log_carried : IsLoggedStill tells course.behaviour course.format course.own (edges_of course) on.steps next course.store course.entry new → Carried on.steps next new
     log_carried logged =
-        carried_log tells course.behaviour course.format course.own course.asked course.store course.entry (goes_on course) on.steps hand next now new path owned writes (λ tell kept was. logged tell kept) on.carried
+        carried_log tells course.behaviour course.format course.own course.asked course.store course.entry course.phases (goes_on course) on.steps hand next now new path owned writes (λ tell kept was. logged tell kept) on.carried
 
     pub log_quiet : Quietly on.steps now new
     log_quiet = quiet_own tells course.own (edges_of course) on.steps course.entry now new (grown on.steps hand now on.carried) (run_by on.steps hand now on.carried) path owned writes.history
@@ -403,8 +403,8 @@ module _ (tells : Bool) (course : Course) (graph : Graph) where
   abbrev pub Cut : Plan → World → Type 0
   Cut plan new = IsCut tells course graph plan new
 
-  cut_of : (steps : List Done) (hand : Option ℕ) (new : World) → Carried steps hand new → IsCutOff tells course.behaviour course.format course.own course.asked course.store steps hand course.entry new
-  cut_of steps hand new carried = cut_off tells course.behaviour course.format course.own course.asked course.store course.entry (goes_on course) steps hand new carried
+  cut_of : (steps : List Done) (hand : Option ℕ) (new : World) → Carried steps hand new → IsCutOff tells course.behaviour course.format course.own course.asked course.store course.phases steps hand course.entry new
+  cut_of steps hand new carried = cut_off tells course.behaviour course.format course.own course.asked course.store course.entry course.phases (goes_on course) steps hand new carried
 
   -- with no edge in hand
   pub cut_free : (plan : Plan) (new : World) (steps : List Done) → IsPlanned (task_of course.asked course.store) graph plan steps → AreTaken (task_of course.asked course.store) steps → Carried steps None new → Cut plan new

@@ -114,7 +114,7 @@ module _ (tells : Bool) (course : Course) (graph : Graph) (stays : LogStays) (ti
     -- no stamp was given
     pub cut_ticking : (new : World) → TicksOrNot tells tick mid new → IsCut tells course graph state.plan new
     cut_ticking new ticks = cut_met tells course graph state.plan new steps (suc e) in_hand begun.on.planned begun.on.taken
-        (carried_ticks_or_not tells course.behaviour course.format course.own course.asked course.store course.entry (goes_on course) steps (Some (suc e)) mid new tick suits.owned suits.no_build_log suits.no_deps_log ticks on_mid.carried)
+        (carried_ticks_or_not tells course.behaviour course.format course.own course.asked course.store course.entry course.phases (goes_on course) steps (Some (suc e)) mid new tick suits.owned suits.no_build_log suits.no_deps_log ticks on_mid.carried)
 
     module _ (new : World) (stamp : ℕ) (ticks : Ticks tells tick stamp mid new) where
       abbrev on_new : On new

@@ -115,7 +115,7 @@ module _ (tells : Bool) (course : Course) (graph : Graph) where
     more = on.steps ++ Started (suc e) ∷ []
 
     pub start_carried : Carried tells course graph more None new
-    start_carried = carried_starts tells course.behaviour course.format course.own course.asked course.store course.entry (goes_on course) on.steps now new (suc e) act goes next unloaded is ready starts on.carried
+    start_carried = carried_starts tells course.behaviour course.format course.own course.asked course.store course.entry course.phases (goes_on course) on.steps now new (suc e) act goes next unloaded is ready starts on.carried
 
     pub start_quiet : Quietly tells course graph more now new
     start_quiet = quiet_adds tells course.own (edges_of course) more course.entry now new (grown tells course graph on.steps (Some (suc e)) now on.carried) ran (run_by tells course graph more None new start_carried) (Start (suc e) act now.ticked) starts.history
@@ -139,7 +139,7 @@ module _ (tells : Bool) (course : Course) (graph : Graph) where
     ]
       where
         under : StartedUnder (suc e) now.ticked course.entry new
-        under = started_under tells course.behaviour course.format course.own course.asked course.store course.entry (goes_on course) on.steps (Some (suc e)) now new (suc e) act starts on.carried
+        under = started_under tells course.behaviour course.format course.own course.asked course.store course.entry course.phases (goes_on course) on.steps (Some (suc e)) now new (suc e) act starts on.carried
 
     pub start_anew : AreAnew tells course graph more state new
     start_anew = anew_over tells course graph on.steps more more state now new start_quiet once (λ j well. in_left ended_in ended-append on.steps (Started (suc e) ∷ []) j (well_ended tells course graph on.steps (Some (suc e)) now on.carried j well))
@@ -239,22 +239,22 @@ module _ (tells : Bool) (course : Course) (graph : Graph) where
     -- what one of its two files holds behind the tick
     holds_ticked : (q : List ℕ) → IsPrivate (edges_of course) i q → (held : Option (List ℕ)) → HoldsStill tells course.own (edges_of course) q held course.entry mid → HoldsStill tells course.own (edges_of course) q held course.entry new
     holds_ticked q private held =
-        holds_over_own tells course.behaviour course.format course.own course.asked course.store course.entry (goes_on course) on.steps (Some i) mid new carried_mid i next.1.stale next.1.once q private held tick suits.owned tick_grew
+        holds_over_own tells course.behaviour course.format course.own course.asked course.store course.entry course.phases (goes_on course) on.steps (Some i) mid new carried_mid i next.1.stale next.1.once q private held tick suits.owned tick_grew
 
     depfile_holds : depfile ≢ [] → HoldsStill tells course.own (edges_of course) depfile None course.entry mid
     depfile_holds named =
-        depfile_over_response tells course.behaviour course.format course.own course.asked course.store course.entry (goes_on course) on.steps (Some i) gone mid on_gone.carried i next.1.stale next.1.once named None response_at
-        (holds_written tells course.behaviour course.format course.own course.asked course.store course.entry (goes_on course) on.steps (Some i) now gone on.carried i next.1.stale next.1.once depfile
+        depfile_over_response tells course.behaviour course.format course.own course.asked course.store course.entry course.phases (goes_on course) on.steps (Some i) gone mid on_gone.carried i next.1.stale next.1.once named None response_at
+        (holds_written tells course.behaviour course.format course.own course.asked course.store course.entry course.phases (goes_on course) on.steps (Some i) now gone on.carried i next.1.stale next.1.once depfile
         (record { named = named; is = inl refl }) None (depfile_gone named))
 
     pub ready_to_start : IsReadyToStart tells course.format course.own (edges_of course) i course.entry new
     ready_to_start = record {
-      ticked = tick_given tells course.behaviour course.format course.own course.asked course.store course.entry (goes_on course) on.steps (Some i) mid new carried_mid tick stamp ticks;
+      ticked = tick_given tells course.behaviour course.format course.own course.asked course.store course.entry course.phases (goes_on course) on.steps (Some i) mid new carried_mid tick stamp ticks;
       depfile = λ named. holds_ticked depfile (record { named = named; is = inl refl }) None (depfile_holds named);
       response = λ named. holds_ticked response (record { named = named; is = inr refl }) (Some (edge_at (edges_of course) i).act.response_content)
-          (holds_written tells course.behaviour course.format course.own course.asked course.store course.entry (goes_on course) on.steps (Some i) gone mid on_gone.carried i next.1.stale next.1.once response
+          (holds_written tells course.behaviour course.format course.own course.asked course.store course.entry course.phases (goes_on course) on.steps (Some i) gone mid on_gone.carried i next.1.stale next.1.once response
           (record { named = named; is = inr refl }) (Some (edge_at (edges_of course) i).act.response_content) (response_written named));
-      begun = no_record_apart tells course.behaviour course.format course.own course.asked course.store course.entry (goes_on course) on.steps (Some i) mid new carried_mid i next.1.stale next.1.once tick
+      begun = no_record_apart tells course.behaviour course.format course.own course.asked course.store course.entry course.phases (goes_on course) on.steps (Some i) mid new carried_mid i next.1.stale next.1.once tick
           (λ files. (suits.no_build_log, suits.no_deps_log)) tick_grew (begun_over gone mid on_gone.carried response response_at (λ files. files.responses i command)
           (begun_over now gone on.carried depfile (depfile_at tells course graph stays (Some i) state now gone on i next.1.stale rests depfile_removes) (λ files. files.depfiles i command) begun));
     }
@@ -265,7 +265,7 @@ module _ (tells : Bool) (course : Course) (graph : Graph) where
         -- over a write at one of the two
         begun_over : (old last : World) → Carried tells course graph on.steps (Some i) old → (path : List ℕ) → WritesAt tells path old last → (OwnFilesApart course.own (edges_of course) → LiesIn course.own path)
             → HasNoRecord tells course.format course.own (edges_of course) i course.entry old → HasNoRecord tells course.format course.own (edges_of course) i course.entry last
-        begun_over old last carried path writes lies = no_record_apart tells course.behaviour course.format course.own course.asked course.store course.entry (goes_on course) on.steps (Some i) old last carried i next.1.stale next.1.once path
+        begun_over old last carried path writes lies = no_record_apart tells course.behaviour course.format course.own course.asked course.store course.entry course.phases (goes_on course) on.steps (Some i) old last carried i next.1.stale next.1.once path
             (λ files. (other course.own.build_log files.own_files files.own_files.build_log, other course.own.deps_log files.own_files files.own_files.deps_log)) writes.history
           where
             other : (log : List ℕ) → OwnFilesApart course.own (edges_of course) → course.own.files log ≡ true → path ≢ log

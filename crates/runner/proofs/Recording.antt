@@ -293,7 +293,7 @@ module _ (tells : Bool) (course : Course) (tick : List ℕ) (graph : Graph) (sui
     cleared = on_depfile tells course graph stays (Some job) After mid gone recorded job stale_here rests clears_it suits.once refl (λ well. spares_it)
 
     pub carried_gone : Carried tells course graph steps None gone
-    carried_gone = carried_depfile tells course.behaviour course.format course.own course.asked course.store course.entry (goes_on course) steps None mid gone job stale_here rests clears_it carried_then
+    carried_gone = carried_depfile tells course.behaviour course.format course.own course.asked course.store course.entry course.phases (goes_on course) steps None mid gone job stale_here rests clears_it carried_then
 
     pub logging_gone : Logging tells course graph steps None gone records.logs
     logging_gone = logging_over tells course graph stays steps steps None None mid gone records.logs (depfile_leaves tells course graph stays (Some job) After mid gone recorded job stale_here rests clears_it) carried_gone logging_then
@@ -310,7 +310,7 @@ module _ (tells : Bool) (course : Course) (tick : List ℕ) (graph : Graph) (sui
       held = on_response tells course graph stays (Some job) After gone new cleared job stale_here rests removes_it suits.once refl
 
       pub carried_new : Carried tells course graph steps None new
-      carried_new = carried_response tells course.behaviour course.format course.own course.asked course.store course.entry (goes_on course) steps None gone new job stale_here rests removes_it carried_gone
+      carried_new = carried_response tells course.behaviour course.format course.own course.asked course.store course.entry course.phases (goes_on course) steps None gone new job stale_here rests removes_it carried_gone
 
       -- with `deps = gcc` its depfile is gone
       pub depfile_gone : (deps ≡ Gcc → act.depfile ≢ [] → Writes tells act.depfile None mid gone) → (edge_at (edges_of course) job).deps ≡ Gcc → (edge_at (edges_of course) job).act.depfile ≢ []
