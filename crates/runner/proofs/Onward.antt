@@ -1,5 +1,6 @@
 -- One step more: what was taken so far, and what was done since a load was refused.
 use Rattle.std.proofs.Common.{◌≡◌, ◌⊎◌, inl, inr, ℕ, ◌<◌, not, Bool, true, false, List, [], ◌∷◌, ◌++◌, length, Option, Some, None, is_some, refl, sym, ◌∙◌, ap, subst, arith, append_assoc}
+use Rattle.std.proofs.lemmas.List.{append-nil}
 use Rattle.std.proofs.lemmas.Bool.{false≢true}
 use Rattle.model.specs.Graph.{has_number}
 use Rattle.model.specs.Reading.{IsInCone}
@@ -9,7 +10,6 @@ use Rattle.model.specs.Phases.{AreTakenIn}
 use Rattle.build_theory.proofs.Lists.{has_number-is}
 use Rattle.build_theory.proofs.Orderly.{orderly_step, orderly_push}
 use Rattle.build_theory.proofs.Steps.{judged-append, in_either}
-use Rattle.log_theory.proofs.Phased.{taken_in_push}
 use Rattle.links.specs.declared.graph.Graph.{Graph}
 use Rattle.plan.specs.declared.plan.Plan.{Plan}
 use Rattle.plan.specs.declared.step.Step.{Step}
@@ -55,12 +55,19 @@ pub since_goes : (refused : Option (List Done)) → not (is_some refused) ≡ tr
 since_goes None goes steps = tt
 since_goes (Some done) goes steps = absurd (false≢true goes)
 
+ends_push : (before ended : List Done) (i : ℕ) (well : Bool) → AreTakenIn before ended → has_number (running_in (before ++ ended)) i ≡ true → AreTakenIn before (ended ++ Ended i well ∷ [])
+ends_push before [] i well taken runs = (subst (λ (l : List Done). has_number (running_in l) i ≡ true) (append-nil before) runs, tt)
+ends_push before (Judged j stale ∷ ended) i well taken runs = absurd taken
+ends_push before (Started j ∷ ended) i well taken runs = absurd taken
+ends_push before (Ended j ok ∷ ended) i well taken runs =
+    (taken.0, ends_push (before ++ Ended j ok ∷ []) ended i well taken.1 (subst (λ (l : List Done). has_number (running_in l) i ≡ true) (sym (append_assoc before (Ended j ok ∷ []) ended)) runs))
+
 pub since_ended : (refused : Option (List Done)) (steps : List Done) (i : ℕ) (well : Bool) → has_number (running_in steps) i ≡ true → IsSince refused steps → IsSince refused (steps ++ Ended i well ∷ [])
 since_ended None steps i well runs since = tt
 since_ended (Some done) steps i well runs since = (
   since.0 ++ Ended i well ∷ [],
   ap (λ (l : List Done). l ++ Ended i well ∷ []) since.1 ∙ append_assoc done since.0 (Ended i well ∷ []),
-  taken_in_push done since.0 i well since.2 (subst (λ (l : List Done). has_number (running_in l) i ≡ true) since.1 runs),
+  ends_push done since.0 i well since.2 (subst (λ (l : List Done). has_number (running_in l) i ≡ true) since.1 runs),
 )
 
 -- ---- what the plan says next
