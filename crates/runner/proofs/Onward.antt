@@ -1,5 +1,5 @@
 -- One step more: what was taken so far, and what was done since a load was refused.
-use Rattle.std.proofs.Common.{◌≡◌, ◌⊎◌, inl, inr, ℕ, ◌<◌, not, Bool, true, false, List, [], ◌∷◌, ◌++◌, length, Option, Some, None, is_some, refl, sym, ◌∙◌, ap, subst, arith, append_assoc}
+use Rattle.std.proofs.Common.{◌≡◌, ◌⊎◌, inl, inr, ℕ, ◌≤◌, ◌<◌, not, Bool, true, false, List, [], ◌∷◌, ◌++◌, length, Option, Some, None, is_some, refl, sym, ◌∙◌, ap, subst, arith, append_assoc}
 use Rattle.std.proofs.lemmas.List.{append-nil}
 use Rattle.std.proofs.lemmas.Bool.{false≢true}
 use Rattle.model.specs.Graph.{has_number}
@@ -92,9 +92,9 @@ may_finish course steps count ends many some = record {
 }
 
 -- until none does
-pub none_runs : (steps : List Done) (count : ℕ) → count ≡ length (running_in steps) → (0 < count → ⊥) → running_in steps ≡ []
+pub none_runs : (steps : List Done) (count : ℕ) → count ≡ length (running_in steps) → count ≤ 0 → running_in steps ≡ []
 none_runs steps count many none = by_list (running_in steps) many
   where
     by_list : (runs : List ℕ) → count ≡ length runs → runs ≡ []
     by_list [] is = refl
-    by_list (x ∷ xs) is = absurd (none (omega (arith, is)))
+    by_list (x ∷ xs) is = absurd (omega (arith, is, none))

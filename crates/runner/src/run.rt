@@ -21,6 +21,7 @@ use crate::turn::{Halt, go_on};
 use paths::EdgeId;
 use plan::{End, Plan};
 use site::Site;
+use std::alloc::Global;
 use std::mem;
 
 /// Runs a plan: judges, starts and takes in what the plan says until it has ended, or says that a dyndep file is to be loaded. What
@@ -51,11 +52,7 @@ pub fn run_plan<S: Site>(
     ensures left { IfErr result (IsLeft (S.world site.new)) }
 {
     match run(site, setting, state) {
-        Ok(Halt::Load(file)) => Ok(Pause::Load(file)),
-        Ok(Halt::Ended(end)) => {
-            let failed = mem::replace(&mut state.failed, Vec::new(setting.alloc));
-            Ok(Pause::Ended(summary(&state.plan, failed, end)))
-        }
+        Ok(halt) => Ok(paused(setting.alloc, state, halt)),
         Err(cut) => Err(take_in_rest(site, state.plan.running(), cut)),
     }
 }
@@ -73,6 +70,20 @@ fn run<S: Site>(site: &mut S, setting: Setting<'_>, state: &mut State<'_>) -> Re
     'run: loop {
         if let Some(halt) = go_on(site, setting, state)? {
             return Ok(halt);
+        }
+    }
+}
+
+/// Why a run pauses that takes no step now. At its end the failed edges go to the summary.
+fn paused(alloc: Global, state: &mut State<'_>, halt: Halt) -> Pause
+    ensures set { state.new.set ≡ state.old.set }
+    ensures pauses { (tells : Bool) (course : Course) (graph : Graph) (now : World) → IsHalted tells course graph state.old now halt → HasPaused tells course graph state.new now (Ok result) × IsPauseOf graph result }
+{
+    match halt {
+        Halt::Load(file) => Pause::Load(file),
+        Halt::Ended(end) => {
+            let failed = mem::replace(&mut state.failed, Vec::new(alloc));
+            Pause::Ended(summary(&state.plan, failed, end))
         }
     }
 }

@@ -1,10 +1,6 @@
-use Rattle.std.proofs.Common.{Ok, refl, subst}
 use Rattle.model.specs.SingleBuild.{task_of}
-use Rattle.build_theory.proofs.Calls.{unrefused_call}
-use Rattle.runner.specs.declared.turn.Halt.{Halt}
-use Rattle.runner.specs.Going.{IsHalted}
 use Rattle.runner.proofs.Counting.{many_by_steps}
-use Rattle.runner.proofs.Cutting.{passes_cut, starts_cut}
+use Rattle.runner.proofs.Cutting.{starts_cut}
 use Rattle.runner.proofs.Ends.{ran_cut}
 use Rattle.runner.proofs.run.run_plan.Goals as goal
 
@@ -23,3 +19,12 @@ returns-in-Err-clause-ran g c course suits goes on =
 pub returns-in-Err-clause-starts : goal.returns-in-Err-clause-starts
 returns-in-Err-clause-starts g c =
     starts_cut (g.S.Texts.world c.args.site.now) (g.S.Texts.world c.run.new.site) (g.S.Texts.world c.take_in_rest.new.site) c.take_in_rest.result c.in-Err.ensures.cuts.starts c.take_in_rest.ensures.takes_in
+
+pub returns-in-Ok-clause-ran : goal.returns-in-Ok-clause-ran
+returns-in-Ok-clause-ran g c course suits goes on =
+    (c.paused.ensures.pauses g.S.Texts.tells course c.args.setting.graph.now (g.S.Texts.world c.run.new.site) (c.in-Ok.ensures.halts course suits goes on)).0
+
+pub returns-in-Ok-clause-pause : goal.returns-in-Ok-clause-pause
+returns-in-Ok-clause-pause g c =
+    let going = c.requires.going.0 in
+    (c.paused.ensures.pauses g.S.Texts.tells going.course c.args.setting.graph.now (g.S.Texts.world c.run.new.site) (c.in-Ok.ensures.halts going.course going.suits c.requires.going.1 going.on)).1
