@@ -5,7 +5,7 @@ use Rattle.model.specs.Graph.{has_number, edge_at, maker, later_number, IsComman
 use Rattle.model.specs.Reading.{IsInCone}
 use Rattle.model.specs.Phases.{IsNextLoad, NoLoadIsDue}
 use Rattle.build_theory.specs.Order.{IsOrderly}
-use Rattle.model.specs.Schedule.{Task, Step as Done, Judged, Started, IsLawfulStep, NoneMayBeJudged, NoneMayStart, IsSettled, judged_in, clean_in, out_of_date_in, started_in, well_in, failed_in, running_in, done_in}
+use Rattle.model.specs.Schedule.{Task, Step as Done, Judged, Started, Ended, IsLawfulStep, NoneMayBeJudged, NoneMayStart, IsSettled, judged_in, clean_in, out_of_date_in, started_in, well_in, failed_in, running_in, done_in}
 use Rattle.lowest.specs.Flags.{has, AreNone}
 use Rattle.queue.specs.Turns.{Turns, group_at, may}
 use Rattle.links.specs.declared.graph.Graph.{Graph}
@@ -106,10 +106,17 @@ IsFirstPlan graph cone jobs keep plan =
     (task : Task) → IsTaskOf task graph → task.jobs ≡ jobs → task.keep ≡ keep
     → IsConeOf task.graph.edges task.recorded task.targets cone.order.items cone.marks.items → IsPlanned task graph plan []
 
--- whatever is built, the plan after steps is, with a lawful one more, that of the steps and it
+-- a step that a plan may be told: a lawful judgement or start, and the end of a command that runs, which comes behind a refused load
+-- where something else may be done, too
+abbrev pub MayTell : Task → List Done → Done → Type 0
+MayTell task steps (Judged i stale) = IsLawfulStep task steps (Judged i stale)
+MayTell task steps (Started i) = IsLawfulStep task steps (Started i)
+MayTell task steps (Ended i well) = has_number (running_in steps) i ≡ true
+
+-- whatever is built, the plan after steps is, with one more that it may be told, that of the steps and it
 abbrev pub TakesStep : Graph → Plan → Plan → Done → Type 0
 TakesStep graph old new step =
-    (task : Task) (steps : List Done) → IsPlanned task graph old steps → AreTaken task steps → IsLawfulStep task steps step → IsPlanned task graph new (steps ++ step ∷ [])
+    (task : Task) (steps : List Done) → IsPlanned task graph old steps → AreTaken task steps → MayTell task steps step → IsPlanned task graph new (steps ++ step ∷ [])
 
 -- so many edges stand in this list of the steps, whatever steps the plan is that of
 abbrev pub IsCountIn : Plan → (List Done → List ℕ) → ℕ → Type 0

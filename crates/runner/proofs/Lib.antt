@@ -21,3 +21,5 @@ pub mod Finishing
 pub mod Noting
 pub mod Comparing
 pub mod Recording
+pub mod Onward
+pub mod Refused

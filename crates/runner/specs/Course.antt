@@ -1,5 +1,5 @@
 -- What a run is of, and where a run that goes on stands.
-use Rattle.std.specs.Prelude.{◌≡◌, ◌≢◌, ◌<◌, ℕ, suc, ◌&&◌, not, Bool, true, false, IsTrue, List, [], ◌∷◌, map, length, Option, Some, get_or}
+use Rattle.std.specs.Prelude.{◌≡◌, ◌≢◌, ◌<◌, ℕ, suc, ◌&&◌, not, Bool, true, false, IsTrue, List, [], ◌∷◌, ◌++◌, map, length, Option, Some, None, is_some, get_or}
 use Rattle.std.specs.List.{list_any}
 use Rattle.model.specs.declared.graph.Edge.{Edge}
 use Rattle.model.specs.declared.record.Record.{Record}
@@ -10,6 +10,7 @@ use Rattle.model.specs.Outcome.{Behaviour}
 use Rattle.model.specs.Records.{Store, LogFormat, OwnFiles, recorded_inputs}
 use Rattle.model.specs.OutOfDate.{input_facts}
 use Rattle.model.specs.Schedule.{Step as Done, out_of_date_in, ended_in, failed_in, running_in, well_in}
+use Rattle.model.specs.Phases.{Phase, AreTakenIn}
 use Rattle.model.specs.Premises.{FilesAreKept}
 use Rattle.model.specs.Kept.{StartedUnder}
 use Rattle.model.specs.SingleBuild.{Asked, task_of}
@@ -19,7 +20,7 @@ use Rattle.links.specs.Links.{links_of}
 use Rattle.links.specs.Told.{declared_by, recorded_by, AreSameInputs}
 use Rattle.depfile.specs.Depfile.{IsReading}
 use Rattle.lowest.specs.Flags as flags
-use Rattle.plan.specs.Planned.{IsPlanned}
+use Rattle.plan.specs.Planned.{IsPlanned, AreTaken}
 use Rattle.looks.specs.Seen.{look_at, look_of, AreSeenOf}
 use Rattle.records.specs.Known.{AreKnown}
 use Rattle.records.specs.Logging.{IsLogging}
@@ -28,7 +29,8 @@ use Rattle.runner.specs.Removing.{AreRemoved}
 use Rattle.runner.specs.declared.state.State.{State}
 
 -- What a run is of: what commands do, how its logs are read, which files are its own, what was asked, what the logs told at the
--- entry, and the world of then. Nothing of it changes while the run goes on.
+-- entry, and the world of then; the phases that ended with a load; and where a load was refused, which steps were done by then. Nothing
+-- of it changes but by a load.
 pub record Course : Type 0 where
   pub behaviour : Behaviour
   pub format : LogFormat
@@ -36,9 +38,20 @@ pub record Course : Type 0 where
   pub asked : Asked
   pub store : Store
   pub entry : World
+  pub phases : List Phase
+  pub refused : Option (List Done)
 
 abbrev pub edges_of : Course → List Edge
 edges_of course = course.asked.graph.edges
+
+-- no load was refused; else what runs is taken in, and nothing else is done
+abbrev pub goes_on : Course → Bool
+goes_on course = not (is_some course.refused)
+
+-- what was done since a load was refused, if one was: commands that ran were taken in
+abbrev pub IsSince : Option (List Done) → List Done → Type 0
+IsSince None steps = Unit {0}
+IsSince (Some done) steps = (ended : List Done) × (steps ≡ done ++ ended) × AreTakenIn done ended
 
 -- The graph declares what was asked, with the recorded inputs that are in use; each path is made once; a command has outputs;
 -- depfiles are read as their grammar says; both logs are files of the program's own; ticks touch another such file, that is no log;
@@ -114,12 +127,14 @@ pub record HasRoom (graph : Graph) (state : State) : Type 0 where
   pub looks : length state.looks.seen.items ≡ length graph.manifest.paths
   pub starts : length state.starts.items ≡ length graph.manifest.lines
 
--- What a run that goes on has kept since the entry. `hand` is the edge whose start or recording is under way, `failed` are those
--- whose failure is noted.
+-- What a run has kept since the entry that goes on, or that a refused load has ended. `hand` is the edge whose start or recording is
+-- under way, `failed` are those whose failure is noted.
 pub record IsOn (tells : Bool) (course : Course) (graph : Graph) (hand : Option ℕ) (state : State) (now : World) : Type 0 where
   pub steps : List Done
   pub planned : IsPlanned (task_of course.asked course.store) graph state.plan steps
-  pub carried : IsCarried tells course.behaviour course.format course.own course.asked course.store steps hand course.entry now
+  pub taken : AreTaken (task_of course.asked course.store) steps
+  pub since : IsSince course.refused steps
+  pub carried : IsCarried tells course.behaviour course.format course.own course.asked course.store course.phases (goes_on course) steps hand course.entry now
   pub logging : IsLogging tells course.behaviour course.format course.own (edges_of course) steps hand course.store course.entry now state.records.logs
   pub told : AreTold tells course graph state now
   pub seen : IsSeenStill tells course graph steps state now

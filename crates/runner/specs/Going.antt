@@ -1,9 +1,10 @@
 -- A run that goes on, that has ended, or that a fault cuts off.
-use Rattle.std.specs.Prelude.{◌≡◌, ◌⊎◌, ℕ, suc, ◌≤◌, ◌<◌, ◌&&◌, Bool, true, false, List, [], ◌∷◌, ◌++◌, length, Option, Some, None}
+use Rattle.std.specs.Prelude.{◌≡◌, ◌≢◌, ◌⊎◌, ℕ, suc, ◌≤◌, ◌<◌, ◌&&◌, Bool, true, false, List, [], ◌∷◌, ◌++◌, length, Option, Some, None}
 use Rattle.std.specs.List.{sum_by}
 use Rattle.model.specs.World.{World}
 use Rattle.model.specs.Graph.{has_number, edge_at}
-use Rattle.model.specs.Schedule.{Task, Step as Done, Ended, MayStart, NoneMayBeJudged, out_of_date_in, started_in, ended_in}
+use Rattle.model.specs.Schedule.{Task, Step as Done, Ended, MayStart, NoneMayBeJudged, NoneMayStart, out_of_date_in, started_in, ended_in, running_in}
+use Rattle.model.specs.Phases.{IsNextLoad, NoLoadIsDue}
 use Rattle.model.specs.SingleBuild.{task_of}
 use Rattle.build_theory.specs.Run.{IsRun}
 use Rattle.lowest.specs.Flags as flags
@@ -11,29 +12,61 @@ use Rattle.links.specs.declared.graph.Graph.{Graph}
 use Rattle.links.specs.Links.{links_of}
 use Rattle.links.specs.Told.{declared_by}
 use Rattle.log_theory.specs.Ledger.{IsCutOff}
+use Rattle.paths.specs.Told.{text_at}
 use Rattle.looks.specs.declared.table.Looks.{Looks}
 use Rattle.looks.specs.Looking.{HasLooked}
 use Rattle.looks.specs.Seen.{look_at}
 use Rattle.plan.specs.declared.step.End.{End}
 use Rattle.plan.specs.declared.step.Standing.{Standing}
 use Rattle.plan.specs.declared.step.Standing.TheVariants.{Outside, Unjudged, Clean, OutOfDate, Running, Well, Failed, Alias, Known}
+use Rattle.plan.specs.declared.step.Step.{Step}
 use Rattle.plan.specs.declared.step.Step.TheVariants.{Ended as Over}
 use Rattle.plan.specs.declared.plan.Plan.{Plan}
-use Rattle.plan.specs.Planned.{IsPlanned, IsNextOf}
-use Rattle.runner.specs.Course.{Course, Suits, IsOn}
+use Rattle.plan.specs.Planned.{IsPlanned, AreTaken, IsNextOf, IsDueOf}
+use Rattle.runner.specs.Course.{Course, goes_on, Suits, IsOn}
 use Rattle.runner.specs.Restat.{IsFlagged, IsForgotten}
+use Rattle.runner.specs.declared.turn.Halt.{Halt}
+use Rattle.runner.specs.declared.turn.Halt.TheVariants as halt
 use Rattle.runner.specs.declared.state.State.{State}
 
--- such a run goes on, of some course
+-- such a run is under way, of some course
 pub record IsGoing (tells : Bool) (tick : List ℕ) (graph : Graph) (state : State) (now : World) : Type 0 where
   pub course : Course
   pub suits : Suits course tick graph
   pub on : IsOn tells course graph None state now
 
+-- The run goes on, and this is next: a lawful step where no load is due, or the next load.
+pub record IsSaid (course : Course) (graph : Graph) (steps : List Done) (step : Step) : Type 0 where
+  pub goes : goes_on course ≡ true
+  pub lawful : IsNextOf (task_of course.asked course.store) steps step
+  pub loads : IsDueOf (task_of course.asked course.store) graph steps step
+
+-- A command may be taken in: some run; and in a run that goes on nothing may be judged or started, and no load is due.
+pub record MayTakeIn (course : Course) (steps : List Done) : Type 0 where
+  pub runs : running_in steps ≢ []
+  pub lawful : goes_on course ≡ true → NoneMayBeJudged (task_of course.asked course.store) steps × NoneMayStart (task_of course.asked course.store) steps × NoLoadIsDue (task_of course.asked course.store) steps
+
 -- nothing is left to do
 pub record IsOver (tells : Bool) (course : Course) (graph : Graph) (state : State) (end : End) (now : World) : Type 0 where
   pub on : IsOn tells course graph None state now
-  pub over : IsNextOf (task_of course.asked course.store) on.steps (Over end)
+  pub over : IsSaid course graph on.steps (Over end)
+
+-- this file is to be loaded next
+pub record IsAtLoad (tells : Bool) (course : Course) (graph : Graph) (state : State) (file : ℕ) (now : World) : Type 0 where
+  pub on : IsOn tells course graph None state now
+  pub next : IsNextLoad (task_of course.asked course.store) on.steps (text_at graph.manifest.paths file)
+  pub wanted : has_number state.plan.loads.items file ≡ true
+  pub known : file < length graph.manifest.paths
+
+-- so stands a run that takes no step now
+abbrev pub IsHalted : Bool → Course → Graph → State → World → Halt → Type 0
+IsHalted tells course graph state now (halt.Load file) = IsAtLoad tells course graph state file now
+IsHalted tells course graph state now (halt.Ended end) = IsOver tells course graph state end now
+
+-- all that ran was taken in
+pub record IsFinished (tells : Bool) (course : Course) (graph : Graph) (state : State) (now : World) : Type 0 where
+  pub on : IsOn tells course graph None state now
+  pub none : running_in on.steps ≡ []
 
 -- The edge is next to start, or its command was taken in by the last of the steps.
 pub record IsInHand (task : Task) (steps : List Done) (i : ℕ) : Type 0 where
@@ -46,8 +79,9 @@ pub record IsCut (tells : Bool) (course : Course) (graph : Graph) (plan : Plan) 
   pub steps : List Done
   pub met : Option ℕ
   pub planned : IsPlanned (task_of course.asked course.store) graph plan steps
+  pub taken : AreTaken (task_of course.asked course.store) steps
   pub run : IsRun tells course.own (task_of course.asked course.store) steps course.entry now
-  pub cut : IsCutOff tells course.behaviour course.format course.own course.asked course.store steps met course.entry now
+  pub cut : IsCutOff tells course.behaviour course.format course.own course.asked course.store course.phases steps met course.entry now
   pub in_hand : (i : ℕ) → met ≡ Some i → IsInHand (task_of course.asked course.store) steps i
 
 -- no edge has more outputs

@@ -2,19 +2,22 @@
 use Rattle.std.specs.Prelude.{◌≡◌, ◌++◌, ◌∷◌, [], ℕ, Bool, true, if◌then◌else◌, Option, Some, None, List}
 use Rattle.model.specs.World.{World}
 use Rattle.model.specs.Schedule.{Step as Done, Started, Ended, IsLawfulStep}
+use Rattle.model.specs.Phases.{NoLoadIsDue}
 use Rattle.model.specs.SingleBuild.{task_of}
 use Rattle.links.specs.declared.graph.Graph.{Graph}
 use Rattle.log_theory.specs.Ledger.{HasNoRecord}
 use Rattle.records.specs.Logging.{EndedWell}
-use Rattle.runner.specs.Course.{Course, edges_of, IsOn}
+use Rattle.runner.specs.Course.{Course, edges_of, goes_on, IsOn}
 use Rattle.runner.specs.Telling.{WentWell}
 use Rattle.runner.specs.declared.reported.Told.{Told}
 use Rattle.runner.specs.declared.state.State.{State}
 
--- the edge may be started, and none of its outputs has a record in force any more
+-- the run goes on, the edge may be started, and none of its outputs has a record in force any more
 pub record IsBegun (tells : Bool) (course : Course) (graph : Graph) (i : ℕ) (state : State) (now : World) : Type 0 where
   pub on : IsOn tells course graph (Some i) state now
   pub next : IsLawfulStep (task_of course.asked course.store) on.steps (Started i)
+  pub unloaded : NoLoadIsDue (task_of course.asked course.store) on.steps
+  pub goes : goes_on course ≡ true
   pub begun : HasNoRecord tells course.format course.own (edges_of course) i course.entry now
 
 -- an edge whose command ended well is in hand until that is recorded

@@ -8,16 +8,14 @@ use Rattle.model.specs.Graph.{edge_at, has_number}
 use Rattle.model.specs.Outcome.{depfile_in, listed}
 use Rattle.model.specs.Records.{ListsOnce}
 use Rattle.model.specs.Schedule.{Step as Done, well_in}
-use Rattle.model.specs.SingleBuild.{task_of}
 use Rattle.model.specs.Premises.{FilesAreKept, EndedAt}
 use Rattle.model.specs.Kept.{StartedUnder}
 use Rattle.depfile.specs.declared.fault.DepFault.{DepFault}
 use Rattle.depfile.specs.Depfile.{IsRead}
 use Rattle.links.specs.declared.graph.Graph.{Graph}
-use Rattle.plan.specs.declared.step.Step.TheVariants as step
-use Rattle.plan.specs.Planned.{IsNextOf}
 use Rattle.records.specs.Logging.{NoneInForce}
 use Rattle.runner.specs.Course.{Course, edges_of, IsOn}
+use Rattle.runner.specs.Going.{MayTakeIn}
 use Rattle.runner.specs.declared.reported.Told.{Told}
 use Rattle.runner.specs.declared.reported.Told.TheVariants.{Nothing, Inputs, Refused}
 use Rattle.runner.specs.declared.state.State.{State}
@@ -59,7 +57,7 @@ pub record IsEnding (tells : Bool) (course : Course) (graph : Graph) (i : ℕ) (
   pub before : World
   pub mid : World
   pub on : IsOn tells course graph None state before
-  pub next : IsNextOf (task_of course.asked course.store) on.steps step.Wait
+  pub may : MayTakeIn course on.steps
   pub finishes : Finishes tells i ok before mid
   pub looks : OnlyLooks tells mid now
   pub read : WasRead tells (edge_at (edges_of course) i).act ok mid now told

@@ -2,12 +2,10 @@
 
 ghost use Rattle.std.specs.Prelude.{◌≡◌, ◌<◌, ℕ, suc, Bool, None, false, is_some, get_or, OnOk, OnErr};
 ghost use Rattle.model.specs.Calls.{OnlyLooks, HasCause};
-ghost use Rattle.model.specs.Schedule.{Judged, IsLawfulStep};
-ghost use Rattle.model.specs.SingleBuild.{task_of};
 ghost use Rattle.plan.specs.declared.step.Step.TheVariants as step;
 ghost use Rattle.plan.specs.Planned.{IsOffered, is_stale};
 ghost use Rattle.runner.specs.Course.{Course, Suits, IsOn};
-ghost use Rattle.runner.specs.Going.{IsGoing, work_left};
+ghost use Rattle.runner.specs.Going.{IsGoing, IsSaid, work_left};
 
 use crate::outputs::ask_before;
 use crate::setting::Setting;
@@ -28,13 +26,13 @@ pub fn judge<S: Site>(
     edge: EdgeId,
 ) -> Result<(), SiteFault>
     requires running { (S.world site.old).stopped ≡ false }
-    requires going { (going : IsGoing S.tells setting.tick.now setting.graph.now state.old (S.world site.old)) × ((stale : Bool) → IsLawfulStep (task_of going.course.asked going.course.store) going.on.steps (Judged (suc edge) stale)) }
+    requires going { (going : IsGoing S.tells setting.tick.now setting.graph.now state.old (S.world site.old)) × IsSaid going.course setting.graph.now going.on.steps (step.Judge edge) }
     requires offered { IsOffered state.old.plan (step.Judge edge) }
     ensures looks { OnlyLooks S.tells (S.world site.old) (S.world site.new) }
     ensures cause { HasCause (S.world site.old) (S.world site.new) result }
     ensures nearer { OnOk result (work_left state.new.plan.standings.items < work_left state.old.plan.standings.items) }
     ensures enough { state.new.set ≡ state.old.set }
-    ensures on { OnOk result ((course : Course) → Suits course setting.entry.tick.now setting.entry.graph.now → (on : IsOn S.tells course setting.entry.graph.now None state.old (S.world site.old)) → ((stale : Bool) → IsLawfulStep (task_of course.asked course.store) on.steps (Judged (suc edge) stale)) → IsOn S.tells course setting.entry.graph.now None state.new (S.world site.new)) }
+    ensures on { OnOk result ((course : Course) → Suits course setting.entry.tick.now setting.entry.graph.now → (on : IsOn S.tells course setting.entry.graph.now None state.old (S.world site.old)) → IsSaid course setting.entry.graph.now on.steps (step.Judge edge) → IsOn S.tells course setting.entry.graph.now None state.new (S.world site.new)) }
     ensures plan { OnErr result (state.new.plan ≡ state.old.plan) }
 {
     lists_stand(setting.graph);

@@ -1,6 +1,7 @@
 //! Runs the commands of a plan on a site, and keeps the log of what was started and what ended well.
 #![tactic(auto)]
 
+mod closing;
 mod counts;
 mod cut;
 mod folders;
@@ -18,8 +19,10 @@ mod summary;
 mod taken;
 mod turn;
 
+pub use closing::finish;
 pub use cut::Cut;
+pub use rest::give_up;
 pub use run::run_plan;
 pub use setting::Setting;
 pub use state::State;
-pub use summary::Summary;
+pub use summary::{Pause, Summary};

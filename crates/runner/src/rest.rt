@@ -1,18 +1,35 @@
 //! Taking in what runs after a fault.
 
-ghost use Rattle.std.specs.Prelude.{◌≡◌, ◌⊎◌, ℕ, List, Option, false, OnOk, OnErr};
+ghost use Rattle.std.specs.Prelude.{◌≡◌, ◌⊎◌, ℕ, List, Option, false, Err, OnOk, OnErr};
 ghost use Rattle.model.specs.World.{World, IsIdle};
 ghost use Rattle.model.specs.Schedule.{Step as Done};
-ghost use Rattle.model.specs.Calls.{HasCause};
+ghost use Rattle.model.specs.Calls.{HasCause, is_stop};
 ghost use Rattle.build_theory.specs.Seen.{IsSeen};
+ghost use Rattle.links.specs.declared.graph.Graph.{Graph};
 ghost use Rattle.log_theory.specs.Ledger.{IsCutOff};
 ghost use Rattle.runner.specs.Course.{Course};
 ghost use Rattle.runner.specs.Cut.{fault_of, IsLeft};
 ghost use Rattle.runner.specs.Cutting.{IfWaiting, SomeRuns, SoManyRun, IsStoppedBy, TakesIn};
+ghost use Rattle.runner.specs.Going.{IsCut};
+ghost use Rattle.runner.specs.Ran.{HasRun};
 
 use crate::cut::Cut;
 use model::SiteFault;
+use plan::Plan;
 use site::Site;
+
+/// Takes in what runs after a fault that came between two calls of a run, of which this is the plan: nothing of that is recorded or
+/// shown. It gives the fault of the run.
+pub fn give_up<S: Site>(site: &mut S, plan: &Plan, fault: SiteFault) -> Cut
+    requires met { (course : Course) × (graph : Graph) × IsCut S.tells course graph plan.now (S.world site.old) }
+    requires stopped { (S.world site.old).stopped ≡ is_stop {T = Unit {0}} (Err fault) }
+    ensures ran { (course : Course) (graph : Graph) → IsCut S.tells course graph plan.now (S.world site.old) → HasRun S.tells course (S.world site.new) (Err result) }
+    ensures seen { (entry : World) → IsSeen entry (S.world site.old) fault → IsSeen entry (S.world site.new) (fault_of result) }
+    ensures left { IsLeft (S.world site.new) result }
+    ensures takes_in { TakesIn (S.world site.old) (S.world site.new) result }
+{
+    take_in_rest(site, plan.running(), Cut::Other(fault))
+}
 
 /// Takes in the commands that run after a fault, of which there are so many, until a wait is refused, and gives the fault of
 /// the run: that the site stopped, where it did, and else the first. After a final fault the site is not asked.
@@ -25,7 +42,7 @@ pub fn take_in_rest<S: Site>(site: &mut S, count: usize, cut: Cut) -> Cut
     ensures still { IfWaiting cut (S.world site.new ≡ S.world site.old) }
     ensures left { IsLeft (S.world site.new) result }
     ensures takes_in { TakesIn (S.world site.old) (S.world site.new) result }
-    ensures rest { (course : Course) (steps : List Done) (met : Option ℕ) → IsCutOff S.tells course.behaviour course.format course.own course.asked course.store steps met course.entry (S.world site.old) → IsCutOff S.tells course.behaviour course.format course.own course.asked course.store steps met course.entry (S.world site.new) }
+    ensures rest { (course : Course) (steps : List Done) (met : Option ℕ) → IsCutOff S.tells course.behaviour course.format course.own course.asked course.store course.phases steps met course.entry (S.world site.old) → IsCutOff S.tells course.behaviour course.format course.own course.asked course.store course.phases steps met course.entry (S.world site.new) }
 {
     if cut.is_final() {
         return cut;
@@ -45,7 +62,7 @@ fn take_in_all<S: Site>(site: &mut S, count: usize) -> Result<(), SiteFault>
     ensures at_start { (S.world site.new).failures_at_start ≡ (S.world site.old).failures_at_start }
     ensures runs { OnErr result (SomeRuns (S.world site.new)) }
     ensures idle { OnOk result (IsIdle (S.world site.new).events) }
-    ensures rest { (course : Course) (steps : List Done) (met : Option ℕ) → IsCutOff S.tells course.behaviour course.format course.own course.asked course.store steps met course.entry (S.world site.old) → IsCutOff S.tells course.behaviour course.format course.own course.asked course.store steps met course.entry (S.world site.new) }
+    ensures rest { (course : Course) (steps : List Done) (met : Option ℕ) → IsCutOff S.tells course.behaviour course.format course.own course.asked course.store course.phases steps met course.entry (S.world site.old) → IsCutOff S.tells course.behaviour course.format course.own course.asked course.store course.phases steps met course.entry (S.world site.new) }
 {
     let mut left = count;
     'rest: while left > 0 {

@@ -1,13 +1,14 @@
-//! Running commands until a plan has ended.
+//! Running commands until a plan has ended, or a dyndep file is to be loaded.
 
-ghost use Rattle.std.specs.Prelude.{◌≡◌, Bool, None, false, IfOk, IfErr, OnErr, Ok};
+ghost use Rattle.std.specs.Prelude.{◌≡◌, Bool, true, false, None, IfOk, IfErr, OnErr, Ok};
 ghost use Rattle.model.specs.World.{World};
 ghost use Rattle.model.specs.SingleBuild.{PassesNoFault};
-ghost use Rattle.build_theory.specs.Seen.{IsSeen};
+ghost use Rattle.model.specs.SingleBuild as answer;
+ghost use Rattle.build_theory.specs.Seen.{IsSeen, Unrefused, StartsUnrefused};
 ghost use Rattle.runner.specs.Cut.{fault_of, IsLeft};
-ghost use Rattle.runner.specs.Course.{Course, Suits, IsOn};
-ghost use Rattle.runner.specs.Going.{IsGoing, IsOver, IsCut, AreSet};
-ghost use Rattle.runner.specs.Ran.{HasRun, AreEdgesOf, answer_of};
+ghost use Rattle.runner.specs.Course.{Course, goes_on, Suits, IsOn};
+ghost use Rattle.runner.specs.Going.{IsGoing, IsOver, IsHalted, IsCut, AreSet};
+ghost use Rattle.runner.specs.Ran.{HasRun, HasPaused, AreEdgesOf, IsPauseOf};
 ghost use Rattle.runner.specs.Cutting.{Cuts};
 ghost use Rattle.links.specs.declared.graph.Graph.{Graph};
 
@@ -15,55 +16,74 @@ use crate::cut::Cut;
 use crate::rest::take_in_rest;
 use crate::setting::Setting;
 use crate::state::State;
-use crate::summary::Summary;
-use crate::turn::go_on;
+use crate::summary::{Pause, Summary};
+use crate::turn::{Halt, go_on};
 use paths::EdgeId;
 use plan::{End, Plan};
 use site::Site;
+use std::alloc::Global;
+use std::mem;
 
-/// Runs a plan in which nothing is judged yet: judges, starts and takes in what the plan says until it has ended. What is found in
-/// order by the files and the records of the entry is not started. Each start is put into the log before it, each good end behind
-/// it. What the display shows of starts and ends is shown when they happen; what is taken in after a fault is neither recorded nor
-/// shown.
+/// Runs a plan: judges, starts and takes in what the plan says until it has ended, or says that a dyndep file is to be loaded. What
+/// is found in order by the files and the records of the entry is not started. Each start is put into the log before it, each
+/// good end behind it. What the display shows of starts and ends is shown when they happen; what is taken in after a fault is
+/// neither recorded nor shown.
+///
+/// At a load the run stands where it stood: commands may run, and it goes on by the next call, once the file is loaded, or is ended by
+/// `finish`.
 ///
 /// Where a call is refused nothing is started after it, and what runs is taken in until a wait is refused; where the site
 /// has stopped, that is the fault.
 pub fn run_plan<S: Site>(
     site: &mut S,
     setting: Setting<'_>,
-    state: State<'_>,
-) -> Result<Summary, Cut>
+    state: &mut State<'_>,
+) -> Result<Pause, Cut>
     requires running { (S.world site.old).stopped ≡ false }
-    requires going { IsGoing S.tells setting.tick.now setting.graph.now state (S.world site.old) }
-    requires enough { AreSet setting.graph.now state.set.items }
-    ensures ran { (course : Course) → Suits course setting.entry.tick.now setting.entry.graph.now → IsOn S.tells course setting.entry.graph.now None state.entry (S.world site.old) → HasRun S.tells course (S.world site.new) result }
+    requires going { (going : IsGoing S.tells setting.tick.now setting.graph.now state.old (S.world site.old)) × (goes_on going.course ≡ true) }
+    requires enough { AreSet setting.graph.now state.old.set.items }
+    ensures ran { (course : Course) → Suits course setting.entry.tick.now setting.entry.graph.now → goes_on course ≡ true → IsOn S.tells course setting.entry.graph.now None state.old (S.world site.old) → HasPaused S.tells course setting.entry.graph.now state.new (S.world site.new) result }
+    ensures pause { IfOk result (IsPauseOf setting.entry.graph.now) }
+    ensures set { state.new.set ≡ state.old.set }
+    ensures calm { IfOk result (λ pause. Unrefused (S.world site.old) (S.world site.new)) }
+    ensures starts { StartsUnrefused (S.world site.old) (S.world site.new) }
     ensures seen { IfErr result (λ cut. IsSeen (S.world site.old) (S.world site.new) (fault_of cut)) }
-    ensures faults { PassesNoFault (S.world site.old) (S.world site.new) (answer_of setting.entry.graph.now result) }
+    ensures faults { IfErr result (λ cut. PassesNoFault (S.world site.old) (S.world site.new) (answer.Fault (fault_of cut))) }
     ensures left { IfErr result (IsLeft (S.world site.new)) }
-    ensures edges { IfOk result (AreEdgesOf setting.entry.graph.now) }
 {
-    let mut state = state;
-    match run(site, setting, &mut state) {
-        Ok(end) => {
-            let failed = state.failed;
-            Ok(summary(&state.plan, failed, end))
-        }
+    match run(site, setting, state) {
+        Ok(halt) => Ok(paused(setting.alloc, state, halt)),
         Err(cut) => Err(take_in_rest(site, state.plan.running(), cut)),
     }
 }
 
-/// Does what the plan says until it has ended.
-fn run<S: Site>(site: &mut S, setting: Setting<'_>, state: &mut State<'_>) -> Result<End, Cut>
+/// Does what the plan says until it says no step.
+fn run<S: Site>(site: &mut S, setting: Setting<'_>, state: &mut State<'_>) -> Result<Halt, Cut>
     requires running { (S.world site.old).stopped ≡ false }
-    requires going { IsGoing S.tells setting.tick.now setting.graph.now state.old (S.world site.old) }
+    requires going { (going : IsGoing S.tells setting.tick.now setting.graph.now state.old (S.world site.old)) × (goes_on going.course ≡ true) }
     requires enough { AreSet setting.graph.now state.old.set.items }
     ensures cuts { Cuts (S.world site.old) (S.world site.new) result }
-    ensures over { IfOk result (λ end. (course : Course) → Suits course setting.entry.tick.now setting.entry.graph.now → IsOn S.tells course setting.entry.graph.now None state.old (S.world site.old) → IsOver S.tells course setting.entry.graph.now state.new end (S.world site.new)) }
-    ensures cut { OnErr result ((course : Course) → Suits course setting.entry.tick.now setting.entry.graph.now → IsOn S.tells course setting.entry.graph.now None state.old (S.world site.old) → IsCut S.tells course setting.entry.graph.now state.new.plan (S.world site.new)) }
+    ensures set { state.new.set ≡ state.old.set }
+    ensures halts { IfOk result (λ halt. (course : Course) → Suits course setting.entry.tick.now setting.entry.graph.now → goes_on course ≡ true → IsOn S.tells course setting.entry.graph.now None state.old (S.world site.old) → IsHalted S.tells course setting.entry.graph.now state.new (S.world site.new) halt) }
+    ensures cut { OnErr result ((course : Course) → Suits course setting.entry.tick.now setting.entry.graph.now → goes_on course ≡ true → IsOn S.tells course setting.entry.graph.now None state.old (S.world site.old) → IsCut S.tells course setting.entry.graph.now state.new.plan (S.world site.new)) }
 {
     'run: loop {
-        if let Some(end) = go_on(site, setting, state)? {
-            return Ok(end);
+        if let Some(halt) = go_on(site, setting, state)? {
+            return Ok(halt);
+        }
+    }
+}
+
+/// Why a run pauses that takes no step now. At its end the failed edges go to the summary.
+fn paused(alloc: Global, state: &mut State<'_>, halt: Halt) -> Pause
+    ensures set { state.new.set ≡ state.old.set }
+    ensures pauses { (tells : Bool) (course : Course) (graph : Graph) (now : World) → IsHalted tells course graph state.old now halt → HasPaused tells course graph state.new now (Ok result) × IsPauseOf graph result }
+{
+    match halt {
+        Halt::Load(file) => Pause::Load(file),
+        Halt::Ended(end) => {
+            let failed = mem::replace(&mut state.failed, Vec::new(alloc));
+            Pause::Ended(summary(&state.plan, failed, end))
         }
     }
 }

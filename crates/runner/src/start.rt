@@ -2,8 +2,7 @@
 
 ghost use Rattle.std.specs.Prelude.{◌≡◌, ℕ, suc, ◌<◌, Some, None, length, slice_set, true, false, OnOk, OnErr};
 ghost use Rattle.model.specs.World.{World};
-ghost use Rattle.model.specs.Schedule.{Started, IsLawfulStep};
-ghost use Rattle.model.specs.SingleBuild.{task_of};
+ghost use Rattle.model.specs.Schedule.{Started};
 ghost use Rattle.model.specs.Calls.{OnlyLooks, HasCause};
 ghost use Rattle.model.specs.Graph.{edge_at, IsCommand};
 ghost use Rattle.build_theory.specs.Seen.{StartsUnrefused};
@@ -12,7 +11,7 @@ ghost use Rattle.plan.specs.declared.step.Standing.{Standing};
 ghost use Rattle.plan.specs.declared.step.Step.TheVariants as step;
 ghost use Rattle.plan.specs.Planned.{TakesStep, IsOffered};
 ghost use Rattle.runner.specs.Course.{Course, Suits, IsOn};
-ghost use Rattle.runner.specs.Going.{IsGoing, IsCut, work_left};
+ghost use Rattle.runner.specs.Going.{IsGoing, IsSaid, IsCut, work_left};
 ghost use Rattle.runner.specs.Starting.{IsBegun};
 
 use crate::counts::progress;
@@ -40,14 +39,14 @@ pub fn start_edge<S: Site>(
     edge: EdgeId,
 ) -> Result<(), SiteFault>
     requires running { (S.world site.old).stopped ≡ false }
-    requires going { (going : IsGoing S.tells setting.tick.now setting.graph.now state.old (S.world site.old)) × IsLawfulStep (task_of going.course.asked going.course.store) going.on.steps (Started (suc edge)) }
+    requires going { (going : IsGoing S.tells setting.tick.now setting.graph.now state.old (S.world site.old)) × IsSaid going.course setting.graph.now going.on.steps (step.Start edge) }
     requires offered { IsOffered state.old.plan (step.Start edge) }
     ensures cause { HasCause (S.world site.old) (S.world site.new) result }
     ensures starts { StartsUnrefused (S.world site.old) (S.world site.new) }
     ensures nearer { OnOk result (work_left state.new.plan.standings.items < work_left state.old.plan.standings.items) }
     ensures set { state.new.set ≡ state.old.set }
-    ensures on { OnOk result ((course : Course) → Suits course setting.entry.tick.now setting.entry.graph.now → (on : IsOn S.tells course setting.entry.graph.now None state.old (S.world site.old)) → IsLawfulStep (task_of course.asked course.store) on.steps (Started (suc edge)) → IsOn S.tells course setting.entry.graph.now None state.new (S.world site.new)) }
-    ensures cut { OnErr result ((course : Course) → Suits course setting.entry.tick.now setting.entry.graph.now → (on : IsOn S.tells course setting.entry.graph.now None state.old (S.world site.old)) → IsLawfulStep (task_of course.asked course.store) on.steps (Started (suc edge)) → IsCut S.tells course setting.entry.graph.now state.new.plan (S.world site.new)) }
+    ensures on { OnOk result ((course : Course) → Suits course setting.entry.tick.now setting.entry.graph.now → (on : IsOn S.tells course setting.entry.graph.now None state.old (S.world site.old)) → IsSaid course setting.entry.graph.now on.steps (step.Start edge) → IsOn S.tells course setting.entry.graph.now None state.new (S.world site.new)) }
+    ensures cut { OnErr result ((course : Course) → Suits course setting.entry.tick.now setting.entry.graph.now → (on : IsOn S.tells course setting.entry.graph.now None state.old (S.world site.old)) → IsSaid course setting.entry.graph.now on.steps (step.Start edge) → IsCut S.tells course setting.entry.graph.now state.new.plan (S.world site.new)) }
 {
     log_stays();
     make_folders(site, setting, edge)?;

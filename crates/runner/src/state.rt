@@ -1,6 +1,6 @@
 //! What a run changes.
 
-ghost use Rattle.std.specs.Prelude.{◌≡◌, ◌≤◌, ℕ, IfOk, [], None, false, true, length, vec_len};
+ghost use Rattle.std.specs.Prelude.{◌≡◌, ◌≤◌, ℕ, IfOk, OnOk, OnErr, [], None, false, true, length, vec_len};
 ghost use Rattle.std.proofs.Math.ListN.{replicate};
 ghost use Rattle.model.specs.Schedule.{Task};
 ghost use Rattle.runner.specs.Going.{AreEnough, AreSet};
@@ -61,6 +61,22 @@ impl<'a> State<'a> {
             failed: Vec::new(alloc),
             set: vec![in alloc; true; most_outputs(graph)]?,
         })
+    }
+
+    /// Room for the outputs that a loaded dyndep file added to the graph. `AllocError` where memory is refused; nothing is changed
+    /// then.
+    pub fn grow(&mut self, alloc: Global, graph: &Graph) -> Result<(), AllocError>
+        ensures enough { OnOk result (AreSet graph.now self.new.set.items) }
+        ensures plan { self.new.plan ≡ self.old.plan }
+        ensures looks { self.new.looks ≡ self.old.looks }
+        ensures records { self.new.records ≡ self.old.records }
+        ensures due { self.new.due ≡ self.old.due }
+        ensures starts { self.new.starts ≡ self.old.starts }
+        ensures failed { self.new.failed ≡ self.old.failed }
+        ensures err { OnErr result (self.new.set ≡ self.old.set) }
+    {
+        self.set = vec![in alloc; true; most_outputs(graph)]?;
+        Ok(())
     }
 }
 

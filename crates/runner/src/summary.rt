@@ -1,6 +1,15 @@
 //! What a run came to.
 
-use paths::EdgeId;
+use paths::{EdgeId, PathId};
+
+/// Why a run that goes on pauses.
+#[derive(Debug, Drop)]
+pub enum Pause {
+    /// This dyndep file is to be loaded next, before anything else (manual: "Dynamic Dependencies"). Commands may run.
+    Load(PathId),
+    /// Nothing is left to do.
+    Ended(Summary),
+}
 
 /// What a run came to that was not cut off.
 #[derive(Debug, Drop)]

@@ -5,17 +5,15 @@ ghost use Rattle.model.specs.declared.event.Event.TheVariants.{Finish};
 ghost use Rattle.model.specs.Calls.{OnlyLooks, HasCause};
 ghost use Rattle.model.specs.Graph.{edge_at, has_number, IsCommand};
 ghost use Rattle.model.specs.Schedule.{Ended};
-ghost use Rattle.model.specs.SingleBuild.{task_of};
 ghost use Rattle.lowest.specs.Flags.{has};
 ghost use Rattle.links.specs.Links.{links_of};
 ghost use Rattle.links.specs.Told.{declared_by};
 ghost use Rattle.looks.specs.Seen.{look_at};
 ghost use Rattle.plan.specs.declared.step.Standing.{Standing};
-ghost use Rattle.plan.specs.declared.step.Step.TheVariants as step;
 ghost use Rattle.plan.specs.Standing.{standing_at};
-ghost use Rattle.plan.specs.Planned.{IsPlanOver, IsNextOf, TakesStep};
+ghost use Rattle.plan.specs.Planned.{IsPlanOver, TakesStep};
 ghost use Rattle.runner.specs.Course.{Course, Suits, IsOn};
-ghost use Rattle.runner.specs.Going.{IsGoing, IsCut, AreSet, IsSameBeside, HasEnded, failed_after, work_left};
+ghost use Rattle.runner.specs.Going.{IsGoing, MayTakeIn, IsCut, AreSet, IsSameBeside, HasEnded, failed_after, work_left};
 ghost use Rattle.runner.specs.Removing.{EndsByRemoving};
 ghost use Rattle.runner.specs.Restat.{is_same_look, IsForgotten, LooksAnew};
 ghost use Rattle.runner.specs.Starting.{IsTakenIn};
@@ -46,15 +44,15 @@ pub fn take_in<S: Site>(
     state: &mut State<'_>,
 ) -> Result<(), Cut>
     requires running { (S.world site.old).stopped ≡ false }
-    requires waits { (going : IsGoing S.tells setting.tick.now setting.graph.now state.old (S.world site.old)) × IsNextOf (task_of going.course.asked going.course.store) going.on.steps step.Wait }
+    requires waits { (going : IsGoing S.tells setting.tick.now setting.graph.now state.old (S.world site.old)) × MayTakeIn going.course going.on.steps }
     requires enough { AreSet setting.graph.now state.old.set.items }
     ensures cuts { Cuts (S.world site.old) (S.world site.new) result }
     ensures of_wait { IfErr result (IsOfWait (S.world site.old) (S.world site.new)) }
     ensures nearer { OnOk result (work_left state.new.plan.standings.items < work_left state.old.plan.standings.items) }
     ensures set { state.new.set ≡ state.old.set }
     ensures removed { OnOk result ((i : ℕ) → (S.world site.new).events ≡ (S.world site.old).events ++ Finish i true ∷ [] → state.new.failed ≡ state.old.failed → EndsByRemoving S.tells (edge_at (declared_by setting.entry.graph.now).edges i).act (S.world site.old) (S.world site.new)) }
-    ensures on { OnOk result ((course : Course) → Suits course setting.entry.tick.now setting.entry.graph.now → (on : IsOn S.tells course setting.entry.graph.now None state.old (S.world site.old)) → IsNextOf (task_of course.asked course.store) on.steps step.Wait → IsOn S.tells course setting.entry.graph.now None state.new (S.world site.new)) }
-    ensures cut { OnErr result ((course : Course) → Suits course setting.entry.tick.now setting.entry.graph.now → (on : IsOn S.tells course setting.entry.graph.now None state.old (S.world site.old)) → IsNextOf (task_of course.asked course.store) on.steps step.Wait → IsCut S.tells course setting.entry.graph.now state.new.plan (S.world site.new)) }
+    ensures on { OnOk result ((course : Course) → Suits course setting.entry.tick.now setting.entry.graph.now → (on : IsOn S.tells course setting.entry.graph.now None state.old (S.world site.old)) → MayTakeIn course on.steps → IsOn S.tells course setting.entry.graph.now None state.new (S.world site.new)) }
+    ensures cut { OnErr result ((course : Course) → Suits course setting.entry.tick.now setting.entry.graph.now → (on : IsOn S.tells course setting.entry.graph.now None state.old (S.world site.old)) → MayTakeIn course on.steps → IsCut S.tells course setting.entry.graph.now state.new.plan (S.world site.new)) }
 {
     match site.wait_any() {
         Ok(finished) => {

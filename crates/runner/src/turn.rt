@@ -1,13 +1,13 @@
 //! One turn of a run.
 
-ghost use Rattle.std.specs.Prelude.{◌≡◌, ◌<◌, ℕ, suc, None, false, length, vec_len, IfOk, IfErr, OnOk, OnErr, MatchOption};
+ghost use Rattle.std.specs.Prelude.{◌≡◌, ◌<◌, ℕ, suc, None, true, false, length, vec_len, IfOk, IfErr, OnOk, OnErr, MatchOption};
 ghost use Rattle.model.specs.World.{World};
 ghost use Rattle.links.specs.declared.graph.Graph.{Graph};
 ghost use Rattle.model.specs.SingleBuild.{task_of};
 ghost use Rattle.plan.specs.declared.step.Step.TheVariants as step;
 ghost use Rattle.plan.specs.Planned.{IsNextOf};
-ghost use Rattle.runner.specs.Course.{Course, Suits, IsOn};
-ghost use Rattle.runner.specs.Going.{IsGoing, IsOver, IsCut, AreSet, work_left};
+ghost use Rattle.runner.specs.Course.{Course, goes_on, Suits, IsOn};
+ghost use Rattle.runner.specs.Going.{IsGoing, IsHalted, IsCut, AreSet, work_left};
 ghost use Rattle.runner.specs.Cutting.{Cuts, IsOfWait};
 
 use crate::cut::Cut;
@@ -16,23 +16,33 @@ use crate::setting::Setting;
 use crate::start::start_edge;
 use crate::state::State;
 use crate::taken::take_in;
+use paths::PathId;
 use plan::{End, Step};
 use site::Site;
 
-/// Takes one step of the plan.
+/// Why no step of a plan is taken.
+#[derive(Clone, Copy, Debug)]
+pub enum Halt {
+    /// This dyndep file is to be loaded first.
+    Load(PathId),
+    /// Nothing is left to do.
+    Ended(End),
+}
+
+/// Takes one step of the plan, where that says one.
 pub fn go_on<S: Site>(
     site: &mut S,
     setting: Setting<'_>,
     state: &mut State<'_>,
-) -> Result<Option<End>, Cut>
+) -> Result<Option<Halt>, Cut>
     requires running { (S.world site.old).stopped ≡ false }
-    requires going { IsGoing S.tells setting.tick.now setting.graph.now state.old (S.world site.old) }
+    requires going { (going : IsGoing S.tells setting.tick.now setting.graph.now state.old (S.world site.old)) × (goes_on going.course ≡ true) }
     requires enough { AreSet setting.graph.now state.old.set.items }
     ensures cuts { Cuts (S.world site.old) (S.world site.new) result }
-    ensures nearer { IfOk result (λ end. MatchOption end (work_left state.new.plan.standings.items < work_left state.old.plan.standings.items) (λ end. Unit {0})) }
+    ensures nearer { IfOk result (λ halt. MatchOption halt (work_left state.new.plan.standings.items < work_left state.old.plan.standings.items) (λ halt. Unit {0})) }
     ensures set { state.new.set ≡ state.old.set }
-    ensures on { IfOk result (λ end. (course : Course) → Suits course setting.entry.tick.now setting.entry.graph.now → IsOn S.tells course setting.entry.graph.now None state.old (S.world site.old) → MatchOption end (IsOn S.tells course setting.entry.graph.now None state.new (S.world site.new)) (λ end. IsOver S.tells course setting.entry.graph.now state.new end (S.world site.new))) }
-    ensures cut { OnErr result ((course : Course) → Suits course setting.entry.tick.now setting.entry.graph.now → IsOn S.tells course setting.entry.graph.now None state.old (S.world site.old) → IsCut S.tells course setting.entry.graph.now state.new.plan (S.world site.new)) }
+    ensures on { IfOk result (λ halt. (course : Course) → Suits course setting.entry.tick.now setting.entry.graph.now → goes_on course ≡ true → IsOn S.tells course setting.entry.graph.now None state.old (S.world site.old) → MatchOption halt (IsOn S.tells course setting.entry.graph.now None state.new (S.world site.new)) (IsHalted S.tells course setting.entry.graph.now state.new (S.world site.new))) }
+    ensures cut { OnErr result ((course : Course) → Suits course setting.entry.tick.now setting.entry.graph.now → goes_on course ≡ true → IsOn S.tells course setting.entry.graph.now None state.old (S.world site.old) → IsCut S.tells course setting.entry.graph.now state.new.plan (S.world site.new)) }
 {
     match state.plan.next() {
         Step::Judge(edge) => {
@@ -47,6 +57,7 @@ pub fn go_on<S: Site>(
             take_in(site, setting, state)?;
             Ok(None)
         }
-        Step::Ended(end) => Ok(Some(end)),
+        Step::Load(file) => Ok(Some(Halt::Load(file))),
+        Step::Ended(end) => Ok(Some(Halt::Ended(end))),
     }
 }

@@ -136,7 +136,7 @@ returns-then-ok-clause-planned c = λ task steps at lawful next.
     let plan = c.args.self.now in
     let e = c.index-place.result in
     let rest = c.settle.ensures.rest in
-    let half = half_well plan.standings.items e c.args.edge c.index-place.ensures.place c.requires.running plan.queue c.release.new.self c.release.ensures task steps lawful (half_of task c.args.graph.now plan steps at) next.0 in
+    let half = half_well plan.standings.items e c.args.edge c.index-place.ensures.place c.requires.running plan.queue c.release.new.self c.release.ensures task steps lawful (half_of task c.args.graph.now plan steps at) next in
     let last = half_after task _ c.settle.new.self.standings.items c.release.new.self c.settle.new.self.queue (steps ++ Ended (suc c.args.edge) true ∷ []) half rest.queue rest.stands
     (λ phony old. c.settle.ensures.sound task (done_in (steps ++ Ended (suc c.args.edge) true ∷ [])) at.stated phony old) in
     subst (λ (b : Bool). IsPlanned task c.args.graph.now c.settle.new.self (steps ++ Ended (suc c.args.edge) b ∷ [])) (sym c.if-ok.true) record {
@@ -156,7 +156,7 @@ returns-else-ok-clause-planned c = λ task steps at lawful next.
     let plan = c.args.self.now in
     let e = c.index-place.result in
     let half = subst (λ (b : Bool). IsHalf task (set plan.standings.items e Failed) c.release.new.self (steps ++ Ended (suc c.args.edge) b ∷ [])) (sym c.if-ok.false)
-    (half_failed plan.standings.items e c.args.edge c.index-place.ensures.place c.requires.running plan.queue c.release.new.self c.release.ensures task steps lawful (half_of task c.args.graph.now plan steps at) next.0) in
+    (half_failed plan.standings.items e c.args.edge c.index-place.ensures.place c.requires.running plan.queue c.release.new.self c.release.ensures task steps lawful (half_of task c.args.graph.now plan steps at) next) in
     record {
       stated = at.stated;
       limits = at.limits;

@@ -1,0 +1,16 @@
+use Rattle.std.proofs.Common.{◌≡◌, false, None}
+use Rattle.build_theory.specs.Seen.{Unrefused, StartsUnrefused}
+use Rattle.runner.specs.Course.{Course, goes_on, Suits, IsOn}
+use Rattle.runner.specs.Going.{work_left}
+use Rattle.runner.proofs.closing.take_in_running.Given as goal
+
+abbrev pub invariant-run : goal.invariant-run
+invariant-run g l = record {
+  unrefused : Unrefused (g.S.Texts.world l.fn.site) (g.S.Texts.world l.site);
+  starts : StartsUnrefused (g.S.Texts.world l.fn.site) (g.S.Texts.world l.site);
+  set : l.state.set ≡ l.fn.state.set;
+  on : (course : Course) → Suits course l.setting.tick.now l.setting.graph.now → goes_on course ≡ false → IsOn g.S.Texts.tells course l.setting.graph.now None l.fn.state (g.S.Texts.world l.fn.site) → IsOn g.S.Texts.tells course l.setting.graph.now None l.state (g.S.Texts.world l.site);
+}
+
+abbrev pub decreases-run : goal.decreases-run
+decreases-run g l = work_left l.state.plan.standings.items
