@@ -19,11 +19,7 @@ use site::Site;
 
 /// Ends a run whose next load was refused, or behind whose last load a source is missing: what runs is taken in, and each command is
 /// recorded and shown as in a run that goes on; nothing is judged or started. A fault is answered as by `run_plan`.
-pub fn finish<S: Site>(
-    site: &mut S,
-    setting: Setting<'_>,
-    state: &mut State<'_>,
-) -> Result<(), Cut>
+pub fn finish<S: Site>(site: &mut S, setting: Setting<'_>, state: &mut State<'_>) -> Result<(), Cut>
     requires running { (S.world site.old).stopped ≡ false }
     requires going { (going : IsGoing S.tells setting.tick.now setting.graph.now state.old (S.world site.old)) × (goes_on going.course ≡ false) }
     requires enough { AreSet setting.graph.now state.old.set.items }

@@ -6,8 +6,7 @@ use Rattle.runner.proofs.closing.take_in_running.Goals as goal
 pub take_in-requires-clause-waits : goal.take_in-requires-clause-waits
 take_in-requires-clause-waits g c =
     let going = c.requires.going.0 in
-    let on = c.run.invariant.on going.course going.suits c.requires.going.1 going.on in
-    (
+    let on = c.run.invariant.on going.course going.suits c.requires.going.1 going.on in (
       record { course = going.course; suits = going.suits; on = on },
       may_finish going.course on.steps c.running.result c.requires.going.1 (c.running.ensures.steps (task_of going.course.asked going.course.store) c.args.setting.graph.now on.steps on.planned on.taken) c.run-test.true,
     )

@@ -27,9 +27,11 @@ returns-in_err-map_err-in-Start-clause-cut g c = on_err c.from_residual-in_err-m
 
 pub take_in-requires-clause-waits : goal.take_in-requires-clause-waits
 take_in-requires-clause-waits g c =
-    let going = c.requires.going.0 in
-    (going, may_wait going.course c.args.setting.graph.now going.on.steps
-    (said_next going.course c.args.setting.graph.now c.args.state.now.plan _ going.on.steps c.requires.going.1 going.on.planned going.on.taken c.in-Wait.ensures.lawful c.in-Wait.ensures.loads))
+    let going = c.requires.going.0 in (
+      going,
+      may_wait going.course c.args.setting.graph.now going.on.steps
+          (said_next going.course c.args.setting.graph.now c.args.state.now.plan _ going.on.steps c.requires.going.1 going.on.planned going.on.taken c.in-Wait.ensures.lawful c.in-Wait.ensures.loads),
+    )
 
 pub returns-in_err-take_in-in-Wait-clause-cut : goal.returns-in_err-take_in-in-Wait-clause-cut
 returns-in_err-take_in-in-Wait-clause-cut g c = on_err c.from_residual-in_err-take_in-in-Wait.result (λ course suits goes on.
