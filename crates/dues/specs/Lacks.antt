@@ -1,9 +1,10 @@
--- Which source is missing before the first judgement.
-use Rattle.std.specs.Prelude.{◌≡◌, ◌↔◌, ℕ, suc, ◌<◌, Bool, true, List, [], length, Option, Some, None}
+-- Which source is missing.
+use Rattle.std.specs.Prelude.{◌≡◌, ◌↔◌, ℕ, suc, ◌<◌, Bool, true, List, length, Option, Some, None}
 use Rattle.model.specs.declared.event.Moment.{Moment}
 use Rattle.model.specs.declared.graph.Edge.{Edge}
 use Rattle.model.specs.Graph.{edge_at, inputs}
 use Rattle.model.specs.Records.{Store}
+use Rattle.model.specs.Schedule.{Step}
 use Rattle.model.specs.OutOfDate.{IsMissing, NoneIsMissing, IsFirstMissing, NothingIsMissing, IsMissingInput}
 use Rattle.paths.specs.Told.{text_at, texts_at}
 use Rattle.links.specs.declared.graph.Graph.{Graph}
@@ -15,20 +16,23 @@ use Rattle.model.specs.World.{World}
 use Rattle.dues.specs.declared.lack.Lack.{Lack}
 use Rattle.dues.specs.declared.lack.Found.{Found}
 use Rattle.dues.specs.declared.lack.Found.TheVariants.{Missing, Present}
-use Rattle.dues.specs.Stores.{IfKnown, IsConeIn}
-use Rattle.dues.specs.Dues.{due_at, AreDue}
+use Rattle.plan.specs.declared.plan.Plan.{Plan}
+use Rattle.dues.specs.Quiet.{IfQuiet}
+use Rattle.dues.specs.UnderWay.{IsUnderWay}
+use Rattle.dues.specs.Dues.{due_at, IsSourceIn, AreDue}
 
 -- ---- what is told
 
 -- why the path is named: it is one of the paths that were requested, or an input of this edge
-abbrev pub IsLackedBy : List Edge → Store → List (List ℕ) → List Moment → List ℕ → Option ℕ → Type 0
-IsLackedBy edges store requested files path None = IsFirstMissing edges files requested path
-IsLackedBy edges store requested files path (Some e) = IsMissingInput edges store [] files requested (suc e) path
+abbrev pub IsLackedBy : List Edge → Store → List Step → List (List ℕ) → List Moment → List ℕ → Option ℕ → Type 0
+IsLackedBy edges store before requested files path None = IsFirstMissing edges files requested path
+IsLackedBy edges store before requested files path (Some e) = IsMissingInput edges store before files requested (suc e) path
 
--- what is told of a missing source before anything runs
-abbrev pub IsFound : Graph → Store → List (List ℕ) → List Moment → Option Lack → Type 0
-IsFound graph store requested files None = NothingIsMissing (declared_by graph).edges store [] files requested
-IsFound graph store requested files (Some lack) = IsLackedBy (declared_by graph).edges store requested files (text_at graph.manifest.paths lack.path) lack.needed_by
+-- what is told of a missing source after these steps
+abbrev pub IsFound : Graph → Store → List Step → List (List ℕ) → List Moment → Option Lack → Type 0
+IsFound graph store before requested files None = NothingIsMissing (declared_by graph).edges store before files requested
+IsFound graph store before requested files (Some lack) =
+    IsLackedBy (declared_by graph).edges store before requested files (text_at graph.manifest.paths lack.path) lack.needed_by
 
 -- the missing source, if one is missing
 abbrev pub lack_in : Found → Option Lack
@@ -41,9 +45,10 @@ IfPresent (Missing lack) So = Unit {0}
 IfPresent (Present due) So = So due.items
 
 -- a flag for each edge of the graph, which says whether the edge is in the cone and due
-pub record HasDue (tells : Bool) (graph : Graph) (records : Records) (cone : Cone) (old new : World) (before : Looks) (flags : List Bool) : Type 0 where
+pub record HasDue (tells : Bool) (graph : Graph) (records : Records) (cone : Cone) (plan : Plan) (old new : World) (seen : Looks) (flags : List Bool) : Type 0 where
   pub fits : length flags ≡ length graph.manifest.lines
-  pub due : IfKnown tells graph records old new before (λ store files. (targets : List (List ℕ)) → IsConeIn graph store targets cone → AreDue (declared_by graph).edges store files cone.order.items flags)
+  pub due : (store : Store) (targets : List (List ℕ)) (before : List Step) → IsUnderWay graph records cone plan store targets before
+      → IfQuiet tells graph store targets before old new seen (λ files. AreDue (declared_by graph).edges store before files cone.order.items flags)
 
 -- the edge, if one is named, is one of so many
 abbrev pub IsEdgeBelow : ℕ → Option ℕ → Type 0
@@ -55,10 +60,10 @@ pub record IsLackOf (graph : Graph) (lack : Lack) : Type 0 where
   pub path : lack.path < length graph.manifest.paths
   pub edge : IsEdgeBelow (length graph.manifest.lines) lack.needed_by
 
--- ---- what calls answer, where the files are these
+-- ---- what calls answer, where the files are these, and are known at the paths of a set
 
-abbrev pub IsMissingAt : Graph → ℕ → Bool → List Moment → Type 0
-IsMissingAt graph p is files = (is ≡ true) ↔ IsMissing (declared_by graph).edges files (text_at graph.manifest.paths p)
+abbrev pub IsMissingAt : Graph → ℕ → Bool → (List ℕ → Bool) → List Moment → Type 0
+IsMissingAt graph p is set files = IsSourceIn set graph p → (is ≡ true) ↔ IsMissing (declared_by graph).edges files (text_at graph.manifest.paths p)
 
 -- of so many edges, none that is due needs a missing path
 abbrev pub NoneBelow : List Edge → List Bool → List Moment → ℕ → Type 0

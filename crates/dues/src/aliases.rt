@@ -3,7 +3,8 @@
 ghost use Rattle.std.specs.Prelude.{◌≡◌, ◌<◌, All, IfOk, length, true, false};
 ghost use Rattle.model.specs.Calls.{HasCause};
 ghost use Rattle.links.specs.Links.{links_of};
-ghost use Rattle.looks.specs.Looking.{HasLooked, IfSeen};
+ghost use Rattle.looks.specs.Looking.{HasLooked};
+ghost use Rattle.dues.specs.Quiet.{IfStill};
 ghost use Rattle.dues.specs.Dues.{IsAbsentAt, IsAnyAbsent, IsDuePath, IsAnyDuePath, IsDueAlias};
 
 use links::{Graph, lists_stand};
@@ -28,7 +29,7 @@ pub fn is_alias_due<S: Site>(
     requires alias { (links_of graph.now).phony edge ≡ true }
     ensures looked { HasLooked S.tells graph.now (S.world site.old) (S.world site.new) looks.old looks.new }
     ensures cause { HasCause (S.world site.old) (S.world site.new) result }
-    ensures due { IfOk result (λ is. IfSeen S.tells graph.now (S.world site.old) (S.world site.new) looks.old (λ files. IsDueAlias graph.now due.now edge files is)) }
+    ensures due { IfOk result (λ is. IfStill S.tells graph.now (S.world site.old) (S.world site.new) looks.old (IsDueAlias graph.now due.now edge is)) }
 {
     lists_stand(graph);
     if graph.inputs(edge).is_empty() {
@@ -50,7 +51,7 @@ fn has_absent<S: Site>(
     requires within { All (λ p. p < length graph.now.manifest.paths) paths.now }
     ensures looked { HasLooked S.tells graph.now (S.world site.old) (S.world site.new) looks.old looks.new }
     ensures cause { HasCause (S.world site.old) (S.world site.new) result }
-    ensures has { IfOk result (λ is. IfSeen S.tells graph.now (S.world site.old) (S.world site.new) looks.old (IsAnyAbsent graph.now paths.now is)) }
+    ensures has { IfOk result (λ is. IfStill S.tells graph.now (S.world site.old) (S.world site.new) looks.old (IsAnyAbsent graph.now paths.now is)) }
 {
     looks_follow();
     for path in paths {
@@ -73,7 +74,7 @@ pub fn is_absent<S: Site>(
     requires within { path < length graph.now.manifest.paths }
     ensures looked { HasLooked S.tells graph.now (S.world site.old) (S.world site.new) looks.old looks.new }
     ensures cause { HasCause (S.world site.old) (S.world site.new) result }
-    ensures absent { IfOk result (λ is. IfSeen S.tells graph.now (S.world site.old) (S.world site.new) looks.old (IsAbsentAt graph.now path is)) }
+    ensures absent { IfOk result (λ is. IfStill S.tells graph.now (S.world site.old) (S.world site.new) looks.old (IsAbsentAt graph.now path is)) }
 {
     Ok(looks.stamp(site, graph, path)?.is_none())
 }
@@ -92,7 +93,7 @@ fn has_due_path<S: Site>(
     requires due { length due.now ≡ length graph.now.manifest.lines }
     ensures looked { HasLooked S.tells graph.now (S.world site.old) (S.world site.new) looks.old looks.new }
     ensures cause { HasCause (S.world site.old) (S.world site.new) result }
-    ensures has { IfOk result (λ is. IfSeen S.tells graph.now (S.world site.old) (S.world site.new) looks.old (IsAnyDuePath graph.now due.now paths.now is)) }
+    ensures has { IfOk result (λ is. IfStill S.tells graph.now (S.world site.old) (S.world site.new) looks.old (IsAnyDuePath graph.now due.now paths.now is)) }
 {
     looks_follow();
     for path in paths {
@@ -117,7 +118,7 @@ fn is_due_path<S: Site>(
     requires due { length due.now ≡ length graph.now.manifest.lines }
     ensures looked { HasLooked S.tells graph.now (S.world site.old) (S.world site.new) looks.old looks.new }
     ensures cause { HasCause (S.world site.old) (S.world site.new) result }
-    ensures due { IfOk result (λ is. IfSeen S.tells graph.now (S.world site.old) (S.world site.new) looks.old (IsDuePath graph.now due.now path is)) }
+    ensures due { IfOk result (λ is. IfStill S.tells graph.now (S.world site.old) (S.world site.new) looks.old (IsDuePath graph.now due.now path is)) }
 {
     match graph.maker(path) {
         Some(edge) => Ok(due[edge.index()]),

@@ -1,11 +1,17 @@
 //! Commands that are due.
 
-ghost use Rattle.std.specs.Prelude.{◌≡◌, ◌||◌, ◌<◌, IfOk, length, false};
+ghost use Rattle.std.specs.Prelude.{◌≡◌, ◌||◌, ◌<◌, ℕ, suc, List, IfOk, length, false};
 ghost use Rattle.std.specs.List.{list_any};
 ghost use Rattle.model.specs.Calls.{HasCause};
+ghost use Rattle.model.specs.Graph.{has_number};
+ghost use Rattle.model.specs.Records.{Store};
+ghost use Rattle.model.specs.Schedule.{Step, judged_in};
+ghost use Rattle.build_theory.specs.Order.{IsOrderly};
 ghost use Rattle.links.specs.Links.{links_of};
+ghost use Rattle.links.specs.Told.{declared_by};
 ghost use Rattle.looks.specs.Looking.{HasLooked};
-ghost use Rattle.dues.specs.Stores.{IfKnown};
+ghost use Rattle.dues.specs.Stores.{IsStoreOf};
+ghost use Rattle.dues.specs.Quiet.{IfQuiet};
 ghost use Rattle.dues.specs.Dues.{is_made_due, reads_due, IsDueEdge};
 
 use links::{Graph, lists_stand};
@@ -17,8 +23,8 @@ use site::Site;
 use std::alloc::Global;
 use verdict::reason;
 
-/// Whether the command is due, where it is known which edges before it are: it reads what a due edge makes, or it is out of
-/// date. Where the first is so no file is looked at.
+/// Whether the command, which was not judged, is due, where it is known which edges before it are: it reads what a due edge
+/// makes, or it is out of date. Where the first is so no file is looked at: a command that runs may be writing it.
 pub fn is_command_due<S: Site>(
     alloc: Global,
     site: &mut S,
@@ -35,7 +41,7 @@ pub fn is_command_due<S: Site>(
     requires command { (links_of graph.now).phony edge ≡ false }
     ensures looked { HasLooked S.tells graph.now (S.world site.old) (S.world site.new) looks.old looks.new }
     ensures cause { HasCause (S.world site.old) (S.world site.new) result }
-    ensures due { IfOk result (λ is. IfKnown S.tells graph.now records.now (S.world site.old) (S.world site.new) looks.old (λ store files. IsDueEdge graph.now store due.now edge files is)) }
+    ensures due { IfOk result (λ is. (store : Store) (targets : List (List ℕ)) (before : List Step) → IsStoreOf graph.now records.now store → IsOrderly (declared_by graph.now).edges before → has_number (judged_in before) (suc edge) ≡ false → IfQuiet S.tells graph.now store targets before (S.world site.old) (S.world site.new) looks.old (λ files. IsDueEdge graph.now store before due.now edge files is)) }
 {
     lists_stand(graph);
     if reads_due(graph, due, edge) {

@@ -1,12 +1,14 @@
-//! Which source is missing before the first judgement.
+//! Which source is missing.
 
-ghost use Rattle.std.specs.Prelude.{◌≡◌, ◌<◌, false, length, All, IfOk, IfSome, List, ℕ};
-ghost use Rattle.model.specs.Calls.{OnlyLooks, HasCause};
-ghost use Rattle.model.specs.Graph.{targets_of};
-ghost use Rattle.links.specs.Told.{declared_by};
-ghost use Rattle.looks.specs.Seen.{AreSeen};
-ghost use Rattle.looks.specs.Looking.{HasLooked, IfSeen};
-ghost use Rattle.dues.specs.Stores.{IfKnown, IsAnyCone, IsConeIn};
+ghost use Rattle.std.specs.Prelude.{◌≡◌, ◌<◌, false, length, vec_len, All, IfOk, IfSome, List, ℕ};
+ghost use Rattle.model.specs.Calls.{HasCause};
+ghost use Rattle.model.specs.Records.{Store};
+ghost use Rattle.model.specs.Schedule.{Step};
+ghost use Rattle.links.specs.Links.{links_of};
+ghost use Rattle.looks.specs.Looking.{HasLooked};
+ghost use Rattle.dues.specs.Quiet.{IfStill, IfQuiet};
+ghost use Rattle.dues.specs.UnderWay.{IsUnderWay};
+ghost use Rattle.dues.specs.Dues.{AreSourcesIn};
 ghost use Rattle.dues.specs.Lacks.{IsFound, lack_in, IfPresent, HasDue, IsLackOf, IsMissingAt, IsFirstIn, IsFirstFor, IsFoundOfDue};
 
 use crate::aliases::is_absent;
@@ -15,6 +17,7 @@ use links::{Cone, Graph, lists_stand};
 use looks::{Looks, looks_follow};
 use model::SiteFault;
 use paths::{EdgeId, PathId};
+use plan::Plan;
 use records::Records;
 use site::Site;
 use std::alloc::Global;
@@ -27,7 +30,7 @@ pub struct Lack {
     pub needed_by: Option<EdgeId>,
 }
 
-/// What is found of the sources of a cone before anything runs.
+/// What is found of the sources of a cone.
 #[derive(Debug, Drop)]
 pub enum Found {
     Missing(Lack),
@@ -36,29 +39,35 @@ pub enum Found {
 }
 
 /// The first requested path that is missing, else the first missing input of the lowest due edge of the cone, in the order
-/// of its lists; where none is missing, which edges are due. Which commands are due the records of the logs say, with the files
-/// and what due edges make. A recorded input that is missing is no missing source.
+/// of its lists; where none is missing, which edges are due. A command that the plan has judged is due where it was judged out of
+/// date. Which others are due the records of the logs say, with the files and what due edges make. A recorded input that is
+/// missing is no missing source.
+///
+/// Commands may run meanwhile: what a due edge makes is not looked at. What was found is so at each point of the same steps
+/// whose files are those of now at the paths that may be looked at.
 ///
 /// What was seen of a path is not asked for again. Of a command that reads what a due edge makes only inputs are asked for,
-/// and it takes time for its regular and recorded inputs alone; any other command is judged by `verdict::reason`, which walks
-/// what it reads through phony edges. Memory is taken for one flag for each edge of the graph, and for what `reason` takes.
+/// and it takes time for its regular and recorded inputs alone; any other command that was not judged is judged by
+/// `verdict::reason`, which walks what it reads through phony edges. Memory is taken for one flag for each edge of the graph, and
+/// for what `reason` takes.
 pub fn sources<S: Site>(
     alloc: Global,
     site: &mut S,
     graph: &Graph,
     cone: &Cone,
+    plan: &Plan,
     looks: &mut Looks,
     records: &Records,
 ) -> Result<Found, SiteFault>
     requires running { (S.world site.old).stopped ≡ false }
     requires fits { length looks.old.seen.items ≡ length graph.now.manifest.paths }
-    requires cone { IsAnyCone graph.now cone.now }
-    ensures looks { OnlyLooks S.tells (S.world site.old) (S.world site.new) }
+    requires order { All (λ e. e < length graph.now.manifest.lines) cone.now.order.items }
+    requires targets { All (λ p. p < length graph.now.manifest.paths) cone.now.targets.items }
+    requires plan { vec_len plan.now.standings ≡ length graph.now.manifest.lines }
+    ensures looked { HasLooked S.tells graph.now (S.world site.old) (S.world site.new) looks.old looks.new }
     ensures cause { HasCause (S.world site.old) (S.world site.new) result }
-    ensures fits { length looks.new.seen.items ≡ length graph.now.manifest.paths }
-    ensures seen { IfSeen S.tells graph.now (S.world site.old) (S.world site.new) looks.old (λ files. AreSeen graph.now.manifest.paths files looks.new.seen.items) }
-    ensures found { IfOk result (λ found. IfKnown S.tells graph.now records.now (S.world site.old) (S.world site.new) looks.old (λ store files. (targets : List (List ℕ)) → IsConeIn graph.now store targets cone.now → IsFound graph.now store (targets_of (declared_by graph.now) targets) files (lack_in found))) }
-    ensures due { IfOk result (λ found. IfPresent found (λ due. HasDue S.tells graph.now records.now cone.now (S.world site.old) (S.world site.new) looks.old due)) }
+    ensures found { IfOk result (λ found. (store : Store) (targets : List (List ℕ)) (before : List Step) → IsUnderWay graph.now records.now cone.now plan.now store targets before → IfQuiet S.tells graph.now store targets before (S.world site.old) (S.world site.new) looks.old (λ files. IsFound graph.now store before targets files (lack_in found))) }
+    ensures due { IfOk result (λ found. IfPresent found (λ due. HasDue S.tells graph.now records.now cone.now plan.now (S.world site.old) (S.world site.new) looks.old due)) }
     ensures within { IfOk result (λ found. IfSome (lack_in found) (IsLackOf graph.now)) }
 {
     looks_follow();
@@ -70,7 +79,7 @@ pub fn sources<S: Site>(
             needed_by: None,
         })),
         None => {
-            let due = due_edges(alloc, site, graph, cone, looks, records)?;
+            let due = due_edges(alloc, site, graph, cone, plan, looks, records)?;
             match lack_of_due(site, graph, looks, &due)? {
                 Some(lack) => Ok(Found::Missing(lack)),
                 None => Ok(Found::Present(due)),
@@ -91,7 +100,7 @@ fn lack_of_due<S: Site>(
     requires due { length due.now ≡ length graph.now.manifest.lines }
     ensures looked { HasLooked S.tells graph.now (S.world site.old) (S.world site.new) looks.old looks.new }
     ensures cause { HasCause (S.world site.old) (S.world site.new) result }
-    ensures found { IfOk result (λ found. IfSeen S.tells graph.now (S.world site.old) (S.world site.new) looks.old (λ files. IsFoundOfDue graph.now due.now files found)) }
+    ensures found { IfOk result (λ found. IfStill S.tells graph.now (S.world site.old) (S.world site.new) looks.old (λ set files. ((e : ℕ) → AreSourcesIn set graph.now ((links_of graph.now).inputs e)) → IsFoundOfDue graph.now due.now files found)) }
     ensures within { IfOk result (λ found. IfSome found (IsLackOf graph.now)) }
 {
     looks_follow();
@@ -121,7 +130,7 @@ fn missing_of_edge<S: Site>(
     requires due { length due.now ≡ length graph.now.manifest.lines }
     ensures looked { HasLooked S.tells graph.now (S.world site.old) (S.world site.new) looks.old looks.new }
     ensures cause { HasCause (S.world site.old) (S.world site.new) result }
-    ensures first { IfOk result (λ found. IfSeen S.tells graph.now (S.world site.old) (S.world site.new) looks.old (λ files. IsFirstFor graph.now due.now edge files found)) }
+    ensures first { IfOk result (λ found. IfStill S.tells graph.now (S.world site.old) (S.world site.new) looks.old (λ set files. AreSourcesIn set graph.now ((links_of graph.now).inputs edge) → IsFirstFor graph.now due.now edge files found)) }
     ensures within { IfOk result (λ found. IfSome found (λ p. p < length graph.now.manifest.paths)) }
 {
     lists_stand(graph);
@@ -144,7 +153,7 @@ fn first_missing<S: Site>(
     requires within { All (λ p. p < length graph.now.manifest.paths) paths.now }
     ensures looked { HasLooked S.tells graph.now (S.world site.old) (S.world site.new) looks.old looks.new }
     ensures cause { HasCause (S.world site.old) (S.world site.new) result }
-    ensures first { IfOk result (λ found. IfSeen S.tells graph.now (S.world site.old) (S.world site.new) looks.old (λ files. IsFirstIn graph.now paths.now files found)) }
+    ensures first { IfOk result (λ found. IfStill S.tells graph.now (S.world site.old) (S.world site.new) looks.old (λ set files. AreSourcesIn set graph.now paths.now → IsFirstIn graph.now paths.now files found)) }
     ensures within { IfOk result (λ found. IfSome found (λ p. p < length graph.now.manifest.paths)) }
 {
     looks_follow();
@@ -168,7 +177,7 @@ fn is_missing<S: Site>(
     requires within { path < length graph.now.manifest.paths }
     ensures looked { HasLooked S.tells graph.now (S.world site.old) (S.world site.new) looks.old looks.new }
     ensures cause { HasCause (S.world site.old) (S.world site.new) result }
-    ensures missing { IfOk result (λ is. IfSeen S.tells graph.now (S.world site.old) (S.world site.new) looks.old (IsMissingAt graph.now path is)) }
+    ensures missing { IfOk result (λ is. IfStill S.tells graph.now (S.world site.old) (S.world site.new) looks.old (IsMissingAt graph.now path is)) }
 {
     match graph.maker(path) {
         Some(_) => Ok(false),

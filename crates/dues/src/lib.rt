@@ -1,4 +1,4 @@
-//! Which edges are due before anything runs, by the records of the build log, and which source is missing.
+//! Which edges are due, by how they were judged and by the records of the logs, and which source is missing.
 #![tactic(auto)]
 
 mod aliases;
