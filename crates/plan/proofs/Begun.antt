@@ -20,31 +20,31 @@ use Rattle.plan.specs.Planned.{IsTaskOf}
 use Rattle.plan.proofs.PlannedCounts.{count_nothing}
 use Rattle.plan.proofs.Stepping.{IsHalf}
 
-first_fails : (test : Standing → Bool) → test Outside ≡ false → test Unjudged ≡ false → test Alias ≡ false → (listed phony : Bool) → test (first_of listed phony) ≡ false
+pub first_fails : (test : Standing → Bool) → test Outside ≡ false → test Unjudged ≡ false → test Alias ≡ false → (listed phony : Bool) → test (first_of listed phony) ≡ false
 first_fails test outside unjudged alias true true = alias
 first_fails test outside unjudged alias true false = unjudged
 first_fails test outside unjudged alias false phony = outside
 
-inside_listed : (listed phony : Bool) → is_outside (first_of listed phony) ≡ false → listed ≡ true
+pub inside_listed : (listed phony : Bool) → is_outside (first_of listed phony) ≡ false → listed ≡ true
 inside_listed true phony h = refl
 inside_listed false phony h = absurd (true≢false h)
 
-listed_inside : (listed phony : Bool) → listed ≡ true → is_outside (first_of listed phony) ≡ false
+pub listed_inside : (listed phony : Bool) → listed ≡ true → is_outside (first_of listed phony) ≡ false
 listed_inside true true h = refl
 listed_inside true false h = refl
 listed_inside false phony h = absurd (false≢true h)
 
-inside_kind : (listed phony : Bool) → is_outside (first_of listed phony) ≡ false → is_phony (first_of listed phony) ≡ phony
+pub inside_kind : (listed phony : Bool) → is_outside (first_of listed phony) ≡ false → is_phony (first_of listed phony) ≡ phony
 inside_kind true true h = refl
 inside_kind true false h = refl
 inside_kind false phony h = absurd (true≢false h)
 
-listed_command : (listed phony : Bool) → listed ≡ true → phony ≡ false → first_of listed phony ≡ Unjudged
+pub listed_command : (listed phony : Bool) → listed ≡ true → phony ≡ false → first_of listed phony ≡ Unjudged
 listed_command true true l p = absurd (true≢false p)
 listed_command true false l p = refl
 listed_command false phony l p = absurd (false≢true l)
 
-has_later : (xs : List ℕ) (e : ℕ) → has_number (map suc xs) (suc e) ≡ has_number xs e
+pub has_later : (xs : List ℕ) (e : ℕ) → has_number (map suc xs) (suc e) ≡ has_number xs e
 has_later [] e = refl
 has_later (x ∷ xs) e = grind (arith, has_later xs e)
 

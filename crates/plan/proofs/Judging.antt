@@ -118,7 +118,7 @@ module _ (task : Task) (graph : Graph) (plan : Plan) (steps : List Step) (at : I
       by_maker k lt (Some n) is = ap (maker_settled plan.standings.items) is ∙ each k n lt is
 
   -- what is settled by the steps stands so
-  settled_stands : (i n : ℕ) → i ≡ suc n → IsSettled task.graph.edges (done_in steps) i → InCone (suc n) → is_settled (stand n) ≡ true
+  pub settled_stands : (i n : ℕ) → i ≡ suc n → IsSettled task.graph.edges (done_in steps) i → InCone (suc n) → is_settled (stand n) ≡ true
   settled_stands _ n same (Done i command done) within =
       let mine : IsCommand task.graph.edges (suc n) = subst (λ (j : ℕ). IsCommand task.graph.edges j) same command in
       ap is_settled (at.stands n within mine) ∙ done_stands (suc n) (subst (λ (j : ℕ). has_number (done_in steps) j ≡ true) same done)

@@ -15,4 +15,7 @@ pub mod Arriving
 pub mod Settling
 pub mod Beginning
 pub mod Begun
+pub mod Loaded
+pub mod Due
+pub mod Grown
 pub mod StepLaws

@@ -7,4 +7,5 @@ pub mod First
 pub mod Planned
 pub mod Settling
 pub mod Steps
+pub mod Growing
 pub mod Extended

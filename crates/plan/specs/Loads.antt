@@ -1,5 +1,5 @@
 -- Which dyndep files are loaded, and in which order, by numbers.
-use Rattle.std.specs.Prelude.{◌≡◌, ◌⊎◌, ℕ, ◌<◌, Bool, true, false, List, [], ◌∷◌, ◌++◌, length, Option, None, Some}
+use Rattle.std.specs.Prelude.{◌≡◌, ℕ, ◌<◌, Bool, true, false, if◌then◌else◌, List, [], ◌∷◌, ◌++◌, length, Option, None, Some, is_some}
 use Rattle.std.specs.List.{AllByRecursion}
 use Rattle.model.specs.Graph.{has_number}
 use Rattle.lowest.specs.Flags.{has}
@@ -10,6 +10,10 @@ use Rattle.plan.specs.declared.step.Standing.{Standing}
 use Rattle.queue.specs.Turns.{Turns}
 use Rattle.plan.specs.Standing.{standing_at, is_outside}
 use Rattle.plan.specs.Plan.{AreAllPooled}
+
+-- the file that the edge names, where the edge stands in the cone
+abbrev pub named_by : Graph → Standing → ℕ → Option ℕ
+named_by graph standing e = if is_outside standing then None else dyndep_at graph e
 
 -- an edge of the cone names the file, which is not loaded
 pub record IsWanted (graph : Graph) (standings : List Standing) (file : ℕ) : Type 0 where
@@ -42,6 +46,47 @@ pub record AreLoads (graph : Graph) (standings : List Standing) (loads : List �
 pub record IsLoading (graph : Graph) (standings : List Standing) (turns : Turns) (loads : List ℕ) : Type 0 where
   pub loads_are : AreLoads graph standings loads
   pub all : 0 < length loads → AreAllPooled graph turns
+
+-- no edge of the cone names a file
+abbrev pub NoneIsWanted : Graph → List Standing → Type 0
+NoneIsWanted graph standings = (file : ℕ) → IsWanted graph standings file → ⊥
+
+-- the flags of just the files that edges of the cone name are set
+pub record AreWanted (graph : Graph) (standings : List Standing) (flags : List Bool) : Type 0 where
+  pub fits : length flags ≡ length graph.manifest.paths
+  pub named : (file : ℕ) → has flags file ≡ true → IsWanted graph standings file
+  pub all : (e file : ℕ) → is_outside (standing_at standings e) ≡ false → dyndep_at graph e ≡ Some file → has flags file ≡ true
+
+-- the edge names the file, which is wanted, and is made or a source
+pub record IsTaken (graph : Graph) (flags : List Bool) (made : Bool) (e file : ℕ) : Type 0 where
+  pub names : dyndep_at graph e ≡ Some file
+  pub wanted : has flags file ≡ true
+  pub kind : is_some ((links_of graph).maker file) ≡ made
+
+abbrev pub NoneIsTaken : Graph → List Bool → Bool → ℕ → Type 0
+NoneIsTaken graph flags made e = (file : ℕ) → IsTaken graph flags made e file → ⊥
+
+-- the file is named before the other
+pub record IsNamedBefore (graph : Graph) (file other : ℕ) : Type 0 where
+  pub edge : ℕ
+  pub later : ℕ
+  pub first : IsFirstToName graph file edge
+  pub second : IsFirstToName graph other later
+  pub before : edge < later
+
+-- each file is named before those behind it
+abbrev pub AreNamedInOrder : Graph → List ℕ → Type 0
+AreNamedInOrder graph [] = Unit {0}
+AreNamedInOrder graph (file ∷ files) = ((other : ℕ) → has_number files other ≡ true → IsNamedBefore graph file other) × AreNamedInOrder graph files
+
+-- just the wanted files that are made, or that are sources, stand behind the others, in the order in which they are named
+pub record HavePushed (graph : Graph) (made : Bool) (flags left : List Bool) (before after : List ℕ) : Type 0 where
+  pub added : List ℕ
+  pub splits : after ≡ before ++ added
+  pub each : (file : ℕ) → has_number added file ≡ true → (has flags file ≡ true) × (is_some ((links_of graph).maker file) ≡ made)
+  pub all : (e file : ℕ) → IsTaken graph flags made e file → has_number added file ≡ true
+  pub ordered : AreNamedInOrder graph added
+  pub others : (file : ℕ) → (is_some ((links_of graph).maker file) ≡ made → ⊥) → has left file ≡ has flags file
 
 -- none of these paths is there
 abbrev pub NoneIsThere : List Bool → List ℕ → Type 0

@@ -150,7 +150,7 @@ IsDueOf task graph steps (Over end) = NoLoadIsDue task steps
 
 -- so it is for whatever steps the plan is that of
 abbrev pub IsDueNext : Plan → Step → Type 0
-IsDueNext plan step = (task : Task) (graph : Graph) (steps : List Done) → IsPlanned task graph plan steps → IsDueOf task graph steps step
+IsDueNext plan step = (task : Task) (graph : Graph) (steps : List Done) → IsPlanned task graph plan steps → AreTaken task steps → IsDueOf task graph steps step
 
 -- what is said may be told to the plan
 abbrev pub IsOffered : Plan → Step → Type 0

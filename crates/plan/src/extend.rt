@@ -1,5 +1,12 @@
 //! A plan goes on over a graph that has grown.
 
+ghost use Rattle.std.specs.Prelude.{◌≡◌, ◌<◌, ◌≤◌, ℕ, length, vec_len, IfOk};
+ghost use Rattle.lowest.specs.Flags.{has};
+ghost use Rattle.links.specs.Links.{links_of};
+ghost use Rattle.plan.specs.Standing.{is_settled, maker_settled};
+ghost use Rattle.plan.specs.First.{first_at};
+ghost use Rattle.plan.specs.Growing.{grown_of, AreGrown, AreThere};
+
 use crate::first::{first_counts, first_ready, first_standing};
 use crate::loads::loads_of;
 use crate::plan::Plan;
@@ -10,7 +17,7 @@ use paths::{EdgeId, PathId};
 use std::alloc::{AllocError, Global};
 
 impl Plan {
-    ghost use Rattle.std.specs.Prelude.{◌≡◌, ◌<◌, ℕ, length, vec_len, OnOk, OnErr};
+    ghost use Rattle.std.specs.Prelude.{◌≡◌, ℕ, length, vec_len, OnOk, OnErr};
     ghost use Rattle.lowest.specs.Flags.{has};
     ghost use Rattle.plan.specs.Planned.{IsPlanOver};
     ghost use Rattle.plan.specs.Extended.{MayGoOn, GoesOn};
@@ -52,7 +59,11 @@ fn grown_standings(
     graph: &Graph,
     cone: &Cone,
     before: &[Standing],
-) -> Result<Vec<Standing>, AllocError> {
+) -> Result<Vec<Standing>, AllocError>
+    requires edges { length before.now ≡ length graph.now.manifest.lines }
+    requires marks { vec_len cone.now.marks ≡ length graph.now.manifest.lines }
+    ensures { IfOk result (λ standings. AreGrown (links_of graph.now) cone.now.marks.items before.now standings.items) }
+{
     let mut standings = Vec::with_capacity(alloc, before.len())?;
     for (place, standing) in before.iter().enumerate() {
         standings.push(grown_standing(graph, cone, *standing, graph.manifest.edge(place)))?;
@@ -60,7 +71,12 @@ fn grown_standings(
     Ok(standings)
 }
 
-fn grown_standing(graph: &Graph, cone: &Cone, before: Standing, edge: EdgeId) -> Standing {
+/// Where the edge stands that stood so before.
+fn grown_standing(graph: &Graph, cone: &Cone, before: Standing, edge: EdgeId) -> Standing
+    requires edge { edge < length graph.now.manifest.lines }
+    requires marks { vec_len cone.now.marks ≡ length graph.now.manifest.lines }
+    ensures { result ≡ grown_of before (first_at (links_of graph.now) cone.now.marks.items edge) }
+{
     match before {
         Standing::Outside | Standing::Alias | Standing::Known => first_standing(graph, cone, edge),
         _ => before,
@@ -72,24 +88,41 @@ fn settled_paths(
     alloc: Global,
     graph: &Graph,
     standings: &[Standing],
-) -> Result<Vec<bool>, AllocError> {
+) -> Result<Vec<bool>, AllocError>
+    requires { length standings.now ≡ length graph.now.manifest.lines }
+    ensures { IfOk result (λ there. AreThere (links_of graph.now) (length graph.now.manifest.paths) standings.now there.items) }
+{
     let mut there = Vec::with_capacity(alloc, graph.paths())?;
     for place in 0..graph.paths() {
-        there.push(match graph.makers.get(place).copied().flatten() {
-            None => true,
-            Some(maker) => is_settled(standings[maker.index()]),
-        })?;
+        there.push(is_settled_path(graph, standings, place))?;
     }
     Ok(there)
 }
 
+/// Whether the path is a source or its maker is settled.
+fn is_settled_path(graph: &Graph, standings: &[Standing], place: usize) -> bool
+    requires { length standings.now ≡ length graph.now.manifest.lines }
+    ensures { result ≡ maker_settled standings.now ((links_of graph.now).maker place) }
+{
+    match graph.makers.get(place).copied().flatten() {
+        None => true,
+        Some(maker) => is_settled(standings[maker.index()]),
+    }
+}
+
 /// Whether what the edge makes is there.
-fn is_settled(standing: Standing) -> bool {
+fn is_settled(standing: Standing) -> bool
+    ensures { result ≡ is_settled standing }
+{
     matches!(standing, Standing::Clean | Standing::Well | Standing::Known)
 }
 
 /// These flags, and false for each place behind them up to a count.
-fn grown_flags(alloc: Global, flags: &[bool], count: usize) -> Result<Vec<bool>, AllocError> {
+fn grown_flags(alloc: Global, flags: &[bool], count: usize) -> Result<Vec<bool>, AllocError>
+    requires { length flags.now ≤ count }
+    ensures fits { IfOk result (λ grown. vec_len grown ≡ count) }
+    ensures same { IfOk result (λ grown. (p : ℕ) → has grown.items p ≡ has flags.now p) }
+{
     let mut grown = Vec::with_capacity(alloc, count)?;
     for place in 0..count {
         grown.push(place < flags.len() && flags[place])?;
