@@ -236,3 +236,12 @@ module _ {T : Type 0} where
       → IsTableOf all (record { outputs = others; in_force = forces; told = told; records = records })
   as_table all outputs in_force told records {others} {forces} e f is =
       subst (λ (os : List (List ℕ)). IsTableOf all (record { outputs = os; in_force = forces; told = told; records = records })) (sym e) (subst (λ (fs : List (Option ℕ)). IsTableOf all (record { outputs = outputs; in_force = fs; told = told; records = records })) (sym f) is)
+
+-- ---- what is kept of no records
+
+pub none_twice : AreDistinct []
+none_twice p twice = by_place twice.before twice.after twice.splits
+  where
+    by_place : (before after : List (List ℕ)) → [] ≡ before ++ p ∷ after → ⊥
+    by_place [] after is = cc
+    by_place (q ∷ before) after is = cc
