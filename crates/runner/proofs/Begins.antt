@@ -7,18 +7,18 @@ use Rattle.model.specs.Calls.{OnlyLooks}
 use Rattle.model.specs.Graph.{edge_at, outputs, IsCommand, IsMadeOnce}
 use Rattle.model.specs.Outcome.{Behaviour}
 use Rattle.model.specs.Records.{LogFormat, OwnFiles, Store}
-use Rattle.model.specs.Schedule.{Step as Done, Started, IsLawfulStep}
-use Rattle.model.specs.SingleBuild.{task_of}
+use Rattle.model.specs.Schedule.{Step as Done}
 use Rattle.log_theory.specs.Writes.{WritesAt}
 use Rattle.display.specs.declared.display.Display.{Display}
 use Rattle.links.specs.declared.graph.Graph.{Graph}
 use Rattle.links.specs.Told.{declared_by}
+use Rattle.plan.specs.declared.step.Step.TheVariants.{Start}
 use Rattle.records.specs.declared.records.Records.{Records}
 use Rattle.records.specs.Logging.{AreSameLogs, IsLogging, IsLoggedStill, NoneInForce}
 use Rattle.records.specs.Laws.{LogStays}
 use Rattle.runner.specs.declared.state.State.{State}
 use Rattle.runner.specs.Course.{Course, Suits, edges_of, IsOn}
-use Rattle.runner.specs.Going.{IsCut}
+use Rattle.runner.specs.Going.{IsSaid, IsCut}
 use Rattle.runner.specs.Starting.{IsBegun}
 use Rattle.runner.proofs.Keeping.{stale_is_command, looks_carried, on_looks, on_hand, on_log, log_carried, build_log_writes, cut_free, cut_met}
 
@@ -32,14 +32,14 @@ module _ (tells : Bool) (course : Course) (graph : Graph) (tick : List ℕ) (sui
   same_edges : edges_of course ≡ (declared_by graph).edges
   same_edges = ap (λ (b : BuildGraph). b.edges) suits.same
 
-  module _ (stays : LogStays) (state : State) (now : World) (e : ℕ) (on : IsOn tells course graph None state now) (next : IsLawfulStep (task_of course.asked course.store) on.steps (Started (suc e))) where
+  module _ (stays : LogStays) (state : State) (now : World) (e : ℕ) (on : IsOn tells course graph None state now) (said : IsSaid course graph on.steps (Start e)) where
     -- it is a command of the graph
     pub next_command : IsCommand (declared_by graph).edges (suc e)
-    next_command = subst (λ (b : BuildGraph). IsCommand b.edges (suc e)) suits.same (stale_is_command tells course graph on.steps None now on.carried (suc e) next.1.stale)
+    next_command = subst (λ (b : BuildGraph). IsCommand b.edges (suc e)) suits.same (stale_is_command tells course graph on.steps None now on.carried (suc e) said.lawful.1.stale)
 
     -- a fault before anything is written
     pub cut_looking : (new : World) → OnlyLooks tells now new → IsCut tells course graph state.plan new
-    cut_looking new looks = cut_free tells course graph state.plan new on.steps on.planned (looks_carried tells course graph stays None state now new on looks)
+    cut_looking new looks = cut_free tells course graph state.plan new on.steps on.planned on.taken (looks_carried tells course graph stays None state now new on looks)
 
     module _ (mid new : World) (looks : OnlyLooks tells now mid) (writes : WritesAt tells state.records.logs.build_log.path mid new) where
       abbrev pub on_mid : IsOn tells course graph (Some (suc e)) state mid
@@ -57,7 +57,7 @@ module _ (tells : Bool) (course : Course) (graph : Graph) (tick : List ℕ) (sui
           → IsLogging tells B format own (declared_by graph).edges steps (Some (suc e)) entry first mid state.records.logs → IsLoggedStill tells B format own (declared_by graph).edges steps (Some (suc e)) entry first new)
           → IsCut tells course graph state.plan new
       cut_beginning logged =
-          cut_met tells course graph state.plan new on.steps (suc e) (record { under_way = inr (next.0, next.1); stale = next.1.stale; taken_in = inl next.1.once }) on.planned
+          cut_met tells course graph state.plan new on.steps (suc e) (record { under_way = inr (said.lawful.0, said.lawful.1); stale = said.lawful.1.stale; taken_in = inl said.lawful.1.once }) on.planned on.taken
           (log_carried tells course graph (Some (suc e)) (Some (suc e)) state mid new on_mid course.own.build_log suits.log_owned log_writes
           (subst (λ (edges : List Edge). IsLoggedStill tells course.behaviour course.format course.own edges on.steps (Some (suc e)) course.store course.entry new) (sym same_edges)
           (logged course.behaviour course.format course.own on.steps course.store course.entry declared_logging)))
@@ -76,6 +76,8 @@ module _ (tells : Bool) (course : Course) (graph : Graph) (tick : List ℕ) (sui
             on = record {
               steps = on.steps;
               planned = on.planned;
+              taken = on.taken;
+              since = on.since;
               carried = after.carried;
               logging = after.logging;
               told = record { records = after.told.records; deps = after.told.deps; known = after.told.known; same = after.told.same };
@@ -87,6 +89,8 @@ module _ (tells : Bool) (course : Course) (graph : Graph) (tick : List ℕ) (sui
               room = record { looks = on.room.looks; starts = on.room.starts };
               noted = on.noted;
             };
-            next = next;
+            next = said.lawful;
+            unloaded = said.loads;
+            goes = said.goes;
             begun = subst (λ (edges : List Edge). NoneInForce tells course.format course.own edges (suc e) course.entry new) (sym same_edges) told.1;
           }

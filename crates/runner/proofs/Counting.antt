@@ -88,7 +88,7 @@ many_by_steps tells own task steps entry now count idle run is = record {
   jobs = running_in steps;
   once = λ n.
       let a = times_filter (λ i. not (has_number (ended_in steps) i)) (started_in steps) n in
-      let b = started_apart task.graph.edges [] steps (orderly_of task steps run.lawful) n in
+      let b = started_apart task.graph.edges [] steps run.orderly n in
       omega (arith, a, b);
   all = λ job. running_now tells own task entry steps now idle run job;
   many = is;

@@ -23,7 +23,7 @@ use Rattle.depfile.specs.Depfile.{IsRead, IsReading, accepted, firsts}
 use Rattle.runner.specs.declared.reported.Told.{Told}
 use Rattle.runner.specs.declared.reported.Told.TheVariants.{Nothing, Inputs, Refused}
 use Rattle.runner.specs.declared.state.State.{State}
-use Rattle.runner.specs.Course.{Course, Suits, edges_of, IsOn}
+use Rattle.runner.specs.Course.{Course, goes_on, Suits, edges_of, IsOn}
 use Rattle.runner.specs.Telling.{Says, WasRead, ended_well, HasTold}
 
 -- ---- each path once
@@ -155,7 +155,7 @@ module _ (tells : Bool) (course : Course) (tick : List ℕ) (graph : Graph) (sui
   end_says : ok ≡ true → act.depfile ≢ [] → (told : Told) → Read told → IsTrue tells → FilesAreKept course.own (edges_of course) course.entry.history new.history → (at : List Moment) → EndedAt i course.entry.history new.history at
       → depfile_in course.behaviour act (view_of at) ≡ inputs_in told
   end_says went named told read tell files at ended =
-      sym (depfile_seen tells course.behaviour course.format course.own course.asked course.store course.entry on.steps now mid new i ok finish looks on.carried went named read.0 mid new (looks_none tells mid) (λ t. read.1)
+      sym (depfile_seen tells course.behaviour course.format course.own course.asked course.store course.entry course.phases (goes_on course) on.steps now mid new i ok finish looks on.carried went named read.0 mid new (looks_none tells mid) (λ t. read.1)
       (looks_none tells new) tell files at ended)
       ∙ held_says named told read
 
@@ -164,8 +164,8 @@ module _ (tells : Bool) (course : Course) (tick : List ℕ) (graph : Graph) (sui
   said_by Nothing read = by_end ok refl
     where
       by_end : (b : Bool) → ok ≡ b → Said (b && true)
-      by_end true went = says_nothing tells course.behaviour course.format course.own course.asked course.store course.entry on.steps now mid new i ok finish looks on.carried (read went)
-      by_end false failed = says_failed tells course.behaviour course.format course.own course.asked course.store course.entry on.steps now mid new i ok finish looks on.carried false failed
+      by_end true went = says_nothing tells course.behaviour course.format course.own course.asked course.store course.entry course.phases (goes_on course) on.steps now mid new i ok finish looks on.carried (read went)
+      by_end false failed = says_failed tells course.behaviour course.format course.own course.asked course.store course.entry course.phases (goes_on course) on.steps now mid new i ok finish looks on.carried false failed
   said_by (Inputs paths) read = λ tell files at ended. ap (λ (b : Bool). b && true) read.0 ∙ sym (ap is_accepted (end_says read.0 read.1 (Inputs paths) (read.2 tell) tell files at ended))
   said_by (Refused fault) read = λ tell files at ended. ap (λ (b : Bool). b && false) read.0 ∙ sym (ap is_accepted (end_says read.0 read.1 (Refused fault) (read.2 tell) tell files at ended))
 

@@ -12,24 +12,31 @@ use Rattle.plan.specs.declared.step.End.TheVariants as ending
 use Rattle.runner.specs.declared.cut.Cut.{Cut}
 use Rattle.runner.specs.declared.summary.Summary.TheVariants.{Well, Failed}
 use Rattle.runner.specs.declared.state.State.{State}
-use Rattle.runner.specs.Course.{Course, IsOn}
+use Rattle.runner.specs.Course.{Course, goes_on, IsOn}
 use Rattle.runner.specs.Going.{IsOver, IsCut, IsInHand}
 use Rattle.runner.specs.Ran.{HasRun, AreEdgesOf}
-use Rattle.runner.proofs.Keeping.{cut_free}
+use Rattle.runner.proofs.Keeping.{Carried, cut_free}
 use Rattle.runner.proofs.Running.{noted_within}
 
 module _ (tells : Bool) (course : Course) (graph : Graph) (now : World) where
   nothing : (task : Task) (steps : List Done) (i : ℕ) → None ≡ Some i → IsInHand task steps i
   nothing task steps i is = cc
 
+  -- it was not cut off
+  abbrev whole : (steps : List Done) → Carried tells course graph steps None now → IsCutOff tells course.behaviour course.format course.own course.asked course.store course.phases steps None course.entry now
+  whole steps carried =
+      let cut = cut_off tells course.behaviour course.format course.own course.asked course.store course.entry course.phases (goes_on course) steps None now carried in
+      record { phased = carried.phased; run = cut.run; beside = cut.beside }
+
   -- all went well
   pub ran_well : (state : State) (started : ℕ) (over : IsOver tells course graph state ending.Well now) → started ≡ length (well_in over.on.steps) → HasRun tells course now (Ok (Well started))
   ran_well state started over many = record {
     steps = over.on.steps;
     met = None;
-    cut = cut_off tells course.behaviour course.format course.own course.asked course.store course.entry over.on.steps None now over.on.carried;
+    cut = whole over.on.steps over.on.carried;
     in_hand = nothing (task_of course.asked course.store) over.on.steps;
-    ends = (refl, over.on.carried.run, over.over, many);
+    ends = (refl, over.on.carried.run, over.over.lawful, over.over.loads, many);
+    goes = over.on.carried.goes over.over.goes;
     removed = over.on.removed;
   }
 
@@ -39,9 +46,10 @@ module _ (tells : Bool) (course : Course) (graph : Graph) (now : World) where
     record {
       steps = over.on.steps;
       met = None;
-      cut = cut_off tells course.behaviour course.format course.own course.asked course.store course.entry over.on.steps None now over.on.carried;
+      cut = whole over.on.steps over.on.carried;
       in_hand = nothing (task_of course.asked course.store) over.on.steps;
-      ends = (refl, over.on.carried.run, over.over, over.on.noted);
+      ends = (refl, over.on.carried.run, over.over.lawful, over.over.loads, over.on.noted);
+      goes = over.on.carried.goes over.over.goes;
       removed = over.on.removed;
     },
     noted_within tells course graph None state now over.on,
@@ -51,11 +59,11 @@ module _ (tells : Bool) (course : Course) (graph : Graph) (now : World) where
   pub cut_looking : (state : State) (plan : Plan) (new : World) → plan ≡ state.plan → OnlyLooks tells now new → IsOn tells course graph None state now → IsCut tells course graph plan new
   cut_looking state plan new same looks on =
       subst (λ (p : Plan). IsCut tells course graph p new) (sym {A = Plan} same)
-      (cut_free tells course graph state.plan new on.steps on.planned (carried_looks tells course.behaviour course.format course.own course.asked course.store course.entry on.steps None now new looks on.carried))
+      (cut_free tells course graph state.plan new on.steps on.planned on.taken (carried_looks tells course.behaviour course.format course.own course.asked course.store course.entry course.phases (goes_on course) on.steps None now new looks on.carried))
 
   -- a fault has cut it off, and since then commands were taken in
   pub ran_cut : (plan : Plan) (last : World) (cut : Cut) → IsCut tells course graph plan now
-      → ((steps : List Done) (met : Option ℕ) → IsCutOff tells course.behaviour course.format course.own course.asked course.store steps met course.entry now
-      → IsCutOff tells course.behaviour course.format course.own course.asked course.store steps met course.entry last)
+      → ((steps : List Done) (met : Option ℕ) → IsCutOff tells course.behaviour course.format course.own course.asked course.store course.phases steps met course.entry now
+      → IsCutOff tells course.behaviour course.format course.own course.asked course.store course.phases steps met course.entry last)
       → HasRun tells course last (Err cut)
-  ran_cut plan last cut at rest = record { steps = at.steps; met = at.met; cut = rest at.steps at.met at.cut; in_hand = at.in_hand; ends = tt; removed = tt }
+  ran_cut plan last cut at rest = record { steps = at.steps; met = at.met; cut = rest at.steps at.met at.cut; in_hand = at.in_hand; ends = tt; goes = tt; removed = tt }

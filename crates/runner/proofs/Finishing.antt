@@ -22,7 +22,8 @@ use Rattle.build_theory.specs.Run.{IsRunOrRest}
 use Rattle.build_theory.proofs.Lists.{all_append, bytes_same, same_some, has_number-is, has_number-one, has_number-push_other}
 use Rattle.build_theory.proofs.Makers.{maker_has, maker_is}
 use Rattle.build_theory.proofs.Calls.{looks_none, looks_then}
-use Rattle.build_theory.proofs.Steps.{IsKept, kept_lawful, running_is, running_parts, started-append, ended-append, well-append, failed-append, out_of_date-append, in_left, in_right, in_either}
+use Rattle.build_theory.proofs.Orderly.{IsKept, kept_orderly}
+use Rattle.build_theory.proofs.Steps.{running_is, running_parts, started-append, ended-append, well-append, failed-append, out_of_date-append, in_left, in_right, in_either}
 use Rattle.build_theory.proofs.Runs.{run_looks, run_takes_in}
 use Rattle.log_theory.specs.Ledger.{IsCutOff}
 use Rattle.log_theory.proofs.Ledger.{SaysAtEnd, command_of, running_of, carried_well, carried_failed, cut_in_reading, cut_off, cut_looks, cut_finishes}
@@ -38,21 +39,21 @@ use Rattle.looks.specs.Seen.{look_at, look_of, is_asked, AreSeenOf}
 use Rattle.looks.proofs.Stays.{asked_look}
 use Rattle.plan.specs.declared.plan.Plan.{Plan}
 use Rattle.plan.specs.declared.step.Standing.TheVariants.{Running}
-use Rattle.plan.specs.declared.step.Step.TheVariants.{Wait}
 use Rattle.plan.specs.Standing.{standing_at}
-use Rattle.plan.specs.Planned.{IsPlanned, IsNextOf, TakesStep}
+use Rattle.plan.specs.Planned.{IsPlanned, AreTaken, TakesStep}
 use Rattle.records.specs.declared.records.Records.{Records}
 use Rattle.records.specs.Known.{AreKnown}
 use Rattle.records.specs.Logging.{NoneInForce}
 use Rattle.records.specs.Laws.{LogStays, NoneWhileRunning}
 use Rattle.runner.specs.declared.reported.Told.{Told}
 use Rattle.runner.specs.declared.state.State.{State}
-use Rattle.runner.specs.Course.{Course, Suits, edges_of, is_quiet, IsSeenStill, AreAnew, AreSeenBefore, AreTold, HasRoom, IsOn}
-use Rattle.runner.specs.Going.{IsCut, IsInHand, HasEnded, failed_after}
+use Rattle.runner.specs.Course.{Course, goes_on, Suits, IsSince, edges_of, is_quiet, IsSeenStill, AreAnew, AreSeenBefore, AreTold, HasRoom, IsOn}
+use Rattle.runner.specs.Going.{MayTakeIn, IsCut, IsInHand, HasEnded, failed_after}
 use Rattle.runner.specs.Removing.{DepfilesStay, AreRemoved}
 use Rattle.runner.specs.Restat.{is_same_look, IsFlagged}
 use Rattle.runner.specs.Starting.{in_hand_after, IsTakenIn}
 use Rattle.runner.specs.Telling.{WasRead, IsEnding, ended_well}
+use Rattle.runner.proofs.Onward.{taken_ended, since_ended}
 use Rattle.runner.proofs.Depfiles.{OneAnswer, went_well, said_by, unnamed_end, has_told, was_read_before}
 use Rattle.runner.proofs.Quiet.{RunBy, quiet_parts, quiet_from, quiet_adds, quiet_looks}
 use Rattle.runner.proofs.Anew.{as_new, file_still, made_quiet}
@@ -172,15 +173,15 @@ module _ (edges : List Edge) (graph : Graph) (once : IsMadeOnce edges) (stand : 
 -- ---- an edge that is in hand where it ended well
 
 module _ (tells : Bool) (course : Course) (graph : Graph) where
-  pub cut_hand : (plan : Plan) (new : World) (steps : List Done) (i : ℕ) (ok : Bool) → IsInHand (task_of course.asked course.store) steps i → IsPlanned (task_of course.asked course.store) graph plan steps → Carried tells course graph steps (in_hand_after i ok) new
+  pub cut_hand : (plan : Plan) (new : World) (steps : List Done) (i : ℕ) (ok : Bool) → IsInHand (task_of course.asked course.store) steps i → IsPlanned (task_of course.asked course.store) graph plan steps → AreTaken (task_of course.asked course.store) steps → Carried tells course graph steps (in_hand_after i ok) new
       → IsCut tells course graph plan new
-  cut_hand plan new steps i true at planned carried = cut_met tells course graph plan new steps i at planned carried
-  cut_hand plan new steps i false at planned carried = cut_free tells course graph plan new steps planned carried
+  cut_hand plan new steps i true at planned taken carried = cut_met tells course graph plan new steps i at planned taken carried
+  cut_hand plan new steps i false at planned taken carried = cut_free tells course graph plan new steps planned taken carried
 
 -- ---- a command is taken in
 
 module _ (tells : Bool) (course : Course) (tick : List ℕ) (graph : Graph) (suits : Suits course tick graph) (state : State) (now mid new : World) (e : ℕ) (ok : Bool) (on : IsOn tells course graph None state now)
-    (turn : IsNextOf (task_of course.asked course.store) on.steps Wait) (finish : Finishes tells (suc e) ok now mid) (looks : OnlyLooks tells mid new) where
+    (turn : MayTakeIn course on.steps) (finish : Finishes tells (suc e) ok now mid) (looks : OnlyLooks tells mid new) where
   abbrev task : Task
   task = task_of course.asked course.store
 
@@ -198,7 +199,13 @@ module _ (tells : Bool) (course : Course) (tick : List ℕ) (graph : Graph) (sui
   }
 
   end_planned : (well : Bool) (plan : Plan) → TakesStep graph state.plan plan (Ended (suc e) well) → IsPlanned task graph plan (After well)
-  end_planned well plan takes = takes task on.steps on.planned on.carried.run.lawful (edge.running, turn.0, turn.1)
+  end_planned well plan takes = takes task on.steps on.planned on.taken edge.running
+
+  end_tells : (well : Bool) → AreTaken task (After well)
+  end_tells well = taken_ended task on.steps on.taken (suc e) well edge.running
+
+  end_since : (well : Bool) → IsSince course.refused (After well)
+  end_since well = since_ended course.refused on.steps (suc e) well edge.running on.since
 
   -- a fault kept what it told
   pub end_unread : (edge_at (edges_of course) (suc e)).act.depfile ≢ [] → (plan : Plan) → TakesStep graph state.plan plan (Ended (suc e) false) → IsCut tells course graph plan new
@@ -206,20 +213,21 @@ module _ (tells : Bool) (course : Course) (tick : List ℕ) (graph : Graph) (sui
     steps = After false;
     met = Some (suc e);
     planned = end_planned false plan takes;
+    taken = end_tells false;
     run = run_looks tells course.own task course.entry (After false) mid new
-        (run_takes_in tells course.own task course.entry on.steps now mid (suc e) false ok on.carried.beside.idle on.carried.run turn.0 turn.1 ((λ well. absurd (false≢true well)), (λ none. absurd (named none))) finish) looks;
-    cut = cut_in_reading tells course.behaviour course.format course.own course.asked course.store course.entry on.steps now mid new (suc e) ok turn.0 turn.1 finish looks on.carried named;
+        (run_takes_in tells course.own task course.entry on.steps now mid (suc e) false ok on.carried.beside.idle on.carried.run ((λ well. absurd (false≢true well)), (λ none. absurd (named none))) finish) looks;
+    cut = cut_in_reading tells course.behaviour course.format course.own course.asked course.store course.entry course.phases (goes_on course) on.steps now mid new (suc e) ok turn.lawful finish looks on.carried named;
     in_hand = λ i is. subst (λ (n : ℕ). IsInHand task (After false) n) (same_some (suc e) i is) (in_hand false);
   }
 
   -- ---- the calls, while it is no step yet
 
-  cut_mid : IsCutOff tells course.behaviour course.format course.own course.asked course.store on.steps None course.entry mid
-  cut_mid = cut_finishes tells course.behaviour course.format course.own course.asked course.store course.entry on.steps None now mid (suc e) ok finish
-      (cut_off tells course.behaviour course.format course.own course.asked course.store course.entry on.steps None now on.carried)
+  cut_mid : IsCutOff tells course.behaviour course.format course.own course.asked course.store course.phases on.steps None course.entry mid
+  cut_mid = cut_finishes tells course.behaviour course.format course.own course.asked course.store course.entry course.phases on.steps None now mid (suc e) ok finish
+      (cut_off tells course.behaviour course.format course.own course.asked course.store course.entry course.phases (goes_on course) on.steps None now on.carried)
 
-  cut_new : IsCutOff tells course.behaviour course.format course.own course.asked course.store on.steps None course.entry new
-  cut_new = cut_looks tells course.behaviour course.format course.own course.asked course.store course.entry on.steps None mid new looks cut_mid
+  cut_new : IsCutOff tells course.behaviour course.format course.own course.asked course.store course.phases on.steps None course.entry new
+  cut_new = cut_looks tells course.behaviour course.format course.own course.asked course.store course.entry course.phases on.steps None mid new looks cut_mid
 
   by_rest : (world : World) → IsRunOrRest tells course.own task on.steps course.entry world → RunBy (edges_of course) on.steps world
   by_rest world rest job is = (
@@ -247,8 +255,8 @@ module _ (tells : Bool) (course : Course) (tick : List ℕ) (graph : Graph) (sui
       (running_parts on.steps (suc e) edge.running).0 (false_from_ne_true (has_number (well_in on.steps) (suc e)) (λ well. false≢true (sym (running_parts on.steps (suc e) edge.running).1 ∙ kept.well (suc e) well)))
       (rest_logging stays)
     where
-      kept : IsKept task on.steps
-      kept = kept_lawful task on.steps on.carried.run.lawful
+      kept : IsKept (edges_of course) on.steps
+      kept = kept_orderly (edges_of course) on.steps on.carried.run.orderly
 
   -- ---- what it told
 
@@ -264,16 +272,16 @@ module _ (tells : Bool) (course : Course) (tick : List ℕ) (graph : Graph) (sui
       where
         by_end : (b : Bool) → ended_well ok told ≡ b → Carried tells course graph (After b) (in_hand_after (suc e) b) new
         by_end true went =
-            carried_well tells course.behaviour course.format course.own course.asked course.store course.entry on.steps now mid new (suc e) ok turn.0 turn.1 finish looks on.carried (went_well ok told went)
+            carried_well tells course.behaviour course.format course.own course.asked course.store course.entry course.phases (goes_on course) on.steps now mid new (suc e) ok turn.lawful finish looks on.carried (went_well ok told went)
             (subst (λ (w : Bool). SaysAtEnd tells course.behaviour course.format course.own course.asked course.store course.entry (suc e) w new) went (said_by tells course tick graph suits one state now mid new (suc e) ok on finish looks told read))
         by_end false failed =
-            carried_failed tells course.behaviour course.format course.own course.asked course.store course.entry on.steps now mid new (suc e) ok turn.0 turn.1 finish looks on.carried
+            carried_failed tells course.behaviour course.format course.own course.asked course.store course.entry course.phases (goes_on course) on.steps now mid new (suc e) ok turn.lawful finish looks on.carried
             (λ none. unnamed_end tells course tick graph suits one state now mid new (suc e) ok on finish looks told read none failed)
             (subst (λ (w : Bool). SaysAtEnd tells course.behaviour course.format course.own course.asked course.store course.entry (suc e) w new) failed (said_by tells course tick graph suits one state now mid new (suc e) ok on finish looks told read))
 
     -- where noting it met a fault
     pub end_cut : (plan : Plan) → TakesStep graph state.plan plan (Ended (suc e) well) → IsCut tells course graph plan new
-    end_cut plan takes = cut_hand tells course graph plan new more (suc e) well (in_hand well) (end_planned well plan takes) end_carried
+    end_cut plan takes = cut_hand tells course graph plan new more (suc e) well (in_hand well) (end_planned well plan takes) (end_tells well) end_carried
 
     -- its files are removed when that is recorded
     end_removed : AreRemoved tells course.own (edges_of course) more (in_hand_after (suc e) well) course.entry new
@@ -294,7 +302,7 @@ module _ (tells : Bool) (course : Course) (tick : List ℕ) (graph : Graph) (sui
         own_stay is named at ended tell files =
             let seen = looks.history tell in
             ap (λ (h : List Moment). view_of h (edge_at (edges_of course) (suc e)).act.depfile) seen.grows
-            ∙ depfile_since tells course.behaviour course.format course.own course.asked course.store course.entry on.steps now mid new (suc e) ok finish looks on.carried
+            ∙ depfile_since tells course.behaviour course.format course.own course.asked course.store course.entry course.phases (goes_on course) on.steps now mid new (suc e) ok finish looks on.carried
             (went_well ok told (well_by_end on.steps (suc e) well is not_before)) named tell files seen.more [] at (seen.grows ∙ ap (λ (l : List Moment). mid.history ++ l) (sym (append-nil seen.more))) ended
           where
             not_before : has_number (well_in on.steps) (suc e) ≡ true → ⊥
@@ -320,7 +328,7 @@ module _ (tells : Bool) (course : Course) (tick : List ℕ) (graph : Graph) (sui
 -- ---- its end is noted
 
 module _ (tells : Bool) (course : Course) (tick : List ℕ) (graph : Graph) (suits : Suits course tick graph) (state : State) (now mid was new : World) (e : ℕ) (ok : Bool) (on : IsOn tells course graph None state now)
-    (turn : IsNextOf (task_of course.asked course.store) on.steps Wait) (finish : Finishes tells (suc e) ok now mid) (looks : OnlyLooks tells mid was) (one : OneAnswer) (told : Told)
+    (turn : MayTakeIn course on.steps) (finish : Finishes tells (suc e) ok now mid) (looks : OnlyLooks tells mid was) (one : OneAnswer) (told : Told)
     (read : WasRead tells (edge_at (edges_of course) (suc e)).act ok mid was told) (stand : StandFor (declared_by graph).edges graph.manifest.paths (links_of graph)) (after : State)
     (noted_so : HasEnded tells graph e (ended_well ok told) was new state after) where
   abbrev is_well : Bool
@@ -489,6 +497,8 @@ module _ (tells : Bool) (course : Course) (tick : List ℕ) (graph : Graph) (sui
     on_ended = record {
       steps = so_far;
       planned = end_planned tells course tick graph suits state now mid new e ok on turn finish looked is_well after.plan takes;
+      taken = end_tells tells course tick graph suits state now mid new e ok on turn finish looked is_well;
+      since = end_since tells course tick graph suits state now mid new e ok on turn finish looked is_well;
       carried = carried_new;
       logging = noted_logging;
       told = noted_told;
@@ -510,7 +520,7 @@ module _ (tells : Bool) (course : Course) (tick : List ℕ) (graph : Graph) (sui
       well = λ went. record {
         well = well_ended on.steps (suc e) is_well went;
         started = stamp_kept e edge_here.running;
-        ended = λ tell. (_, ended_here tells course.behaviour course.format course.own course.asked course.store course.entry on.steps now mid new (suc e) ok finish looked on.carried tell (went_well ok told went));
+        ended = λ tell. (_, ended_here tells course.behaviour course.format course.own course.asked course.store course.entry course.phases (goes_on course) on.steps now mid new (suc e) ok finish looked on.carried tell (went_well ok told went));
         none = none_in_force tells course tick graph suits state now mid new e ok on turn finish looked stays none;
         told = has_told tells course tick graph suits one state now mid new (suc e) ok on finish looked told read_new went;
       };
@@ -527,13 +537,13 @@ not_failed failed e false same = absurd (longer_by_one failed e same)
     longer_by_one failed e same = let more = length_push failed e in omega (arith, more, ap length same)
 
 pub ending_of : (tells : Bool) (course : Course) (tick : List ℕ) (graph : Graph) → Suits course tick graph → (state : State) (now mid new : World) (job e : ℕ) (ok : Bool) (told : Told) (act : Act) → job ≡ suc e
-    → (on : IsOn tells course graph None state now) → IsNextOf (task_of course.asked course.store) on.steps Wait → Finishes tells job ok now mid → OnlyLooks tells mid new
+    → (on : IsOn tells course graph None state now) → MayTakeIn course on.steps → Finishes tells job ok now mid → OnlyLooks tells mid new
     → act ≡ (edge_at (declared_by graph).edges (suc e)).act → WasRead tells act ok mid new told → IsEnding tells course graph (suc e) ok told state new
 ending_of tells course tick graph suits state now mid new job e ok told act is on turn finish looks act_is read = record {
   before = now;
   mid = mid;
   on = on;
-  next = turn;
+  may = turn;
   finishes = subst (λ (n : ℕ). Finishes tells n ok now mid) is finish;
   looks = looks;
   read = subst (λ (a : Act). WasRead tells a ok mid new told) (act_is ∙ ap (λ (g : BuildGraph). (edge_at g.edges (suc e)).act) (sym suits.same)) read;
@@ -553,13 +563,13 @@ module _ (tells : Bool) (course : Course) (tick : List ℕ) (graph : Graph) (sui
   -- where noting it met a fault
   pub ending_cut : (new : World) → OnlyLooks tells now new → (plan : Plan) → TakesStep graph state.plan plan (Ended (suc e) well) → IsCut tells course graph plan new
   ending_cut new looks plan takes =
-      end_cut tells course tick graph suits state ending.before ending.mid new e ok ending.on ending.next ending.finishes (looks_then tells ending.mid now new ending.looks looks) one told
+      end_cut tells course tick graph suits state ending.before ending.mid new e ok ending.on ending.may ending.finishes (looks_then tells ending.mid now new ending.looks looks) one told
       (was_read_before tells (edge_at (edges_of course) (suc e)).act ok ending.mid now new told looks ending.read) plan (subst (λ (b : Bool). TakesStep graph state.plan plan (Ended (suc e) b)) is takes)
 
   pub ending_taken : StandFor (declared_by graph).edges graph.manifest.paths (links_of graph) → (new : World) (after : State) → HasEnded tells graph e well now new state after → LogStays → NoneWhileRunning
       → TakesStep graph state.plan after.plan (Ended (suc e) well) → after.failed.items ≡ failed_after state.failed.items e well → IsTakenIn tells course graph (suc e) (get_or after.starts.items e 0) well told after new
   ending_taken stand new after noted_so stays none takes noted =
       subst (λ (b : Bool). IsTakenIn tells course graph (suc e) (get_or after.starts.items e 0) b told after new) (sym is)
-      (end_taken_in tells course tick graph suits state ending.before ending.mid now new e ok ending.on ending.next ending.finishes ending.looks one told ending.read stand after
+      (end_taken_in tells course tick graph suits state ending.before ending.mid now new e ok ending.on ending.may ending.finishes ending.looks one told ending.read stand after
       (subst (λ (b : Bool). HasEnded tells graph e b now new state after) is noted_so) stays none
       (subst (λ (b : Bool). TakesStep graph state.plan after.plan (Ended (suc e) b)) is takes) (subst (λ (b : Bool). after.failed.items ≡ failed_after state.failed.items e b) is noted))

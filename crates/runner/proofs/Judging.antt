@@ -13,7 +13,7 @@ use Rattle.model.specs.Calls.{OnlyLooks}
 use Rattle.model.specs.Graph.{has, has_number, edge_at, IsCommand}
 use Rattle.model.specs.Records.{recorded_inputs}
 use Rattle.model.specs.OutOfDate.{input_facts, Counted, IsVerdict}
-use Rattle.model.specs.Schedule.{Step as Done, Judged, IsLawfulStep, MayBeJudged, out_of_date_in, started_in, ended_in, well_in, failed_in, running_in}
+use Rattle.model.specs.Schedule.{Step as Done, Judged, MayBeJudged, out_of_date_in, started_in, ended_in, well_in, failed_in, running_in}
 use Rattle.model.specs.Premises.{FilesAreKept, RecordedApart, IsWithinEdge, IsNoEdit}
 use Rattle.model.specs.SingleBuild.{task_of}
 use Rattle.build_theory.specs.Run.{IsRunOrRest}
@@ -36,13 +36,16 @@ use Rattle.looks.specs.declared.table.Looks.{Looks}
 use Rattle.looks.specs.Looking.{HasLooked}
 use Rattle.looks.specs.Seen.{look_at, look_of, is_asked, IfKept, AreSeenOf}
 use Rattle.plan.specs.declared.plan.Plan.{Plan}
+use Rattle.plan.specs.declared.step.Step.TheVariants.{Judge}
 use Rattle.plan.specs.Planned.{TakesStep}
 use Rattle.records.specs.Laws.{LogStays}
 use Rattle.records.specs.Known.{AreKnown}
 use Rattle.verdict.specs.Facts.{flag_at}
 use Rattle.verdict.specs.Judged.{IsAnswer, IsReasonBy, MayBeJudgedBy, AreUntouched, HasOldDepfile, KeepsDepfile, HasPathsOf}
 use Rattle.runner.specs.declared.state.State.{State}
-use Rattle.runner.specs.Course.{Course, Suits, edges_of, is_quiet, AreAnew, AreSeenBefore, AreStarted, IsOn}
+use Rattle.runner.specs.Course.{Course, goes_on, Suits, edges_of, is_quiet, AreAnew, AreSeenBefore, AreStarted, IsOn}
+use Rattle.runner.specs.Going.{IsSaid}
+use Rattle.runner.proofs.Onward.{taken_judged, since_goes}
 use Rattle.runner.proofs.Places.{phony_is}
 use Rattle.runner.proofs.Quiet.{all_kept, quiet_less}
 use Rattle.runner.proofs.Removed.{removed_steps}
@@ -76,12 +79,12 @@ judged_here e k true here =
 judged_here e k false here = absurd (false≢true here)
 
 module _ (tells : Bool) (course : Course) (graph : Graph) (stays : LogStays) (tick : List ℕ) (suits : Suits course tick graph) (state : State) (now new : World) (e : ℕ)
-    (on : IsOn tells course graph None state now) (next : (stale : Bool) → IsLawfulStep (task_of course.asked course.store) on.steps (Judged (suc e) stale)) (looks : OnlyLooks tells now new) where
+    (on : IsOn tells course graph None state now) (said : IsSaid course graph on.steps (Judge e)) (looks : OnlyLooks tells now new) where
   abbrev pub edges : List Edge
   edges = edges_of course
 
   abbrev pub turn : MayBeJudged (task_of course.asked course.store) on.steps (suc e)
-  turn = (next true).0
+  turn = (said.lawful true).0
 
   same_edges : edges_of course ≡ (declared_by graph).edges
   same_edges = ap (λ (b : BuildGraph). b.edges) suits.same
@@ -164,7 +167,7 @@ module _ (tells : Bool) (course : Course) (graph : Graph) (stays : LogStays) (ti
         record { read = over.read; counted = over.counted; verdict = told ∙ ap (λ (r : Option Reason). is_some r) over.is }
 
     pub judged_carried : Carried tells course graph more None new
-    judged_carried = carried_judged tells course.behaviour course.format course.own course.asked course.store course.entry on.steps None new (suc e) stale (next stale) right carried_new
+    judged_carried = carried_judged tells course.behaviour course.format course.own course.asked course.store course.entry course.phases (goes_on course) on.steps None new (suc e) stale said.goes (said.lawful stale) said.loads right carried_new
 
     pub judged_seen : IsTrue tells → FilesAreKept course.own (edges_of course) course.entry.history new.history → AreSeenOf (is_quiet course.own (edges_of course) more) graph.manifest.paths new.history after.seen.items
     judged_seen tell files p asked quiet_so =
@@ -206,7 +209,9 @@ module _ (tells : Bool) (course : Course) (graph : Graph) (stays : LogStays) (ti
         let now_told = told_over tells course graph on.steps state now new (looks_quiet tells course graph stays None state now new on looks) on.told in
         record {
           steps = more;
-          planned = takes (task_of course.asked course.store) on.steps on.planned on.carried.run.lawful (next stale);
+          planned = takes (task_of course.asked course.store) on.steps on.planned on.taken (said.lawful stale);
+          taken = taken_judged (task_of course.asked course.store) on.steps on.taken (suc e) stale (said.lawful stale);
+          since = since_goes course.refused said.goes more;
           carried = judged_carried;
           logging = logging_over tells course graph stays on.steps more None None now new state.records.logs (looks_leave tells course graph now new looks) judged_carried on.logging;
           told = record { records = now_told.records; deps = now_told.deps; known = now_told.known; same = now_told.same };

@@ -18,7 +18,8 @@ use Rattle.model.specs.Kept.{StartedUnder}
 use Rattle.build_theory.specs.Run.{IsRunOrRest}
 use Rattle.build_theory.proofs.Lists.{same_some}
 use Rattle.build_theory.proofs.Runs.{rest_begins}
-use Rattle.build_theory.proofs.Steps.{IsKept, kept_lawful, running_parts}
+use Rattle.build_theory.proofs.Orderly.{IsKept, kept_orderly}
+use Rattle.build_theory.proofs.Steps.{running_parts}
 use Rattle.build_log.specs.declared.done.Done.{Done as Line}
 use Rattle.build_log.specs.Kept.{Table}
 use Rattle.build_log.specs.Log.{Keeps, makings}
@@ -33,7 +34,7 @@ use Rattle.paths.specs.Told.{text_at}
 use Rattle.looks.specs.declared.table.Look.{Look}
 use Rattle.looks.specs.Seen.{look_of, AreKept, AreSeenOf}
 use Rattle.plan.specs.declared.plan.Plan.{Plan}
-use Rattle.plan.specs.Planned.{IsPlanned}
+use Rattle.plan.specs.Planned.{IsPlanned, AreTaken}
 use Rattle.records.specs.declared.records.Records.{Records}
 use Rattle.records.specs.declared.logs.Logs.{Logs}
 use Rattle.records.specs.Held.{ArePlaces}
@@ -41,7 +42,7 @@ use Rattle.records.specs.Known.{AreKnown}
 use Rattle.records.specs.Logging.{AreSameLogs, IsLogging, IsLoggedStill}
 use Rattle.records.specs.Laws.{LeavesTheLogs, LogStays}
 use Rattle.runner.specs.declared.state.State.{State}
-use Rattle.runner.specs.Course.{Course, Suits, edges_of, is_quiet, IsSeenStill, AreAnew, AreSeenBefore, AreTold, AreStarted, IsOn}
+use Rattle.runner.specs.Course.{Course, goes_on, Suits, edges_of, is_quiet, IsSeenStill, AreAnew, AreSeenBefore, AreTold, AreStarted, IsOn}
 use Rattle.runner.specs.Removing.{AreRemoved}
 use Rattle.runner.specs.Going.{IsInHand, IsCut}
 use Rattle.runner.proofs.Quiet.{KeepsQuiet, RunBy, quiet_own, quiet_response, quiet_depfile, quiet_looks}
@@ -85,7 +86,7 @@ not_deps own same = omega (arith, (longer_than_both own).1, ap length same)
 
 module _ (tells : Bool) (course : Course) (graph : Graph) where
   abbrev pub Carried : List Done → Option ℕ → World → Type 0
-  Carried steps hand now = IsCarried tells course.behaviour course.format course.own course.asked course.store steps hand course.entry now
+  Carried steps hand now = IsCarried tells course.behaviour course.format course.own course.asked course.store course.phases (goes_on course) steps hand course.entry now
 
   abbrev pub Logging : List Done → Option ℕ → World → Logs → Type 0
   Logging steps hand now logs = IsLogging tells course.behaviour course.format course.own (edges_of course) steps hand course.store course.entry now logs
@@ -118,11 +119,11 @@ module _ (tells : Bool) (course : Course) (graph : Graph) where
     stale_is_command = stale_command tells course.behaviour course.format course.own course.asked course.store course.entry steps now carried.beside.idle (rest_of steps hand now carried)
 
     pub well_ended : (i : ℕ) → has_number (well_in steps) i ≡ true → has_number (ended_in steps) i ≡ true
-    well_ended i well = (kept_lawful (task_of course.asked course.store) steps carried.run.lawful).well i well
+    well_ended i well = (kept_orderly (edges_of course) steps carried.run.orderly).well i well
 
     -- one that was not started did not end well
     pub not_well_yet : (i : ℕ) → has_number (started_in steps) i ≡ false → has_number (well_in steps) i ≡ true → ⊥
-    not_well_yet i unstarted well = false≢true (sym unstarted ∙ (kept_lawful (task_of course.asked course.store) steps carried.run.lawful).ended i (well_ended i well))
+    not_well_yet i unstarted well = false≢true (sym unstarted ∙ (kept_orderly (edges_of course) steps carried.run.orderly).ended i (well_ended i well))
 
     -- an edge that ended well is that of a command, which does not run
     pub well_rest : WellRest (edges_of course) steps now
@@ -131,8 +132,8 @@ module _ (tells : Bool) (course : Course) (graph : Graph) where
       λ job runs. ((run_by job runs).0, λ same. false≢true (sym (running_parts steps job (run_by job runs).1).1 ∙ (ap (λ (n : ℕ). has_number (ended_in steps) n) same ∙ kept.well i well))),
     )
       where
-        kept : IsKept (task_of course.asked course.store) steps
-        kept = kept_lawful (task_of course.asked course.store) steps carried.run.lawful
+        kept : IsKept (edges_of course) steps
+        kept = kept_orderly (edges_of course) steps carried.run.orderly
 
     pub grown : IsTrue tells → (so_far : List Moment) × (now.history ≡ course.entry.history ++ so_far)
     grown tell = let told = carried.run.history tell in (told.more, told.grows)
@@ -188,6 +189,8 @@ module _ (tells : Bool) (course : Course) (graph : Graph) where
     on_over once carried leaves quiet events removed = record {
       steps = on.steps;
       planned = on.planned;
+      taken = on.taken;
+      since = on.since;
       carried = carried;
       logging = logging_over stays on.steps on.steps hand hand now new state.records.logs leaves carried on.logging;
       told = told_over on.steps state now new quiet on.told;
@@ -205,7 +208,7 @@ module _ (tells : Bool) (course : Course) (graph : Graph) where
     looks_quiet looks = quiet_looks tells course.own (edges_of course) on.steps course.entry now new (grown on.steps hand now on.carried) (run_by on.steps hand now on.carried) looks
 
     pub looks_carried : OnlyLooks tells now new → Carried on.steps hand new
-    looks_carried looks = carried_looks tells course.behaviour course.format course.own course.asked course.store course.entry on.steps hand now new looks on.carried
+    looks_carried looks = carried_looks tells course.behaviour course.format course.own course.asked course.store course.entry course.phases (goes_on course) on.steps hand now new looks on.carried
 
     pub looks_removed : OnlyLooks tells now new → Removed
     looks_removed looks = removed_looks tells course.own (edges_of course) on.steps course.entry now new (grown on.steps hand now on.carried) rest hand on.removed looks
@@ -217,7 +220,7 @@ module _ (tells : Bool) (course : Course) (graph : Graph) where
     module _ (tick : List ℕ) (suits : Suits course tick graph) where
       pub ticks_carried : (stamp : ℕ) → Ticks tells tick stamp now new → Carried on.steps hand new
       ticks_carried stamp ticks =
-          carried_ticks tells course.behaviour course.format course.own course.asked course.store course.entry on.steps hand now new tick suits.owned suits.no_build_log suits.no_deps_log stamp ticks on.carried
+          carried_ticks tells course.behaviour course.format course.own course.asked course.store course.entry course.phases (goes_on course) on.steps hand now new tick suits.owned suits.no_build_log suits.no_deps_log stamp ticks on.carried
 
       pub ticks_quiet : (stamp : ℕ) → Ticks tells tick stamp now new → Quietly on.steps now new
       ticks_quiet stamp ticks =
@@ -239,7 +242,7 @@ module _ (tells : Bool) (course : Course) (graph : Graph) where
       command = stale_is_command on.steps hand now on.carried i stale
 
       pub response_carried : Carried on.steps hand new
-      response_carried = carried_response tells course.behaviour course.format course.own course.asked course.store course.entry on.steps hand now new i stale rests writes on.carried
+      response_carried = carried_response tells course.behaviour course.format course.own course.asked course.store course.entry course.phases (goes_on course) on.steps hand now new i stale rests writes on.carried
 
       pub response_quiet : Quietly on.steps now new
       response_quiet = quiet_response tells course.own (edges_of course) on.steps course.entry now new (grown on.steps hand now on.carried) (run_by on.steps hand now on.carried) i command writes.history
@@ -270,7 +273,7 @@ module _ (tells : Bool) (course : Course) (graph : Graph) where
       depfile_at = writes_or_not_at tells (edge_at (edges_of course) i).act.depfile None now new removes
 
       pub depfile_carried : Carried on.steps hand new
-      depfile_carried = carried_depfile tells course.behaviour course.format course.own course.asked course.store course.entry on.steps hand now new i stale rests removes on.carried
+      depfile_carried = carried_depfile tells course.behaviour course.format course.own course.asked course.store course.entry course.phases (goes_on course) on.steps hand now new i stale rests removes on.carried
 
       pub depfile_quiet : Quietly on.steps now new
       depfile_quiet = quiet_depfile tells course.own (edges_of course) on.steps course.entry now new (grown on.steps hand now on.carried) (run_by on.steps hand now on.carried) i reads depfile_at.history
@@ -299,12 +302,14 @@ module _ (tells : Bool) (course : Course) (graph : Graph) where
   -- ---- an edge is taken in hand
 
   pub hand_carried : (steps : List Done) (now : World) (i : ℕ) → Carried steps None now → Carried steps (Some i) now
-  hand_carried steps now i carried = carried_hand tells course.behaviour course.format course.own course.asked course.store course.entry steps now i carried
+  hand_carried steps now i carried = carried_hand tells course.behaviour course.format course.own course.asked course.store course.entry course.phases (goes_on course) steps now i carried
 
   abbrev pub on_hand : (state : State) (now : World) (i : ℕ) → IsOn tells course graph None state now → IsOn tells course graph (Some i) state now
   on_hand state now i on = record {
     steps = on.steps;
     planned = on.planned;
+    taken = on.taken;
+    since = on.since;
     carried = hand_carried on.steps now i on.carried;
     logging = logging_with on.steps on.steps None (Some i) now state.records.logs (hand_carried on.steps now i on.carried) on.logging;
     told = on.told;
@@ -359,7 +364,7 @@ module _ (tells : Bool) (course : Course) (graph : Graph) where
     -- whether it stands there or not
     pub log_carried : IsLoggedStill tells course.behaviour course.format course.own (edges_of course) on.steps next course.store course.entry new → Carried on.steps next new
     log_carried logged =
-        carried_log tells course.behaviour course.format course.own course.asked course.store course.entry on.steps hand next now new path owned writes (λ tell kept was. logged tell kept) on.carried
+        carried_log tells course.behaviour course.format course.own course.asked course.store course.entry course.phases (goes_on course) on.steps hand next now new path owned writes (λ tell kept was. logged tell kept) on.carried
 
     pub log_quiet : Quietly on.steps now new
     log_quiet = quiet_own tells course.own (edges_of course) on.steps course.entry now new (grown on.steps hand now on.carried) (run_by on.steps hand now on.carried) path owned writes.history
@@ -372,6 +377,8 @@ module _ (tells : Bool) (course : Course) (graph : Graph) where
     on_log once records same places deps_places logging held = record {
       steps = on.steps;
       planned = on.planned;
+      taken = on.taken;
+      since = on.since;
       carried = log_carried logging.logged;
       logging = logging;
       told = told_by state new records same places deps_places (told_over on.steps state now new log_quiet on.told);
@@ -396,17 +403,17 @@ module _ (tells : Bool) (course : Course) (graph : Graph) where
   abbrev pub Cut : Plan → World → Type 0
   Cut plan new = IsCut tells course graph plan new
 
-  cut_of : (steps : List Done) (hand : Option ℕ) (new : World) → Carried steps hand new → IsCutOff tells course.behaviour course.format course.own course.asked course.store steps hand course.entry new
-  cut_of steps hand new carried = cut_off tells course.behaviour course.format course.own course.asked course.store course.entry steps hand new carried
+  cut_of : (steps : List Done) (hand : Option ℕ) (new : World) → Carried steps hand new → IsCutOff tells course.behaviour course.format course.own course.asked course.store course.phases steps hand course.entry new
+  cut_of steps hand new carried = cut_off tells course.behaviour course.format course.own course.asked course.store course.entry course.phases (goes_on course) steps hand new carried
 
   -- with no edge in hand
-  pub cut_free : (plan : Plan) (new : World) (steps : List Done) → IsPlanned (task_of course.asked course.store) graph plan steps → Carried steps None new → Cut plan new
-  cut_free plan new steps planned carried = record { steps = steps; met = None; planned = planned; run = carried.run; cut = cut_of steps None new carried; in_hand = λ i is. nothing i is }
+  pub cut_free : (plan : Plan) (new : World) (steps : List Done) → IsPlanned (task_of course.asked course.store) graph plan steps → AreTaken (task_of course.asked course.store) steps → Carried steps None new → Cut plan new
+  cut_free plan new steps planned taken carried = record { steps = steps; met = None; planned = planned; taken = taken; run = carried.run; cut = cut_of steps None new carried; in_hand = λ i is. nothing i is }
     where
       nothing : (i : ℕ) → None ≡ Some i → IsInHand (task_of course.asked course.store) steps i
       nothing i is = cc
 
   -- with the edge in hand whose start or taking in met it
-  pub cut_met : (plan : Plan) (new : World) (steps : List Done) (i : ℕ) → IsInHand (task_of course.asked course.store) steps i → IsPlanned (task_of course.asked course.store) graph plan steps → Carried steps (Some i) new → Cut plan new
-  cut_met plan new steps i at planned carried =
-      record { steps = steps; met = Some i; planned = planned; run = carried.run; cut = cut_of steps (Some i) new carried; in_hand = λ k is. subst (λ (n : ℕ). IsInHand (task_of course.asked course.store) steps n) (same_some i k is) at }
+  pub cut_met : (plan : Plan) (new : World) (steps : List Done) (i : ℕ) → IsInHand (task_of course.asked course.store) steps i → IsPlanned (task_of course.asked course.store) graph plan steps → AreTaken (task_of course.asked course.store) steps → Carried steps (Some i) new → Cut plan new
+  cut_met plan new steps i at planned taken carried =
+      record { steps = steps; met = Some i; planned = planned; taken = taken; run = carried.run; cut = cut_of steps (Some i) new carried; in_hand = λ k is. subst (λ (n : ℕ). IsInHand (task_of course.asked course.store) steps n) (same_some i k is) at }

@@ -9,9 +9,11 @@ use Rattle.model.specs.Calls.{Starts, Ticks, Writes, WritesOrNot}
 use Rattle.model.specs.Graph.{has_number, edge_at, IsCommand, IsMadeOnce}
 use Rattle.model.specs.Premises.{OwnFilesApart, LiesIn}
 use Rattle.model.specs.Schedule.{Step as Done, Started, IsLawfulStep, started_in, ended_in, out_of_date_in, running_in, well_in, failed_in}
+use Rattle.model.specs.Phases.{NoLoadIsDue}
 use Rattle.model.specs.SingleBuild.{task_of}
 use Rattle.model.specs.Kept.{StartedUnder}
-use Rattle.build_theory.proofs.Steps.{IsKept, kept_lawful, running_is, running_parts, started-append, ended-append, out_of_date-append, well-append, failed-append, in_left, in_either}
+use Rattle.build_theory.proofs.Orderly.{IsKept, kept_orderly}
+use Rattle.build_theory.proofs.Steps.{running_is, running_parts, started-append, ended-append, out_of_date-append, well-append, failed-append, in_left, in_either}
 use Rattle.build_theory.proofs.Lists.{has_number-is}
 use Rattle.log_theory.specs.Writes.{GrewAt, WritesAt}
 use Rattle.log_theory.specs.Ledger.{HasNoRecord, HoldsStill, IsReadyToStart}
@@ -24,12 +26,13 @@ use Rattle.links.specs.declared.graph.Graph.{Graph}
 use Rattle.paths.specs.Told.{text_at}
 use Rattle.lowest.specs.Flags as flags
 use Rattle.plan.specs.declared.plan.Plan.{Plan}
-use Rattle.plan.specs.Planned.{IsPlanned, TakesStep}
+use Rattle.plan.specs.Planned.{IsPlanned, AreTaken, TakesStep}
 use Rattle.records.specs.Laws.{LogStays}
 use Rattle.runner.specs.declared.state.State.{State}
-use Rattle.runner.specs.Course.{Course, Suits, edges_of, AreAnew, AreSeenBefore, AreStarted, IsSeenStill, IsOn}
+use Rattle.runner.specs.Course.{Course, goes_on, Suits, edges_of, AreAnew, AreSeenBefore, AreStarted, IsSeenStill, IsOn}
 use Rattle.runner.specs.Removing.{AreRemoved}
 use Rattle.runner.proofs.Quiet.{RunBy, quiet_adds, quiet_less, running_started}
+use Rattle.runner.proofs.Onward.{taken_started, since_goes}
 use Rattle.runner.proofs.Keeping.{Carried, Quietly, run_by, grown, well_rest, well_ended, not_well_yet, stale_is_command, response_carried, depfile_at, on_depfile, logging_over, told_over, seen_over, started_more}
 use Rattle.runner.proofs.Anew.{anew_over, before_over}
 use Rattle.runner.proofs.Removed.{stay_adds, removed_adds}
@@ -90,6 +93,8 @@ module _ (tells : Bool) (course : Course) (graph : Graph) where
     on_stamped = record {
       steps = on.steps;
       planned = on.planned;
+      taken = on.taken;
+      since = on.since;
       carried = on.carried;
       logging = on.logging;
       told = record { records = on.told.records; deps = on.told.deps; known = on.told.known; same = on.told.same };
@@ -105,12 +110,12 @@ module _ (tells : Bool) (course : Course) (graph : Graph) where
   -- ---- the start
 
   module _ (stays : LogStays) (state : State) (now new : World) (e : ℕ) (act : Act) (plan : Plan) (on : IsOn tells course graph (Some (suc e)) state now) (next : IsLawfulStep (task_of course.asked course.store) on.steps (Started (suc e)))
-      (is : act ≡ (edge_at (edges_of course) (suc e)).act) (ready : IsReadyToStart tells course.format course.own (edges_of course) (suc e) course.entry now) (starts : Starts tells (suc e) act now new) (once : IsMadeOnce (edges_of course)) where
+      (goes : goes_on course ≡ true) (unloaded : NoLoadIsDue (task_of course.asked course.store) on.steps) (is : act ≡ (edge_at (edges_of course) (suc e)).act) (ready : IsReadyToStart tells course.format course.own (edges_of course) (suc e) course.entry now) (starts : Starts tells (suc e) act now new) (once : IsMadeOnce (edges_of course)) where
     abbrev pub more : List Done
     more = on.steps ++ Started (suc e) ∷ []
 
     pub start_carried : Carried tells course graph more None new
-    start_carried = carried_starts tells course.behaviour course.format course.own course.asked course.store course.entry on.steps now new (suc e) act next is ready starts on.carried
+    start_carried = carried_starts tells course.behaviour course.format course.own course.asked course.store course.entry course.phases (goes_on course) on.steps now new (suc e) act goes next unloaded is ready starts on.carried
 
     pub start_quiet : Quietly tells course graph more now new
     start_quiet = quiet_adds tells course.own (edges_of course) more course.entry now new (grown tells course graph on.steps (Some (suc e)) now on.carried) ran (run_by tells course graph more None new start_carried) (Start (suc e) act now.ticked) starts.history
@@ -134,7 +139,7 @@ module _ (tells : Bool) (course : Course) (graph : Graph) where
     ]
       where
         under : StartedUnder (suc e) now.ticked course.entry new
-        under = started_under tells course.behaviour course.format course.own course.asked course.store course.entry on.steps (Some (suc e)) now new (suc e) act starts on.carried
+        under = started_under tells course.behaviour course.format course.own course.asked course.store course.entry course.phases (goes_on course) on.steps (Some (suc e)) now new (suc e) act starts on.carried
 
     pub start_anew : AreAnew tells course graph more state new
     start_anew = anew_over tells course graph on.steps more more state now new start_quiet once (λ j well. in_left ended_in ended-append on.steps (Started (suc e) ∷ []) j (well_ended tells course graph on.steps (Some (suc e)) now on.carried j well))
@@ -156,8 +161,8 @@ module _ (tells : Bool) (course : Course) (graph : Graph) where
         no_finish : (i : ℕ) → Start (suc e) act now.ticked ≡ Finish i true → ⊥
         no_finish i is = cc
 
-        kept : IsKept (task_of course.asked course.store) on.steps
-        kept = kept_lawful (task_of course.asked course.store) on.steps on.carried.run.lawful
+        kept : IsKept (edges_of course) on.steps
+        kept = kept_orderly (edges_of course) on.steps on.carried.run.orderly
 
         before : (i : ℕ) → has_number (well_in more) i ≡ true → (None ≡ Some i → ⊥) → (has_number (well_in on.steps) i ≡ true) × (Some (suc e) ≡ Some i → ⊥)
         before i well free = (
@@ -168,12 +173,17 @@ module _ (tells : Bool) (course : Course) (graph : Graph) where
         )
 
     pub start_planned : TakesStep graph state.plan plan (Started (suc e)) → IsPlanned (task_of course.asked course.store) graph plan more
-    start_planned takes = takes (task_of course.asked course.store) on.steps on.planned on.carried.run.lawful next
+    start_planned takes = takes (task_of course.asked course.store) on.steps on.planned on.taken next
+
+    pub start_taken : AreTaken (task_of course.asked course.store) more
+    start_taken = taken_started (task_of course.asked course.store) on.steps on.taken (suc e) next
 
     abbrev pub on_starts : TakesStep graph state.plan plan (Started (suc e)) → plan.changed ≡ state.plan.changed → get_or state.starts.items e 0 ≡ now.ticked → IsOn tells course graph None (with_plan state plan) new
     on_starts takes flags_same stamped = record {
       steps = more;
       planned = start_planned takes;
+      taken = start_taken;
+      since = since_goes course.refused goes more;
       carried = start_carried;
       logging = logging_over tells course graph stays on.steps more (Some (suc e)) None now new state.records.logs (inr (inl (suc e, act, starts))) start_carried on.logging;
       told =
@@ -229,22 +239,22 @@ module _ (tells : Bool) (course : Course) (graph : Graph) where
     -- what one of its two files holds behind the tick
     holds_ticked : (q : List ℕ) → IsPrivate (edges_of course) i q → (held : Option (List ℕ)) → HoldsStill tells course.own (edges_of course) q held course.entry mid → HoldsStill tells course.own (edges_of course) q held course.entry new
     holds_ticked q private held =
-        holds_over_own tells course.behaviour course.format course.own course.asked course.store course.entry on.steps (Some i) mid new carried_mid i next.1.stale next.1.once q private held tick suits.owned tick_grew
+        holds_over_own tells course.behaviour course.format course.own course.asked course.store course.entry course.phases (goes_on course) on.steps (Some i) mid new carried_mid i next.1.stale next.1.once q private held tick suits.owned tick_grew
 
     depfile_holds : depfile ≢ [] → HoldsStill tells course.own (edges_of course) depfile None course.entry mid
     depfile_holds named =
-        depfile_over_response tells course.behaviour course.format course.own course.asked course.store course.entry on.steps (Some i) gone mid on_gone.carried i next.1.stale next.1.once named None response_at
-        (holds_written tells course.behaviour course.format course.own course.asked course.store course.entry on.steps (Some i) now gone on.carried i next.1.stale next.1.once depfile
+        depfile_over_response tells course.behaviour course.format course.own course.asked course.store course.entry course.phases (goes_on course) on.steps (Some i) gone mid on_gone.carried i next.1.stale next.1.once named None response_at
+        (holds_written tells course.behaviour course.format course.own course.asked course.store course.entry course.phases (goes_on course) on.steps (Some i) now gone on.carried i next.1.stale next.1.once depfile
         (record { named = named; is = inl refl }) None (depfile_gone named))
 
     pub ready_to_start : IsReadyToStart tells course.format course.own (edges_of course) i course.entry new
     ready_to_start = record {
-      ticked = tick_given tells course.behaviour course.format course.own course.asked course.store course.entry on.steps (Some i) mid new carried_mid tick stamp ticks;
+      ticked = tick_given tells course.behaviour course.format course.own course.asked course.store course.entry course.phases (goes_on course) on.steps (Some i) mid new carried_mid tick stamp ticks;
       depfile = λ named. holds_ticked depfile (record { named = named; is = inl refl }) None (depfile_holds named);
       response = λ named. holds_ticked response (record { named = named; is = inr refl }) (Some (edge_at (edges_of course) i).act.response_content)
-          (holds_written tells course.behaviour course.format course.own course.asked course.store course.entry on.steps (Some i) gone mid on_gone.carried i next.1.stale next.1.once response
+          (holds_written tells course.behaviour course.format course.own course.asked course.store course.entry course.phases (goes_on course) on.steps (Some i) gone mid on_gone.carried i next.1.stale next.1.once response
           (record { named = named; is = inr refl }) (Some (edge_at (edges_of course) i).act.response_content) (response_written named));
-      begun = no_record_apart tells course.behaviour course.format course.own course.asked course.store course.entry on.steps (Some i) mid new carried_mid i next.1.stale next.1.once tick
+      begun = no_record_apart tells course.behaviour course.format course.own course.asked course.store course.entry course.phases (goes_on course) on.steps (Some i) mid new carried_mid i next.1.stale next.1.once tick
           (λ files. (suits.no_build_log, suits.no_deps_log)) tick_grew (begun_over gone mid on_gone.carried response response_at (λ files. files.responses i command)
           (begun_over now gone on.carried depfile (depfile_at tells course graph stays (Some i) state now gone on i next.1.stale rests depfile_removes) (λ files. files.depfiles i command) begun));
     }
@@ -255,7 +265,7 @@ module _ (tells : Bool) (course : Course) (graph : Graph) where
         -- over a write at one of the two
         begun_over : (old last : World) → Carried tells course graph on.steps (Some i) old → (path : List ℕ) → WritesAt tells path old last → (OwnFilesApart course.own (edges_of course) → LiesIn course.own path)
             → HasNoRecord tells course.format course.own (edges_of course) i course.entry old → HasNoRecord tells course.format course.own (edges_of course) i course.entry last
-        begun_over old last carried path writes lies = no_record_apart tells course.behaviour course.format course.own course.asked course.store course.entry on.steps (Some i) old last carried i next.1.stale next.1.once path
+        begun_over old last carried path writes lies = no_record_apart tells course.behaviour course.format course.own course.asked course.store course.entry course.phases (goes_on course) on.steps (Some i) old last carried i next.1.stale next.1.once path
             (λ files. (other course.own.build_log files.own_files files.own_files.build_log, other course.own.deps_log files.own_files files.own_files.deps_log)) writes.history
           where
             other : (log : List ℕ) → OwnFilesApart course.own (edges_of course) → course.own.files log ≡ true → path ≢ log

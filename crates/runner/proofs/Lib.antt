@@ -21,3 +21,4 @@ pub mod Finishing
 pub mod Noting
 pub mod Comparing
 pub mod Recording
+pub mod Onward

@@ -44,6 +44,8 @@ module _ (tells : Bool) (course : Course) (graph : Graph) where
       record {
         steps = on.steps;
         planned = on.planned;
+        taken = on.taken;
+        since = on.since;
         carried = carried;
         logging = logging_over tells course graph stays on.steps on.steps None None now new state.records.logs (looks_leave tells course graph now new looked.looks) carried on.logging;
         told = record { records = told.records; deps = told.deps; known = told.known; same = told.same };

@@ -19,7 +19,8 @@ use Rattle.model.specs.Schedule.{Task, Step as Done, Ended, started_in, ended_in
 use Rattle.model.specs.SingleBuild.{task_of}
 use Rattle.build_theory.proofs.Lists.{has_number-one}
 use Rattle.build_theory.proofs.Looks.{kept_before}
-use Rattle.build_theory.proofs.Steps.{IsKept, kept_lawful, ended-append, in_right}
+use Rattle.build_theory.proofs.Orderly.{IsKept, kept_orderly}
+use Rattle.build_theory.proofs.Steps.{ended-append, in_right}
 use Rattle.build_theory.proofs.Starting.{OthersRun}
 use Rattle.log_theory.specs.Ledger.{HoldsStill}
 use Rattle.log_theory.specs.Writes.{WritesAt}
@@ -35,7 +36,7 @@ use Rattle.display.specs.Shown.{Showing}
 use Rattle.runner.specs.declared.reported.Told.{Told}
 use Rattle.runner.specs.declared.reported.Told.TheVariants.{Nothing, Inputs, Refused}
 use Rattle.runner.specs.declared.state.State.{State}
-use Rattle.runner.specs.Course.{Course, Suits, edges_of, IsOn}
+use Rattle.runner.specs.Course.{Course, goes_on, Suits, edges_of, IsOn}
 use Rattle.runner.specs.Going.{IsCut, IsInHand}
 use Rattle.runner.specs.Starting.{IsTakenIn, MayBeDone}
 use Rattle.runner.specs.Telling.{HasTold, WentWell}
@@ -53,6 +54,8 @@ abbrev pub on_shown : (tells : Bool) (course : Course) (graph : Graph) (hand : O
 on_shown tells course graph hand state display now on = record {
   steps = on.steps;
   planned = on.planned;
+  taken = on.taken;
+  since = on.since;
   carried = on.carried;
   logging = on.logging;
   told = record { records = on.told.records; deps = on.told.deps; known = on.told.known; same = on.told.same };
@@ -76,8 +79,8 @@ module _ (tells : Bool) (course : Course) (tick : List ℕ) (graph : Graph) (sui
   abbrev task : Task
   task = task_of course.asked course.store
 
-  kept : IsKept task on.steps
-  kept = kept_lawful task on.steps on.carried.run.lawful
+  kept : IsKept (edges_of course) on.steps
+  kept = kept_orderly (edges_of course) on.steps on.carried.run.orderly
 
   ended : has_number (ended_in on.steps) (suc e) ≡ true
   ended = ap (λ (l : List Done). has_number (ended_in l) (suc e)) last ∙ in_right ended_in ended-append before (Ended (suc e) true ∷ []) (suc e) (has_number-one (suc e))
@@ -89,17 +92,17 @@ module _ (tells : Bool) (course : Course) (tick : List ℕ) (graph : Graph) (sui
   stale = kept.started (suc e) started_here
 
   pub command_here : IsCommand (edges_of course) (suc e)
-  command_here = (kept.judged (suc e) (kept.out_of_date (suc e) stale)).1
+  command_here = kept.judged (suc e) (kept.out_of_date (suc e) stale)
 
   pub in_hand : IsInHand task on.steps (suc e)
   in_hand = record { under_way = inl (before, true, last); stale = stale; taken_in = inr ended }
 
   pub within_here : e < length graph.manifest.lines
-  within_here = cone_within task graph state.plan on.steps on.planned e (kept.judged (suc e) (kept.out_of_date (suc e) stale)).0
+  within_here = cone_within task graph state.plan on.steps on.planned e (on.taken.within (suc e) (kept.out_of_date (suc e) stale))
 
   -- a fault behind a call that wrote one of the logs, or before one
   pub cut_in_hand : IsCut tells course graph state.plan now
-  cut_in_hand = cut_met tells course graph state.plan now on.steps (suc e) in_hand on.planned on.carried
+  cut_in_hand = cut_met tells course graph state.plan now on.steps (suc e) in_hand on.planned on.taken on.carried
 
   -- the logs over the edges that the graph declares
   pub logging_declared : IsLogging tells course.behaviour course.format course.own (declared_by graph).edges on.steps (Some (suc e)) course.store course.entry now state.records.logs
@@ -107,7 +110,7 @@ module _ (tells : Bool) (course : Course) (tick : List ℕ) (graph : Graph) (sui
 
   pub cut_logging : (path : List ℕ) → course.own.files path ≡ true → (new : World) → WritesAt tells path now new
       → IsLoggedStill tells course.behaviour course.format course.own (declared_by graph).edges on.steps (Some (suc e)) course.store course.entry new → IsCut tells course graph state.plan new
-  cut_logging path owned new writes logged = cut_met tells course graph state.plan new on.steps (suc e) in_hand on.planned
+  cut_logging path owned new writes logged = cut_met tells course graph state.plan new on.steps (suc e) in_hand on.planned on.taken
       (log_carried tells course graph (Some (suc e)) (Some (suc e)) state now new on path owned writes
       (subst (λ (g : BuildGraph). IsLoggedStill tells course.behaviour course.format course.own g.edges on.steps (Some (suc e)) course.store course.entry new) (sym suits.same) logged))
 
@@ -290,14 +293,14 @@ module _ (tells : Bool) (course : Course) (tick : List ℕ) (graph : Graph) (sui
     cleared = on_depfile tells course graph stays (Some job) After mid gone recorded job stale_here rests clears_it suits.once refl (λ well. spares_it)
 
     pub carried_gone : Carried tells course graph steps None gone
-    carried_gone = carried_depfile tells course.behaviour course.format course.own course.asked course.store course.entry steps None mid gone job stale_here rests clears_it carried_then
+    carried_gone = carried_depfile tells course.behaviour course.format course.own course.asked course.store course.entry course.phases (goes_on course) steps None mid gone job stale_here rests clears_it carried_then
 
     pub logging_gone : Logging tells course graph steps None gone records.logs
     logging_gone = logging_over tells course graph stays steps steps None None mid gone records.logs (depfile_leaves tells course graph stays (Some job) After mid gone recorded job stale_here rests clears_it) carried_gone logging_then
 
     -- its depfile could not be removed
     pub cut_clearing : IsCut tells course graph state.plan gone
-    cut_clearing = cut_free tells course graph state.plan gone steps done.on.planned carried_gone
+    cut_clearing = cut_free tells course graph state.plan gone steps done.on.planned done.on.taken carried_gone
 
     module _ (new : World) (removes : WritesAt tells act.response_path gone new) where
       pub removes_it : WritesAt tells (edge_at (edges_of course) job).act.response_path gone new
@@ -307,7 +310,7 @@ module _ (tells : Bool) (course : Course) (tick : List ℕ) (graph : Graph) (sui
       held = on_response tells course graph stays (Some job) After gone new cleared job stale_here rests removes_it suits.once refl
 
       pub carried_new : Carried tells course graph steps None new
-      carried_new = carried_response tells course.behaviour course.format course.own course.asked course.store course.entry steps None gone new job stale_here rests removes_it carried_gone
+      carried_new = carried_response tells course.behaviour course.format course.own course.asked course.store course.entry course.phases (goes_on course) steps None gone new job stale_here rests removes_it carried_gone
 
       -- with `deps = gcc` its depfile is gone
       pub depfile_gone : (deps ≡ Gcc → act.depfile ≢ [] → Writes tells act.depfile None mid gone) → (edge_at (edges_of course) job).deps ≡ Gcc → (edge_at (edges_of course) job).act.depfile ≢ []
@@ -323,6 +326,8 @@ module _ (tells : Bool) (course : Course) (tick : List ℕ) (graph : Graph) (sui
       removed removes_depfile writes_it = record {
         steps = steps;
         planned = done.on.planned;
+        taken = done.on.taken;
+        since = done.on.since;
         carried = carried_new;
         logging = logging_over tells course graph stays steps steps None None gone new records.logs (response_leaves tells course graph stays (Some job) After gone new cleared job stale_here rests removes_it) carried_new logging_gone;
         told = held.told;
@@ -338,4 +343,4 @@ module _ (tells : Bool) (course : Course) (tick : List ℕ) (graph : Graph) (sui
       }
 
       pub cut_removing : IsCut tells course graph state.plan new
-      cut_removing = cut_free tells course graph state.plan new steps done.on.planned carried_new
+      cut_removing = cut_free tells course graph state.plan new steps done.on.planned done.on.taken carried_new

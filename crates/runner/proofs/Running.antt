@@ -7,7 +7,8 @@ use Rattle.model.specs.Graph.{has_number, IsCommand}
 use Rattle.model.specs.Reading.{IsInCone}
 use Rattle.model.specs.Schedule.{Task, Step as Done, started_in, well_in, failed_in, clean_in, out_of_date_in, running_in}
 use Rattle.model.specs.SingleBuild.{task_of}
-use Rattle.build_theory.proofs.Steps.{IsKept, kept_lawful, running_parts}
+use Rattle.build_theory.proofs.Orderly.{IsKept, kept_orderly}
+use Rattle.build_theory.proofs.Steps.{running_parts}
 use Rattle.build_theory.proofs.Runs.{running_now}
 use Rattle.links.specs.declared.graph.Graph.{Graph}
 use Rattle.plan.specs.declared.plan.Plan.{Plan}
@@ -52,8 +53,8 @@ module _ (tells : Bool) (course : Course) (graph : Graph) (hand : Option ℕ) (s
   abbrev task : Task
   task = task_of course.asked course.store
 
-  kept : IsKept task on.steps
-  kept = kept_lawful task on.steps on.carried.run.lawful
+  kept : IsKept (edges_of course) on.steps
+  kept = kept_orderly (edges_of course) on.steps on.carried.run.orderly
 
   runs_by : (job : ℕ) → runs job now.events ≡ has_number (running_in on.steps) job
   runs_by = running_now tells course.own task course.entry on.steps now on.carried.beside.idle on.carried.run
@@ -63,7 +64,7 @@ module _ (tells : Bool) (course : Course) (graph : Graph) (hand : Option ℕ) (s
   noted_within k d lt = within_all state.failed.items (λ e has. failed_edge e (ap (λ (l : List ℕ). has_number l (suc e)) (sym on.noted) ∙ has)) k d lt
     where
       failed_edge : (e : ℕ) → has_number (failed_in on.steps) (suc e) ≡ true → e < length graph.manifest.lines
-      failed_edge e has = cone_within task graph state.plan on.steps on.planned e (kept.judged (suc e) (kept.out_of_date (suc e) (kept.started (suc e) (kept.ended (suc e) (kept.failed (suc e) has))))).0
+      failed_edge e has = cone_within task graph state.plan on.steps on.planned e (on.taken.within (suc e) (kept.out_of_date (suc e) (kept.started (suc e) (kept.ended (suc e) (kept.failed (suc e) has)))))
 
       within_all : (xs : List ℕ) → ((e : ℕ) → has_number (map suc xs) (suc e) ≡ true → e < length graph.manifest.lines) → All (λ e. e < length graph.manifest.lines) xs
       within_all [] each k d lt = absurd (omega (arith, lt))
@@ -75,23 +76,24 @@ module _ (tells : Bool) (course : Course) (graph : Graph) (hand : Option ℕ) (s
   running_edge job ran = by_job job (sym (runs_by job) ∙ ran)
     where
       by_job : (j : ℕ) → has_number (running_in on.steps) j ≡ true → IsRunningEdge course graph state.plan on.steps j
-      by_job zero is = absurd (true≢false (kept.judged zero (kept.out_of_date zero (kept.started zero (running_parts on.steps zero is).0))).1)
+      by_job zero is = absurd (true≢false (kept.judged zero (kept.out_of_date zero (kept.started zero (running_parts on.steps zero is).0))))
       by_job (suc e) is =
           let parts = running_parts on.steps (suc e) is in
           let stale = kept.started (suc e) parts.0 in
-          let judged = kept.judged (suc e) (kept.out_of_date (suc e) stale) in
+          let cone = on.taken.within (suc e) (kept.out_of_date (suc e) stale) in
+          let command = kept.judged (suc e) (kept.out_of_date (suc e) stale) in
           record {
             edge = e;
             is = refl;
-            within = cone_within task graph state.plan on.steps on.planned e judged.0;
-            stands = on.planned.stands e judged.0 judged.1
+            within = cone_within task graph state.plan on.steps on.planned e cone;
+            stands = on.planned.stands e cone command
                 ∙ stands_running on.steps (suc e)
                 (false_from_ne_true (has_number (well_in on.steps) (suc e)) (λ h. false≢true (sym parts.1 ∙ kept.well (suc e) h)))
                 (false_from_ne_true (has_number (failed_in on.steps) (suc e)) (λ h. false≢true (sym parts.1 ∙ kept.failed (suc e) h)))
                 parts.0;
             running = is;
             stale = stale;
-            command = judged.1;
+            command = command;
           }
 
   -- some command runs where one does by the steps

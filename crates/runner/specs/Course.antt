@@ -10,7 +10,7 @@ use Rattle.model.specs.Outcome.{Behaviour}
 use Rattle.model.specs.Records.{Store, LogFormat, OwnFiles, recorded_inputs}
 use Rattle.model.specs.OutOfDate.{input_facts}
 use Rattle.model.specs.Schedule.{Step as Done, out_of_date_in, ended_in, failed_in, running_in, well_in}
-use Rattle.model.specs.Phases.{AreTakenIn}
+use Rattle.model.specs.Phases.{Phase, AreTakenIn}
 use Rattle.model.specs.Premises.{FilesAreKept}
 use Rattle.model.specs.Kept.{StartedUnder}
 use Rattle.model.specs.SingleBuild.{Asked, task_of}
@@ -29,8 +29,8 @@ use Rattle.runner.specs.Removing.{AreRemoved}
 use Rattle.runner.specs.declared.state.State.{State}
 
 -- What a run is of: what commands do, how its logs are read, which files are its own, what was asked, what the logs told at the
--- entry, and the world of then; and where a load was refused, which steps were done by then. Nothing of it changes while the run
--- goes on.
+-- entry, and the world of then; the phases that ended with a load; and where a load was refused, which steps were done by then. Nothing
+-- of it changes but by a load.
 pub record Course : Type 0 where
   pub behaviour : Behaviour
   pub format : LogFormat
@@ -38,6 +38,7 @@ pub record Course : Type 0 where
   pub asked : Asked
   pub store : Store
   pub entry : World
+  pub phases : List Phase
   pub refused : Option (List Done)
 
 abbrev pub edges_of : Course → List Edge
@@ -133,7 +134,7 @@ pub record IsOn (tells : Bool) (course : Course) (graph : Graph) (hand : Option 
   pub planned : IsPlanned (task_of course.asked course.store) graph state.plan steps
   pub taken : AreTaken (task_of course.asked course.store) steps
   pub since : IsSince course.refused steps
-  pub carried : IsCarried tells course.behaviour course.format course.own course.asked course.store (goes_on course) steps hand course.entry now
+  pub carried : IsCarried tells course.behaviour course.format course.own course.asked course.store course.phases (goes_on course) steps hand course.entry now
   pub logging : IsLogging tells course.behaviour course.format course.own (edges_of course) steps hand course.store course.entry now state.records.logs
   pub told : AreTold tells course graph state now
   pub seen : IsSeenStill tells course graph steps state now

@@ -81,7 +81,7 @@ pub record IsCut (tells : Bool) (course : Course) (graph : Graph) (plan : Plan) 
   pub planned : IsPlanned (task_of course.asked course.store) graph plan steps
   pub taken : AreTaken (task_of course.asked course.store) steps
   pub run : IsRun tells course.own (task_of course.asked course.store) steps course.entry now
-  pub cut : IsCutOff tells course.behaviour course.format course.own course.asked course.store steps met course.entry now
+  pub cut : IsCutOff tells course.behaviour course.format course.own course.asked course.store course.phases steps met course.entry now
   pub in_hand : (i : ℕ) → met ≡ Some i → IsInHand (task_of course.asked course.store) steps i
 
 -- no edge has more outputs

@@ -36,7 +36,7 @@ EndsRun tells course steps met new (Err cut) = Unit {0}
 pub record HasRun (tells : Bool) (course : Course) (new : World) (result : Result Summary Cut) : Type 0 where
   pub steps : List Step
   pub met : Option ℕ
-  pub cut : IsCutOff tells course.behaviour course.format course.own course.asked course.store steps met course.entry new
+  pub cut : IsCutOff tells course.behaviour course.format course.own course.asked course.store course.phases steps met course.entry new
   pub in_hand : (i : ℕ) → met ≡ Some i → IsInHand (task_of course.asked course.store) steps i
   pub ends : EndsRun tells course steps met new result
   pub goes : IfOk result (λ summary. cut.phased.build.taken_in ≡ [])

@@ -42,7 +42,7 @@ pub fn take_in_rest<S: Site>(site: &mut S, count: usize, cut: Cut) -> Cut
     ensures still { IfWaiting cut (S.world site.new ≡ S.world site.old) }
     ensures left { IsLeft (S.world site.new) result }
     ensures takes_in { TakesIn (S.world site.old) (S.world site.new) result }
-    ensures rest { (course : Course) (steps : List Done) (met : Option ℕ) → IsCutOff S.tells course.behaviour course.format course.own course.asked course.store steps met course.entry (S.world site.old) → IsCutOff S.tells course.behaviour course.format course.own course.asked course.store steps met course.entry (S.world site.new) }
+    ensures rest { (course : Course) (steps : List Done) (met : Option ℕ) → IsCutOff S.tells course.behaviour course.format course.own course.asked course.store course.phases steps met course.entry (S.world site.old) → IsCutOff S.tells course.behaviour course.format course.own course.asked course.store course.phases steps met course.entry (S.world site.new) }
 {
     if cut.is_final() {
         return cut;
@@ -62,7 +62,7 @@ fn take_in_all<S: Site>(site: &mut S, count: usize) -> Result<(), SiteFault>
     ensures at_start { (S.world site.new).failures_at_start ≡ (S.world site.old).failures_at_start }
     ensures runs { OnErr result (SomeRuns (S.world site.new)) }
     ensures idle { OnOk result (IsIdle (S.world site.new).events) }
-    ensures rest { (course : Course) (steps : List Done) (met : Option ℕ) → IsCutOff S.tells course.behaviour course.format course.own course.asked course.store steps met course.entry (S.world site.old) → IsCutOff S.tells course.behaviour course.format course.own course.asked course.store steps met course.entry (S.world site.new) }
+    ensures rest { (course : Course) (steps : List Done) (met : Option ℕ) → IsCutOff S.tells course.behaviour course.format course.own course.asked course.store course.phases steps met course.entry (S.world site.old) → IsCutOff S.tells course.behaviour course.format course.own course.asked course.store course.phases steps met course.entry (S.world site.new) }
 {
     let mut left = count;
     'rest: while left > 0 {

@@ -16,7 +16,7 @@ returns-in_err-wait_any-clause-runs g c = on_err c.from_residual.result
 
 pub returns-in_err-wait_any-clause-rest : goal.returns-in_err-wait_any-clause-rest
 returns-in_err-wait_any-clause-rest g c course steps met cut =
-    cut_looks g.S.Texts.tells course.behaviour course.format course.own course.asked course.store course.entry steps met (g.S.Texts.world c.rest.site) (g.S.Texts.world c.wait_any.new.self) c.in_err-wait_any.ensures.err
+    cut_looks g.S.Texts.tells course.behaviour course.format course.own course.asked course.store course.entry course.phases steps met (g.S.Texts.world c.rest.site) (g.S.Texts.world c.wait_any.new.self) c.in_err-wait_any.ensures.err
     (c.rest.invariant.rest course steps met cut)
 
 pub rest-preserved : goal.rest-preserved
@@ -25,6 +25,6 @@ rest-preserved g c = record {
   unrefused = unrefused_then (g.S.Texts.world c.args.site.now) (g.S.Texts.world c.rest.site) (g.S.Texts.world c.wait_any.new.self) c.rest.invariant.unrefused (unrefused_call (g.S.Texts.world c.rest.site) (g.S.Texts.world c.wait_any.new.self) _ c.in_ok-wait_any.ensures.cause);
   at_start = c.in_ok-wait_any.ensures.finishes.at_start ∙ c.rest.invariant.at_start;
   rest = λ course steps met cut.
-      cut_finishes g.S.Texts.tells course.behaviour course.format course.own course.asked course.store course.entry steps met (g.S.Texts.world c.rest.site) (g.S.Texts.world c.wait_any.new.self) c.in_ok-wait_any.field-0.job c.in_ok-wait_any.field-0.ok c.in_ok-wait_any.ensures.finishes
+      cut_finishes g.S.Texts.tells course.behaviour course.format course.own course.asked course.store course.entry course.phases steps met (g.S.Texts.world c.rest.site) (g.S.Texts.world c.wait_any.new.self) c.in_ok-wait_any.field-0.job c.in_ok-wait_any.field-0.ok c.in_ok-wait_any.ensures.finishes
       (c.rest.invariant.rest course steps met cut);
 }

@@ -11,8 +11,8 @@ invariant-rest g l = record {
   many : SoManyRun l.left (g.S.Texts.world l.site).events;
   unrefused : Unrefused (g.S.Texts.world l.fn.site) (g.S.Texts.world l.site);
   at_start : (g.S.Texts.world l.site).failures_at_start ≡ (g.S.Texts.world l.fn.site).failures_at_start;
-  rest : (course : Course) (steps : List Done) (met : Option ℕ) → IsCutOff g.S.Texts.tells course.behaviour course.format course.own course.asked course.store steps met course.entry (g.S.Texts.world l.fn.site)
-      → IsCutOff g.S.Texts.tells course.behaviour course.format course.own course.asked course.store steps met course.entry (g.S.Texts.world l.site);
+  rest : (course : Course) (steps : List Done) (met : Option ℕ) → IsCutOff g.S.Texts.tells course.behaviour course.format course.own course.asked course.store course.phases steps met course.entry (g.S.Texts.world l.fn.site)
+      → IsCutOff g.S.Texts.tells course.behaviour course.format course.own course.asked course.store course.phases steps met course.entry (g.S.Texts.world l.site);
 }
 
 abbrev pub decreases-rest : goal.decreases-rest
