@@ -3,10 +3,10 @@ use Rattle.std.proofs.Common.{◌≡◌, ◌⊎◌, inl, inr, ℕ, zero, suc, �
 use Rattle.std.proofs.lemmas.Bool.{false≢true, or_cases, or_left, or_right, and_parts, and_from, eq-eqb, eqb-true, lt-ltb, ltb-true, cases_Bool, false_from_ne_true}
 use Rattle.model.specs.Graph.{has, has_number, edge_at, inputs, maker, depth_of, IsCommand}
 use Rattle.model.specs.Reading.{IsInCone, Needed}
-use Rattle.model.specs.Schedule.{Task, Step, Judged, Started, running_in, failed_in, done_in, IsSettled, Done, Alias as ByAlias, IsBelow, is_in_pool, MayBeJudged, NoneMayBeJudged, MayStart, NoneMayStart, IsLawfulStep, IsLawful}
+use Rattle.model.specs.Schedule.{Task, Step, Judged, Started, running_in, failed_in, done_in, IsSettled, Done, Alias as ByAlias, IsBelow, is_in_pool, MayBeJudged, NoneMayBeJudged, MayStart, NoneMayStart, IsLawfulStep}
 use Rattle.build_theory.proofs.Lists.{has-cases, has_number-filter}
 use Rattle.build_theory.proofs.Makers.{command_within}
-use Rattle.build_theory.proofs.Steps.{kept_lawful}
+use Rattle.build_theory.proofs.Orderly.{kept_orderly}
 use Rattle.links.specs.declared.graph.Graph.{Graph}
 use Rattle.links.specs.Links.{links_of, needs_at}
 use Rattle.links.specs.Cone.{maker_at}
@@ -15,7 +15,7 @@ use Rattle.plan.specs.declared.step.Standing.{Standing}
 use Rattle.plan.specs.declared.step.Standing.TheVariants.{Outside, Unjudged, Clean, OutOfDate, Running, Well, Failed, Alias, Known}
 use Rattle.plan.specs.Standing.{standing_at, is_unjudged, is_out_of_date, is_running, is_failed, is_alias, is_outside, is_phony, is_settled}
 use Rattle.plan.specs.Plan.{has_limits}
-use Rattle.plan.specs.Planned.{standing_in}
+use Rattle.plan.specs.Planned.{standing_in, AreTaken}
 use Rattle.plan.specs.Steps.{AreCommands, StandingsTell, StepsName, ListsCount}
 use Rattle.plan_plain.specs.declared.plain.Plan.{Plan}
 use Rattle.plan_plain.specs.Scan.{waits_for_nothing, may_judge, may_start, pool_at, runs_in, counted, has_pool_room, IsFirst, NonePasses}
@@ -118,7 +118,7 @@ empty : (xs : List ℕ) → length xs ≡ 0 → xs ≡ []
 empty [] none = refl
 empty (x ∷ xs) none = absurd (omega (arith, none))
 
-module _ (tell : StandingsTell) (named : StepsName) (counts : ListsCount) (task : Task) (graph : Graph) (plan : Plan) (steps : List Step) (at : IsPlanned task graph plan steps) (lawful : IsLawful task steps) where
+module _ (tell : StandingsTell) (named : StepsName) (counts : ListsCount) (task : Task) (graph : Graph) (plan : Plan) (steps : List Step) (at : IsPlanned task graph plan steps) (lawful : AreTaken task steps) where
   abbrev InCone : ℕ → Type 0
   InCone i = IsInCone task.graph.edges task.recorded task.targets i
 
@@ -230,8 +230,8 @@ module _ (tell : StandingsTell) (named : StepsName) (counts : ListsCount) (task 
 
   never_may_start : MayStart task steps 0 → ⊥
   never_may_start may =
-      let kept = kept_lawful task steps lawful in
-      omega (arith, (command_within task.graph.edges 0 (kept.judged 0 (kept.out_of_date 0 may.stale)).1).0)
+      let kept = kept_orderly task.graph.edges steps lawful.orderly in
+      omega (arith, (command_within task.graph.edges 0 (kept.judged 0 (kept.out_of_date 0 may.stale))).0)
 
   abbrev limits : Bool
   limits = has_limits plan.jobs plan.keep (count_by is_running plan.standings.items) (count_by is_failed plan.standings.items)
@@ -256,13 +256,13 @@ module _ (tell : StandingsTell) (named : StepsName) (counts : ListsCount) (task 
 
   started_may : (e : ℕ) → MayStart task steps (suc e) → (limits ≡ true) × (may_start graph plan.standings.items e ≡ true)
   started_may e start =
-      let kept = kept_lawful task steps lawful in
-      let judged = kept.judged (suc e) (kept.out_of_date (suc e) start.stale) in (
+      let kept = kept_orderly task.graph.edges steps lawful.orderly in
+      let judged = kept.out_of_date (suc e) start.stale in (
         and_from ((plan.jobs == 0) || nat_lt (count_by is_running plan.standings.items) plan.jobs) ((plan.keep == 0) || nat_lt (count_by is_failed plan.standings.items) plan.keep)
             (limit_below plan.jobs task.jobs (count_by is_running plan.standings.items) (length (running_in steps)) at.limits.0 running_count start.job)
             (limit_below plan.keep task.keep (count_by is_failed plan.standings.items) (length (failed_in steps)) at.limits.1 failed_count start.keep),
         and_from (is_out_of_date (stand e)) (has_pool_room graph plan.standings.items (pool_at graph e))
-            (ap is_out_of_date (at.stood.stands e judged.0 judged.1 ∙ (tell.out_of_date task steps (suc e) lawful).1 (start.stale, start.once)))
+            (ap is_out_of_date (at.stood.stands e (lawful.within (suc e) judged) (kept.judged (suc e) judged) ∙ (tell.out_of_date task steps (suc e) lawful).1 (start.stale, start.once)))
             (ap (has_pool_room graph plan.standings.items) (sym (at.stated.pool e)) ∙ by (edge_at task.graph.edges (suc e)).pool refl),
       )
     where

@@ -3,9 +3,10 @@ use Rattle.std.proofs.Common.{◌≡◌, ℕ, suc, ◌<◌, Bool, true, false, L
 use Rattle.std.proofs.Math.ListN.{set}
 use Rattle.std.proofs.lemmas.Bool.{false≢true}
 use Rattle.model.specs.Graph.{has_number, IsCommand}
-use Rattle.model.specs.Schedule.{Task, Step, Judged, Started, Ended, running_in, done_in, Done, IsLawfulStep, IsLawful}
+use Rattle.model.specs.Schedule.{Task, Step, Judged, Started, Ended, running_in, done_in, Done, IsLawfulStep}
 use Rattle.build_theory.proofs.Lists.{has_number-one}
-use Rattle.build_theory.proofs.Steps.{kept_lawful, running_parts}
+use Rattle.build_theory.proofs.Orderly.{kept_orderly}
+use Rattle.build_theory.proofs.Steps.{running_parts}
 use Rattle.links.specs.declared.graph.Graph.{Graph}
 use Rattle.plan.specs.declared.step.Standing.{Standing}
 use Rattle.plan.specs.declared.step.Standing.TheVariants.{Unjudged, Clean, OutOfDate, Running, Well, Failed}
@@ -13,7 +14,7 @@ use Rattle.plan.specs.declared.step.Verdict.{Verdict}
 use Rattle.plan.specs.declared.step.Verdict.TheVariants as verdict
 use Rattle.plan.specs.Standing.{standing_at, is_unjudged, is_out_of_date, is_running, is_alias, is_outside, is_phony}
 use Rattle.plan.specs.Plan.{standing_by, standing_after, IsSettling}
-use Rattle.plan.specs.Planned.{IsTaskOf, is_stale}
+use Rattle.plan.specs.Planned.{IsTaskOf, AreTaken, is_stale}
 use Rattle.plan.specs.Steps.{StepsMove}
 use Rattle.plan_plain.specs.declared.plain.Plan.{Plan}
 use Rattle.plan_plain.specs.Planned.{IsPlanOver, IsPlanned, AreStood, IsSound, AreAliases}
@@ -32,14 +33,14 @@ out_of_date_within standings e is = stands_within is_out_of_date standings e ref
 pub running_within : (standings : List Standing) (e : ℕ) → standing_at standings e ≡ Running → e < length standings
 running_within standings e is = stands_within is_running standings e refl (ap is_running is)
 
-running_command : (task : Task) (steps : List Step) → IsLawful task steps → (i : ℕ) → has_number (running_in steps) i ≡ true → IsCommand task.graph.edges i
+running_command : (task : Task) (steps : List Step) → AreTaken task steps → (i : ℕ) → has_number (running_in steps) i ≡ true → IsCommand task.graph.edges i
 running_command task steps lawful i h =
-    let kept = kept_lawful task steps lawful in
-    (kept.judged i (kept.out_of_date i (kept.started i (running_parts steps i h).0))).1
+    let kept = kept_orderly task.graph.edges steps lawful.orderly in
+    kept.judged i (kept.out_of_date i (kept.started i (running_parts steps i h).0))
 
 -- ---- one edge stands otherwise
 
-module _ (move : StepsMove) (task : Task) (standings : List Standing) (steps : List Step) (lawful : IsLawful task steps) (stood : AreStood task standings steps) (e edge : ℕ) (same : e ≡ edge) where
+module _ (move : StepsMove) (task : Task) (standings : List Standing) (steps : List Step) (lawful : AreTaken task steps) (stood : AreStood task standings steps) (e edge : ℕ) (same : e ≡ edge) where
   pub stood_judged : (v : Verdict) → standing_at standings e ≡ Unjudged → IsLawfulStep task steps (Judged (suc edge) (is_stale v)) → AreStood task (set standings e (standing_by v)) (steps ++ Judged (suc edge) (is_stale v) ∷ [])
   stood_judged verdict.Clean is next =
       let mine : IsLawfulStep task steps (Judged (suc e) false) = subst (λ (n : ℕ). IsLawfulStep task steps (Judged (suc n) false)) (sym same) next in

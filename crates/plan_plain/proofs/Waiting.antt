@@ -1,12 +1,14 @@
 -- What an edge waits for, by the standings of edges.
-use Rattle.std.proofs.Common.{◌≡◌, inl, inr, ℕ, suc, ◌<◌, ◌&&◌, Bool, true, false, List, [], ◌∷◌, ◌++◌, Option, Some, None, length, get_or, refl, sym, ◌∙◌, ap, subst, arith}
+use Rattle.std.proofs.Common.{◌≡◌, inl, inr, ℕ, zero, suc, ◌<◌, ◌&&◌, Bool, true, false, List, [], ◌∷◌, ◌++◌, Option, Some, None, length, get_or, refl, sym, ◌∙◌, ap, subst, arith}
 use Rattle.std.proofs.lemmas.Bool.{false≢true, cases_Bool, and_from}
 use Rattle.std.proofs.lemmas.List.Folds.{list_all_at}
 use Rattle.std.specs.List.{list_all}
+use Rattle.std.specs.Option.{option_map}
 use Rattle.model.specs.Graph.{has, edge_at, inputs, maker}
 use Rattle.model.specs.Reading.{needs}
 use Rattle.model.specs.Schedule.{Task, IsSettled, Alias as ByAlias}
 use Rattle.build_theory.proofs.Lists.{has-left}
+use Rattle.paths.specs.Told.{text_at}
 use Rattle.links.specs.declared.graph.Graph.{Graph}
 use Rattle.links.specs.Links.{Links, links_of, needs_at}
 use Rattle.links.specs.Cone.{maker_at}
@@ -15,7 +17,7 @@ use Rattle.plan.specs.declared.step.Standing.{Standing}
 use Rattle.plan.specs.Standing.{standing_at, is_settled, maker_settled}
 use Rattle.plan.specs.Planned.{IsTaskOf}
 use Rattle.plan_plain.specs.Scan.{is_there, waits_for_nothing}
-use Rattle.plan_plain.specs.Planned.{IsSound}
+use Rattle.plan_plain.specs.Planned.{NamesNone, IsSound}
 
 -- ---- all of a list
 
@@ -71,3 +73,10 @@ module _ (task : Task) (graph : Graph) (stated : IsTaskOf task graph) (done : Li
 
   pub alias_settled : (edge_at task.graph.edges (suc e)).phony ≡ true → IsSettled task.graph.edges done (suc e)
   alias_settled phony = ByAlias (suc e) phony (λ p j input made. need_settled p j (has-left (inputs (edge_at task.graph.edges (suc e))) (task.recorded (suc e)) p input) made)
+
+-- ---- dyndep files
+
+-- where no edge names a file by number, none does by text
+pub none_named : (task : Task) (graph : Graph) → IsTaskOf task graph → NamesNone graph → (i : ℕ) → (edge_at task.graph.edges i).dyndep ≡ None
+none_named task graph stated none zero = refl
+none_named task graph stated none (suc e) = stated.files e ∙ ap (option_map (text_at graph.manifest.paths)) (none e)

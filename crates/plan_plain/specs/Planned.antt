@@ -1,5 +1,5 @@
 -- What a plain plan knows of a build, by the steps so far.
-use Rattle.std.specs.Prelude.{◌≡◌, ◌⊎◌, ℕ, suc, Bool, true, false, List, length}
+use Rattle.std.specs.Prelude.{◌≡◌, ◌⊎◌, ℕ, suc, Bool, true, false, List, length, None}
 use Rattle.model.specs.declared.graph.Edge.{Edge}
 use Rattle.model.specs.Graph.{edge_at, IsCommand}
 use Rattle.model.specs.Reading.{IsInCone}
@@ -8,17 +8,23 @@ use Rattle.links.specs.declared.graph.Graph.{Graph}
 use Rattle.links.specs.declared.cone.Mark.{Mark}
 use Rattle.links.specs.Links.{Links, links_of}
 use Rattle.links.specs.Cone.{is_listed, mark_at}
+use Rattle.links.specs.Extended.{dyndep_at}
 use Rattle.plan.specs.declared.step.Standing.{Standing}
 use Rattle.plan.specs.declared.step.Standing.TheVariants.{Outside, Unjudged, OutOfDate, Alias, Known}
 use Rattle.plan.specs.declared.step.Step.{Step}
-use Rattle.plan.specs.declared.step.Step.TheVariants.{Judge, Start, Wait, Ended as Over}
+use Rattle.plan.specs.declared.step.Step.TheVariants.{Load, Judge, Start, Wait, Ended as Over}
 use Rattle.plan.specs.Standing.{standing_at, is_outside, is_phony, is_settled}
 use Rattle.plan.specs.Planned.{IsTaskOf, standing_in}
 use Rattle.plan_plain.specs.declared.plain.Plan.{Plan}
 use Rattle.plan_plain.specs.Scan.{may_settle, NonePasses}
 
--- a plan in which all that follows from what it was told is settled
+-- no edge names a dyndep file
+abbrev pub NamesNone : Graph → Type 0
+NamesNone graph = (e : ℕ) → dyndep_at graph e ≡ None
+
+-- a plan in which all that follows from what it was told is settled, over a graph without dyndep files
 pub record IsPlanOver (graph : Graph) (plan : Plan) : Type 0 where
+  pub plain : NamesNone graph
   pub edges : length plan.standings.items ≡ length graph.manifest.lines
   pub flags : length plan.changed.items ≡ length graph.manifest.paths
   pub settled : NonePasses (may_settle (links_of graph) plan.standings.items)
@@ -44,6 +50,7 @@ pub record IsPlanned (task : Task) (graph : Graph) (plan : Plan) (steps : List D
 
 -- what is said may be told to the plan
 abbrev pub IsOffered : Plan → Step → Type 0
+IsOffered plan (Load file) = ⊥
 IsOffered plan (Judge e) = standing_at plan.standings.items e ≡ Unjudged
 IsOffered plan (Start e) = standing_at plan.standings.items e ≡ OutOfDate
 IsOffered plan Wait = Unit {0}

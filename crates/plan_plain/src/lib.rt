@@ -6,4 +6,4 @@ mod plain;
 mod pools;
 mod scan;
 
-pub use plain::Plan;
+pub use plain::{Plan, names_none};

@@ -1,7 +1,8 @@
 //! The plan, and what it is told.
 
-ghost use Rattle.std.specs.Prelude.{◌≡◌};
+ghost use Rattle.std.specs.Prelude.{◌≡◌, ◌↔◌, IsTrue};
 ghost use Rattle.plan.specs.Plan.{standing_by, standing_after};
+ghost use Rattle.plan_plain.specs.Planned.{NamesNone};
 
 use crate::first::first_standings;
 use links::{Cone, Graph};
@@ -26,17 +27,17 @@ pub struct Plan {
 
 impl Plan {
     ghost use Rattle.std.specs.Prelude.{◌≡◌, ◌<◌, ◌++◌, ◌∷◌, ℕ, suc, true, false, List, [], length, vec_len, slice_set, slice_index_or, IfOk};
-    ghost use Rattle.model.specs.Schedule.{Task, Step as Done, Judged, Started, Ended as Finished, IsLawful, IsLawfulStep};
+    ghost use Rattle.model.specs.Schedule.{Task, Step as Done, Judged, Started, Ended as Finished, IsLawfulStep};
     ghost use Rattle.links.specs.declared.graph.Graph.{Graph};
     ghost use Rattle.links.specs.Links.{links_of};
     ghost use Rattle.links.specs.Linked.{IsConeOf};
     ghost use Rattle.plan.specs.Standing.{standing_at};
     ghost use Rattle.plan.specs.Plan.{standing_by, standing_after, IsSettling, AreFlagged};
-    ghost use Rattle.plan.specs.Planned.{IsTaskOf, IsNextOf, is_stale};
+    ghost use Rattle.plan.specs.Planned.{IsTaskOf, IsNextOf, IsDueOf, AreTaken, is_stale};
     ghost use Rattle.plan_plain.specs.Scan.{may_settle, NonePasses};
-    ghost use Rattle.plan_plain.specs.Planned.{IsPlanOver, IsPlanned, IsOffered, IsSound, AreAliases, SettlesAliases};
+    ghost use Rattle.plan_plain.specs.Planned.{NamesNone, IsPlanOver, IsPlanned, IsOffered, IsSound, AreAliases, SettlesAliases};
 
-    /// A plan in which no edge of the cone is judged.
+    /// A plan in which no edge of the cone is judged. No edge names a dyndep file: this plan says no load.
     pub fn new(
         alloc: Global,
         graph: &Graph,
@@ -44,7 +45,8 @@ impl Plan {
         jobs: usize,
         keep: usize,
     ) -> Result<Plan, AllocError>
-        requires { vec_len cone.now.marks ≡ length graph.now.manifest.lines }
+        requires marks { vec_len cone.now.marks ≡ length graph.now.manifest.lines }
+        requires plain { NamesNone graph.now }
         ensures over { IfOk result (IsPlanOver graph.now) }
         ensures flags { IfOk result (λ plan. (p : ℕ) → slice_index_or plan.changed.items p false ≡ false) }
         ensures planned { IfOk result (λ plan. (task : Task) → IsTaskOf task graph.now → task.jobs ≡ jobs → task.keep ≡ keep → IsConeOf task.graph.edges task.recorded task.targets cone.now.order.items cone.now.marks.items → IsPlanned task graph.now plan []) }
@@ -63,7 +65,8 @@ impl Plan {
     pub fn next(&self, graph: &Graph) -> Step
         requires { IsPlanOver graph.now self.now }
         ensures offered { IsOffered self.now result }
-        ensures lawful { (task : Task) (steps : List Done) → IsPlanned task graph.now self.now steps → IsLawful task steps → IsNextOf task steps result }
+        ensures lawful { (task : Task) (steps : List Done) → IsPlanned task graph.now self.now steps → AreTaken task steps → IsNextOf task steps result }
+        ensures loads { (task : Task) (steps : List Done) → IsPlanned task graph.now self.now steps → AreTaken task steps → IsDueOf task graph.now steps result }
     {
         standings_tell();
         steps_name();
@@ -92,7 +95,7 @@ impl Plan {
         ensures over { IsPlanOver graph.now self.new }
         ensures stands { IsSettling self.old.standings.items self.new.standings.items edge (standing_by verdict) }
         ensures flags { self.new.changed ≡ self.old.changed }
-        ensures planned { (task : Task) (steps : List Done) → IsPlanned task graph.now self.old steps → IsLawful task steps → IsLawfulStep task steps (Judged (suc edge) (is_stale verdict)) → IsPlanned task graph.now self.new (steps ++ Judged (suc edge) (is_stale verdict) ∷ []) }
+        ensures planned { (task : Task) (steps : List Done) → IsPlanned task graph.now self.old steps → AreTaken task steps → IsLawfulStep task steps (Judged (suc edge) (is_stale verdict)) → IsPlanned task graph.now self.new (steps ++ Judged (suc edge) (is_stale verdict) ∷ []) }
     {
         steps_move();
         self.standings[edge.index()] = standing_by(verdict);
@@ -105,7 +108,7 @@ impl Plan {
         ensures over { (graph : Graph) → IsPlanOver graph self.old → IsPlanOver graph self.new }
         ensures stands { self.new.standings.items ≡ slice_set self.old.standings.items edge Standing.Running }
         ensures flags { self.new.changed ≡ self.old.changed }
-        ensures planned { (task : Task) (graph : Graph) (steps : List Done) → IsPlanned task graph self.old steps → IsLawful task steps → IsLawfulStep task steps (Started (suc edge)) → IsPlanned task graph self.new (steps ++ Started (suc edge) ∷ []) }
+        ensures planned { (task : Task) (graph : Graph) (steps : List Done) → IsPlanned task graph self.old steps → AreTaken task steps → IsLawfulStep task steps (Started (suc edge)) → IsPlanned task graph self.new (steps ++ Started (suc edge) ∷ []) }
     {
         steps_move();
         self.standings[edge.index()] = Standing::Running;
@@ -120,7 +123,7 @@ impl Plan {
         ensures over { IsPlanOver graph.now self.new }
         ensures stands { IsSettling self.old.standings.items self.new.standings.items edge (standing_after ok) }
         ensures flags { AreFlagged self.old.changed.items self.new.changed.items ((links_of graph.now).outputs edge) changed.now }
-        ensures planned { (task : Task) (steps : List Done) → IsPlanned task graph.now self.old steps → IsLawful task steps → IsLawfulStep task steps (Finished (suc edge) ok) → IsPlanned task graph.now self.new (steps ++ Finished (suc edge) ok ∷ []) }
+        ensures planned { (task : Task) (steps : List Done) → IsPlanned task graph.now self.old steps → AreTaken task steps → IsLawfulStep task steps (Finished (suc edge) ok) → IsPlanned task graph.now self.new (steps ++ Finished (suc edge) ok ∷ []) }
     {
         steps_move();
         note_changes(&mut self.changed, graph.outputs(edge), changed);
@@ -146,6 +149,18 @@ impl Plan {
             self.standings[edge.index()] = Standing::Known;
         }
     }
+}
+
+/// Whether no edge names a dyndep file.
+pub fn names_none(graph: &Graph) -> bool
+    ensures { IsTrue result ↔ NamesNone graph.now }
+{
+    for place in 0..graph.edges() {
+        if graph.dyndep(graph.manifest.edge(place)).is_some() {
+            return false;
+        }
+    }
+    true
 }
 
 fn standing_by(verdict: Verdict) -> Standing

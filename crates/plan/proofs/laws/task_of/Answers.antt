@@ -2,7 +2,7 @@ use Rattle.std.proofs.Common.{◌≡◌, ◌∙◌, ℕ, suc, List, [], ◌∷�
 use Rattle.std.proofs.lemmas.Bool.{false≢true}
 use Rattle.model.specs.declared.graph.BuildGraph.{BuildGraph}
 use Rattle.model.specs.declared.graph.Edge.{Edge}
-use Rattle.model.specs.Graph.{has, edge_at}
+use Rattle.model.specs.Graph.{has, edge_at, maker}
 use Rattle.build_theory.proofs.Lists.{bytes_same}
 use Rattle.std.proofs.lemmas.Bool.{or_left}
 use Rattle.paths.specs.declared.line.Line.{Line}
@@ -10,20 +10,19 @@ use Rattle.paths.specs.declared.manifest.Action.{Action}
 use Rattle.paths.specs.declared.manifest.Action.TheVariants as action
 use Rattle.paths.specs.Lists.{line_at}
 use Rattle.paths.specs.Commands.{no_action}
-use Rattle.paths.specs.Told.{edge_of}
+use Rattle.paths.specs.Told.{edge_of, text_at}
 use Rattle.links.specs.Links.{links_of, is_alias}
 use Rattle.links.specs.Linked.{IsLinksOf}
 use Rattle.links.specs.Told.{declared_by}
-use Rattle.plan.specs.Pools.{pool_of}
+use Rattle.links.proofs.Makes.{maker_is}
+use Rattle.links.proofs.Texts.{dyndep_is}
+use Rattle.plan.proofs.Loaded.{file_within}
+use Rattle.plan.proofs.Grown.{pool_is}
 use Rattle.plan.proofs.laws.task_of.Goals as goal
 
 phony_is : (paths : List (List ℕ)) (line : Line) (a : Action) → is_alias a ≡ (edge_of paths line a).phony
 phony_is paths line action.Alias = refl
 phony_is paths line (action.Command command) = refl
-
-pool_is : (paths : List (List ℕ)) (line : Line) (a : Action) → (edge_of paths line a).pool ≡ pool_of a
-pool_is paths line action.Alias = refl
-pool_is paths line (action.Command command) = refl
 
 none_there : (texts : List (List ℕ)) → ((p : List ℕ) → has texts p ≡ false) → texts ≡ []
 none_there [] none = refl
@@ -42,5 +41,9 @@ returns c = λ task is.
       phony = λ e. phony_is paths (line e) (get_or graph.manifest.actions e no_action) ∙ sym (ap (λ (es : List Edge). (edge_at es (suc e)).phony) edges ∙ ap (λ (edge : Edge). edge.phony) (law.edges e));
       pools = ap (λ (g : BuildGraph). g.pools) is.declared;
       pool = λ e. ap (λ (es : List Edge). (edge_at es (suc e)).pool) edges ∙ (ap (λ (edge : Edge). edge.pool) (law.edges e) ∙ pool_is paths (line e) (get_or graph.manifest.actions e no_action));
+      makers = λ p lt. ap (λ (es : List Edge). maker es (text_at paths p)) edges ∙ maker_is graph.manifest graph.makers.items graph.making graph.apart p lt;
+      apart = graph.apart;
+      files = λ e. ap (λ (es : List Edge). (edge_at es (suc e)).dyndep) edges ∙ (ap (λ (edge : Edge). edge.dyndep) (law.edges e) ∙ dyndep_is paths (line e) (get_or graph.manifest.actions e no_action));
+      known = file_within graph;
       bare = λ i phony. none_there (task.recorded i) (λ p. is.recorded i p ∙ ap (λ (texts : List (List ℕ)). has texts p) (is.bare i (sym (ap (λ (es : List Edge). (edge_at es i).phony) edges) ∙ phony)));
     }

@@ -6,11 +6,11 @@ use Rattle.model.specs.Schedule.{Ended, done_in}
 use Rattle.queue.specs.Turns.{Turns}
 use Rattle.links.specs.Links.{links_of}
 use Rattle.plan.specs.declared.step.Standing.TheVariants.{Well, Failed}
-use Rattle.plan.specs.Standing.{is_unjudged, is_alias, is_out_of_date, is_settled}
+use Rattle.plan.specs.Standing.{is_unjudged, is_alias, is_out_of_date, is_outside, is_settled}
 use Rattle.plan.specs.Plan.{standing_after, IsSettling}
 use Rattle.plan.specs.Planned.{IsPlanned}
 use Rattle.plan.proofs.Stepping.{sets_same, waits_same, counted_next, ahead_sound, ahead_complete, over_same, IsHalf, half_of}
-use Rattle.plan.proofs.Passing.{half_after, pooled_after, settling_alone, settling}
+use Rattle.plan.proofs.Passing.{half_after, pooled_after, loading_after, loading_next, settling_alone, settling}
 use Rattle.plan.proofs.Ending.{stood, within, tallied_well, tallied_failed, some_run, pooled_ended, half_well, half_failed}
 use Rattle.plan.proofs.plan.Plan.finished.Goals as goal
 
@@ -93,6 +93,8 @@ returns-then-ok-clause-over c =
       pooled = pooled_after c.args.graph.now _ c.settle.new.self.standings.items c.release.new.self c.settle.new.self.queue rest.queue rest.stands
           (pooled_ended plan.standings.items e c.args.edge c.index-place.ensures.place c.requires.running plan.queue c.release.new.self c.release.ensures c.args.graph.now Well refl c.requires.over.pooled);
       flags = ap (λ v. length v.items) rest.changed ∙ flags;
+      loading = loading_after c.args.graph.now _ c.settle.new.self.standings.items c.release.new.self c.settle.new.self.queue plan.loads.items c.settle.new.self.loads.items rest.queue rest.stands (ap (λ v. v.items) rest.loads)
+          (loading_next c.args.graph.now plan.standings.items e Well lt plan.queue c.release.new.self plan.loads.items (ap (λ (t : Turns). t.groups) c.release.ensures) (sym (ap is_outside stands)) c.requires.over.loading);
     }
 
 pub returns-else-ok-clause-over : goal.returns-else-ok-clause-over
@@ -108,6 +110,7 @@ returns-else-ok-clause-over c =
       settled = c.requires.over.settled;
       pooled = pooled_ended plan.standings.items e c.args.edge c.index-place.ensures.place c.requires.running plan.queue c.release.new.self c.release.ensures c.args.graph.now Failed refl c.requires.over.pooled;
       flags = flags;
+      loading = loading_next c.args.graph.now plan.standings.items e Failed lt plan.queue c.release.new.self plan.loads.items (ap (λ (t : Turns). t.groups) c.release.ensures) (sym (ap is_outside stands)) c.requires.over.loading;
     }
 
 pub returns-then-ok-clause-stands : goal.returns-then-ok-clause-stands
@@ -132,10 +135,6 @@ pub returns-then-ok-clause-planned : goal.returns-then-ok-clause-planned
 returns-then-ok-clause-planned c = λ task steps at lawful next.
     let plan = c.args.self.now in
     let e = c.index-place.result in
-    let lt = within plan.standings.items e c.args.edge c.index-place.ensures.place c.requires.running in
-    let stands = stood plan.standings.items e c.args.edge c.index-place.ensures.place c.requires.running in
-    let size : length c.note_changes.new.flags ≡ plan.changed.len = omega (arith, c.note_changes.ensures.length, ap (λ (l : List Bool). length l) c.deref_mut.ensures.value, plan.changed.ok.0) in
-    let flags = ap (λ (l : List Bool). length l) (with_items_is plan.changed c.note_changes.new.flags size) ∙ (c.note_changes.ensures.length ∙ (ap (λ (l : List Bool). length l) c.deref_mut.ensures.value ∙ c.requires.over.flags)) in
     let rest = c.settle.ensures.rest in
     let half = half_well plan.standings.items e c.args.edge c.index-place.ensures.place c.requires.running plan.queue c.release.new.self c.release.ensures task steps lawful (half_of task c.args.graph.now plan steps at) next in
     let last = half_after task _ c.settle.new.self.standings.items c.release.new.self c.settle.new.self.queue (steps ++ Ended (suc c.args.edge) true ∷ []) half rest.queue rest.stands
@@ -143,13 +142,7 @@ returns-then-ok-clause-planned c = λ task steps at lawful next.
     subst (λ (b : Bool). IsPlanned task c.args.graph.now c.settle.new.self (steps ++ Ended (suc c.args.edge) b ∷ [])) (sym c.if-ok.true) record {
       stated = at.stated;
       limits = (rest.jobs ∙ at.limits.0, rest.keep ∙ at.limits.1);
-      over = record {
-        over = c.settle.ensures.over;
-        settled = c.settle.ensures.none;
-        pooled = pooled_after c.args.graph.now _ c.settle.new.self.standings.items c.release.new.self c.settle.new.self.queue rest.queue rest.stands
-            (pooled_ended plan.standings.items e c.args.edge c.index-place.ensures.place c.requires.running plan.queue c.release.new.self c.release.ensures c.args.graph.now Well refl c.requires.over.pooled);
-        flags = ap (λ v. length v.items) rest.changed ∙ flags;
-      };
+      over = returns-then-ok-clause-over c;
       within = last.within;
       inside = last.inside;
       kinds = last.kinds;
@@ -162,21 +155,12 @@ pub returns-else-ok-clause-planned : goal.returns-else-ok-clause-planned
 returns-else-ok-clause-planned c = λ task steps at lawful next.
     let plan = c.args.self.now in
     let e = c.index-place.result in
-    let lt = within plan.standings.items e c.args.edge c.index-place.ensures.place c.requires.running in
-    let stands = stood plan.standings.items e c.args.edge c.index-place.ensures.place c.requires.running in
-    let size : length c.note_changes.new.flags ≡ plan.changed.len = omega (arith, c.note_changes.ensures.length, ap (λ (l : List Bool). length l) c.deref_mut.ensures.value, plan.changed.ok.0) in
-    let flags = ap (λ (l : List Bool). length l) (with_items_is plan.changed c.note_changes.new.flags size) ∙ (c.note_changes.ensures.length ∙ (ap (λ (l : List Bool). length l) c.deref_mut.ensures.value ∙ c.requires.over.flags)) in
     let half = subst (λ (b : Bool). IsHalf task (set plan.standings.items e Failed) c.release.new.self (steps ++ Ended (suc c.args.edge) b ∷ [])) (sym c.if-ok.false)
     (half_failed plan.standings.items e c.args.edge c.index-place.ensures.place c.requires.running plan.queue c.release.new.self c.release.ensures task steps lawful (half_of task c.args.graph.now plan steps at) next) in
     record {
       stated = at.stated;
       limits = at.limits;
-      over = record {
-        over = over_same plan.standings.items e Failed lt (links_of c.args.graph.now) _ plan.left.items plan.there.items c.requires.over.over (λ h. absurd (false≢true h)) (sym (ap is_settled stands));
-        settled = c.requires.over.settled;
-        pooled = pooled_ended plan.standings.items e c.args.edge c.index-place.ensures.place c.requires.running plan.queue c.release.new.self c.release.ensures c.args.graph.now Failed refl c.requires.over.pooled;
-        flags = flags;
-      };
+      over = returns-else-ok-clause-over c;
       within = half.within;
       inside = half.inside;
       kinds = half.kinds;

@@ -10,7 +10,7 @@ use Rattle.plan.specs.Standing.{is_out_of_date, is_outside, is_settled}
 use Rattle.plan.specs.Plan.{standing_by, IsSettling}
 use Rattle.plan.specs.Planned.{IsPlanned, is_stale}
 use Rattle.plan.proofs.Stepping.{waits_same, waits_next, counted_next, ahead_sound, ahead_complete, over_same, pooled_next, IsHalf, half_of}
-use Rattle.plan.proofs.Passing.{stood, within, sets_now, tallied_judged, half_clean, half_stale, half_after, pooled_after, settling_alone, settling}
+use Rattle.plan.proofs.Passing.{stood, within, sets_now, tallied_judged, half_clean, half_stale, half_after, pooled_after, loading_after, loading_next, settling_alone, settling}
 use Rattle.plan.proofs.plan.Plan.judged.Goals as goal
 
 pub invariant_of-self-clause-sets : goal.invariant_of-self-clause-sets
@@ -73,6 +73,8 @@ returns-in-Clean-clause-over c =
       pooled = pooled_after c.args.graph.now _ c.settle.new.self.standings.items plan.queue c.settle.new.self.queue rest.queue rest.stands
           (pooled_next plan.standings.items e Clean lt c.args.graph.now plan.queue plan.queue refl refl refl (sym (ap is_outside stands)) c.requires.over.pooled);
       flags = ap (λ v. length v.items) rest.changed ∙ c.requires.over.flags;
+      loading = loading_after c.args.graph.now _ c.settle.new.self.standings.items plan.queue c.settle.new.self.queue plan.loads.items c.settle.new.self.loads.items rest.queue rest.stands (ap (λ v. v.items) rest.loads)
+          (loading_next c.args.graph.now plan.standings.items e Clean lt plan.queue plan.queue plan.loads.items refl (sym (ap is_outside stands)) c.requires.over.loading);
     }
 
 pub returns-in-Clean-clause-stands : goal.returns-in-Clean-clause-stands
@@ -87,8 +89,6 @@ pub returns-in-Clean-clause-planned : goal.returns-in-Clean-clause-planned
 returns-in-Clean-clause-planned c = λ task steps at lawful next.
     let plan = c.args.self.now in
     let e = c.index-place.result in
-    let lt = within plan.standings.items plan.left.items plan.ready plan.pending plan.sets e c.args.edge c.index-place.ensures.place c.requires.ready in
-    let stands = stood plan.standings.items plan.left.items plan.ready plan.pending plan.sets e c.args.edge c.index-place.ensures.place c.requires.ready in
     let rest = c.settle.ensures.rest in
     let half = half_clean plan.standings.items plan.left.items plan.ready plan.pending plan.sets e c.args.edge c.index-place.ensures.place c.requires.ready task plan.queue steps lawful (half_of task c.args.graph.now plan steps at) next.0.once next.0.command in
     let last = half_after task _ c.settle.new.self.standings.items plan.queue c.settle.new.self.queue (steps ++ Judged (suc c.args.edge) false ∷ []) half rest.queue rest.stands
@@ -96,13 +96,7 @@ returns-in-Clean-clause-planned c = λ task steps at lawful next.
     subst (λ (v : Verdict). IsPlanned task c.args.graph.now c.settle.new.self (steps ++ Judged (suc c.args.edge) (is_stale v) ∷ [])) (sym c.in-Clean.is) record {
       stated = at.stated;
       limits = (rest.jobs ∙ at.limits.0, rest.keep ∙ at.limits.1);
-      over = record {
-        over = c.settle.ensures.over;
-        settled = c.settle.ensures.none;
-        pooled = pooled_after c.args.graph.now _ c.settle.new.self.standings.items plan.queue c.settle.new.self.queue rest.queue rest.stands
-            (pooled_next plan.standings.items e Clean lt c.args.graph.now plan.queue plan.queue refl refl refl (sym (ap is_outside stands)) c.requires.over.pooled);
-        flags = ap (λ v. length v.items) rest.changed ∙ c.requires.over.flags;
-      };
+      over = returns-in-Clean-clause-over c;
       within = last.within;
       inside = last.inside;
       kinds = last.kinds;
@@ -123,6 +117,7 @@ returns-in-OutOfDate-clause-over c =
       pooled = pooled_next plan.standings.items e OutOfDate lt c.args.graph.now plan.queue c.put.new.self (ap (λ (t : Turns). t.groups) c.put.ensures) (ap (λ (t : Turns). t.depths) c.put.ensures)
           (ap (λ (t : Turns). length t.running) c.put.ensures) (sym (ap is_outside stands)) c.requires.over.pooled;
       flags = c.requires.over.flags;
+      loading = loading_next c.args.graph.now plan.standings.items e OutOfDate lt plan.queue c.put.new.self plan.loads.items (ap (λ (t : Turns). t.groups) c.put.ensures) (sym (ap is_outside stands)) c.requires.over.loading;
     }
 
 pub returns-in-OutOfDate-clause-stands : goal.returns-in-OutOfDate-clause-stands
@@ -137,19 +132,11 @@ pub returns-in-OutOfDate-clause-planned : goal.returns-in-OutOfDate-clause-plann
 returns-in-OutOfDate-clause-planned c = λ task steps at lawful next.
     let plan = c.args.self.now in
     let e = c.index-place.result in
-    let lt = within plan.standings.items plan.left.items plan.ready plan.pending plan.sets e c.args.edge c.index-place.ensures.place c.requires.ready in
-    let stands = stood plan.standings.items plan.left.items plan.ready plan.pending plan.sets e c.args.edge c.index-place.ensures.place c.requires.ready in
     let half = subst (λ (v : Verdict). IsHalf task (set plan.standings.items e OutOfDate) c.put.new.self (steps ++ Judged (suc c.args.edge) (is_stale v) ∷ [])) (sym c.in-OutOfDate.is) (half_stale plan.standings.items plan.left.items plan.ready plan.pending plan.sets e c.args.edge c.index-place.ensures.place c.requires.ready task plan.queue steps lawful (half_of task c.args.graph.now plan steps at) next.0.once c.put.new.self c.put.ensures) in
     record {
       stated = at.stated;
       limits = at.limits;
-      over = record {
-        over = over_same plan.standings.items e OutOfDate lt (links_of c.args.graph.now) _ plan.left.items plan.there.items c.requires.over.over (λ h. absurd (false≢true h)) (sym (ap is_settled stands));
-        settled = c.requires.over.settled;
-        pooled = pooled_next plan.standings.items e OutOfDate lt c.args.graph.now plan.queue c.put.new.self (ap (λ (t : Turns). t.groups) c.put.ensures) (ap (λ (t : Turns). t.depths) c.put.ensures)
-            (ap (λ (t : Turns). length t.running) c.put.ensures) (sym (ap is_outside stands)) c.requires.over.pooled;
-        flags = c.requires.over.flags;
-      };
+      over = returns-in-OutOfDate-clause-over c;
       within = half.within;
       inside = half.inside;
       kinds = half.kinds;

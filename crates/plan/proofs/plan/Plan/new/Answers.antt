@@ -2,19 +2,20 @@ use Rattle.std.proofs.Common.{◌∙◌, List, [], Bool, Vec, Global, length, sy
 use Rattle.std.proofs.lemmas.List.{length-replicate}
 use Rattle.lowest.specs.Flags.{has}
 use Rattle.plan.proofs.Begun.{half_first, none_flagged}
-use Rattle.plan.proofs.Passing.{half_after, pooled_after}
+use Rattle.plan.proofs.Passing.{half_after, pooled_after, loading_after}
 use Rattle.plan.proofs.plan.Plan.new.Goals as goal
 
 pub returns-clause-over : goal.returns-clause-over
 returns-clause-over c =
     let begun = c.in_ok-plan.ensures in
     let rest = c.settle_pending.ensures.rest in
-    let paths = length c.args.graph.now.manifest.paths in
     record {
       over = c.settle_pending.ensures.over;
       settled = c.settle_pending.ensures.none;
       pooled = pooled_after c.args.graph.now c.in_ok-plan.plan.standings.items c.settle_pending.new.self.standings.items c.in_ok-plan.plan.queue c.settle_pending.new.self.queue rest.queue rest.stands begun.idle.pooled;
       flags = ap (λ (v : Vec Bool Global). length v.items) rest.changed ∙ (ap (λ (l : List Bool). length l) begun.flags ∙ length-replicate _ _);
+      loading = loading_after c.args.graph.now c.in_ok-plan.plan.standings.items c.settle_pending.new.self.standings.items c.in_ok-plan.plan.queue c.settle_pending.new.self.queue
+          c.in_ok-plan.plan.loads.items c.settle_pending.new.self.loads.items rest.queue rest.stands (ap (λ v. v.items) rest.loads) begun.loading;
     }
 
 pub returns-clause-flags : goal.returns-clause-flags

@@ -3,8 +3,9 @@ use Rattle.std.proofs.lemmas.Bool.{false≢true}
 use Rattle.queue.specs.Turns.{Turns}
 use Rattle.links.specs.Links.{links_of}
 use Rattle.plan.specs.declared.step.Standing.TheVariants.{Running}
-use Rattle.plan.specs.Standing.{is_unjudged, is_alias, is_settled}
+use Rattle.plan.specs.Standing.{is_unjudged, is_alias, is_outside, is_settled}
 use Rattle.plan.proofs.Stepping.{sets_same, waits_next, over_same, half_of}
+use Rattle.plan.proofs.Passing.{loading_next}
 use Rattle.plan.proofs.Taking.{stood, within, tallied_started, pooled_started, half_started}
 use Rattle.plan.proofs.plan.Plan.started.Goals as goal
 
@@ -37,24 +38,19 @@ returns-clause-over c = λ graph at.
       settled = at.settled;
       pooled = pooled_started plan.standings.items plan.queue plan.waits e c.args.edge c.index-place.ensures.place c.requires c.take.new.self c.take.ensures graph at.pooled;
       flags = at.flags;
+      loading = loading_next graph plan.standings.items e Running (within plan.standings.items plan.queue plan.waits e c.args.edge c.index-place.ensures.place c.requires)
+          plan.queue c.take.new.self plan.loads.items (ap (λ (t : Turns). t.groups) c.take.ensures) (sym (ap is_outside stands)) at.loading;
     }
 
 pub returns-clause-planned : goal.returns-clause-planned
 returns-clause-planned c = λ graph task steps at lawful next.
     let plan = c.args.self.now in
     let e = c.index-place.result in
-    let stands = stood plan.standings.items plan.queue plan.waits e c.args.edge c.index-place.ensures.place c.requires in
     let half = half_started plan.standings.items plan.queue plan.waits e c.args.edge c.index-place.ensures.place c.requires c.take.new.self c.take.ensures task graph steps at.over.pooled lawful next.1.once (half_of task graph plan steps at) in
     record {
       stated = at.stated;
       limits = at.limits;
-      over = record {
-        over = over_same plan.standings.items e Running (within plan.standings.items plan.queue plan.waits e c.args.edge c.index-place.ensures.place c.requires)
-            (links_of graph) _ plan.left.items plan.there.items at.over.over (λ h. absurd (false≢true h)) (sym (ap is_settled stands));
-        settled = at.over.settled;
-        pooled = pooled_started plan.standings.items plan.queue plan.waits e c.args.edge c.index-place.ensures.place c.requires c.take.new.self c.take.ensures graph at.over.pooled;
-        flags = at.over.flags;
-      };
+      over = returns-clause-over c graph at.over;
       within = half.within;
       inside = half.inside;
       kinds = half.kinds;

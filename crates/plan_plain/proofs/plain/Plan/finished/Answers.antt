@@ -24,6 +24,7 @@ returns-clause-planned c = λ task steps at lawful next.
     let flags : length c.settle_aliases.new.self.changed.items ≡ length c.args.graph.now.manifest.paths = search rules in
     let more = steps ++ Ended (suc c.args.edge) c.args.ok ∷ [] in
     planned_now task c.args.graph.now c.settle_aliases.new.self (set standings e c.standing_after.result) more at.stated (rest.jobs ∙ at.limits.0, rest.keep ∙ at.limits.1) record {
+      plain = c.requires.over.plain;
       edges = rest.fits ∙ (length-set standings e c.standing_after.result ∙ c.requires.over.edges);
       flags = flags;
       settled = c.settle_aliases.ensures.none;

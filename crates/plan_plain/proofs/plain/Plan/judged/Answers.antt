@@ -13,6 +13,7 @@ pub returns-clause-over : goal.returns-clause-over
 returns-clause-over c =
     let rest = c.settle_aliases.ensures.rest in
     record {
+      plain = c.requires.over.plain;
       edges = rest.fits ∙ (length-set c.args.self.now.standings.items c.index.result c.standing_by.result ∙ c.requires.over.edges);
       flags = ap (λ v. length v.items) rest.changed ∙ c.requires.over.flags;
       settled = c.settle_aliases.ensures.none;
@@ -33,6 +34,7 @@ returns-clause-planned c = λ task steps at lawful next.
     let rest = c.settle_aliases.ensures.rest in
     let more = steps ++ Judged (suc c.args.edge) (is_stale c.args.verdict) ∷ [] in
     planned_now task c.args.graph.now c.settle_aliases.new.self (set standings e c.standing_by.result) more at.stated (rest.jobs ∙ at.limits.0, rest.keep ∙ at.limits.1) record {
+      plain = c.requires.over.plain;
       edges = rest.fits ∙ (length-set standings e c.standing_by.result ∙ c.requires.over.edges);
       flags = ap (λ v. length v.items) rest.changed ∙ c.requires.over.flags;
       settled = c.settle_aliases.ensures.none;

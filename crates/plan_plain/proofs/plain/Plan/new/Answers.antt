@@ -10,6 +10,7 @@ returns-clause-planned c = λ task stated jobs keep cone.
     let flags : length c.settle_aliases.new.self.changed.items ≡ length c.args.graph.now.manifest.paths = search rules in
     let first = c.in_ok-first_standings.ensures in
     planned_now task c.args.graph.now c.settle_aliases.new.self c.in_ok-first_standings.field-0.items [] stated (rest.jobs ∙ sym jobs, rest.keep ∙ sym keep) record {
+      plain = c.requires.plain;
       edges = rest.fits ∙ first.fits;
       flags = flags;
       settled = c.settle_aliases.ensures.none;

@@ -13,6 +13,7 @@ returns-clause-over c = λ graph at.
     let e = c.index.result in
     let is = at_same standings e c.args.edge c.index.ensures.place OutOfDate c.requires in
     record {
+      plain = at.plain;
       edges = length-set standings e Running ∙ at.edges;
       flags = at.flags;
       settled = none_same standings e Running (out_of_date_within standings e is) (sym (ap is_alias is)) (sym (ap is_settled is)) (links_of graph) at.settled;
@@ -27,6 +28,7 @@ returns-clause-planned c = λ task graph steps at lawful next.
       stated = at.stated;
       limits = at.limits;
       over = record {
+        plain = at.over.plain;
         edges = length-set standings e Running ∙ at.over.edges;
         flags = at.over.flags;
         settled = none_same standings e Running (out_of_date_within standings e is) (sym (ap is_alias is)) (sym (ap is_settled is)) (links_of graph) at.over.settled;
