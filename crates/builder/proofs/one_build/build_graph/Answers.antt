@@ -1,4 +1,4 @@
-use Rattle.std.proofs.Common.{◌≡◌, List, [], length, refl, sym, subst}
+use Rattle.std.proofs.Common.{◌≡◌, List, [], length, refl, sym, subst, arith}
 use Rattle.std.proofs.lemmas.List.{append-nil}
 use Rattle.model.specs.Graph.{targets_of}
 use Rattle.model.specs.SingleBuild.{Asked}
@@ -56,7 +56,7 @@ check_sources-requires-clause-plan g c =
     let course = c.requires.read.0 in
     let in_use = c.requires.read.1.in_use in
     let planned = c.in_ok-plan.ensures.planned asked.folder asked.targets course.store in_use (c.in_ok-cone.ensures.cone course.store in_use) in
-    planned.over.over.edges
+    omega (arith, planned.over.over.edges, c.in_ok-plan.plan.standings.ok.0)
 
 pub returns-in_err-due : goal.returns-in_err-due
 returns-in_err-due g c course has =
