@@ -1,16 +1,18 @@
--- Which phony edges are due before anything runs.
-use Rattle.std.proofs.Common.{◌≡◌, ◌↔◌, inl, inr, ℕ, suc, ◌<◌, ◌==◌, cond, Bool, true, List, [], ◌∷◌, Option, Some, None, map, length, refl, sym, ◌∙◌, ap, subst, arith}
+-- Which phony edges are due.
+use Rattle.std.proofs.Common.{◌≡◌, ◌↔◌, inl, inr, ℕ, suc, ◌<◌, ◌==◌, cond, Bool, true, false, List, [], ◌∷◌, Option, Some, None, map, length, refl, sym, ◌∙◌, ap, subst, arith}
 use Rattle.std.specs.List.{list_any}
 use Rattle.std.specs.Option.{is_none}
 use Rattle.std.proofs.lemmas.Bool.{false≢true, cases_Bool, eqb-true}
 use Rattle.model.specs.declared.event.Moment.{Moment}
 use Rattle.model.specs.declared.graph.Edge.{Edge}
 use Rattle.model.specs.World.{file_at}
-use Rattle.model.specs.Graph.{has, has_number, edge_at, maker, later_number, outputs, regular_inputs, inputs}
+use Rattle.model.specs.Graph.{has, has_number, edge_at, maker, later_number, outputs, regular_inputs, inputs, IsCommand}
 use Rattle.model.specs.OutOfDate.{IsDue, WasJudged, Stale, Below, AliasOfNothing, AliasOfAbsent, AliasOfDue}
 use Rattle.model.specs.Reading.{needs}
 use Rattle.model.specs.Records.{Store, recorded_inputs}
+use Rattle.model.specs.Schedule.{Step, out_of_date_in}
 use Rattle.build_theory.proofs.Lists.{has-left}
+use Rattle.build_theory.proofs.Orderly.{IsKept}
 use Rattle.paths.specs.Told.{text_at, texts_at}
 use Rattle.links.specs.Links.{Links}
 use Rattle.links.specs.Linked.{StandFor}
@@ -43,9 +45,24 @@ empty_by : (xs : List ℕ) → (length xs == 0) ≡ true → xs ≡ []
 empty_by [] is = refl
 empty_by (x ∷ xs) is = let long : length (x ∷ xs) ≡ 0 = eqb-true (length (x ∷ xs)) 0 is in absurd (omega (arith, long))
 
+-- ---- the answer for an alias, by its outputs or its inputs
+
+abbrev if_inputs_of : List (List ℕ) → Links → List Moment → List Bool → ℕ → Bool → Bool
+if_inputs_of paths links files due e empty = cond empty (list_any (is_absent paths files) (links.outputs e)) (list_any (is_due_path paths links files due) (links.regular e))
+
+pub alias_by_outputs : (paths : List (List ℕ)) (links : Links) (files : List Moment) (due : List Bool) (e : ℕ) → (length (links.inputs e) == 0) ≡ true → list_any (is_absent paths files) (links.outputs e) ≡ is_due_alias paths links files due e
+alias_by_outputs paths links files due e empty = sym (ap (if_inputs_of paths links files due e) empty)
+
+pub alias_by_inputs : (paths : List (List ℕ)) (links : Links) (files : List Moment) (due : List Bool) (e : ℕ) → (length (links.inputs e) == 0) ≡ false → list_any (is_due_path paths links files due) (links.regular e) ≡ is_due_alias paths links files due e
+alias_by_inputs paths links files due e some = sym (ap (if_inputs_of paths links files due e) some)
+
 -- ---- one alias
 
-module _ (edges : List Edge) (paths : List (List ℕ)) (links : Links) (files : List Moment) (stands : StandFor edges paths links) (store : Store) (due : List Bool) where
+module _ (edges : List Edge) (paths : List (List ℕ)) (links : Links) (files : List Moment) (stands : StandFor edges paths links) (store : Store) (before : List Step) (kept : IsKept edges before) (due : List Bool) where
+  -- what was judged out of date is a command
+  pub judged_command : (i : ℕ) → has_number (out_of_date_in before) i ≡ true → IsCommand edges i
+  judged_command i is = kept.judged i (kept.out_of_date i is)
+
   named_input : (i : ℕ) (p : List ℕ) → has (regular_inputs (edge_at edges i)) p ≡ true → has (inputs (edge_at edges i)) p ≡ true
   named_input i p h = has-left (regular_inputs (edge_at edges i)) (edge_at edges i).order_only_inputs p h
 
@@ -57,11 +74,11 @@ module _ (edges : List Edge) (paths : List (List ℕ)) (links : Links) (files : 
 
   -- the numbers of one of the edge's lists
   module _ (i : ℕ) (xs : List ℕ) where
-    due_by_nothing : texts_at paths xs ≡ outputs (edge_at edges i) → (edge_at edges i).phony ≡ true → inputs (edge_at edges i) ≡ [] → IsDue edges store [] files i → list_any (is_absent paths files) xs ≡ true
+    due_by_nothing : texts_at paths xs ≡ outputs (edge_at edges i) → (edge_at edges i).phony ≡ true → inputs (edge_at edges i) ≡ [] → IsDue edges store before files i → list_any (is_absent paths files) xs ≡ true
     due_by_nothing named phony none is = by_case i refl is
       where
-        by_case : (k : ℕ) → k ≡ i → IsDue edges store [] files k → list_any (is_absent paths files) xs ≡ true
-        by_case _ same (WasJudged k judged) = absurd (false≢true judged)
+        by_case : (k : ℕ) → k ≡ i → IsDue edges store before files k → list_any (is_absent paths files) xs ≡ true
+        by_case _ same (WasJudged k judged) = absurd (false≢true (sym (judged_command k judged) ∙ (ap (λ (q : ℕ). (edge_at edges q).phony) same ∙ phony)))
         by_case _ same (Stale k command unjudged stale) = absurd (false≢true (sym command ∙ (ap (λ (q : ℕ). (edge_at edges q).phony) same ∙ phony)))
         by_case _ same (Below k j p command unjudged counted made below) = absurd (false≢true (sym command ∙ (ap (λ (q : ℕ). (edge_at edges q).phony) same ∙ phony)))
         by_case _ same (AliasOfNothing k o alias empty made absent) =
@@ -70,7 +87,7 @@ module _ (edges : List Edge) (paths : List (List ℕ)) (links : Links) (files : 
         by_case _ same (AliasOfAbsent k p alias h source absent) = absurd (no_regular i p none (subst (λ (q : ℕ). has (regular_inputs (edge_at edges q)) p ≡ true) same h))
         by_case _ same (AliasOfDue k j p alias h made below) = absurd (no_regular i p none (subst (λ (q : ℕ). has (regular_inputs (edge_at edges q)) p ≡ true) same h))
 
-    nothing_due : texts_at paths xs ≡ outputs (edge_at edges i) → (edge_at edges i).phony ≡ true → inputs (edge_at edges i) ≡ [] → list_any (is_absent paths files) xs ≡ true → IsDue edges store [] files i
+    nothing_due : texts_at paths xs ≡ outputs (edge_at edges i) → (edge_at edges i).phony ≡ true → inputs (edge_at edges i) ≡ [] → list_any (is_absent paths files) xs ≡ true → IsDue edges store before files i
     nothing_due named phony none any =
         let n = any_number (is_absent paths files) xs any in
         AliasOfNothing i (text_at paths n.0) phony none (ap (λ (l : List (List ℕ)). has l (text_at paths n.0)) (sym named) ∙ has_text paths xs n.0 n.1) (none_there (file_at files (text_at paths n.0)) n.2)
@@ -78,11 +95,11 @@ module _ (edges : List Edge) (paths : List (List ℕ)) (links : Links) (files : 
     by_maker : (n : ℕ) (o : Option ℕ) → links.maker n ≡ o → is_due_path paths links files due n ≡ due_by due (is_absent paths files n) o
     by_maker n o is = ap (due_by due (is_absent paths files n)) is
 
-    module _ (named : texts_at paths xs ≡ regular_inputs (edge_at edges i)) (numbered : (n : ℕ) → has_number xs n ≡ true → n < length paths) (known : AreMakersKnown edges store files due i) where
+    module _ (named : texts_at paths xs ≡ regular_inputs (edge_at edges i)) (numbered : (n : ℕ) → has_number xs n ≡ true → n < length paths) (known : AreMakersKnown edges store before files due i) where
       made_by : (n : ℕ) (p : List ℕ) → has_number xs n ≡ true → text_at paths n ≡ p → maker edges p ≡ later_number (links.maker n)
       made_by n p h is = ap (maker edges) (sym is) ∙ stands.makers n (numbered n h)
 
-      due_by_inputs : (edge_at edges i).phony ≡ true → (inputs (edge_at edges i) ≡ [] → ⊥) → IsDue edges store [] files i → list_any (is_due_path paths links files due) xs ≡ true
+      due_by_inputs : (edge_at edges i).phony ≡ true → (inputs (edge_at edges i) ≡ [] → ⊥) → IsDue edges store before files i → list_any (is_due_path paths links files due) xs ≡ true
       due_by_inputs phony some is = by_case i refl is
         where
           number_for : (p : List ℕ) → has (regular_inputs (edge_at edges i)) p ≡ true → (n : ℕ) × (has_number xs n ≡ true) × (text_at paths n ≡ p)
@@ -94,22 +111,22 @@ module _ (edges : List Edge) (paths : List (List ℕ)) (links : Links) (files : 
               number_any (is_due_path paths links files due) xs n.0 n.1
               (by_maker n.0 None (no_number (links.maker n.0) (sym (made_by n.0 p n.1 n.2) ∙ source)) ∙ there_none (file_at files (text_at paths n.0)) (ap (file_at files) n.2 ∙ absent))
 
-          of_maker : (p : List ℕ) (j : ℕ) → has (regular_inputs (edge_at edges i)) p ≡ true → maker edges p ≡ Some j → IsDue edges store [] files j → list_any (is_due_path paths links files due) xs ≡ true
+          of_maker : (p : List ℕ) (j : ℕ) → has (regular_inputs (edge_at edges i)) p ≡ true → maker edges p ≡ Some j → IsDue edges store before files j → list_any (is_due_path paths links files due) xs ≡ true
           of_maker p j h made below =
               let n = number_for p h in
               let m = some_number (links.maker n.0) j (sym (made_by n.0 p n.1 n.2) ∙ made) in
               number_any (is_due_path paths links files due) xs n.0 n.1
-              (by_maker n.0 (Some m.0) m.1 ∙ (known.makers p m.0 (needed i p h) (made ∙ ap Some (sym m.2))).1 (subst (λ (q : ℕ). IsDue edges store [] files q) (sym m.2) below))
+              (by_maker n.0 (Some m.0) m.1 ∙ (known.makers p m.0 (needed i p h) (made ∙ ap Some (sym m.2))).1 (subst (λ (q : ℕ). IsDue edges store before files q) (sym m.2) below))
 
-          by_case : (k : ℕ) → k ≡ i → IsDue edges store [] files k → list_any (is_due_path paths links files due) xs ≡ true
-          by_case _ same (WasJudged k judged) = absurd (false≢true judged)
+          by_case : (k : ℕ) → k ≡ i → IsDue edges store before files k → list_any (is_due_path paths links files due) xs ≡ true
+          by_case _ same (WasJudged k judged) = absurd (false≢true (sym (judged_command k judged) ∙ (ap (λ (q : ℕ). (edge_at edges q).phony) same ∙ phony)))
           by_case _ same (Stale k command unjudged stale) = absurd (false≢true (sym command ∙ (ap (λ (q : ℕ). (edge_at edges q).phony) same ∙ phony)))
           by_case _ same (Below k j p command unjudged counted made below) = absurd (false≢true (sym command ∙ (ap (λ (q : ℕ). (edge_at edges q).phony) same ∙ phony)))
           by_case _ same (AliasOfNothing k o alias empty made absent) = absurd (some (subst (λ (q : ℕ). inputs (edge_at edges q) ≡ []) same empty))
           by_case _ same (AliasOfAbsent k p alias h source absent) = of_source p (subst (λ (q : ℕ). has (regular_inputs (edge_at edges q)) p ≡ true) same h) source absent
           by_case _ same (AliasOfDue k j p alias h made below) = of_maker p j (subst (λ (q : ℕ). has (regular_inputs (edge_at edges q)) p ≡ true) same h) made below
 
-      inputs_due : (edge_at edges i).phony ≡ true → list_any (is_due_path paths links files due) xs ≡ true → IsDue edges store [] files i
+      inputs_due : (edge_at edges i).phony ≡ true → list_any (is_due_path paths links files due) xs ≡ true → IsDue edges store before files i
       inputs_due phony any = by_case (links.maker n.0) refl
         where
           n : (n : ℕ) × (has_number xs n ≡ true) × (is_due_path paths links files due n ≡ true)
@@ -118,7 +135,7 @@ module _ (edges : List Edge) (paths : List (List ℕ)) (links : Links) (files : 
           h : has (regular_inputs (edge_at edges i)) (text_at paths n.0) ≡ true
           h = subst (λ (l : List (List ℕ)). has l (text_at paths n.0) ≡ true) named (has_text paths xs n.0 n.1)
 
-          by_case : (o : Option ℕ) → links.maker n.0 ≡ o → IsDue edges store [] files i
+          by_case : (o : Option ℕ) → links.maker n.0 ≡ o → IsDue edges store before files i
           by_case None is =
               AliasOfAbsent i (text_at paths n.0) phony h (made_by n.0 (text_at paths n.0) n.1 refl ∙ ap later_number is) (none_there (file_at files (text_at paths n.0)) (sym (by_maker n.0 None is) ∙ n.2))
           by_case (Some m) is =
@@ -127,23 +144,20 @@ module _ (edges : List Edge) (paths : List (List ℕ)) (links : Links) (files : 
 
   -- ---- the answer
 
-  module _ (e : ℕ) (phony : (edge_at edges (suc e)).phony ≡ true) (known : AreMakersKnown edges store files due (suc e)) where
+  module _ (e : ℕ) (phony : (edge_at edges (suc e)).phony ≡ true) (known : AreMakersKnown edges store before files due (suc e)) where
     in_range : (n : ℕ) → has_number (links.regular e) n ≡ true → n < length paths
     in_range n h = stands.regular_within e n h
 
-    abbrev if_inputs : Bool → Bool
-    if_inputs empty = cond empty (list_any (is_absent paths files) (links.outputs e)) (list_any (is_due_path paths links files due) (links.regular e))
-
-    pub alias_due : (is_due_alias paths links files due e ≡ true) ↔ IsDue edges store [] files (suc e)
+    pub alias_due : (is_due_alias paths links files due e ≡ true) ↔ IsDue edges store before files (suc e)
     alias_due = elim (cases_Bool (length (links.inputs e) == 0)) [
       | inl empty ↦
           let none : inputs (edge_at edges (suc e)) ≡ [] = sym (stands.inputs_are e) ∙ ap (map (text_at paths)) (empty_by (links.inputs e) empty) in
-          let whole : is_due_alias paths links files due e ≡ list_any (is_absent paths files) (links.outputs e) = ap if_inputs empty in (
+          let whole : is_due_alias paths links files due e ≡ list_any (is_absent paths files) (links.outputs e) = sym (alias_by_outputs paths links files due e empty) in (
             (λ is. nothing_due (suc e) (links.outputs e) (stands.outputs_are e) phony none (sym whole ∙ is)),
             (λ is. whole ∙ due_by_nothing (suc e) (links.outputs e) (stands.outputs_are e) phony none is),
           )
       | inr some ↦
-          let whole : is_due_alias paths links files due e ≡ list_any (is_due_path paths links files due) (links.regular e) = ap if_inputs some in
+          let whole : is_due_alias paths links files due e ≡ list_any (is_due_path paths links files due) (links.regular e) = sym (alias_by_inputs paths links files due e some) in
           let named : (inputs (edge_at edges (suc e)) ≡ [] → ⊥) = (λ none. false≢true (sym some ∙ nothing_named (text_at paths) (links.inputs e) (stands.inputs_are e ∙ none))) in (
             (λ is. inputs_due (suc e) (links.regular e) (stands.regular_are e) in_range known phony (sym whole ∙ is)),
             (λ is. whole ∙ due_by_inputs (suc e) (links.regular e) (stands.regular_are e) in_range known phony named is),

@@ -1,28 +1,29 @@
--- Which commands are due before anything runs.
-use Rattle.std.proofs.Common.{◌≡◌, ◌⊎◌, ◌↔◌, inl, inr, ℕ, zero, suc, ◌<◌, ◌||◌, ◌&&◌, not, cond, Bool, true, false, List, [], ◌∷◌, ◌++◌, Option, Some, None, is_some, bytes_eq, map, length, refl, sym, ◌∙◌, ap, subst}
+-- Which commands that were not judged are due.
+use Rattle.std.proofs.Common.{IsSome, ◌≡◌, ◌⊎◌, ◌↔◌, inl, inr, ℕ, zero, suc, ◌<◌, ◌||◌, ◌&&◌, not, cond, Bool, true, false, List, [], ◌∷◌, ◌++◌, Option, Some, None, is_some, bytes_eq, map, length, refl, sym, ◌∙◌, ap, subst}
 use Rattle.std.specs.Prelude.{is_none, find}
 use Rattle.std.specs.List.{list_any}
-use Rattle.std.proofs.lemmas.Bool.{false≢true, or_cases, or_left, or_right, cases_Bool}
+use Rattle.std.proofs.lemmas.Bool.{false_from_ne_true, false≢true, or_cases, or_left, or_right, cases_Bool}
 use Rattle.model.specs.declared.event.Moment.{Moment}
 use Rattle.model.specs.declared.graph.Edge.{Edge}
 use Rattle.model.specs.declared.reason.Reason.{Reason}
 use Rattle.model.specs.declared.reason.Reason.TheVariants.{OutputAbsent, NoRecord, OtherAct, InputAbsent, InputChanged, InputLater, OutputOlder, DepsUnknown}
-use Rattle.model.specs.World.{File, file_at, stamp_of, view_of}
+use Rattle.model.specs.World.{File, View, file_at, stamp_of, content_of, view_of}
 use Rattle.model.specs.Graph.{has, has_number, edge_at, maker, later_number, regular_inputs, inputs, IsCommand}
 use Rattle.model.specs.Judgement.{OutputFacts, InputFacts, Facts, is_later, is_same_number, start_of, holds, all_reasons, reason_of}
-use Rattle.model.specs.OutOfDate.{IsDue, WasJudged, Stale, Below, AliasOfNothing, AliasOfAbsent, AliasOfDue, IsMissing, IsOutOfDate, ListsCounted, input_facts, facts_of, is_made_anew}
-use Rattle.model.specs.Reading.{IsRead, Itself, Through, needs}
+use Rattle.model.specs.OutOfDate.{IsDue, WasJudged, Stale, Below, AliasOfNothing, AliasOfAbsent, AliasOfDue, IsMissing, IsOutOfDate, Counted, ListsCounted, input_facts, facts_of, is_made_anew}
+use Rattle.model.specs.Reading.{Counts, IsRead, Itself, Through, needs}
 use Rattle.model.specs.Records.{Store, recorded_inputs}
-use Rattle.build_theory.proofs.Lists.{bytes_same, same_bytes, has-left, has-right, same_some, some_none}
+use Rattle.model.specs.Schedule.{Step, judged_in, out_of_date_in}
+use Rattle.build_theory.proofs.Lists.{bytes_same, same_bytes, has-left, has-right, same_some, some_none, map_same}
+use Rattle.build_theory.proofs.Orderly.{IsKept}
 use Rattle.paths.specs.Told.{text_at}
 use Rattle.links.specs.declared.graph.Graph.{Graph}
 use Rattle.links.specs.Linked.{StandFor}
 use Rattle.links.specs.Links.{links_of}
 use Rattle.links.specs.Told.{declared_by}
-use Rattle.records.specs.declared.records.Records.{Records}
 use Rattle.verdict.specs.Facts.{flag_at}
-use Rattle.verdict.specs.Judged.{IsReasonBy, AreRecordedOf, MayBeJudgedBy}
-use Rattle.dues.specs.Stores.{IsStoreOf}
+use Rattle.verdict.specs.Judged.{IsReasonBy, AreRecordedOf, MayBeJudgedBy, HasPathsOf, everything}
+use Rattle.dues.specs.Quiet.{HasPathsFor, AreAlike}
 use Rattle.dues.specs.Dues.{AreMakersKnown, due_by, is_made_due, reads_due}
 use Rattle.dues.proofs.AliasDues.{some_number}
 use Rattle.dues.proofs.Slices.{any_number, number_any, has_text, number_of}
@@ -30,13 +31,13 @@ use Rattle.dues.proofs.Slices.{any_number, number_any, has_text, number_of}
 -- ---- what is read of a due edge
 
 -- edge k reads a missing source, or what a due edge makes
-pub record ReadsDue (edges : List Edge) (store : Store) (files : List Moment) (k : ℕ) : Type 0 where
+pub record ReadsDue (edges : List Edge) (store : Store) (before : List Step) (files : List Moment) (k : ℕ) : Type 0 where
   pub path : List ℕ
   pub read : IsRead edges (view_of files) k path
-  pub why : IsMissing edges files path ⊎ ((j : ℕ) × (maker edges path ≡ Some j) × IsDue edges store [] files j)
+  pub why : IsMissing edges files path ⊎ ((j : ℕ) × (maker edges path ≡ Some j) × IsDue edges store before files j)
 
-module _ (edges : List Edge) (store : Store) (files : List Moment) where
-  by_command : (k : ℕ) (q : List ℕ) (j : ℕ) → has (regular_inputs (edge_at edges k)) q ≡ true → maker edges q ≡ Some j → IsCommand edges j → IsDue edges store [] files j → ReadsDue edges store files k
+module _ (edges : List Edge) (store : Store) (before : List Step) (kept : IsKept edges before) (files : List Moment) where
+  by_command : (k : ℕ) (q : List ℕ) (j : ℕ) → has (regular_inputs (edge_at edges k)) q ≡ true → maker edges q ≡ Some j → IsCommand edges j → IsDue edges store before files j → ReadsDue edges store before files k
   by_command k q j h made command due = record {
     path = q;
     read = Itself k q h (inl (λ l alias. false≢true (sym command ∙ (ap (λ (n : ℕ). (edge_at edges n).phony) (same_some j l (sym made ∙ alias.made)) ∙ alias.phony))));
@@ -44,8 +45,8 @@ module _ (edges : List Edge) (store : Store) (files : List Moment) where
   }
 
   -- an edge that names what a due edge makes reads so
-  through : (j : ℕ) → IsDue edges store [] files j → (k : ℕ) (q : List ℕ) → has (regular_inputs (edge_at edges k)) q ≡ true → maker edges q ≡ Some j → ReadsDue edges store files k
-  through _ (WasJudged j judged) k q h made = absurd (false≢true judged)
+  through : (j : ℕ) → IsDue edges store before files j → (k : ℕ) (q : List ℕ) → has (regular_inputs (edge_at edges k)) q ≡ true → maker edges q ≡ Some j → ReadsDue edges store before files k
+  through _ (WasJudged j judged) k q h made = by_command k q j h made (kept.judged j (kept.out_of_date j judged)) (WasJudged j judged)
   through _ (Stale j command unjudged stale) k q h made = by_command k q j h made command (Stale j command unjudged stale)
   through _ (Below j l p command unjudged counted below_made below) k q h made = by_command k q j h made command (Below j l p command unjudged counted below_made below)
   through _ (AliasOfNothing j o phony empty output absent) k q h made = record {
@@ -63,12 +64,34 @@ module _ (edges : List Edge) (store : Store) (files : List Moment) where
       record { path = rest.path; read = Through k j q rest.path h (record { made = made; phony = phony }) rest.read; why = rest.why }
 
   -- and an edge that reads what a due edge makes names such a path
-  named : (k : ℕ) (p : List ℕ) → IsRead edges (view_of files) k p → (j : ℕ) → maker edges p ≡ Some j → IsDue edges store [] files j
-      → (q : List ℕ) × (l : ℕ) × (has (regular_inputs (edge_at edges k)) q ≡ true) × (maker edges q ≡ Some l) × IsDue edges store [] files l
-  named k p (Itself _ _ h counts) j made due = (p, j, h, made, due)
-  named k p (Through _ m q _ h alias below) j made due =
-      let rest = named m p below j made due in
+  named : (view : View) (k : ℕ) (p : List ℕ) → IsRead edges view k p → (j : ℕ) → maker edges p ≡ Some j → IsDue edges store before files j
+      → (q : List ℕ) × (l : ℕ) × (has (regular_inputs (edge_at edges k)) q ≡ true) × (maker edges q ≡ Some l) × IsDue edges store before files l
+  named view k p (Itself _ _ h counts) j made due = (p, j, h, made, due)
+  named view k p (Through _ m q _ h alias below) j made due =
+      let rest = named view m p below j made due in
       (q, m, h, alias.made, AliasOfDue m rest.1 rest.0 alias.phony rest.2 rest.3 rest.4)
+
+-- ---- what is read in a view
+
+-- what an edge reads is an input of it, or of an alias
+input_of : (edges : List Edge) (view : View) (i : ℕ) (p : List ℕ) → IsRead edges view i p → (k : ℕ) × (has (inputs (edge_at edges k)) p ≡ true)
+input_of edges view i p (Itself _ _ h counts) = (i, has-left (regular_inputs (edge_at edges i)) (edge_at edges i).order_only_inputs p h)
+input_of edges view i p (Through _ j q _ h alias below) = input_of edges view j p below
+
+read_in_all : (edges : List Edge) (view : View) (i : ℕ) (p : List ℕ) → IsRead edges view i p → IsRead edges everything i p
+read_in_all edges view i p (Itself _ _ h counts) = Itself i p h (inr (inl refl))
+read_in_all edges view i p (Through _ j q _ h alias below) = Through i j q p h alias (read_in_all edges view j p below)
+
+-- views that agree on all that may be read have the same paths read
+read_alike : (edges : List Edge) (one two : View) (i : ℕ) (p : List ℕ) → ((q : List ℕ) → IsRead edges everything i q → one q ≡ two q) → IsRead edges one i p → IsRead edges two i p
+read_alike edges one two i p agree (Itself _ _ h counts) = Itself i p h (by_counts counts)
+  where
+    by_counts : Counts edges one p → Counts edges two p
+    by_counts (inl none) = inl none
+    by_counts (inr (inl there)) = inr (inl (subst IsSome (agree p (Itself i p h (inr (inl refl)))) there))
+    by_counts (inr (inr empty)) = inr (inr empty)
+read_alike edges one two i p agree (Through _ j q _ h alias below) =
+    Through i j q p h alias (read_alike edges one two j p (λ r read. agree r (Through i j q r h alias read)) below)
 
 -- ---- reasons by lists of the same paths
 
@@ -141,8 +164,8 @@ module _ (edges : List Edge) (store : Store) (files : List Moment) (i : ℕ) (re
 
 -- ---- one command
 
-module _ (graph : Graph) (stands : StandFor (declared_by graph).edges graph.manifest.paths (links_of graph)) (store : Store) (files : List Moment) (due : List Bool) (e : ℕ)
-    (in_use : AreRecordedOf graph store (suc e)) (command : IsCommand (declared_by graph).edges (suc e)) (known : AreMakersKnown (declared_by graph).edges store files due (suc e))
+module _ (graph : Graph) (stands : StandFor (declared_by graph).edges graph.manifest.paths (links_of graph)) (store : Store) (before : List Step) (kept : IsKept (declared_by graph).edges before) (files : List Moment) (due : List Bool)
+    (e : ℕ) (in_use : AreRecordedOf graph store (suc e)) (command : IsCommand (declared_by graph).edges (suc e)) (unjudged : has_number (judged_in before) (suc e) ≡ false) (known : AreMakersKnown (declared_by graph).edges store before files due (suc e))
   where
     abbrev edges : List Edge
     edges = (declared_by graph).edges
@@ -151,7 +174,7 @@ module _ (graph : Graph) (stands : StandFor (declared_by graph).edges graph.mani
     paths = graph.manifest.paths
 
     abbrev Due : ℕ → Type 0
-    Due i = IsDue edges store [] files i
+    Due i = IsDue edges store before files i
 
     abbrev made_due : ℕ → Bool
     made_due n = is_made_due (links_of graph) due n
@@ -188,7 +211,7 @@ module _ (graph : Graph) (stands : StandFor (declared_by graph).edges graph.mani
     -- it reads a missing source
     stale_by : (p : List ℕ) → IsRead edges (view_of files) (suc e) p → IsMissing edges files p → Due (suc e)
     stale_by p read missing =
-        Stale (suc e) command refl (
+        Stale (suc e) command unjudged (
         record {
           read = known.read;
           counted = known.counted;
@@ -201,17 +224,17 @@ module _ (graph : Graph) (stands : StandFor (declared_by graph).edges graph.mani
     by_regular n h is =
         let input = regular_has n h in
         let below = flagged n (stands.regular_within e n h) (needs_regular (text_at paths n) input) is in
-        let reads = through edges store files below.0 below.2 (suc e) (text_at paths n) input below.1 in
+        let reads = through edges store before kept files below.0 below.2 (suc e) (text_at paths n) input below.1 in
         elim reads.why [
           | inl missing ↦ stale_by reads.path reads.read missing
-          | inr made ↦ Below (suc e) made.0 reads.path command refl (inl reads.read) made.1 made.2
+          | inr made ↦ Below (suc e) made.0 reads.path command unjudged (inl reads.read) made.1 made.2
         ]
 
     by_recorded : (n : ℕ) → has_number ((links_of graph).recorded e) n ≡ true → made_due n ≡ true → Due (suc e)
     by_recorded n h is =
         let input = recorded_has n h in
         let below = flagged n (stands.recorded_within e n h) (needs_recorded (text_at paths n) input) is in
-        Below (suc e) below.0 (text_at paths n) command refl (inr input) below.1 below.2
+        Below (suc e) below.0 (text_at paths n) command unjudged (inr input) below.1 below.2
 
     pub due_by_flags : reads_due (links_of graph) due e ≡ true → Due (suc e)
     due_by_flags is = elim (or_cases (list_any made_due ((links_of graph).regular e)) (list_any made_due ((links_of graph).recorded e)) is) [
@@ -234,15 +257,27 @@ module _ (graph : Graph) (stands : StandFor (declared_by graph).edges graph.mani
           false≢true (sym none ∙ or_right (list_any made_due ((links_of graph).regular e)) (list_any made_due ((links_of graph).recorded e)) (number_any made_due ((links_of graph).recorded e) n.0 n.1
           (flag_of n.0 l (stands.recorded_within e n.0 n.1) (needs_recorded (text_at paths n.0) (recorded_has n.0 n.1)) (ap (maker edges) n.2 ∙ made) is)))
 
+      -- what it reads no edge makes that was judged out of date, so that a set for sources has all paths of its judgement
+      pub paths_of_clean : (targets : List (List ℕ)) (set : List ℕ → Bool) → HasPathsFor edges store targets before set → HasPathsOf edges store (suc e) set
+      paths_of_clean targets set all = record {
+        made = λ p h. all.made (suc e) p (false_from_ne_true (has_number (out_of_date_in before) (suc e)) (λ out. false≢true (sym unjudged ∙ kept.out_of_date (suc e) out))) h;
+        read = λ p read.
+            let at = input_of edges everything (suc e) p read in
+            all.named at.0 p at.1 (λ j made. false_from_ne_true (has_number (out_of_date_in before) j) (λ out.
+            let above = named edges store before kept files everything (suc e) p read j made (WasJudged j out) in
+            no_regular above.0 above.1 above.2 above.3 above.4));
+        recorded = λ p h. all.recorded (suc e) p h (λ j made. false_from_ne_true (has_number (out_of_date_in before) j) (λ out. no_recorded p j h made (WasJudged j out)));
+      }
+
       module _ (reason : Option Reason) (so : IsReasonBy edges store [] files files (suc e) reason) where
         stale_said : IsOutOfDate edges store [] files files (suc e) → is_some reason ≡ true
         stale_said stale = ap is_some (so.is ∙ reason_alike edges store files (suc e) so.read stale.read so.counted stale.counted) ∙ sym stale.verdict
 
         due_said : (k : ℕ) → k ≡ suc e → Due k → is_some reason ≡ true
-        due_said _ same (WasJudged k judged) = absurd (false≢true judged)
+        due_said _ same (WasJudged k judged) = absurd (false≢true (sym unjudged ∙ subst (λ (q : ℕ). has_number (judged_in before) q ≡ true) same (kept.out_of_date k judged)))
         due_said _ same (Stale k is_command unjudged stale) = stale_said (subst (λ (q : ℕ). IsOutOfDate edges store [] files files q) same stale)
         due_said _ same (Below k j p is_command unjudged (inl read) made below) =
-            let at = named edges store files (suc e) p (subst (λ (q : ℕ). IsRead edges (view_of files) q p) same read) j made below in
+            let at = named edges store before kept files (view_of files) (suc e) p (subst (λ (q : ℕ). IsRead edges (view_of files) q p) same read) j made below in
             absurd (no_regular at.0 at.1 at.2 at.3 at.4)
         due_said _ same (Below k j p is_command unjudged (inr recorded) made below) = absurd (no_recorded p j (subst (λ (q : ℕ). has (recorded_inputs store edges q) p ≡ true) same recorded) made below)
         due_said _ same (AliasOfNothing k o phony empty output absent) = absurd (false≢true (sym command ∙ (ap (λ (q : ℕ). (edge_at edges q).phony) (sym same) ∙ phony)))
@@ -251,30 +286,81 @@ module _ (graph : Graph) (stands : StandFor (declared_by graph).edges graph.mani
 
         pub due_by_reason : (is_some reason ≡ true) ↔ Due (suc e)
         due_by_reason = (
-          (λ is. Stale (suc e) command refl (record { read = so.read; counted = so.counted; verdict = sym is ∙ ap is_some so.is })),
+          (λ is. Stale (suc e) command unjudged (record { read = so.read; counted = so.counted; verdict = sym is ∙ ap is_some so.is })),
           (λ is. due_said (suc e) refl is),
         )
 
--- ---- before anything ran
+-- ---- the same judgement at each point
 
 no_flag : (p : ℕ) → flag_at [] p ≡ false
 no_flag zero = refl
 no_flag (suc p) = refl
 
-not_anew : (all : List Edge) (same : Bool) (o : Option ℕ) → false ≡ is_made_anew all [] same o
+not_anew : (all : List Edge) (same : Bool) (o : Option ℕ) → is_made_anew all [] same o ≡ false
 not_anew all same None = refl
 not_anew all same (Some j) = refl
 
--- each edge may be judged by the files and records of the entry
-pub may_be_judged : (graph : Graph) (records : Records) (store : Store) (files : List Moment) → IsStoreOf graph records store → (i : ℕ) → MayBeJudgedBy graph store.records store.deps [] store [] files files i (λ p. true)
-may_be_judged graph records store files is i = record {
-  records = refl;
-  deps = refl;
-  recorded = is.in_use i;
-  untouched = λ o h. refl;
-  depfile = λ named. refl;
-  flagged = λ p lt counted.
-      let stamp = stamp_of (file_at files (text_at graph.manifest.paths p)) in
-      no_flag p ∙ not_anew (declared_by graph).edges (is_same_number stamp stamp) (maker (declared_by graph).edges (text_at graph.manifest.paths p));
-  paths = record { made = λ p h. refl; read = λ p h. refl; recorded = λ p h. refl };
-}
+module _ (graph : Graph) (store : Store) (in_use : (i : ℕ) → AreRecordedOf graph store i) (before : List Step) (set : List ℕ → Bool) (now files : List Moment) (alike : AreAlike (declared_by graph).edges before set now files) (i : ℕ)
+    (command : IsCommand (declared_by graph).edges i) (unjudged : has_number (judged_in before) i ≡ false) (paths : HasPathsOf (declared_by graph).edges store i set)
+  where
+    abbrev all : List Edge
+    all = (declared_by graph).edges
+
+    abbrev Facts_at : List Moment → List ℕ → InputFacts
+    Facts_at at p = input_facts all [] files at p
+
+    -- the edge may be judged by the files of a point, no command having run since then
+    pub may_be_judged : MayBeJudgedBy graph store.records store.deps [] store [] files now i set
+    may_be_judged = record {
+      records = refl;
+      deps = refl;
+      recorded = in_use i;
+      untouched = λ o h. ap stamp_of (sym (alike.paths o (paths.made o h)));
+      depfile = λ named. sym (alike.depfiles i command unjudged named);
+      flagged = λ p lt counted.
+          no_flag p
+          ∙ sym (not_anew all (is_same_number (stamp_of (file_at files (text_at graph.manifest.paths p))) (stamp_of (file_at now (text_at graph.manifest.paths p)))) (maker all (text_at graph.manifest.paths p)));
+      paths = paths;
+    }
+
+    view_same : (p : List ℕ) → set p ≡ true → view_of now p ≡ view_of files p
+    view_same p is = ap content_of (sym (alike.paths p is))
+
+    read_now : (p : List ℕ) → IsRead all (view_of files) i p → IsRead all (view_of now) i p
+    read_now p read = read_alike all (view_of files) (view_of now) i p (λ q every. sym (view_same q (paths.read q every))) read
+
+    read_then : (p : List ℕ) → IsRead all (view_of now) i p → IsRead all (view_of files) i p
+    read_then p read = read_alike all (view_of now) (view_of files) i p (λ q every. view_same q (paths.read q every)) read
+
+    counted_in : (p : List ℕ) → Counted all store now i p → set p ≡ true
+    counted_in p (inl read) = paths.read p (read_in_all all (view_of now) i p read)
+    counted_in p (inr recorded) = paths.recorded p recorded
+
+    counted_then : (p : List ℕ) → Counted all store now i p → Counted all store files i p
+    counted_then p (inl read) = inl (read_then p read)
+    counted_then p (inr recorded) = inr recorded
+
+    counted_now : (p : List ℕ) → Counted all store files i p → Counted all store now i p
+    counted_now p (inl read) = inl (read_now p read)
+    counted_now p (inr recorded) = inr recorded
+
+    abbrev facts_with : Option ℕ → Bool → InputFacts
+    facts_with stamp changed = record { stamp = stamp; changed = changed }
+
+    facts_same : (p : List ℕ) → set p ≡ true → Facts_at now p ≡ Facts_at files p
+    facts_same p is =
+        let old = stamp_of (file_at files p) in
+        let new = stamp_of (file_at now p) in
+        ap (λ (b : Bool). facts_with new b) (not_anew all (is_same_number old new) (maker all p) ∙ sym (not_anew all (is_same_number old old) (maker all p)))
+        ∙ ap (λ (s : Option ℕ). facts_with s (is_made_anew all [] (is_same_number old old) (maker all p))) (ap stamp_of (sym (alike.paths p is)))
+
+    abbrev with_inputs : List InputFacts → Facts
+    with_inputs inputs = record (facts_of all store [] files files i []) { inputs = inputs }
+
+    -- the reason that was found is that of the point
+    pub reason_then : (reason : Option Reason) → IsReasonBy all store [] files now i reason → IsReasonBy all store [] files files i reason
+    reason_then reason so = record {
+      read = so.read;
+      counted = λ p. ((λ h. counted_then p ((so.counted p).0 h)), (λ counted. (so.counted p).1 (counted_now p counted)));
+      is = so.is ∙ ap (λ (l : List InputFacts). reason_of (with_inputs l)) (map_same (Facts_at now) (Facts_at files) so.read (λ p h. facts_same p (counted_in p ((so.counted p).0 h))));
+    }

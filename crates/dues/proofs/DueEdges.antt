@@ -1,4 +1,4 @@
--- Which edges are due before anything runs, one more after another in the order of a cone.
+-- Which edges are due, one more after another in the order of a cone.
 use Rattle.std.proofs.Common.{◌≡◌, ◌↔◌, inl, inr, ℕ, zero, suc, ◌+◌, ◌<◌, Bool, true, false, List, [], ◌∷◌, ◌++◌, Some, map, length, take, get_or, refl, sym, ◌∙◌, ap, subst, arith, append_assoc}
 use Rattle.std.proofs.Math.ListN.{set, replicate}
 use Rattle.std.proofs.lemmas.Bool.{false≢true}
@@ -10,7 +10,7 @@ use Rattle.model.specs.Graph.{has, has_number, edge_at, maker, inputs}
 use Rattle.model.specs.OutOfDate.{IsDue, Counted}
 use Rattle.model.specs.Reading.{needs}
 use Rattle.model.specs.Records.{Store, recorded_inputs}
-use Rattle.model.specs.Schedule.{IsSettled}
+use Rattle.model.specs.Schedule.{Step, IsSettled}
 use Rattle.build_theory.specs.Order.{AreMakersFirst}
 use Rattle.build_theory.proofs.Lists.{has-left, has-right, has-cases, has_number-push, has_number-push_other}
 use Rattle.build_theory.proofs.Nothing.{ReadsAre, reads_where_settled}
@@ -30,7 +30,7 @@ first_at edges recorded before (e ∷ order) first (suc k) lt p j need is =
 
 -- ---- what is known of an edge whose makers were decided
 
-module _ (edges : List Edge) (store : Store) (files : List Moment) (order : List ℕ) (first : AreMakersFirst edges (recorded_inputs store edges) [] (map suc order)) where
+module _ (edges : List Edge) (store : Store) (before : List Step) (files : List Moment) (order : List ℕ) (first : AreMakersFirst edges (recorded_inputs store edges) [] (map suc order)) where
   -- what a listed edge reads can be listed
   reads : (e : ℕ) → has_number order e ≡ true → ReadsAre edges (view_of files) (suc e)
   reads e listed = reads_where_settled edges (view_of files) (map suc order) (suc e) below
@@ -52,11 +52,11 @@ module _ (edges : List Edge) (store : Store) (files : List Moment) (order : List
     ]),
   )
 
-  module _ (k : ℕ) (within : k < length order) (due : List Bool) (so_far : AreDue edges store files (take k order) due) where
+  module _ (k : ℕ) (within : k < length order) (due : List Bool) (so_far : AreDue edges store before files (take k order) due) where
     abbrev edge : ℕ
     edge = get_or order k 0
 
-    known : (p : List ℕ) (m : ℕ) → has (needs edges (recorded_inputs store edges) (suc edge)) p ≡ true → maker edges p ≡ Some (suc m) → (due_at due m ≡ true) ↔ IsDue edges store [] files (suc m)
+    known : (p : List ℕ) (m : ℕ) → has (needs edges (recorded_inputs store edges) (suc edge)) p ≡ true → maker edges p ≡ Some (suc m) → (due_at due m ≡ true) ↔ IsDue edges store before files (suc m)
     known p m need made = ((λ is. ((so_far m).0 is).1), (λ is. (so_far m).1 (listed, is)))
       where
         found : (q : ℕ) × (suc q ≡ suc m) × (has_number (take k order) q ≡ true)
@@ -65,16 +65,16 @@ module _ (edges : List Edge) (store : Store) (files : List Moment) (order : List
         listed : has_number (take k order) m ≡ true
         listed = let same : found.0 ≡ m = omega (arith, found.1) in subst (λ (q : ℕ). has_number (take k order) q ≡ true) same found.2
 
-    pub makers_known : AreMakersKnown edges store files due (suc edge)
+    pub makers_known : AreMakersKnown edges store before files due (suc edge)
     makers_known =
         let reading = reads edge (at_has order k 0 within) in
         record { makers = known; read = reading.paths ++ recorded_inputs store edges (suc edge); counted = counts (suc edge) reading }
 
     -- ---- one edge more
 
-    pub due_one_more : edge < length due → (is : Bool) → (is ≡ true) ↔ IsDue edges store [] files (suc edge) → AreDue edges store files (take (k + 1) order) (set due edge is)
+    pub due_one_more : edge < length due → (is : Bool) → (is ≡ true) ↔ IsDue edges store before files (suc edge) → AreDue edges store before files (take (k + 1) order) (set due edge is)
     due_one_more fits is decided x = elim (same_or_other edge x) [
-      | inl here ↦ subst (λ (q : ℕ). (due_at (set due edge is) q ≡ true) ↔ ((has_number (take (k + 1) order) q ≡ true) × IsDue edges store [] files (suc q))) (sym here) at_edge
+      | inl here ↦ subst (λ (q : ℕ). (due_at (set due edge is) q ≡ true) ↔ ((has_number (take (k + 1) order) q ≡ true) × IsDue edges store before files (suc q))) (sym here) at_edge
       | inr other ↦ elsewhere other
     ]
       where
@@ -84,20 +84,20 @@ module _ (edges : List Edge) (store : Store) (files : List Moment) (order : List
         written : due_at (set due edge is) edge ≡ is
         written = get_or-set_same due edge is false fits
 
-        at_edge : (due_at (set due edge is) edge ≡ true) ↔ ((has_number (take (k + 1) order) edge ≡ true) × IsDue edges store [] files (suc edge))
+        at_edge : (due_at (set due edge is) edge ≡ true) ↔ ((has_number (take (k + 1) order) edge ≡ true) × IsDue edges store before files (suc edge))
         at_edge = (
           (λ h. (ap (λ (l : List ℕ). has_number l edge) longer ∙ has_number-push (take k order) edge, decided.0 (sym written ∙ h))),
           (λ both. written ∙ decided.1 both.1),
         )
 
-        elsewhere : (x ≡ edge → ⊥) → (due_at (set due edge is) x ≡ true) ↔ ((has_number (take (k + 1) order) x ≡ true) × IsDue edges store [] files (suc x))
+        elsewhere : (x ≡ edge → ⊥) → (due_at (set due edge is) x ≡ true) ↔ ((has_number (take (k + 1) order) x ≡ true) × IsDue edges store before files (suc x))
         elsewhere other =
             let kept : due_at (set due edge is) x ≡ due_at due x = get_or-set_other due edge x is false other in
             let same : has_number (take (k + 1) order) x ≡ has_number (take k order) x = ap (λ (l : List ℕ). has_number l x) longer ∙ has_number-push_other (take k order) edge x (λ h. other (sym h)) in
             ((λ h. let was = (so_far x).0 (sym kept ∙ h) in (same ∙ was.0, was.1)), (λ both. kept ∙ (so_far x).1 (sym same ∙ both.0, both.1)))
 
-pub none_due : (edges : List Edge) (store : Store) (files : List Moment) (n : ℕ) → AreDue edges store files [] (replicate n false)
-none_due edges store files n x = ((λ h. absurd (false≢true (sym (never n x) ∙ h))), (λ both. absurd (false≢true both.0)))
+pub none_due : (edges : List Edge) (store : Store) (before : List Step) (files : List Moment) (n : ℕ) → AreDue edges store before files [] (replicate n false)
+none_due edges store before files n x = ((λ h. absurd (false≢true (sym (never n x) ∙ h))), (λ both. absurd (false≢true both.0)))
   where
     never : (n x : ℕ) → due_at (replicate n false) x ≡ false
     never zero x = refl

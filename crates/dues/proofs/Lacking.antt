@@ -1,30 +1,35 @@
 -- What looking for sources tells of the files.
-use Rattle.std.proofs.Common.{◌≡◌, ◌↔◌, ℕ, suc, ◌+◌, ◌<◌, ◌≤◌, Bool, true, false, List, [], ◌∷◌, ◌++◌, Option, Some, None, length, take, drop, get_or, refl, sym, ◌∙◌, ap, subst, arith}
+use Rattle.std.proofs.Common.{◌≡◌, ◌↔◌, ℕ, suc, ◌+◌, ◌<◌, ◌≤◌, ◌==◌, Bool, true, false, List, [], ◌∷◌, ◌++◌, Option, Some, None, length, take, drop, get_or, refl, sym, ◌∙◌, ap, subst, arith}
 use borrow.Author.Count.{below_more}
-use Rattle.std.proofs.lemmas.Bool.{false≢true}
+use Rattle.std.proofs.lemmas.Bool.{false≢true, or_right}
 use Rattle.std.proofs.lemmas.List.{map-append, take_more, drop_more, take-append-drop, get_or_past}
 use Rattle.model.specs.declared.event.Moment.{Moment}
 use Rattle.model.specs.declared.graph.Edge.{Edge}
-use Rattle.model.specs.World.{file_at}
-use Rattle.model.specs.Graph.{has_number, edge_at, inputs, maker, targets_of}
+use Rattle.model.specs.World.{World, file_at}
+use Rattle.model.specs.Calls.{OnlyLooks}
+use Rattle.model.specs.Graph.{has, has_number, edge_at, later_number, regular_inputs, inputs, maker}
 use Rattle.model.specs.OutOfDate.{IsDue, IsMissing, NoneIsMissing, IsFirstMissing}
 use Rattle.model.specs.Records.{Store, recorded_inputs}
-use Rattle.build_theory.proofs.Lists.{all_append}
+use Rattle.model.specs.Schedule.{Step, out_of_date_in}
+use Rattle.build_theory.proofs.Lists.{all_append, has-left, some_none}
 use Rattle.paths.specs.Told.{text_at, texts_at}
 use Rattle.links.specs.declared.graph.Graph.{Graph}
-use Rattle.links.specs.declared.cone.Cone.{Cone}
 use Rattle.links.specs.declared.cone.Mark.{Mark}
 use Rattle.links.specs.declared.cone.Mark.TheVariants.{Unseen}
 use Rattle.links.specs.Cone.{mark_at, is_listed}
 use Rattle.links.specs.Linked.{IsConeOf, StandFor}
 use Rattle.links.specs.Links.{links_of}
 use Rattle.links.specs.Told.{declared_by}
-use Rattle.links.specs.Targets.{IsConeFor}
 use Rattle.dues.specs.declared.lack.Lack.{Lack}
-use Rattle.dues.specs.Dues.{AreDue, due_at, is_absent}
-use Rattle.dues.specs.Lacks.{IsFound, IsLackedBy, NoneBelow, IsFirstIn, IsFirstFor, IsFirstOfDue, IsFoundOfDue}
+use Rattle.looks.specs.declared.table.Looks.{Looks}
+use Rattle.looks.specs.Looking.{HasLooked}
+use Rattle.verdict.specs.Facts.{AreIn}
+use Rattle.dues.specs.Quiet.{IsUnmade, HasPathsFor, IfStill}
+use Rattle.dues.specs.Dues.{AreDue, due_at, is_absent, IsSourceIn, AreSourcesIn, HasAllSources}
+use Rattle.dues.specs.Lacks.{IsFound, IsLackedBy, NoneBelow, IsMissingAt, IsFirstIn, IsFirstFor, IsFirstOfDue, IsFoundOfDue}
 use Rattle.dues.proofs.AliasDues.{none_there, there_none}
-use Rattle.dues.proofs.Slices.{at_has, suc_has}
+use Rattle.dues.proofs.Slices.{has_here, has_text, suc_has}
+use Rattle.dues.proofs.Stays.{Follow, Stay, still_first, still_second, all_at}
 
 -- ---- one path
 
@@ -57,6 +62,35 @@ module _ (edges : List Edge) (paths : List (List ℕ)) (files : List Moment) (xs
     missing = missing;
   }
 
+-- ---- a path more, by a call
+
+module _ (follow : Follow) (stay : Stay) (tells : Bool) (graph : Graph) (a b c : World) (first_looks second_looks : Looks) (first : HasLooked tells graph a b first_looks second_looks) (second : OnlyLooks tells b c) where
+  abbrev all : List Edge
+  all = (declared_by graph).edges
+
+  abbrev table : List (List ℕ)
+  table = graph.manifest.paths
+
+  module _ (xs : List ℕ) (k d : ℕ) (within : k < length xs) (so_far : IfStill tells graph a b first_looks (λ set files. AreSourcesIn set graph xs → NoneIsMissing all files (texts_at table (take k xs))))
+      (p : ℕ) (is_at : p ≡ get_or xs k d) (is : Bool) (now : IfStill tells graph b c second_looks (IsMissingAt graph p is))
+    where
+      none_before : IfStill tells graph a c first_looks (λ set files. AreSourcesIn set graph xs → NoneIsMissing all files (texts_at table (take k xs)))
+      none_before = still_first follow stay tells graph a b c first_looks second_looks first second (λ set files. AreSourcesIn set graph xs → NoneIsMissing all files (texts_at table (take k xs))) so_far
+
+      said : IfStill tells graph a c first_looks (λ set files. AreSourcesIn set graph xs → (is ≡ true) ↔ IsMissing all files (text_at table (get_or xs k d)))
+      said told set kept seen files same fit =
+          subst (λ (q : ℕ). (is ≡ true) ↔ IsMissing all files (text_at table q)) is_at
+          (still_second follow stay tells graph a b c first_looks second_looks first second (IsMissingAt graph p is) now told set kept seen files same (subst (IsSourceIn set graph) (sym is_at) (all_at (IsSourceIn set graph) xs k d within fit)))
+
+      pub missing_passed : is ≡ false → IfStill tells graph a c first_looks (λ set files. AreSourcesIn set graph xs → NoneIsMissing all files (texts_at table (take (k + 1) xs)))
+      missing_passed not_so told set kept seen files same fit =
+          none_more all table files xs k d within (none_before told set kept seen files same fit) (λ missing. false≢true (sym not_so ∙ (said told set kept seen files same fit).1 missing))
+
+      pub missing_found : is ≡ true → IfStill tells graph a c first_looks (λ set files. AreSourcesIn set graph xs → IsFirstIn graph xs files (Some p))
+      missing_found so told set kept seen files same fit =
+          subst (λ (q : ℕ). IsFirstMissing all files (texts_at table xs) (text_at table q)) (sym is_at)
+          (first_here all table files xs k d within (none_before told set kept seen files same fit) ((said told set kept seen files same fit).0 so))
+
 -- ---- several edges
 
 module _ (graph : Graph) (due : List Bool) (files : List Moment) where
@@ -82,6 +116,70 @@ module _ (graph : Graph) (due : List Bool) (files : List Moment) where
     needed_by = refl;
   }
 
+-- an edge more, by a call
+module _ (follow : Follow) (stay : Stay) (tells : Bool) (graph : Graph) (a b c : World) (first_looks second_looks : Looks) (first : HasLooked tells graph a b first_looks second_looks) (second : OnlyLooks tells b c) (due : List Bool)
+    (count : ℕ) (so_far : IfStill tells graph a b first_looks (λ set files. HasAllSources set graph → NoneBelow (declared_by graph).edges due files count))
+    (e : ℕ) (is_at : e ≡ count) (found : Option ℕ) (now : IfStill tells graph b c second_looks (λ set files. AreSourcesIn set graph ((links_of graph).inputs e) → IsFirstFor graph due e files found))
+  where
+    below : IfStill tells graph a c first_looks (λ set files. HasAllSources set graph → NoneBelow (declared_by graph).edges due files count)
+    below = still_first follow stay tells graph a b c first_looks second_looks first second (λ set files. HasAllSources set graph → NoneBelow (declared_by graph).edges due files count) so_far
+
+    here : IfStill tells graph a c first_looks (λ set files. HasAllSources set graph → IsFirstFor graph due e files found)
+    here told set kept seen files same all =
+        still_second follow stay tells graph a b c first_looks second_looks first second (λ set files. AreSourcesIn set graph ((links_of graph).inputs e) → IsFirstFor graph due e files found) now told set kept seen files same (all e)
+
+    pub edge_passed : found ≡ None → IfStill tells graph a c first_looks (λ set files. HasAllSources set graph → NoneBelow (declared_by graph).edges due files (count + 1))
+    edge_passed none told set kept seen files same all =
+        one_edge graph due files count (below told set kept seen files same all) found none (subst (λ (q : ℕ). IsFirstFor graph due q files found) is_at (here told set kept seen files same all))
+
+    pub edge_found : (p : ℕ) → found ≡ Some p → IfStill tells graph a c first_looks (λ set files. HasAllSources set graph → IsFoundOfDue graph due files (Some (record { path = p; needed_by = Some e })))
+    edge_found p some told set kept seen files same all =
+        first_edge graph due files e p (subst (NoneBelow (declared_by graph).edges due files) (sym is_at) (below told set kept seen files same all)) found some (here told set kept seen files same all)
+
+-- ---- the paths that may be looked at
+
+module _ (graph : Graph) (stands : StandFor (declared_by graph).edges graph.manifest.paths (links_of graph)) (store : Store) (targets : List (List ℕ)) (before : List Step) (set : List ℕ → Bool)
+    (has_all : HasPathsFor (declared_by graph).edges store targets before set)
+  where
+    source_of : (n : ℕ) → n < length graph.manifest.paths → (links_of graph).maker n ≡ None → maker (declared_by graph).edges (text_at graph.manifest.paths n) ≡ None
+    source_of n lt source = stands.makers n lt ∙ ap later_number source
+
+    free : (p : List ℕ) → maker (declared_by graph).edges p ≡ None → IsUnmade (declared_by graph).edges before p
+    free p source j made = absurd (some_none j (sym made ∙ source))
+
+    from_list : (xs : List ℕ) → ((n : ℕ) → has_number xs n ≡ true → IsSourceIn set graph n) → AreSourcesIn set graph xs
+    from_list [] each = tt
+    from_list (x ∷ xs) each = (each x (has_here x xs), from_list xs (λ n h. each n (or_right (x == n) (has_number xs n) h)))
+
+    named_sources : (i : ℕ) (xs : List ℕ) → ((n : ℕ) → has_number xs n ≡ true → n < length graph.manifest.paths) → ((n : ℕ) → has_number xs n ≡ true → has (inputs (edge_at (declared_by graph).edges i)) (text_at graph.manifest.paths n) ≡ true)
+        → AreSourcesIn set graph xs
+    named_sources i xs within named =
+        from_list xs (λ n h source. has_all.named i (text_at graph.manifest.paths n) (named n h) (free (text_at graph.manifest.paths n) (source_of n (within n h) source)))
+
+    pub inputs_known : HasAllSources set graph
+    inputs_known e =
+        named_sources (suc e) ((links_of graph).inputs e) (stands.inputs_within e)
+        (λ n h. subst (λ (l : List (List ℕ)). has l (text_at graph.manifest.paths n) ≡ true) (stands.inputs_are e) (has_text graph.manifest.paths ((links_of graph).inputs e) n h))
+
+    pub regular_known : (e : ℕ) → AreSourcesIn set graph ((links_of graph).regular e)
+    regular_known e =
+        named_sources (suc e) ((links_of graph).regular e) (stands.regular_within e)
+        (λ n h. has-left (regular_inputs (edge_at (declared_by graph).edges (suc e))) (edge_at (declared_by graph).edges (suc e)).order_only_inputs (text_at graph.manifest.paths n)
+        (subst (λ (l : List (List ℕ)). has l (text_at graph.manifest.paths n) ≡ true) (stands.regular_are e) (has_text graph.manifest.paths ((links_of graph).regular e) n h)))
+
+    pub requested_known : (xs : List ℕ) → texts_at graph.manifest.paths xs ≡ targets → ((n : ℕ) → has_number xs n ≡ true → n < length graph.manifest.paths) → AreSourcesIn set graph xs
+    requested_known xs named within =
+        from_list xs (λ n h source. has_all.requested (text_at graph.manifest.paths n) (subst (λ (l : List (List ℕ)). has l (text_at graph.manifest.paths n) ≡ true) named (has_text graph.manifest.paths xs n h)) (source_of n (within n h) source))
+
+    texts_in : (xs : List ℕ) → ((n : ℕ) → has_number xs n ≡ true → set (text_at graph.manifest.paths n) ≡ true) → AreIn set graph.manifest.paths xs
+    texts_in [] each = tt
+    texts_in (x ∷ xs) each = (each x (has_here x xs), texts_in xs (λ n h. each n (or_right (x == n) (has_number xs n) h)))
+
+    pub outputs_known : (e : ℕ) → has_number (out_of_date_in before) (suc e) ≡ false → AreIn set graph.manifest.paths ((links_of graph).outputs e)
+    outputs_known e fresh =
+        texts_in ((links_of graph).outputs e)
+        (λ n h. has_all.made (suc e) (text_at graph.manifest.paths n) fresh (subst (λ (l : List (List ℕ)). has l (text_at graph.manifest.paths n) ≡ true) (stands.outputs_are e) (has_text graph.manifest.paths ((links_of graph).outputs e) n h)))
+
 -- ---- the cone
 
 listed_within : (marks : List Mark) (e : ℕ) → is_listed (mark_at marks e) ≡ true → e < length marks
@@ -94,29 +192,21 @@ in_graph : (edges : List Edge) (recorded : ℕ → List (List ℕ)) (targets : L
     → (e : ℕ) → has_number order e ≡ true → e < length edges
 in_graph edges recorded targets order marks cone e h = omega (arith, listed_within marks e (cone.marked e ∙ h), cone.fits)
 
-pub listed_edge : (graph : Graph) → StandFor (declared_by graph).edges graph.manifest.paths (links_of graph) → (recorded : ℕ → List (List ℕ)) (targets : List (List ℕ)) (cone : Cone) → IsConeFor graph recorded targets cone → (order : List ℕ) → order ≡ cone.order.items → (k d : ℕ) → k < length order
-    → get_or order k d < length graph.manifest.lines
-listed_edge graph stands recorded targets cone is order same k d lt =
-    let edges = (declared_by graph).edges in
-    let low = in_graph edges recorded (targets_of (declared_by graph) targets) cone.order.items cone.marks.items is.listed (get_or order k d)
-    (subst (λ (l : List ℕ). has_number l (get_or order k d) ≡ true) same (at_has order k d lt)) in
-    omega (arith, low, stands.fits)
-
--- what is found of the due edges of the cone is what is told before anything runs
-pub found_of : (graph : Graph) → StandFor (declared_by graph).edges graph.manifest.paths (links_of graph) → (targets : List (List ℕ)) (order : List ℕ) (marks : List Mark) (store : Store) (files : List Moment)
+-- what is found of the due edges of the cone is what is told
+pub found_of : (graph : Graph) → StandFor (declared_by graph).edges graph.manifest.paths (links_of graph) → (targets : List (List ℕ)) (order : List ℕ) (marks : List Mark) (store : Store) (before : List Step) (files : List Moment)
     → IsConeOf (declared_by graph).edges (recorded_inputs store (declared_by graph).edges) targets order marks
-    → NoneIsMissing (declared_by graph).edges files targets → (due : List Bool) → AreDue (declared_by graph).edges store files order due → (found : Option Lack) → IsFoundOfDue graph due files found → IsFound graph store targets files found
-found_of graph stands targets order marks store files cone of_targets due are None none = record {
+    → NoneIsMissing (declared_by graph).edges files targets → (due : List Bool) → AreDue (declared_by graph).edges store before files order due → (found : Option Lack) → IsFoundOfDue graph due files found → IsFound graph store before targets files found
+found_of graph stands targets order marks store before files cone of_targets due are None none = record {
   of_targets = of_targets;
   of_edges = λ i asked.
       let edges = (declared_by graph).edges in
       let place = suc_has order i (cone.all i asked.within) in
       let low : place.0 < length graph.manifest.lines = omega (arith, in_graph edges (recorded_inputs store edges) targets order marks cone place.0 place.2, stands.fits) in
       subst (λ (n : ℕ). NoneIsMissing edges files (inputs (edge_at edges n))) place.1
-      (none place.0 low ((are place.0).1 (place.2, subst (λ (n : ℕ). IsDue edges store [] files n) (sym place.1) asked.due)));
+      (none place.0 low ((are place.0).1 (place.2, subst (λ (n : ℕ). IsDue edges store before files n) (sym place.1) asked.due)));
 }
-found_of graph stands targets order marks store files cone of_targets due are (Some lack) first =
-    subst (IsLackedBy (declared_by graph).edges store targets files (text_at graph.manifest.paths lack.path)) (sym {A = Option ℕ} first.needed_by) (
+found_of graph stands targets order marks store before files cone of_targets due are (Some lack) first =
+    subst (IsLackedBy (declared_by graph).edges store before targets files (text_at graph.manifest.paths lack.path)) (sym {A = Option ℕ} first.needed_by) (
     record {
       asked = record { within = cone.within first.edge listed.0; due = listed.1 };
       of_targets = of_targets;
@@ -124,10 +214,10 @@ found_of graph stands targets order marks store files cone of_targets due are (S
           let edges = (declared_by graph).edges in
           let place = suc_has order k (cone.all k asked.within) in
           subst (λ (n : ℕ). NoneIsMissing edges files (inputs (edge_at edges n))) place.1
-          (first.lowest place.0 (omega (arith, less, place.1)) ((are place.0).1 (place.2, subst (λ (n : ℕ). IsDue edges store [] files n) (sym place.1) asked.due)));
+          (first.lowest place.0 (omega (arith, less, place.1)) ((are place.0).1 (place.2, subst (λ (n : ℕ). IsDue edges store before files n) (sym place.1) asked.due)));
       first = first.first;
     }
     )
   where
-    listed : (has_number order first.edge ≡ true) × IsDue (declared_by graph).edges store [] files (suc first.edge)
+    listed : (has_number order first.edge ≡ true) × IsDue (declared_by graph).edges store before files (suc first.edge)
     listed = (are first.edge).0 first.is_due

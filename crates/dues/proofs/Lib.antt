@@ -2,5 +2,8 @@ pub mod Slices
 pub mod Stays
 pub mod AliasDues
 pub mod CommandDues
+pub mod Judging
 pub mod DueEdges
 pub mod Lacking
+pub mod Finding
+pub mod Callers

@@ -29,6 +29,14 @@ at_has (x ∷ xs) (suc k) d lt = or_right (x == get_or xs k d) (has_number xs (g
 pub within_by : (n : ℕ) (xs ys : List ℕ) → ys ≡ xs → ((p : ℕ) → has_number xs p ≡ true → p < n) → (k d : ℕ) → k < length ys → get_or ys k d < n
 within_by n xs ys same each k d lt = each (get_or ys k d) (subst (λ (l : List ℕ). has_number l (get_or ys k d) ≡ true) same (at_has ys k d lt))
 
+-- what holds at each place holds of each number
+pub all_of : (P : ℕ → Type 0) (xs : List ℕ) → ((k d : ℕ) → k < length xs → P (get_or xs k d)) → (n : ℕ) → has_number xs n ≡ true → P n
+all_of P [] each n h = absurd (false≢true h)
+all_of P (x ∷ xs) each n h = elim (or_cases (x == n) (has_number xs n) h) [
+  | inl here ↦ subst P (eqb-true x n here) (each zero x (omega arith))
+  | inr later ↦ all_of P xs (λ k d lt. each (suc k) d (omega (arith, lt))) n later
+]
+
 pub has_suc : (xs : List ℕ) (e : ℕ) → has_number xs e ≡ true → has_number (map suc xs) (suc e) ≡ true
 has_suc [] e h = absurd (false≢true h)
 has_suc (x ∷ xs) e h = elim (or_cases (x == e) (has_number xs e) h) [

@@ -1,5 +1,5 @@
 -- Which edges are due after some steps, by the numbers of edges and paths.
-use Rattle.std.specs.Prelude.{◌≡◌, ◌↔◌, ◌||◌, ℕ, suc, ◌==◌, Bool, true, false, if◌then◌else◌, List, [], length, slice_index_or, Option, Some, None}
+use Rattle.std.specs.Prelude.{◌≡◌, ◌↔◌, ◌||◌, ℕ, suc, ◌==◌, Bool, true, false, if◌then◌else◌, List, length, slice_index_or, Option, Some, None}
 use Rattle.std.specs.List.{AllByRecursion, list_any}
 use Rattle.std.specs.Option.{is_none}
 use Rattle.model.specs.declared.event.Moment.{Moment}
@@ -56,6 +56,10 @@ IsSourceIn set graph p = (links_of graph).maker p ≡ None → set (text_at grap
 -- the sources among these paths are in the set
 abbrev pub AreSourcesIn : (List ℕ → Bool) → Graph → List ℕ → Type 0
 AreSourcesIn set graph ps = AllByRecursion (IsSourceIn set graph) ps
+
+-- the sources among the inputs of all edges are in the set
+abbrev pub HasAllSources : (List ℕ → Bool) → Graph → Type 0
+HasAllSources set graph = (e : ℕ) → AreSourcesIn set graph ((links_of graph).inputs e)
 
 abbrev pub IsAbsentAt : Graph → ℕ → Bool → (List ℕ → Bool) → List Moment → Type 0
 IsAbsentAt graph p is set files = set (text_at graph.manifest.paths p) ≡ true → is ≡ is_absent graph.manifest.paths files p

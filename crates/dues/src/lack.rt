@@ -8,7 +8,7 @@ ghost use Rattle.links.specs.Links.{links_of};
 ghost use Rattle.looks.specs.Looking.{HasLooked};
 ghost use Rattle.dues.specs.Quiet.{IfStill, IfQuiet};
 ghost use Rattle.dues.specs.UnderWay.{IsUnderWay};
-ghost use Rattle.dues.specs.Dues.{AreSourcesIn};
+ghost use Rattle.dues.specs.Dues.{AreSourcesIn, HasAllSources};
 ghost use Rattle.dues.specs.Lacks.{IsFound, lack_in, IfPresent, HasDue, IsLackOf, IsMissingAt, IsFirstIn, IsFirstFor, IsFoundOfDue};
 
 use crate::aliases::is_absent;
@@ -100,7 +100,7 @@ fn lack_of_due<S: Site>(
     requires due { length due.now ≡ length graph.now.manifest.lines }
     ensures looked { HasLooked S.tells graph.now (S.world site.old) (S.world site.new) looks.old looks.new }
     ensures cause { HasCause (S.world site.old) (S.world site.new) result }
-    ensures found { IfOk result (λ found. IfStill S.tells graph.now (S.world site.old) (S.world site.new) looks.old (λ set files. ((e : ℕ) → AreSourcesIn set graph.now ((links_of graph.now).inputs e)) → IsFoundOfDue graph.now due.now files found)) }
+    ensures found { IfOk result (λ found. IfStill S.tells graph.now (S.world site.old) (S.world site.new) looks.old (λ set files. HasAllSources set graph.now → IsFoundOfDue graph.now due.now files found)) }
     ensures within { IfOk result (λ found. IfSome found (IsLackOf graph.now)) }
 {
     looks_follow();

@@ -1,6 +1,7 @@
-use Rattle.std.proofs.Common.{◌∙◌, ap, arith}
+use Rattle.std.proofs.Common.{◌≡◌, ℕ, true, sym, ◌∙◌, ap, subst, arith}
 use Rattle.std.proofs.lemmas.List.{take_all}
 use Rattle.build_theory.proofs.Calls.{unrefused_call, unrefused_then}
+use Rattle.paths.specs.Told.{text_at}
 use Rattle.dues.specs.Dues.{is_absent}
 use Rattle.dues.proofs.Stays.{looked_then, passed_by, found_one, none_found}
 use Rattle.dues.proofs.aliases.has_absent.Goals as goal
@@ -15,20 +16,20 @@ returns-then-branch-clause-looked g c =
 
 pub returns-then-branch-clause-has : goal.returns-then-branch-clause-has
 returns-then-branch-clause-has g c =
-    found_one g.S.Texts.tells c.args.graph.now (g.S.Texts.world c.args.site.now) (g.S.Texts.world c.loop-path.site) (g.S.Texts.world c.is_absent.new.site) c.args.looks.now c.loop-path.looks c.is_absent.new.looks c.loop-path.invariant.looked
-    c.is_absent.ensures.looked.looks (λ files. is_absent c.args.graph.now.manifest.paths files) c.args.paths.now c.loop-path.path-index c.path-item.result c.loop-path-test.true c.loop-path.invariant.none c.in_ok-is_absent.field-0
-    (λ told files stays seen. c.in_ok-is_absent.ensures.absent told files stays seen ∙ ap (is_absent c.args.graph.now.manifest.paths files) c.path-item.is) (cc)
+    found_one c.looks_follow.ensures.follow c.looks_follow.ensures.stay g.S.Texts.tells c.args.graph.now (g.S.Texts.world c.args.site.now) (g.S.Texts.world c.loop-path.site) (g.S.Texts.world c.is_absent.new.site) c.args.looks.now c.loop-path.looks c.loop-path.invariant.looked c.is_absent.ensures.looked.looks (λ set p. set (text_at c.args.graph.now.manifest.paths p) ≡ true)
+    (λ files. is_absent c.args.graph.now.manifest.paths files) c.args.paths.now c.loop-path.path-index c.path-item.result c.loop-path-test.true c.loop-path.invariant.none c.in_ok-is_absent.field-0
+    (λ told set kept seen files same fit. c.in_ok-is_absent.ensures.absent told set kept seen files same (subst (λ (p : ℕ). set (text_at c.args.graph.now.manifest.paths p) ≡ true) (sym {A = ℕ} c.path-item.is) fit) ∙ ap (is_absent c.args.graph.now.manifest.paths files) c.path-item.is) (cc)
 
 pub loop-path-preserved : goal.loop-path-preserved
 loop-path-preserved g c = record {
   looked = looked_then c.looks_follow.ensures.follow g.S.Texts.tells c.args.graph.now (g.S.Texts.world c.args.site.now) (g.S.Texts.world c.loop-path.site) (g.S.Texts.world c.is_absent.new.site) c.args.looks.now c.loop-path.looks c.is_absent.new.looks c.loop-path.invariant.looked c.is_absent.ensures.looked;
   unrefused = unrefused_then (g.S.Texts.world c.args.site.now) (g.S.Texts.world c.loop-path.site) (g.S.Texts.world c.is_absent.new.site) c.loop-path.invariant.unrefused (unrefused_call (g.S.Texts.world c.loop-path.site) (g.S.Texts.world c.is_absent.new.site) _ c.in_ok-is_absent.ensures.cause);
-  none = passed_by g.S.Texts.tells c.args.graph.now (g.S.Texts.world c.args.site.now) (g.S.Texts.world c.loop-path.site) (g.S.Texts.world c.is_absent.new.site) c.args.looks.now c.loop-path.looks c.is_absent.new.looks c.loop-path.invariant.looked
-      c.is_absent.ensures.looked.looks (λ files. is_absent c.args.graph.now.manifest.paths files) c.args.paths.now c.loop-path.path-index c.path-item.result c.loop-path-test.true c.loop-path.invariant.none c.in_ok-is_absent.field-0
-      (λ told files stays seen. c.in_ok-is_absent.ensures.absent told files stays seen ∙ ap (is_absent c.args.graph.now.manifest.paths files) c.path-item.is) (cc);
+  none = passed_by c.looks_follow.ensures.follow c.looks_follow.ensures.stay g.S.Texts.tells c.args.graph.now (g.S.Texts.world c.args.site.now) (g.S.Texts.world c.loop-path.site) (g.S.Texts.world c.is_absent.new.site) c.args.looks.now c.loop-path.looks c.loop-path.invariant.looked c.is_absent.ensures.looked.looks (λ set p. set (text_at c.args.graph.now.manifest.paths p) ≡ true)
+      (λ files. is_absent c.args.graph.now.manifest.paths files) c.args.paths.now c.loop-path.path-index c.path-item.result c.loop-path-test.true c.loop-path.invariant.none c.in_ok-is_absent.field-0
+      (λ told set kept seen files same fit. c.in_ok-is_absent.ensures.absent told set kept seen files same (subst (λ (p : ℕ). set (text_at c.args.graph.now.manifest.paths p) ≡ true) (sym {A = ℕ} c.path-item.is) fit) ∙ ap (is_absent c.args.graph.now.manifest.paths files) c.path-item.is) (cc);
 }
 
 pub returns-clause-has : goal.returns-clause-has
 returns-clause-has g c =
-    none_found g.S.Texts.tells c.args.graph.now (g.S.Texts.world c.args.site.now) (g.S.Texts.world c.loop-path.site) c.args.looks.now (λ files. is_absent c.args.graph.now.manifest.paths files) c.args.paths.now c.loop-path.path-index
+    none_found g.S.Texts.tells c.args.graph.now (g.S.Texts.world c.args.site.now) (g.S.Texts.world c.loop-path.site) c.args.looks.now (λ set p. set (text_at c.args.graph.now.manifest.paths p) ≡ true) (λ files. is_absent c.args.graph.now.manifest.paths files) c.args.paths.now c.loop-path.path-index
     c.loop-path.invariant.none (take_all c.loop-path.path-index c.args.paths.now (omega arith))

@@ -1,7 +1,9 @@
 use Rattle.std.proofs.Common.{◌≡◌, false, take}
 use Rattle.std.specs.List.{list_any}
 use Rattle.build_theory.specs.Seen.{Unrefused}
-use Rattle.looks.specs.Looking.{HasLooked, IfSeen}
+use Rattle.looks.specs.Looking.{HasLooked}
+use Rattle.verdict.specs.Facts.{AreIn}
+use Rattle.dues.specs.Quiet.{IfStill}
 use Rattle.dues.specs.Dues.{is_absent}
 use Rattle.dues.proofs.aliases.has_absent.Given as goal
 
@@ -9,5 +11,5 @@ abbrev pub invariant-loop-path : goal.invariant-loop-path
 invariant-loop-path g l = record {
   looked : HasLooked g.S.Texts.tells l.graph (g.S.Texts.world l.fn.site) (g.S.Texts.world l.site) l.fn.looks l.looks;
   unrefused : Unrefused (g.S.Texts.world l.fn.site) (g.S.Texts.world l.site);
-  none : IfSeen g.S.Texts.tells l.graph (g.S.Texts.world l.fn.site) (g.S.Texts.world l.site) l.fn.looks (λ files. list_any (is_absent l.graph.manifest.paths files) (take l.path-index l.paths) ≡ false);
+  none : IfStill g.S.Texts.tells l.graph (g.S.Texts.world l.fn.site) (g.S.Texts.world l.site) l.fn.looks (λ set files. AreIn set l.graph.manifest.paths l.paths → list_any (is_absent l.graph.manifest.paths files) (take l.path-index l.paths) ≡ false);
 }

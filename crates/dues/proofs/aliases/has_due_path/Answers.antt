@@ -1,8 +1,8 @@
-use Rattle.std.proofs.Common.{◌∙◌, ap, arith}
+use Rattle.std.proofs.Common.{ℕ, sym, ◌∙◌, ap, subst, arith}
 use Rattle.std.proofs.lemmas.List.{take_all}
 use Rattle.build_theory.proofs.Calls.{unrefused_call, unrefused_then}
 use Rattle.links.specs.Links.{links_of}
-use Rattle.dues.specs.Dues.{is_due_path}
+use Rattle.dues.specs.Dues.{is_due_path, IsSourceIn}
 use Rattle.dues.proofs.Stays.{looked_then, passed_by, found_one, none_found}
 use Rattle.dues.proofs.aliases.has_due_path.Goals as goal
 
@@ -16,20 +16,20 @@ returns-then-branch-clause-looked g c =
 
 pub returns-then-branch-clause-has : goal.returns-then-branch-clause-has
 returns-then-branch-clause-has g c =
-    found_one g.S.Texts.tells c.args.graph.now (g.S.Texts.world c.args.site.now) (g.S.Texts.world c.loop-path.site) (g.S.Texts.world c.is_due_path.new.site) c.args.looks.now c.loop-path.looks c.is_due_path.new.looks c.loop-path.invariant.looked
-    c.is_due_path.ensures.looked.looks (λ files. is_due_path c.args.graph.now.manifest.paths (links_of c.args.graph.now) files c.args.due.now) c.args.paths.now c.loop-path.path-index c.path-item.result c.loop-path-test.true c.loop-path.invariant.none c.in_ok-is_due_path.field-0
-    (λ told files stays seen. c.in_ok-is_due_path.ensures.due told files stays seen ∙ ap (is_due_path c.args.graph.now.manifest.paths (links_of c.args.graph.now) files c.args.due.now) c.path-item.is) (cc)
+    found_one c.looks_follow.ensures.follow c.looks_follow.ensures.stay g.S.Texts.tells c.args.graph.now (g.S.Texts.world c.args.site.now) (g.S.Texts.world c.loop-path.site) (g.S.Texts.world c.is_due_path.new.site) c.args.looks.now c.loop-path.looks c.loop-path.invariant.looked c.is_due_path.ensures.looked.looks (λ set p. IsSourceIn set c.args.graph.now p)
+    (λ files. is_due_path c.args.graph.now.manifest.paths (links_of c.args.graph.now) files c.args.due.now) c.args.paths.now c.loop-path.path-index c.path-item.result c.loop-path-test.true c.loop-path.invariant.none c.in_ok-is_due_path.field-0
+    (λ told set kept seen files same fit. c.in_ok-is_due_path.ensures.due told set kept seen files same (subst (IsSourceIn set c.args.graph.now) (sym {A = ℕ} c.path-item.is) fit) ∙ ap (is_due_path c.args.graph.now.manifest.paths (links_of c.args.graph.now) files c.args.due.now) c.path-item.is) (cc)
 
 pub loop-path-preserved : goal.loop-path-preserved
 loop-path-preserved g c = record {
   looked = looked_then c.looks_follow.ensures.follow g.S.Texts.tells c.args.graph.now (g.S.Texts.world c.args.site.now) (g.S.Texts.world c.loop-path.site) (g.S.Texts.world c.is_due_path.new.site) c.args.looks.now c.loop-path.looks c.is_due_path.new.looks c.loop-path.invariant.looked c.is_due_path.ensures.looked;
   unrefused = unrefused_then (g.S.Texts.world c.args.site.now) (g.S.Texts.world c.loop-path.site) (g.S.Texts.world c.is_due_path.new.site) c.loop-path.invariant.unrefused (unrefused_call (g.S.Texts.world c.loop-path.site) (g.S.Texts.world c.is_due_path.new.site) _ c.in_ok-is_due_path.ensures.cause);
-  none = passed_by g.S.Texts.tells c.args.graph.now (g.S.Texts.world c.args.site.now) (g.S.Texts.world c.loop-path.site) (g.S.Texts.world c.is_due_path.new.site) c.args.looks.now c.loop-path.looks c.is_due_path.new.looks c.loop-path.invariant.looked
-      c.is_due_path.ensures.looked.looks (λ files. is_due_path c.args.graph.now.manifest.paths (links_of c.args.graph.now) files c.args.due.now) c.args.paths.now c.loop-path.path-index c.path-item.result c.loop-path-test.true c.loop-path.invariant.none c.in_ok-is_due_path.field-0
-      (λ told files stays seen. c.in_ok-is_due_path.ensures.due told files stays seen ∙ ap (is_due_path c.args.graph.now.manifest.paths (links_of c.args.graph.now) files c.args.due.now) c.path-item.is) (cc);
+  none = passed_by c.looks_follow.ensures.follow c.looks_follow.ensures.stay g.S.Texts.tells c.args.graph.now (g.S.Texts.world c.args.site.now) (g.S.Texts.world c.loop-path.site) (g.S.Texts.world c.is_due_path.new.site) c.args.looks.now c.loop-path.looks c.loop-path.invariant.looked c.is_due_path.ensures.looked.looks (λ set p. IsSourceIn set c.args.graph.now p)
+      (λ files. is_due_path c.args.graph.now.manifest.paths (links_of c.args.graph.now) files c.args.due.now) c.args.paths.now c.loop-path.path-index c.path-item.result c.loop-path-test.true c.loop-path.invariant.none c.in_ok-is_due_path.field-0
+      (λ told set kept seen files same fit. c.in_ok-is_due_path.ensures.due told set kept seen files same (subst (IsSourceIn set c.args.graph.now) (sym {A = ℕ} c.path-item.is) fit) ∙ ap (is_due_path c.args.graph.now.manifest.paths (links_of c.args.graph.now) files c.args.due.now) c.path-item.is) (cc);
 }
 
 pub returns-clause-has : goal.returns-clause-has
 returns-clause-has g c =
-    none_found g.S.Texts.tells c.args.graph.now (g.S.Texts.world c.args.site.now) (g.S.Texts.world c.loop-path.site) c.args.looks.now (λ files. is_due_path c.args.graph.now.manifest.paths (links_of c.args.graph.now) files c.args.due.now) c.args.paths.now c.loop-path.path-index
+    none_found g.S.Texts.tells c.args.graph.now (g.S.Texts.world c.args.site.now) (g.S.Texts.world c.loop-path.site) c.args.looks.now (λ set p. IsSourceIn set c.args.graph.now p) (λ files. is_due_path c.args.graph.now.manifest.paths (links_of c.args.graph.now) files c.args.due.now) c.args.paths.now c.loop-path.path-index
     c.loop-path.invariant.none (take_all c.loop-path.path-index c.args.paths.now (omega arith))

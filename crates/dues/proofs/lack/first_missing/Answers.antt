@@ -1,11 +1,11 @@
-use Rattle.std.proofs.Common.{◌≡◌, ℕ, List, true, sym, subst, arith}
+use Rattle.std.proofs.Common.{ℕ, List, subst, arith}
 use Rattle.std.proofs.lemmas.List.{take_all}
-use Rattle.model.specs.OutOfDate.{IsMissing, NoneIsMissing, IsFirstMissing}
+use Rattle.model.specs.OutOfDate.{NoneIsMissing}
 use Rattle.build_theory.proofs.Calls.{unrefused_call, unrefused_then}
-use Rattle.paths.specs.Told.{text_at, texts_at}
+use Rattle.paths.specs.Told.{texts_at}
 use Rattle.links.specs.Told.{declared_by}
-use Rattle.dues.proofs.Lacking.{none_more, first_here}
-use Rattle.dues.proofs.Stays.{looked_then, parts}
+use Rattle.dues.proofs.Lacking.{missing_passed, missing_found}
+use Rattle.dues.proofs.Stays.{looked_then}
 use Rattle.dues.proofs.lack.first_missing.Goals as goal
 
 pub returns-in_err-is_missing-clause-looked : goal.returns-in_err-is_missing-clause-looked
@@ -17,32 +17,19 @@ returns-then-branch-clause-looked g c =
     looked_then c.looks_follow.ensures.follow g.S.Texts.tells c.args.graph.now (g.S.Texts.world c.args.site.now) (g.S.Texts.world c.loop-path.site) (g.S.Texts.world c.is_missing.new.site) c.args.looks.now c.loop-path.looks c.is_missing.new.looks c.loop-path.invariant.looked c.is_missing.ensures.looked
 
 pub returns-then-branch-clause-first : goal.returns-then-branch-clause-first
-returns-then-branch-clause-first g c told files stays seen =
-    let edges = (declared_by c.args.graph.now).edges in
-    let paths = c.args.graph.now.manifest.paths in
-    let between = parts g.S.Texts.tells c.args.graph.now (g.S.Texts.world c.args.site.now) (g.S.Texts.world c.loop-path.site) (g.S.Texts.world c.is_missing.new.site) c.args.looks.now c.loop-path.looks c.is_missing.new.looks c.loop-path.invariant.looked
-    c.is_missing.ensures.looked.looks told files stays seen in
-    let missing = (c.in_ok-is_missing.ensures.missing told files between.1 between.2).0 (cc) in
-    subst (λ (p : ℕ). IsFirstMissing edges files (texts_at paths c.args.paths.now) (text_at paths p)) (sym {A = ℕ} c.path-item.is)
-    (first_here edges paths files c.args.paths.now c.loop-path.path-index c.path-item.result c.loop-path-test.true (c.loop-path.invariant.none told files between.0 seen)
-    (subst (λ (p : ℕ). IsMissing edges files (text_at paths p)) c.path-item.is missing))
+returns-then-branch-clause-first g c =
+    missing_found c.looks_follow.ensures.follow c.looks_follow.ensures.stay g.S.Texts.tells c.args.graph.now (g.S.Texts.world c.args.site.now) (g.S.Texts.world c.loop-path.site) (g.S.Texts.world c.is_missing.new.site) c.args.looks.now c.loop-path.looks c.loop-path.invariant.looked c.is_missing.ensures.looked.looks c.args.paths.now c.loop-path.path-index c.path-item.result c.loop-path-test.true c.loop-path.invariant.none
+    c.path-item.result c.path-item.is c.in_ok-is_missing.field-0 c.in_ok-is_missing.ensures.missing (cc)
 
 pub loop-path-preserved : goal.loop-path-preserved
 loop-path-preserved g c = record {
   looked = looked_then c.looks_follow.ensures.follow g.S.Texts.tells c.args.graph.now (g.S.Texts.world c.args.site.now) (g.S.Texts.world c.loop-path.site) (g.S.Texts.world c.is_missing.new.site) c.args.looks.now c.loop-path.looks c.is_missing.new.looks c.loop-path.invariant.looked c.is_missing.ensures.looked;
   unrefused = unrefused_then (g.S.Texts.world c.args.site.now) (g.S.Texts.world c.loop-path.site) (g.S.Texts.world c.is_missing.new.site) c.loop-path.invariant.unrefused (unrefused_call (g.S.Texts.world c.loop-path.site) (g.S.Texts.world c.is_missing.new.site) _ c.in_ok-is_missing.ensures.cause);
-  none = λ told files stays seen.
-      let edges = (declared_by c.args.graph.now).edges in
-      let paths = c.args.graph.now.manifest.paths in
-      let between = parts g.S.Texts.tells c.args.graph.now (g.S.Texts.world c.args.site.now) (g.S.Texts.world c.loop-path.site) (g.S.Texts.world c.is_missing.new.site) c.args.looks.now c.loop-path.looks c.is_missing.new.looks c.loop-path.invariant.looked
-      c.is_missing.ensures.looked.looks told files stays seen in
-      none_more edges paths files c.args.paths.now c.loop-path.path-index c.path-item.result c.loop-path-test.true (c.loop-path.invariant.none told files between.0 seen)
-      (λ missing.
-      let so : c.in_ok-is_missing.field-0 ≡ true = (c.in_ok-is_missing.ensures.missing told files between.1 between.2).1 (subst (λ (p : ℕ). IsMissing edges files (text_at paths p)) (sym {A = ℕ} c.path-item.is) missing) in
-      cc);
+  none = missing_passed c.looks_follow.ensures.follow c.looks_follow.ensures.stay g.S.Texts.tells c.args.graph.now (g.S.Texts.world c.args.site.now) (g.S.Texts.world c.loop-path.site) (g.S.Texts.world c.is_missing.new.site) c.args.looks.now c.loop-path.looks c.loop-path.invariant.looked c.is_missing.ensures.looked.looks c.args.paths.now c.loop-path.path-index c.path-item.result c.loop-path-test.true c.loop-path.invariant.none
+      c.path-item.result c.path-item.is c.in_ok-is_missing.field-0 c.in_ok-is_missing.ensures.missing (cc);
 }
 
 pub returns-clause-first : goal.returns-clause-first
-returns-clause-first g c told files stays seen =
+returns-clause-first g c told set kept seen files same fit =
     subst (λ (l : List ℕ). NoneIsMissing (declared_by c.args.graph.now).edges files (texts_at c.args.graph.now.manifest.paths l)) (take_all c.loop-path.path-index c.args.paths.now (omega arith))
-    (c.loop-path.invariant.none told files stays seen)
+    (c.loop-path.invariant.none told set kept seen files same fit)

@@ -1,6 +1,6 @@
-use Rattle.std.proofs.Common.{◌≡◌, List, ℕ, true, length, subst, rules}
+use Rattle.std.proofs.Common.{◌≡◌, List, ℕ, true, length, sym, subst, rules}
 use Rattle.links.specs.Links.{links_of}
-use Rattle.dues.specs.Dues.{due_at}
+use Rattle.dues.specs.Dues.{due_at, AreSourcesIn}
 use Rattle.dues.specs.Lacks.{IsFirstIn}
 use Rattle.dues.proofs.Slices.{within_by, if_ok_then}
 use Rattle.dues.proofs.Lacking.{first_for}
@@ -14,6 +14,6 @@ first_missing-requires-clause-within g c =
 pub returns-then-due-index-clause-first : goal.returns-then-due-index-clause-first
 returns-then-due-index-clause-first g c =
     let marked : due_at c.args.due.now c.args.edge ≡ true = search rules in
-    if_ok_then c.first_missing.result c.first_missing.ensures.first (λ found seen told files stays before.
+    if_ok_then c.first_missing.result c.first_missing.ensures.first (λ found said told set kept seen files same fit.
     first_for c.args.graph.now c.args.due.now files c.lists_stand.ensures c.args.edge marked found
-    (subst (λ (l : List ℕ). IsFirstIn c.args.graph.now l files found) c.inputs.ensures (seen told files stays before)))
+    (subst (λ (l : List ℕ). IsFirstIn c.args.graph.now l files found) c.inputs.ensures (said told set kept seen files same (subst (AreSourcesIn set c.args.graph.now) (sym {A = List ℕ} c.inputs.ensures) fit))))
