@@ -1,8 +1,9 @@
 -- The load that a plan says is the one that is due.
-use Rattle.std.proofs.Common.{◌≡◌, ◌⊎◌, inl, inr, ℕ, zero, suc, ◌<◌, ◌==◌, ◌||◌, cond, Bool, true, false, List, [], ◌∷◌, ◌++◌, Option, None, Some, length, refl, sym, ◌∙◌, ap, subst, arith}
+use Rattle.std.proofs.Common.{◌≡◌, ◌⊎◌, inl, inr, ℕ, zero, suc, ◌<◌, ◌==◌, ◌||◌, cond, Bool, true, false, List, [], ◌∷◌, ◌++◌, Option, None, Some, take, drop, length, get_or, refl, sym, ◌∙◌, ap, subst, arith}
 use Rattle.std.specs.Option.{option_map}
 use Rattle.std.specs.List.{AllByRecursion}
 use Rattle.std.proofs.lemmas.Bool.{false≢true, or_cases, eqb-true}
+use Rattle.std.proofs.lemmas.Option.{slice_get-get_or}
 use Rattle.model.specs.declared.graph.Edge.{Edge}
 use Rattle.model.specs.Graph.{has_number, edge_at, maker, later_number}
 use Rattle.model.specs.Reading.{IsInCone, Needed}
@@ -10,12 +11,11 @@ use Rattle.model.specs.Schedule.{Task, Step, IsSettled, IsSettledPath, done_in}
 use Rattle.model.specs.Phases.{IsDueLoad, NoLoadIsDue, IsFirstNamer, GoesBefore, BySource as GoesBySource, ByNamer, IsNextLoad}
 use Rattle.build_theory.proofs.Lists.{has_number-left, has_number-right, has_number-cases, has_number-one, same_some, some_none}
 use Rattle.lowest.specs.Flags.{has}
+use Rattle.paths.specs.Numbers.{HaveOnePlace}
 use Rattle.paths.specs.Told.{text_at}
 use Rattle.links.specs.declared.graph.Graph.{Graph}
 use Rattle.links.specs.Links.{links_of, needs_at}
 use Rattle.links.specs.Extended.{dyndep_at}
-use Rattle.links.proofs.Texts.{same_number}
-use Rattle.links.proofs.Walking.{place_in}
 use Rattle.plan.specs.declared.plan.Plan.{Plan}
 use Rattle.plan.specs.Standing.{standing_at, is_settled, maker_settled}
 use Rattle.plan.specs.Loads.{IsWanted, IsFirstToName, LoadsBefore, BySource, ByEdge, AreInOrder, NoneIsThere, IsFirstThere}
@@ -29,6 +29,36 @@ each_number P (x ∷ xs) n all h = elim (or_cases (x == n) (has_number xs n) h) 
   | inl same ↦ subst P (eqb-true x n same) all.0
   | inr later ↦ each_number P xs n all.1 later
 ]
+
+parted : (xs : List ℕ) (k : ℕ) → k < length xs → xs ≡ take k xs ++ get_or xs k 0 ∷ drop (suc k) xs
+parted [] k lt = absurd (omega (arith, lt))
+parted (x ∷ xs) zero lt = refl
+parted (x ∷ xs) (suc k) lt = ap (λ (l : List ℕ). x ∷ l) (parted xs k (omega (arith, lt)))
+
+pub first_there : (there : List Bool) (paths : List ℕ) (k p : ℕ) → k < length paths → p ≡ get_or paths k 0 → NoneIsThere there (take k paths) → has there p ≡ true → IsFirstThere there paths p
+first_there there paths k p lt at none is = record {
+  before = take k paths;
+  after = drop (suc k) paths;
+  splits = subst (λ (n : ℕ). paths ≡ take k paths ++ n ∷ drop (suc k) paths) (sym at) (parted paths k lt);
+  earlier = none;
+  is = is;
+}
+
+-- the file stands in the list
+pub first_listed : (there : List Bool) (paths : List ℕ) (p : ℕ) → IsFirstThere there paths p → has_number paths p ≡ true
+first_listed there paths p first =
+    subst (λ (l : List ℕ). has_number l p ≡ true) (sym first.splits) (has_number-right first.before (p ∷ first.after) p (has_number-left (p ∷ []) first.after p (has_number-one p)))
+
+place_in : (xs : List ℕ) (n : ℕ) → has_number xs n ≡ true → (k : ℕ) × (k < length xs) × (get_or xs k 0 ≡ n)
+place_in [] n h = absurd (false≢true h)
+place_in (x ∷ xs) n h = elim (or_cases (x == n) (has_number xs n) h) [
+  | inl here ↦ (0, omega arith, eqb-true x n here)
+  | inr later ↦ let rest = place_in xs n later in (suc rest.0, omega (arith, rest.1), rest.2)
+]
+
+-- two numbers with one text are one
+one_number : (paths : List (List ℕ)) → HaveOnePlace paths → (p q : ℕ) → p < length paths → q < length paths → text_at paths p ≡ text_at paths q → p ≡ q
+one_number paths apart p q low other same = apart p q (text_at paths q) (slice_get-get_or paths p [] low ∙ ap (λ (t : List ℕ). Some t) same) (slice_get-get_or paths q [] other)
 
 -- a file goes before each one behind it
 before_rest : (graph : Graph) (before : List ℕ) (file : ℕ) (after : List ℕ) → AreInOrder graph (before ++ file ∷ after) → (other : ℕ) → has_number after other ≡ true → LoadsBefore graph file other
@@ -125,7 +155,7 @@ module _ (task : Task) (graph : Graph) (plan : Plan) (steps : List Step) (at : I
       lower zero lt names = some_none (text p) (sym names)
       lower (suc k) lt names =
           let number = named_text text (dyndep_at graph k) (text p) (sym (at.stated.files k) ∙ names) in
-          is.first k (omega (arith, lt)) (number.1 ∙ ap (λ (n : ℕ). Some n) (same_number graph.manifest.paths at.stated.apart number.0 p (at.stated.known k number.0 number.1) (at.stated.known d p is.names) number.2))
+          is.first k (omega (arith, lt)) (number.1 ∙ ap (λ (n : ℕ). Some n) (one_number graph.manifest.paths at.stated.apart number.0 p (at.stated.known k number.0 number.1) (at.stated.known d p is.names) number.2))
 
   goes_before : (p q : ℕ) → p < length graph.manifest.paths → q < length graph.manifest.paths → LoadsBefore graph p q → GoesBefore edges (text p) (text q)
   goes_before p q low other (BySource d none made) = GoesBySource (suc d) (at.stated.makers p low ∙ ap later_number none) (at.stated.makers q other ∙ ap later_number made)
@@ -137,8 +167,7 @@ module _ (task : Task) (graph : Graph) (plan : Plan) (steps : List Step) (at : I
   next_load p first = record { due = due_load p wanted first.is; lowest = lowest }
     where
       wanted : IsWanted graph plan.standings.items p
-      wanted = at.over.loading.loads_are.named p (subst (λ (l : List ℕ). has_number l p ≡ true) (sym first.splits)
-          (has_number-right first.before (p ∷ first.after) p (has_number-left (p ∷ []) first.after p (has_number-one p))))
+      wanted = at.over.loading.loads_are.named p (first_listed plan.there.items plan.loads.items p first)
 
       lowest : (other : List ℕ) → IsDueLoad task steps other → (other ≡ text p) ⊎ GoesBefore edges (text p) other
       lowest other due =

@@ -1,10 +1,11 @@
 -- A plan goes on when a dyndep file is loaded: what is so of the edges as they were is so of them as they are.
-use Rattle.std.proofs.Common.{◌≡◌, ◌≢◌, ◌⊎◌, inl, inr, ℕ, zero, suc, ◌+◌, ◌<◌, cond, Bool, true, false, List, [], ◌∷◌, ◌++◌, Option, None, Some, filter, map, length, get_or, count_by, refl, sym, ◌∙◌, ap, subst, arith}
+use Rattle.std.proofs.Common.{◌≡◌, ◌≢◌, ◌⊎◌, inl, inr, ℕ, zero, suc, ◌+◌, ◌<◌, ◌≤◌, cond, Bool, true, false, List, [], ◌∷◌, ◌++◌, Option, None, Some, filter, map, length, get_or, count_by, refl, sym, ◌∙◌, ap, subst, arith}
 use Rattle.std.proofs.lemmas.Bool.{false≢true, true≢false, cases_Bool}
+use Rattle.std.proofs.lemmas.List.{length-append}
 use Rattle.std.proofs.lemmas.List.Sums.{sum_by-cons}
 use Rattle.model.specs.declared.graph.Edge.{Edge}
 use Rattle.model.specs.declared.graph.Pool.{Pool}
-use Rattle.model.specs.Graph.{has, has_number, edge_at, inputs, maker, IsCommand}
+use Rattle.model.specs.Graph.{has, has_number, edge_at, inputs, maker, no_edge, IsCommand, Addition}
 use Rattle.model.specs.Reading.{needs, IsInCone, Wanted, Needed, Validating}
 use Rattle.model.specs.Schedule.{Task, Step, Judged, Started, Ended, judged_in, done_in, IsSettled, Done}
 use Rattle.build_theory.specs.Order.{IsOrderly, IsOrderlyStep, IsOrderlyFrom}
@@ -16,16 +17,17 @@ use Rattle.queue.specs.Turns.{Turns}
 use Rattle.paths.specs.declared.line.Line.{Line}
 use Rattle.paths.specs.declared.manifest.Action.{Action}
 use Rattle.paths.specs.declared.manifest.Action.TheVariants as action
-use Rattle.paths.specs.Lists.{line_at}
+use Rattle.paths.specs.Lists.{line_at, line_outputs}
 use Rattle.paths.specs.Commands.{no_action}
-use Rattle.paths.specs.Told.{edge_of}
+use Rattle.paths.specs.Told.{edge_of, edges_of}
 use Rattle.links.specs.declared.cone.Mark.{Mark}
+use Rattle.links.specs.declared.cone.Mark.TheVariants.{Unseen}
 use Rattle.links.specs.declared.graph.Graph.{Graph}
 use Rattle.links.specs.Cone.{mark_at, is_listed}
 use Rattle.links.specs.Links.{Links, links_of}
 use Rattle.links.specs.Linked.{IsConeOf}
 use Rattle.links.specs.Told.{declared_by}
-use Rattle.links.proofs.GraphIs.{edge_is}
+use Rattle.links.specs.Extended.{HasLoaded}
 use Rattle.plan.specs.declared.plan.Plan.{Plan}
 use Rattle.plan.specs.declared.step.Standing.{Standing}
 use Rattle.plan.specs.declared.step.Standing.TheVariants.{Outside, Unjudged, Clean, OutOfDate, Running, Well, Failed, Alias, Known}
@@ -33,7 +35,7 @@ use Rattle.plan.specs.Standing.{standing_at, is_unjudged, is_out_of_date, is_run
 use Rattle.plan.specs.Pools.{place_in, pool_of, depths_of}
 use Rattle.plan.specs.Plan.{IsOver, IsWaiting, IsTallied, IsPooled, AreAllPooled}
 use Rattle.plan.specs.First.{first_of, first_at, AreCounts}
-use Rattle.plan.specs.Planned.{standing_in, IsPlanned, IsTaskOf, AreTaken}
+use Rattle.plan.specs.Planned.{standing_in, IsPlanOver, IsPlanned, IsTaskOf, AreTaken}
 use Rattle.plan.specs.Growing.{grown_of, AreGrown, AreThere}
 use Rattle.plan.specs.Extended.{MayGoOn, IsGrownTask}
 use Rattle.plan.proofs.PlannedSteps.{fresh_unjudged}
@@ -98,6 +100,49 @@ module _ (links : Links) (marks : List Mark) (old new : List Standing) (grown : 
     waits = λ e. waiting.waits e ∙ sym (test_same is_out_of_date refl refl refl refl e);
   }
 
+pub lower_or_past : (a b : ℕ) → (a < b) ⊎ (b ≤ a)
+lower_or_past a zero = inr (omega arith)
+lower_or_past zero (suc b) = inl (omega arith)
+lower_or_past (suc a) (suc b) = elim (lower_or_past a b) [
+  | inl less ↦ inl (omega (arith, less))
+  | inr past ↦ inr (omega (arith, past))
+]
+
+pub past_end : {X : Type 0} (xs : List X) (k : ℕ) (d : X) → length xs ≤ k → get_or xs k d ≡ d
+past_end [] k d past = refl
+past_end (x ∷ xs) zero d past = absurd (omega (arith, past))
+past_end (x ∷ xs) (suc k) d past = past_end xs k d (omega (arith, past))
+
+-- so it is of each edge, where it is so of the edges of a graph
+pub grown_all : (links : Links) (marks : List Mark) (old new : List Standing) (count : ℕ) → length new ≡ count → count ≡ length old → length marks ≡ length old
+    → ((e : ℕ) → e < count → standing_at new e ≡ grown_of (standing_at old e) (first_at links marks e)) → AreGrown links marks old new
+grown_all links marks old new count fits all size each = record {
+  fits = fits ∙ all;
+  each = λ e. elim (lower_or_past e count) [
+    | inl less ↦ each e less
+    | inr past ↦
+        past_end new e Outside (omega (arith, fits, past))
+        ∙ (sym (ap (λ (m : Mark). first_of (is_listed m) (links.phony e)) (past_end marks e Unseen (omega (arith, size, all, past))))
+        ∙ sym (ap (λ (s : Standing). grown_of s (first_at links marks e)) (past_end old e Outside (omega (arith, all, past)))))
+  ];
+}
+
+-- flags that have grown are as they were, and not set behind these
+pub flags_all : (flags grown : List Bool) (count : ℕ) → length grown ≡ count → length flags ≤ count → ((p : ℕ) → p < count → flagged grown p ≡ flagged flags p) → (p : ℕ) → flagged grown p ≡ flagged flags p
+flags_all flags grown count fits few each p = elim (lower_or_past p count) [
+  | inl less ↦ each p less
+  | inr past ↦ past_end grown p false (omega (arith, fits, past)) ∙ sym (past_end flags p false (omega (arith, few, past)))
+]
+
+-- who makes a path is an edge of the graph
+pub maker_below : (graph : Graph) (p e : ℕ) → (links_of graph).maker p ≡ Some e → e < length graph.manifest.lines
+maker_below graph p e is = below graph.manifest.lines e (graph.making.made p e is)
+  where
+    below : (lines : List Line) (k : ℕ) → has_number (line_outputs (line_at lines k)) p ≡ true → k < length lines
+    below [] k h = absurd (false≢true h)
+    below (line ∷ lines) zero h = omega arith
+    below (line ∷ lines) (suc k) h = let low = below lines k h in omega (arith, low)
+
 -- what is there, and what edges wait for
 pub over_grown : (links : Links) (paths : ℕ) (standings : List Standing) (there : List Bool) (left : List ℕ) → length standings ≡ links.count → AreThere links paths standings there → AreCounts links standings there left
     → IsOver links paths standings left there
@@ -115,8 +160,15 @@ pub pool_is : (paths : List (List ℕ)) (line : Line) (a : Action) → (edge_of 
 pool_is paths line action.Alias = refl
 pool_is paths line (action.Command command) = refl
 
+pool_get : (paths : List (List ℕ)) (lines : List Line) (actions : List Action) (e : ℕ) → length actions ≡ length lines → (get_or (edges_of paths lines actions) e no_edge).pool ≡ pool_of (get_or actions e no_action)
+pool_get paths [] [] e fits = refl
+pool_get paths [] (a ∷ actions) e fits = absurd (omega (arith, fits))
+pool_get paths (line ∷ lines) [] e fits = absurd (omega (arith, fits))
+pool_get paths (line ∷ lines) (a ∷ actions) zero fits = pool_is paths line a
+pool_get paths (line ∷ lines) (a ∷ actions) (suc e) fits = pool_get paths lines actions e (omega (arith, fits))
+
 pool_at : (graph : Graph) (e : ℕ) → (edge_at (declared_by graph).edges (suc e)).pool ≡ pool_of (get_or graph.manifest.actions e no_action)
-pool_at graph e = ap (λ (edge : Edge). edge.pool) (edge_is graph e) ∙ pool_is graph.manifest.paths (line_at graph.manifest.lines e) (get_or graph.manifest.actions e no_action)
+pool_at graph e = pool_get graph.manifest.paths graph.manifest.lines graph.manifest.actions e graph.manifest.fits
 
 pub all_pooled : (graph : Graph) (plan : Plan) → MayGoOn graph plan → AreAllPooled graph plan.queue
 all_pooled graph plan may = λ e.
@@ -238,3 +290,19 @@ module _ (earlier task : Task) (more : IsGrownTask earlier task) where
       ];
       runs = at.runs;
     }
+
+-- ---- what a caller knows once a file is loaded
+
+pub may_go_on : (before after : Graph) (file : List ℕ) (additions : List Addition) (plan : Plan) → IsPlanOver before plan → 0 < length plan.loads.items → HasLoaded before after file additions → MayGoOn after plan
+may_go_on before after file additions plan over some loaded = record {
+  before = before;
+  over = over;
+  some = some;
+  edges = loaded.lines;
+  paths = let e = length-append before.manifest.paths loaded.added in omega (arith, ap (λ (ps : List (List ℕ)). length ps) loaded.paths, e);
+  pools = loaded.pools;
+  pool = λ i. elim (cases_named (edge_at (declared_by before).edges i).dyndep file) [
+    | inl named ↦ ap (λ (e : Edge). e.pool) (loaded.grown.named i named).2
+    | inr other ↦ ap (λ (e : Edge). e.pool) (loaded.grown.others i other)
+  ];
+}

@@ -8,12 +8,12 @@ use Rattle.model.specs.Graph.{has_number}
 use Rattle.build_theory.proofs.Lists.{has_number-left, has_number-right, has_number-cases, has_number-one, has_number-push, has_number-push_cases, has_number-push_other, same_some, some_none}
 use Rattle.lowest.specs.Flags.{has}
 use Rattle.paths.specs.declared.manifest.Action.{Action}
-use Rattle.paths.specs.Commands.{no_action}
+use Rattle.paths.specs.declared.manifest.Action.TheVariants as action
+use Rattle.paths.specs.Commands.{no_action, stop_of, dyndep_stop}
 use Rattle.links.specs.declared.graph.Graph.{Graph}
 use Rattle.links.specs.Held.{dyndep_of}
 use Rattle.links.specs.Links.{links_of}
 use Rattle.links.specs.Extended.{dyndep_at}
-use Rattle.links.proofs.GraphIs.{need_within}
 use Rattle.plan.specs.declared.step.Standing.{Standing}
 use Rattle.plan.specs.Standing.{standing_at, is_outside}
 use Rattle.plan.specs.Loads.{named_by, IsWanted, NoneIsWanted, AreWanted, IsTaken, NoneIsTaken, IsFirstToName, IsNamedBefore, AreNamedInOrder, HavePushed, LoadsBefore, BySource, ByEdge, AreInOrder, AreLoads}
@@ -31,7 +31,11 @@ namer_within graph e file names = let low = inside graph.manifest.actions e name
 
 -- a file that is named is a path of the graph
 pub file_within : (graph : Graph) (e file : ℕ) → dyndep_at graph e ≡ Some file → file < length graph.manifest.paths
-file_within graph e file names = need_within graph e file (has_number-left ((links_of graph).inputs e) ((links_of graph).recorded e) file (graph.dyndeps e file names))
+file_within graph e file names = let below = graph.manifest.dyndeps e in omega (arith, below, stop (get_or graph.manifest.actions e no_action) names)
+  where
+    stop : (a : Action) → dyndep_of a ≡ Some file → dyndep_stop a ≡ suc file
+    stop action.Alias is = cc
+    stop (action.Command command) is = ap stop_of is
 
 -- ---- edges of the cone that name files
 

@@ -1,5 +1,5 @@
 -- An edge was judged, or its command ended, and aliases are settled by it.
-use Rattle.std.proofs.Common.{◌≡◌, ◌≢◌, ◌⊎◌, inl, inr, ℕ, zero, suc, ◌<◌, ◌==◌, filter, Bool, true, false, List, [], ◌∷◌, ◌++◌, length, get_or, refl, sym, ◌∙◌, ap, subst, arith}
+use Rattle.std.proofs.Common.{◌≡◌, ◌≢◌, ◌⊎◌, inl, inr, ℕ, zero, suc, ◌<◌, ◌==◌, filter, Bool, true, false, List, [], ◌∷◌, ◌++◌, Option, None, length, get_or, refl, sym, ◌∙◌, ap, subst, arith}
 use Rattle.std.proofs.Math.ListN.{set}
 use Rattle.std.proofs.lemmas.List.{length-set, get_or-set_other}
 use Rattle.std.proofs.lemmas.Bool.{false≢true, true≢false, and_parts}
@@ -18,7 +18,7 @@ use Rattle.plan.specs.Planned.{is_grouped, AreTaken}
 use Rattle.plan.proofs.PlannedSteps.{stands_clean, stands_stale, done_new}
 use Rattle.plan.proofs.PlannedCounts.{stands_within}
 use Rattle.plan.proofs.Runs.{one_if, running_judged}
-use Rattle.plan.proofs.Stepping.{here, sets_judged, tallied_next, IsHalf, half_next, half_settled, same_groups}
+use Rattle.plan.proofs.Stepping.{here, test_same, sets_judged, tallied_next, IsHalf, half_next, half_settled, same_groups}
 
 unjudged_is : (s : Standing) → is_unjudged s ≡ true → s ≡ Unjudged
 unjudged_is Outside h = absurd (false≢true h)

@@ -7,7 +7,7 @@ ghost use Rattle.plan.specs.Standing.{is_settled, maker_settled};
 ghost use Rattle.plan.specs.First.{first_at};
 ghost use Rattle.plan.specs.Growing.{grown_of, AreGrown, AreThere};
 
-use crate::first::{first_counts, first_ready, first_standing};
+use crate::first::{first_counts, first_ready, first_standing, maker_of};
 use crate::loads::loads_of;
 use crate::plan::Plan;
 use crate::step::Standing;
@@ -104,7 +104,7 @@ fn is_settled_path(graph: &Graph, standings: &[Standing], place: usize) -> bool
     requires { length standings.now ≡ length graph.now.manifest.lines }
     ensures { result ≡ maker_settled standings.now ((links_of graph.now).maker place) }
 {
-    match graph.makers.get(place).copied().flatten() {
+    match maker_of(graph, place) {
         None => true,
         Some(maker) => is_settled(standings[maker.index()]),
     }
@@ -125,7 +125,13 @@ fn grown_flags(alloc: Global, flags: &[bool], count: usize) -> Result<Vec<bool>,
 {
     let mut grown = Vec::with_capacity(alloc, count)?;
     for place in 0..count {
-        grown.push(place < flags.len() && flags[place])?;
+        grown.push(is_set(flags, place))?;
     }
     Ok(grown)
+}
+
+fn is_set(flags: &[bool], place: usize) -> bool
+    ensures { result ≡ has flags.now place }
+{
+    matches!(flags.get(place), Some(true))
 }

@@ -57,7 +57,14 @@ pub fn sources(alloc: Global, graph: &Graph) -> Result<Vec<bool>, AllocError>
 fn is_source(graph: &Graph, place: usize) -> bool
     ensures { result ≡ is_none ((links_of graph.now).maker place) }
 {
-    graph.makers.get(place).copied().flatten().is_none()
+    maker_of(graph, place).is_none()
+}
+
+/// The edge that makes the path with this number; none for a source.
+pub fn maker_of(graph: &Graph, place: usize) -> Option<EdgeId>
+    ensures { result ≡ (links_of graph.now).maker place }
+{
+    graph.makers.get(place).copied().flatten()
 }
 
 /// For each edge of the cone, how many of its inputs and recorded inputs are not there.

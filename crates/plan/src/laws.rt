@@ -5,13 +5,14 @@ ghost use Rattle.model.specs.Schedule.{Task};
 ghost use Rattle.plan.specs.Planned.{IsDeclaredTask, IsTaskOf};
 ghost use Rattle.plan.specs.Steps.{StepsMove, StandingsTell, StepsName, ListsCount};
 
-use links::{Graph, numbers_stand};
+use links::{Graph, lists_stand, numbers_stand};
 
 /// To build what a graph declares is a task of that graph.
 pub fn task_of(graph: &Graph)
     ensures { (task : Task) → IsDeclaredTask task graph.now → IsTaskOf task graph.now }
 {
     numbers_stand(graph);
+    lists_stand(graph);
 }
 
 /// A lawful step moves its edge to where it has to stand after it, and no other edge.

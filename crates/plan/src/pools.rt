@@ -1,10 +1,11 @@
 //! The pools of a cone's edges.
 
-ghost use Rattle.std.specs.Prelude.{◌≡◌, ◌<◌, IfOk, length, get_or};
-ghost use Rattle.paths.specs.Commands.{no_action};
+ghost use Rattle.std.specs.Prelude.{◌≡◌, ◌||◌, not, true, IfOk, length};
+ghost use Rattle.plan.specs.Standing.{is_outside};
 ghost use Rattle.plan.specs.Pools.{place_of, place_in, pool_of, depths_of};
 ghost use Rattle.plan.specs.Places.{ArePlaces};
-ghost use Rattle.plan.specs.First.{AreGroups, AreAllGroups, AreAllPooled, IsIdle};
+ghost use Rattle.plan.specs.Plan.{AreAllPooled};
+ghost use Rattle.plan.specs.First.{AreGroups, AreAllGroups, IsIdle};
 
 use crate::by_name::Places;
 use crate::step::Standing;
@@ -50,16 +51,23 @@ fn groups_of(
     let places = Places::of(alloc, pools)?;
     let mut groups = Vec::with_capacity(alloc, standings.len())?;
     for (place, standing) in standings.iter().enumerate() {
-        groups.push(match standing {
-            Standing::Outside if !all => None,
-            _ => group_of(
+        groups.push(if is_pooled(*standing, all) {
+            group_of(
                 pools,
                 &places,
                 graph.manifest.action(graph.manifest.edge(place)),
-            ),
+            )
+        } else {
+            None
         })?;
     }
     Ok(groups)
+}
+
+fn is_pooled(standing: Standing, all: bool) -> bool
+    ensures { result ≡ (all || not (is_outside standing)) }
+{
+    all || !matches!(standing, Standing::Outside)
 }
 
 /// How many commands of each pool may run at once.

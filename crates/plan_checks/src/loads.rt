@@ -114,6 +114,9 @@ impl Run {
     fn load(mut self, alloc: Global, file: PathId, files: &[File]) -> Result<Run, Fail> {
         let name = self.text_of(alloc, file)?;
         self.tell("load ", name.as_str())?;
+        if file.index() >= self.graph.paths() || self.plan.loads.is_empty() {
+            return Err("a load of what is to be loaded nowhere".into());
+        }
         let additions = additions_of(alloc, name.as_str(), files)?;
         let Run {
             mut graph,

@@ -6,7 +6,7 @@ use crate::run::{Chance, flags_of, take_out};
 use links::{Cone, Graph};
 use paths::EdgeId;
 use plan::{Standing, Step};
-use plan_plain::Plan;
+use plan_plain::{Plan, names_none};
 use std::alloc::Global;
 use std::test::Fail;
 
@@ -32,6 +32,9 @@ impl<'a> PlainRun<'a> {
     ) -> Result<PlainRun<'a>, Fail> {
         if cone.marks.len() != graph.edges() {
             return Err("a cone of another graph".into());
+        }
+        if !names_none(graph) {
+            return Err("an edge names a dyndep file".into());
         }
         Ok(PlainRun {
             graph,

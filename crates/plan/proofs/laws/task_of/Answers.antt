@@ -1,4 +1,5 @@
 use Rattle.std.proofs.Common.{◌≡◌, ◌∙◌, ℕ, suc, List, [], ◌∷◌, false, get_or, refl, sym, ap, subst}
+use Rattle.std.specs.Option.{option_map}
 use Rattle.std.proofs.lemmas.Bool.{false≢true}
 use Rattle.model.specs.declared.graph.BuildGraph.{BuildGraph}
 use Rattle.model.specs.declared.graph.Edge.{Edge}
@@ -11,11 +12,10 @@ use Rattle.paths.specs.declared.manifest.Action.TheVariants as action
 use Rattle.paths.specs.Lists.{line_at}
 use Rattle.paths.specs.Commands.{no_action}
 use Rattle.paths.specs.Told.{edge_of, text_at}
+use Rattle.links.specs.Held.{dyndep_of}
 use Rattle.links.specs.Links.{links_of, is_alias}
 use Rattle.links.specs.Linked.{IsLinksOf}
 use Rattle.links.specs.Told.{declared_by}
-use Rattle.links.proofs.Makes.{maker_is}
-use Rattle.links.proofs.Texts.{dyndep_is}
 use Rattle.plan.proofs.Loaded.{file_within}
 use Rattle.plan.proofs.Grown.{pool_is}
 use Rattle.plan.proofs.laws.task_of.Goals as goal
@@ -23,6 +23,10 @@ use Rattle.plan.proofs.laws.task_of.Goals as goal
 phony_is : (paths : List (List ℕ)) (line : Line) (a : Action) → is_alias a ≡ (edge_of paths line a).phony
 phony_is paths line action.Alias = refl
 phony_is paths line (action.Command command) = refl
+
+dyndep_is : (paths : List (List ℕ)) (line : Line) (a : Action) → (edge_of paths line a).dyndep ≡ option_map (text_at paths) (dyndep_of a)
+dyndep_is paths line action.Alias = refl
+dyndep_is paths line (action.Command command) = refl
 
 none_there : (texts : List (List ℕ)) → ((p : List ℕ) → has texts p ≡ false) → texts ≡ []
 none_there [] none = refl
@@ -41,7 +45,7 @@ returns c = λ task is.
       phony = λ e. phony_is paths (line e) (get_or graph.manifest.actions e no_action) ∙ sym (ap (λ (es : List Edge). (edge_at es (suc e)).phony) edges ∙ ap (λ (edge : Edge). edge.phony) (law.edges e));
       pools = ap (λ (g : BuildGraph). g.pools) is.declared;
       pool = λ e. ap (λ (es : List Edge). (edge_at es (suc e)).pool) edges ∙ (ap (λ (edge : Edge). edge.pool) (law.edges e) ∙ pool_is paths (line e) (get_or graph.manifest.actions e no_action));
-      makers = λ p lt. ap (λ (es : List Edge). maker es (text_at paths p)) edges ∙ maker_is graph.manifest graph.makers.items graph.making graph.apart p lt;
+      makers = λ p lt. ap (λ (es : List Edge). maker es (text_at paths p)) edges ∙ c.lists_stand.ensures.makers p lt;
       apart = graph.apart;
       files = λ e. ap (λ (es : List Edge). (edge_at es (suc e)).dyndep) edges ∙ (ap (λ (edge : Edge). edge.dyndep) (law.edges e) ∙ dyndep_is paths (line e) (get_or graph.manifest.actions e no_action));
       known = file_within graph;

@@ -1,8 +1,10 @@
-use Rattle.std.proofs.Common.{◌∙◌, ℕ, List, Bool, false, length, replicate, refl, ap, subst, arith}
+use Rattle.std.proofs.Common.{◌≡◌, ◌∙◌, ℕ, ◌<◌, ◌==◌, not, List, Bool, true, false, length, replicate, refl, ap, subst, arith}
+use Rattle.std.proofs.lemmas.Bool.{eqb-true, false_from_ne_true}
 use Rattle.links.specs.Links.{links_of}
 use Rattle.plan.specs.declared.step.Standing.{Standing}
 use Rattle.plan.specs.Plan.{IsReady}
 use Rattle.plan.specs.First.{AreCounts, IsIdle}
+use Rattle.plan.specs.Loads.{AreLoads}
 use Rattle.plan.proofs.Begun.{none_counted, none_waits, over_first}
 use Rattle.plan.proofs.plan.Plan.begin.Goals as goal
 
@@ -34,10 +36,13 @@ invariant_of-result-clause-sets c =
 pub invariant_of-result-clause-waits : goal.invariant_of-result-clause-waits
 invariant_of-result-clause-waits c =
     none_waits (links_of c.args.graph.now) c.args.cone.now.marks.items c.in_ok-standings.standings.items c.in_ok-standings.ensures c.args.graph.now c.in_ok-queue.queue
-    (subst (λ (l : List Standing). IsIdle c.args.graph.now l c.in_ok-queue.queue) c.deref-5.ensures.value c.in_ok-queue.ensures)
+    (subst (λ (l : List Standing). IsIdle c.args.graph.now l c.in_ok-queue.queue) c.deref-6.ensures.value c.in_ok-queue.ensures.idle)
 
 pub invariant_of-result-clause-tallied : goal.invariant_of-result-clause-tallied
 invariant_of-result-clause-tallied c = none_counted (links_of c.args.graph.now) c.args.cone.now.marks.items c.in_ok-standings.standings.items c.in_ok-standings.ensures
+
+some_left : (n : ℕ) → 0 < n → not (n == 0) ≡ true
+some_left n some = ap not (false_from_ne_true (n == 0) (λ h. omega (arith, eqb-true n 0 h, some)))
 
 pub returns : goal.returns
 returns c =
@@ -48,7 +53,11 @@ returns c =
       over = over_first links c.args.cone.now.marks.items standings c.in_ok-standings.ensures (length c.args.graph.now.manifest.paths) c.in_ok-there.there.items c.in_ok-left.left.items c.in_ok-there.ensures
           (subst (λ (l : List Standing). AreCounts links l c.in_ok-there.there.items c.in_ok-left.left.items) c.deref.ensures.value
           (subst (λ (l : List Bool). AreCounts links c.deref.result.now l c.in_ok-left.left.items) c.deref-2.ensures.value c.in_ok-left.ensures));
-      idle = subst (λ (l : List Standing). IsIdle c.args.graph.now l c.in_ok-queue.queue) c.deref-5.ensures.value c.in_ok-queue.ensures;
+      idle = subst (λ (l : List Standing). IsIdle c.args.graph.now l c.in_ok-queue.queue) c.deref-6.ensures.value c.in_ok-queue.ensures.idle;
       flags = c.in_ok-changed.ensures.items_if_clones_equal (λ y h. h) ∙ ap (λ (n : ℕ). replicate n false) c.paths.ensures;
       limits = (refl, refl);
+      loading = record {
+        loads_are = subst (λ (l : List Standing). AreLoads c.args.graph.now l c.in_ok-loads.loads.items) c.deref-5.ensures.value c.in_ok-loads.ensures;
+        all = λ some. c.in_ok-queue.ensures.all (ap not c.is_empty.ensures ∙ some_left c.in_ok-loads.loads.len (omega (arith, some, c.in_ok-loads.loads.ok.0)));
+      };
     }

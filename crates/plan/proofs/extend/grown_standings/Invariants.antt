@@ -1,0 +1,12 @@
+use Rattle.std.proofs.Common.{◌≡◌, ◌<◌, ℕ, length}
+use Rattle.links.specs.Links.{links_of}
+use Rattle.plan.specs.Standing.{standing_at}
+use Rattle.plan.specs.First.{first_at}
+use Rattle.plan.specs.Growing.{grown_of}
+use Rattle.plan.proofs.extend.grown_standings.Given as goal
+
+abbrev pub invariant-loop-place : goal.invariant-loop-place
+invariant-loop-place l = record {
+  fits : length l.standings.items ≡ l.place;
+  each : (e : ℕ) → e < l.place → standing_at l.standings.items e ≡ grown_of (standing_at l.before e) (first_at (links_of l.graph) l.cone.marks.items e);
+}
