@@ -47,6 +47,11 @@ passes_cut old mid new cut last starts cause takes = record {
     by_fault Stopped is = refl
     by_fault Memory is = absurd (false≢true is)
 
+-- what runs was taken in after a fault: nothing more was started
+pub starts_cut : (old mid new : World) (last : Cut) → StartsUnrefused old mid → TakesIn mid new last → StartsUnrefused old new
+starts_cut old mid new last (inl none) takes = inl (takes.at_start ∙ none)
+starts_cut old mid new last (inr some) takes = inr (takes.at_start ∙ some)
+
 -- what a run passes over that was not cut off
 pub passes_whole : (old new : World) (said : Answer) → StartsUnrefused old new → Unrefused old new → PassesNoFault old new said
 passes_whole old new said starts calm = record {

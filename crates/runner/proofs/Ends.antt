@@ -1,7 +1,8 @@
 -- What a run has done at its end.
-use Rattle.std.proofs.Common.{◌≡◌, ℕ, Bool, List, length, Option, None, Some, Ok, Err, refl, sym, subst}
+use Rattle.std.proofs.Common.{◌≡◌, ℕ, Bool, true, List, length, Option, None, Some, Ok, Err, refl, sym, subst}
 use Rattle.model.specs.World.{World}
 use Rattle.model.specs.Calls.{OnlyLooks}
+use Rattle.model.specs.Graph.{has_number}
 use Rattle.model.specs.Schedule.{Task, Step as Done, well_in}
 use Rattle.model.specs.SingleBuild.{task_of}
 use Rattle.log_theory.specs.Ledger.{IsCutOff}
@@ -9,11 +10,12 @@ use Rattle.log_theory.proofs.Ledger.{cut_off, carried_looks}
 use Rattle.links.specs.declared.graph.Graph.{Graph}
 use Rattle.plan.specs.declared.plan.Plan.{Plan}
 use Rattle.plan.specs.declared.step.End.TheVariants as ending
+use Rattle.plan.specs.declared.step.Step.TheVariants.{Load}
 use Rattle.runner.specs.declared.cut.Cut.{Cut}
 use Rattle.runner.specs.declared.summary.Summary.TheVariants.{Well, Failed}
 use Rattle.runner.specs.declared.state.State.{State}
 use Rattle.runner.specs.Course.{Course, goes_on, IsOn}
-use Rattle.runner.specs.Going.{IsOver, IsCut, IsInHand}
+use Rattle.runner.specs.Going.{IsSaid, IsOver, IsAtLoad, IsCut, IsInHand}
 use Rattle.runner.specs.Ran.{HasRun, AreEdgesOf}
 use Rattle.runner.proofs.Keeping.{Carried, cut_free}
 use Rattle.runner.proofs.Running.{noted_within}
@@ -54,6 +56,12 @@ module _ (tells : Bool) (course : Course) (graph : Graph) (now : World) where
     },
     noted_within tells course graph None state now over.on,
   )
+
+  -- a load is next
+  pub at_load : (state : State) (file : ℕ) (on : IsOn tells course graph None state now) → IsSaid course graph on.steps (Load file) → has_number state.plan.loads.items file ≡ true → IsAtLoad tells course graph state file now
+  at_load state file on said wanted =
+      let named = on.planned.over.loading.loads_are.named file wanted in
+      record { on = on; next = said.loads; wanted = wanted; known = on.planned.stated.known named.edge file named.names }
 
   -- a call that only looked met the fault
   pub cut_looking : (state : State) (plan : Plan) (new : World) → plan ≡ state.plan → OnlyLooks tells now new → IsOn tells course graph None state now → IsCut tells course graph plan new

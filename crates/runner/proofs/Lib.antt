@@ -22,3 +22,4 @@ pub mod Noting
 pub mod Comparing
 pub mod Recording
 pub mod Onward
+pub mod Refused

@@ -1,9 +1,9 @@
 //! Runs the commands of a plan on a site, and keeps the log of what was started and what ended well.
 #![tactic(auto)]
 
+mod closing;
 mod counts;
 mod cut;
-mod finish;
 mod folders;
 mod judge;
 mod outputs;
@@ -19,8 +19,8 @@ mod summary;
 mod taken;
 mod turn;
 
+pub use closing::finish;
 pub use cut::Cut;
-pub use finish::finish;
 pub use rest::give_up;
 pub use run::run_plan;
 pub use setting::Setting;

@@ -15,7 +15,7 @@ use Rattle.runner.proofs.judge.judge.Goals as goal
 pub reason-requires-clause-command : goal.reason-requires-clause-command
 reason-requires-clause-command g c =
     let going = c.requires.going.0 in
-    judged_command going.course c.args.setting.graph.now c.args.setting.tick.now going.suits c.args.edge (c.requires.going.1 true).0.command
+    judged_command going.course c.args.setting.graph.now c.args.setting.tick.now going.suits c.args.edge (c.requires.going.1.lawful true).0.command
 
 pub returns-in_err-reason-clause-looks : goal.returns-in_err-reason-clause-looks
 returns-in_err-reason-clause-looks g c = looks_then g.S.Texts.tells (g.S.Texts.world c.args.site.now) (g.S.Texts.world c.ask_before.new.site) (g.S.Texts.world c.reason.new.site) c.ask_before.ensures.looked.looks c.reason.ensures.looked.looks

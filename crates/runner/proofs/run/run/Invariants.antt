@@ -1,6 +1,6 @@
-use Rattle.std.proofs.Common.{◌≡◌, None}
+use Rattle.std.proofs.Common.{◌≡◌, true, None}
 use Rattle.build_theory.specs.Seen.{Unrefused, StartsUnrefused}
-use Rattle.runner.specs.Course.{Course, Suits, IsOn}
+use Rattle.runner.specs.Course.{Course, goes_on, Suits, IsOn}
 use Rattle.runner.specs.Going.{work_left}
 use Rattle.runner.proofs.run.run.Given as goal
 
@@ -9,7 +9,7 @@ invariant-run g l = record {
   unrefused : Unrefused (g.S.Texts.world l.fn.site) (g.S.Texts.world l.site);
   starts : StartsUnrefused (g.S.Texts.world l.fn.site) (g.S.Texts.world l.site);
   set : l.state.set ≡ l.fn.state.set;
-  on : (course : Course) → Suits course l.setting.tick.now l.setting.graph.now → IsOn g.S.Texts.tells course l.setting.graph.now None l.fn.state (g.S.Texts.world l.fn.site) → IsOn g.S.Texts.tells course l.setting.graph.now None l.state (g.S.Texts.world l.site);
+  on : (course : Course) → Suits course l.setting.tick.now l.setting.graph.now → goes_on course ≡ true → IsOn g.S.Texts.tells course l.setting.graph.now None l.fn.state (g.S.Texts.world l.fn.site) → IsOn g.S.Texts.tells course l.setting.graph.now None l.state (g.S.Texts.world l.site);
 }
 
 abbrev pub decreases-run : goal.decreases-run

@@ -1,23 +1,25 @@
+use Rattle.std.proofs.Common.{Ok, refl, subst}
 use Rattle.model.specs.SingleBuild.{task_of}
 use Rattle.build_theory.proofs.Calls.{unrefused_call}
+use Rattle.runner.specs.declared.turn.Halt.{Halt}
+use Rattle.runner.specs.Going.{IsHalted}
 use Rattle.runner.proofs.Counting.{many_by_steps}
-use Rattle.runner.proofs.Cutting.{passes_whole}
+use Rattle.runner.proofs.Cutting.{passes_cut, starts_cut}
 use Rattle.runner.proofs.Ends.{ran_cut}
 use Rattle.runner.proofs.run.run_plan.Goals as goal
 
 pub take_in_rest-requires-clause-many : goal.take_in_rest-requires-clause-many
 take_in_rest-requires-clause-many g c =
-    let going = c.requires.going in
-    let cut = c.in-Err.ensures.cut going.course going.suits going.on in
+    let going = c.requires.going.0 in
+    let cut = c.in-Err.ensures.cut going.course going.suits c.requires.going.1 going.on in
     many_by_steps g.S.Texts.tells going.course.own (task_of going.course.asked going.course.store) cut.steps going.course.entry (g.S.Texts.world c.run.new.site) c.running.result going.suits.idle cut.run
-    (c.running.ensures.steps (task_of going.course.asked going.course.store) c.args.setting.graph.now cut.steps cut.planned cut.run.lawful)
+    (c.running.ensures.steps (task_of going.course.asked going.course.store) c.args.setting.graph.now cut.steps cut.planned cut.taken)
 
 pub returns-in-Err-clause-ran : goal.returns-in-Err-clause-ran
-returns-in-Err-clause-ran g c course suits on =
-    ran_cut g.S.Texts.tells course c.args.setting.graph.now (g.S.Texts.world c.run.new.site) c.run.new.state.plan (g.S.Texts.world c.take_in_rest.new.site) c.take_in_rest.result (c.in-Err.ensures.cut course suits on)
+returns-in-Err-clause-ran g c course suits goes on =
+    ran_cut g.S.Texts.tells course c.args.setting.graph.now (g.S.Texts.world c.run.new.site) c.run.new.state.plan (g.S.Texts.world c.take_in_rest.new.site) c.take_in_rest.result (c.in-Err.ensures.cut course suits goes on)
     (λ steps met. c.take_in_rest.ensures.rest course steps met)
 
-pub returns-in-Ok-clause-faults : goal.returns-in-Ok-clause-faults
-returns-in-Ok-clause-faults g c =
-    passes_whole (g.S.Texts.world c.args.site.now) (g.S.Texts.world c.run.new.site) _ c.in-Ok.ensures.cuts.starts
-    (unrefused_call (g.S.Texts.world c.args.site.now) (g.S.Texts.world c.run.new.site) _ c.in-Ok.ensures.cuts.cause)
+pub returns-in-Err-clause-starts : goal.returns-in-Err-clause-starts
+returns-in-Err-clause-starts g c =
+    starts_cut (g.S.Texts.world c.args.site.now) (g.S.Texts.world c.run.new.site) (g.S.Texts.world c.take_in_rest.new.site) c.take_in_rest.result c.in-Err.ensures.cuts.starts c.take_in_rest.ensures.takes_in

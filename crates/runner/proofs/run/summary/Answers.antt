@@ -13,7 +13,7 @@ pub returns-in-Well : goal.returns-in-Well
 returns-in-Well c tells course graph state now plan failed ends =
     let over = subst (λ (end : End). IsOver tells course graph state end now) c.in-Well.is ends in (
       ran_well tells course graph now state c.well.result over
-          (c.well.ensures.steps (task_of course.asked course.store) graph over.on.steps (subst (λ (p : Plan). IsPlanned (task_of course.asked course.store) graph p over.on.steps) (sym {A = Plan} plan) over.on.planned) over.on.carried.run.lawful),
+          (c.well.ensures.steps (task_of course.asked course.store) graph over.on.steps (subst (λ (p : Plan). IsPlanned (task_of course.asked course.store) graph p over.on.steps) (sym {A = Plan} plan) over.on.planned) over.on.taken),
       tt,
     )
 

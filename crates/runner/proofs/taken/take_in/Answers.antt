@@ -18,7 +18,7 @@ use Rattle.runner.proofs.taken.take_in.Goals as goal
 pub wait_any-requires : goal.wait_any-requires
 wait_any-requires g c =
     let going = c.requires.waits.0 in
-    some_runs g.S.Texts.tells going.course c.args.setting.graph.now None c.args.state.now (g.S.Texts.world c.args.site.now) going.on c.requires.waits.1.2
+    some_runs g.S.Texts.tells going.course c.args.setting.graph.now None c.args.state.now (g.S.Texts.world c.args.site.now) going.on c.requires.waits.1.runs
 
 pub edge-edge-requires : goal.edge-edge-requires
 edge-edge-requires g c =
@@ -92,7 +92,7 @@ returns-in-Err-clause-cuts g c =
       cause = cause_err (g.S.Texts.world c.args.site.now) (g.S.Texts.world c.wait_any.new.self) c.in-Err.fault c.in-Err.ensures.cause;
       starts = inl c.in-Err.ensures.err.at_start;
       waits = some_still g.S.Texts.tells (g.S.Texts.world c.args.site.now) (g.S.Texts.world c.wait_any.new.self)
-          (some_runs g.S.Texts.tells going.course c.args.setting.graph.now None c.args.state.now (g.S.Texts.world c.args.site.now) going.on c.requires.waits.1.2) c.in-Err.ensures.err;
+          (some_runs g.S.Texts.tells going.course c.args.setting.graph.now None c.args.state.now (g.S.Texts.world c.args.site.now) going.on c.requires.waits.1.runs) c.in-Err.ensures.err;
     }
 
 pub returns-in-Err-clause-cut : goal.returns-in-Err-clause-cut
