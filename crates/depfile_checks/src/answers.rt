@@ -1,17 +1,20 @@
 //! How many texts are answered in which way.
 
-use crate::told::Kind;
+use crate::told::{Kind, push_told};
 use depfile::inputs;
 use dyndep::parse;
 use std::alloc::{AllocError, Global};
+use tables::MadeUp;
 
-/// What the calls for some texts answered: how many were read, and how many were refused for which of two faults.
+/// What the calls for some texts answered: how many were read, and how many were refused for which of two faults. An answer is
+/// unsteady where a second call gives another.
 #[derive(Clone, Copy)]
 pub struct Answers {
     kind: Kind,
     read: u32,
     first: u32,
     second: u32,
+    unsteady: u32,
 }
 
 /// What the call for a text answered.
@@ -29,6 +32,7 @@ impl Answers {
             read: 0,
             first: 0,
             second: 0,
+            unsteady: 0,
         }
     }
 
@@ -44,6 +48,9 @@ impl Answers {
             Answer::Second => &mut self.second,
         };
         *count = count.saturating_add(1);
+        if !is_told_again(alloc, self.kind, bytes)? {
+            self.unsteady = self.unsteady.saturating_add(1);
+        }
         Ok(())
     }
 
@@ -53,8 +60,19 @@ impl Answers {
             Kind::Depfile => format!(in alloc; "{read} read, {first} N40, {second} N41")?,
             Kind::Dyndep => format!(in alloc; "{read} read, {first} N50, {second} N51")?,
         };
-        told.push_str(counts.as_str())
+        told.push_str(counts.as_str())?;
+        let unsteady = format!(in alloc; ", {} unsteady", self.unsteady)?;
+        told.push_str(unsteady.as_str())
     }
+}
+
+/// Whether a second call tells the same as the first.
+fn is_told_again(alloc: Global, kind: Kind, bytes: &[u8]) -> Result<bool, AllocError> {
+    let mut first = String::new(alloc);
+    push_told(alloc, kind, bytes, &mut first)?;
+    let mut second = String::new(alloc);
+    push_told(alloc, kind, bytes, &mut second)?;
+    Ok(first.as_str() == second.as_str())
 }
 
 fn depfile_answer(alloc: Global, bytes: &[u8]) -> Result<Answer, AllocError> {
@@ -107,4 +125,15 @@ fn count_at(
         answers.count(alloc, other.as_slice())?;
     }
     Ok(())
+}
+
+/// The answers for texts that are made up as a row says.
+pub fn made_up(alloc: Global, kind: Kind, row: &str) -> Result<Answers, AllocError> {
+    let mut answers = Answers::none(kind);
+    let mut texts = MadeUp::by(row);
+    for _ in 0..texts.count {
+        let text = texts.text(alloc)?;
+        answers.count(alloc, text.as_slice())?;
+    }
+    Ok(answers)
 }

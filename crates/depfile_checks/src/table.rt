@@ -1,6 +1,6 @@
 //! Which row asks what.
 
-use crate::answers::{beginnings, others};
+use crate::answers::{beginnings, made_up, others};
 use crate::told::{Kind, push_told};
 use std::alloc::{AllocError, Global};
 use tables::{Table, unescaped, word};
@@ -43,6 +43,7 @@ impl Table for Files {
                 beginnings(alloc, self.kind, self.text.as_slice())?.push_to(alloc, told)?
             }
             "bytes" => others(alloc, self.kind, self.text.as_slice())?.push_to(alloc, told)?,
+            "made_up" => made_up(alloc, self.kind, rest)?.push_to(alloc, told)?,
             _ => told.push_str("no such row")?,
         }
         Ok(true)

@@ -86,9 +86,14 @@ impl<'a> Disk<'a> {
         Err(ErrorKind::Other.into())
     }
 
-    /// The stamp of the file at the path, or nothing where there is no file.
+    /// The stamp of the file at the path, or nothing where there is no file, as at a path that no file can have. A depfile may
+    /// list such a path, and were it a fault, each later build would end with it.
     pub fn stamp(&self, path: &str) -> io::Result<Option<u64>> {
-        match unless_absent(fs::metadata(self.rt, path))? {
+        let found = fs::metadata(self.rt, path);
+        if is_no_name(&found) {
+            return Ok(None);
+        }
+        match unless_absent(found)? {
             Some(metadata) => Ok(Some(stamp_of(&metadata))),
             None => Ok(None),
         }
@@ -242,6 +247,18 @@ fn append_pieces(content: &mut Vec<u8>, bytes: &[u8]) -> Result<(), AllocError> 
         content.extend_from_slice(piece)?;
     }
     Ok(())
+}
+
+/// Whether no file can have the path that was asked for: it has a NUL, or a part of it is too long.
+fn is_no_name(found: &io::Result<Metadata>) -> bool {
+    match found {
+        Ok(_) => false,
+        Err(error) => is_of_a_name(error.kind()),
+    }
+}
+
+fn is_of_a_name(kind: ErrorKind) -> bool {
+    matches!(kind, ErrorKind::InvalidInput | ErrorKind::InvalidFilename)
 }
 
 /// What was found, or nothing where there is no such file.

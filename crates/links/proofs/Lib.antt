@@ -24,3 +24,6 @@ pub mod Unfitting
 pub mod Gaining
 pub mod Loading
 pub mod Extending
+pub mod Undoing
+pub mod TakingBack
+pub mod Same

@@ -110,6 +110,10 @@ span_set numbers part new spans e start stop lie grown at_start at_stop =
         ap (λ (l : List ℕ). span_of l (get_or spans k no_span)) grown
         ∙ between_more numbers part (get_or spans k no_span).start (get_or spans k no_span).stop lies.in_order lies.within
 
+-- a list that is let go
+pub span_gone : (numbers : List ℕ) (spans : List Span) (e : ℕ) → map (span_of numbers) (set spans e (record { start = 0; stop = 0 })) ≡ set (map (span_of numbers) spans) e []
+span_gone numbers spans e = map_set (span_of numbers) (span_of numbers) spans e (record { start = 0; stop = 0 }) no_span (λ k other lt. refl)
+
 -- ---- rooms
 
 module _ (items : List ℕ) (rooms : List Room) (are : AreRooms items rooms) where

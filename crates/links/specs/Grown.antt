@@ -12,6 +12,7 @@ pub record HasNumbered (old new : Graph) (path : List ℕ) (number : ℕ) : Type
   pub named : new.manifest.named ≡ old.manifest.named
   pub lines : new.manifest.lines ≡ old.manifest.lines
   pub actions : new.manifest.actions ≡ old.manifest.actions
+  pub defaults : new.manifest.defaults ≡ old.manifest.defaults
   pub declared : declared_by new ≡ declared_by old
   pub makers : new.makers ≡ old.makers
   pub recorded : new.recorded ≡ old.recorded

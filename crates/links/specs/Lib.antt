@@ -11,6 +11,8 @@ pub mod Free
 pub mod Cone
 pub mod ConeOf
 pub mod Extended
+pub mod LoadedEdges
+pub mod Back
 pub mod Statements
 pub mod Targets
 pub mod Alias

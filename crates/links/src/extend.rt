@@ -1,15 +1,18 @@
 //! What a loaded dyndep file says joins the graph.
 
-ghost use Rattle.std.specs.Prelude.{◌≡◌, ◌<◌, map, length, IfErr, OnOk, OnErr};
+ghost use Rattle.std.specs.Prelude.{◌≡◌, ◌<◌, map, length, IfOk, IfErr, OnOk, OnErr};
 ghost use Rattle.paths.specs.Told.{text_at};
+ghost use Rattle.links.specs.Back.{Undoes};
 ghost use Rattle.links.specs.Extended.{HasLoaded, IsRefusedLoad, addition_of};
 
+use crate::back::{Before, loaded_edges};
 use crate::fault::ExtendFault;
 use crate::graph::Graph;
 use crate::loaded::load;
 use dyndep::Addition;
 use paths::PathId;
 use std::alloc::Global;
+use std::mem;
 
 impl Graph {
     /// Gives each edge that names the file what its statement adds: outputs, inputs, and whether outputs may stay as they were.
@@ -19,19 +22,21 @@ impl Graph {
     /// `Unfit` where the statements do not fit: it tells of the lowest edge that names the file and has no statement, else of the
     /// first statement that is of no such edge, or of one that has a statement before. `MadeTwice` tells, where they fit, of
     /// the first output in reading order that was made before it. Where it is refused, nothing is changed. A cycle that the file
-    /// closes is told by the cone.
+    /// closes is told by the cone; `take_back` undoes what was loaded.
     pub fn extend(
         &mut self,
         alloc: Global,
         additions: &[Addition],
         file: PathId,
-    ) -> Result<(), ExtendFault>
+    ) -> Result<Before, ExtendFault>
         requires { file < length self.old.manifest.paths }
         ensures loaded { OnOk result (HasLoaded self.old self.new (text_at self.old.manifest.paths file) (map addition_of additions.now)) }
+        ensures before { IfOk result (λ before. Undoes self.old self.new file before) }
         ensures fault { IfErr result (IsRefusedLoad self.old (text_at self.old.manifest.paths file) (map addition_of additions.now)) }
         ensures err { OnErr result (self.new ≡ self.old) }
     {
         let chosen = self.statements(alloc, additions, file)?;
+        let edges = loaded_edges(alloc, self.manifest.actions.as_slice(), &chosen)?;
         let known = self.manifest.paths.len();
         match load(
             alloc,
@@ -40,11 +45,14 @@ impl Graph {
             additions,
             &chosen,
         ) {
-            Ok(parts) => {
-                self.makers = parts.makers;
-                self.users = parts.users;
-                Ok(())
-            }
+            Ok(loaded) => Ok(Before {
+                lines: loaded.lines,
+                makers: mem::replace(&mut self.makers, loaded.makers),
+                users: mem::replace(&mut self.users, loaded.users),
+                edges,
+                file,
+                paths: known,
+            }),
             Err(fault) => {
                 self.manifest.paths.truncate(known);
                 Err(fault)

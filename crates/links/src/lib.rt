@@ -2,6 +2,7 @@
 #![tactic(auto)]
 
 mod access;
+mod back;
 mod build;
 mod cone;
 mod defaults;
@@ -20,6 +21,7 @@ mod targets;
 mod users;
 mod walk;
 
+pub use back::{Before, LoadedEdge};
 pub use cone::{Cone, ConeFault, Mark};
 pub use fault::{ExtendFault, GraphFault};
 pub use graph::Graph;

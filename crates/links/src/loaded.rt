@@ -33,8 +33,16 @@ pub struct Parts {
     pub users: Users,
 }
 
+/// What follows from loaded edges, and the lines that the edges had before.
+#[derive(Drop)]
+pub struct Loaded {
+    pub lines: Lines,
+    pub makers: Vec<Option<EdgeId>>,
+    pub users: Users,
+}
+
 /// Gives edges what the statements add that were chosen for them, whose dyndep file is loaded then; the parts of the graph
-/// that follow from it.
+/// that follow from it, and the lines that were before.
 ///
 /// Where it is refused, the manifest has more paths at most.
 pub fn load(
@@ -43,14 +51,15 @@ pub fn load(
     recorded: &Recorded,
     additions: &[Addition],
     chosen: &[Option<usize>],
-) -> Result<Parts, ExtendFault>
+) -> Result<Loaded, ExtendFault>
     requires recorded { AreRecorded manifest.old recorded.now }
     requires dyndeps { DyndepsAreInputs manifest.old }
     requires fits { length chosen.now ≡ length manifest.old.lines }
     requires below { AreChoicesBelow (length additions.now) chosen.now }
     ensures loaded { OnOk result (IsLoadedManifest manifest.old manifest.new (map addition_of additions.now) chosen.now) }
-    ensures makers { IfOk result (λ parts. AreMakers manifest.new parts.makers.items) }
-    ensures users { IfOk result (λ parts. AreUsers manifest.new recorded.now parts.users) }
+    ensures lines { IfOk result (λ loaded. loaded.lines ≡ manifest.old.lines) }
+    ensures makers { IfOk result (λ loaded. AreMakers manifest.new loaded.makers.items) }
+    ensures users { IfOk result (λ loaded. AreUsers manifest.new recorded.now loaded.users) }
     ensures apart { OnOk result (HaveOnePlace manifest.new.paths) }
     ensures err { OnErr result (HasOnlyMore manifest.old manifest.new) }
     ensures fault { IfErr result (IsLoadFault manifest.old (map addition_of additions.now) chosen.now) }
@@ -63,7 +72,11 @@ pub fn load(
             let mut actions = mem::replace(&mut manifest.actions, Items::new(alloc)).into_vec();
             load_actions(&mut actions, additions, chosen);
             manifest.actions = Items::from_vec(actions);
-            Ok(parts)
+            Ok(Loaded {
+                lines: before,
+                makers: parts.makers,
+                users: parts.users,
+            })
         }
         Err(fault) => {
             manifest.lines = before;

@@ -1,9 +1,12 @@
 //! The recorded inputs of each edge, in flat memory.
 
-ghost use Rattle.std.specs.Prelude.{◌≡◌, ◌<◌, ◌++◌, [], length, slice_set, IfOk, OnOk, OnErr};
+ghost use Rattle.std.specs.Prelude.{◌≡◌, ◌<◌, ◌++◌, [], ℕ, false, Some, length, slice_get, slice_set, IfOk, OnOk, OnErr};
 ghost use Rattle.std.proofs.Math.ListN.{replicate};
+ghost use Rattle.model.specs.Graph.{has_number};
 ghost use Rattle.links.specs.Held.{list_at};
+ghost use Rattle.links.specs.LoadedEdges.{numbers_in};
 
+use crate::back::LoadedEdge;
 use crate::path_set::PathSet;
 use paths::{EdgeId, PathId};
 use std::alloc::{AllocError, Global};
@@ -73,6 +76,25 @@ impl Recorded {
             stop: self.numbers.len(),
         };
         Ok(())
+    }
+
+    /// Lets the recorded inputs of these edges go, which takes no memory.
+    pub(crate) fn forget(&mut self, edges: &[LoadedEdge])
+        requires { (k : ℕ) (loaded : LoadedEdge) → slice_get edges.now k ≡ Some loaded → loaded.edge < length self.old }
+        ensures fits { length self.new ≡ length self.old }
+        ensures gone { (k : ℕ) (loaded : LoadedEdge) → slice_get edges.now k ≡ Some loaded → list_at self.new loaded.edge ≡ [] }
+        ensures others { (e : ℕ) → has_number (numbers_in edges.now) e ≡ false → list_at self.new e ≡ list_at self.old e }
+    {
+        for loaded in edges {
+            self.forget_one(loaded.edge);
+        }
+    }
+
+    fn forget_one(&mut self, edge: EdgeId)
+        requires { edge < length self.old }
+        ensures { self.new ≡ slice_set self.old edge [] }
+    {
+        self.spans[edge.index()] = Span { start: 0, stop: 0 };
     }
 
     /// A set without paths, with the room that is lent.

@@ -1,8 +1,9 @@
-//! A log of either kind, cut at each place and with each byte replaced.
+//! A log of either kind, cut at each place and with each byte replaced, and logs that are made up.
 
 use crate::logs::{Kind, Told};
 use build_log::Tail;
 use std::alloc::{AllocError, Global};
+use tables::MadeUp;
 
 /// `beginnings`: how many beginnings of the text there are, and how many of them tell something else than the records of their
 /// whole lines, where one that ends with a line feed ends as the text does, and each other one is torn.
@@ -30,12 +31,40 @@ pub fn push_beginnings(
     answer.push_str(counts.as_str())
 }
 
-/// How many texts with another byte there are, are read, and are compacted to a text that tells something else.
+/// How many texts there are, are read, and are compacted to a text that tells something else, or tell something else when they
+/// are read again.
 #[derive(Clone, Copy)]
 struct Counts {
     all: u32,
     read: u32,
     lost: u32,
+}
+
+impl Counts {
+    const NONE: Counts = Counts {
+        all: 0,
+        read: 0,
+        lost: 0,
+    };
+
+    /// One text more.
+    fn count(&mut self, alloc: Global, kind: Kind, text: &[u8]) -> Result<(), AllocError> {
+        let told = Told::of(alloc, kind, text)?;
+        self.all = self.all.saturating_add(1);
+        if told.tail != Tail::Damaged {
+            self.read = self.read.saturating_add(1);
+        }
+        if !is_kept(alloc, kind, &told)? || !is_told_again(alloc, kind, text, &told)? {
+            self.lost = self.lost.saturating_add(1);
+        }
+        Ok(())
+    }
+
+    fn push_to(&self, alloc: Global, answer: &mut String) -> Result<(), AllocError> {
+        let (all, read, lost) = (self.all, self.read, self.lost);
+        let told = format!(in alloc; "{read} of {all} read, {lost} lost")?;
+        answer.push_str(told.as_str())
+    }
 }
 
 /// `bytes`: how the text is read with each of nine bytes at each place.
@@ -45,17 +74,11 @@ pub fn push_changed(
     text: &[u8],
     answer: &mut String,
 ) -> Result<(), AllocError> {
-    let mut counts = Counts {
-        all: 0,
-        read: 0,
-        lost: 0,
-    };
+    let mut counts = Counts::NONE;
     for place in 0..text.len() {
         count_at(alloc, kind, text, place, &mut counts)?;
     }
-    let (all, read, lost) = (counts.all, counts.read, counts.lost);
-    let told = format!(in alloc; "{read} of {all} read, {lost} lost")?;
-    answer.push_str(told.as_str())
+    counts.push_to(alloc, answer)
 }
 
 fn count_at(
@@ -70,16 +93,36 @@ fn count_at(
         if let Some(at) = other.get_mut(place) {
             *at = byte;
         }
-        let told = Told::of(alloc, kind, other.as_slice())?;
-        counts.all = counts.all.saturating_add(1);
-        if told.tail != Tail::Damaged {
-            counts.read = counts.read.saturating_add(1);
-        }
-        if !is_kept(alloc, kind, &told)? {
-            counts.lost = counts.lost.saturating_add(1);
-        }
+        counts.count(alloc, kind, other.as_slice())?;
     }
     Ok(())
+}
+
+/// `made_up COUNT SEED FRONT TOKEN..`: how texts are read that are made up.
+pub fn push_made_up(
+    alloc: Global,
+    kind: Kind,
+    row: &str,
+    answer: &mut String,
+) -> Result<(), AllocError> {
+    let mut counts = Counts::NONE;
+    let mut texts = MadeUp::by(row);
+    for _ in 0..texts.count {
+        let text = texts.text(alloc)?;
+        counts.count(alloc, kind, text.as_slice())?;
+    }
+    counts.push_to(alloc, answer)
+}
+
+/// Whether the text, read again, tells what it told.
+fn is_told_again(alloc: Global, kind: Kind, text: &[u8], told: &Told) -> Result<bool, AllocError> {
+    let again = Told::of(alloc, kind, text)?;
+    Ok(
+        again.tail == told.tail
+            && again.records == told.records
+            && again.in_force == told.in_force
+            && again.compacted.as_slice() == told.compacted.as_slice(),
+    )
 }
 
 /// Whether what is left where a text is compacted is whole, has just the records in force, and is its own compaction.

@@ -3,7 +3,7 @@
 use crate::judgements::push_judgement;
 use crate::lines::{push_field_of, push_fields, push_number_of};
 use crate::logs::{Kind, push_added, push_at, push_look, push_times, push_told};
-use crate::sweeps::{push_beginnings, push_changed};
+use crate::sweeps::{push_beginnings, push_changed, push_made_up};
 use build_log::number_of;
 use std::alloc::{AllocError, Global};
 use tables::{Table, unescaped, word};
@@ -55,6 +55,7 @@ impl Logs {
             }
             "beginnings" => push_beginnings(alloc, self.kind, text, answer)?,
             "bytes" => push_changed(alloc, self.kind, text, answer)?,
+            "made_up" => push_made_up(alloc, self.kind, rest, answer)?,
             _ => return Ok(false),
         }
         Ok(true)

@@ -1,3 +1,4 @@
 pub mod Slices
 pub mod Kept
 pub mod Stays
+pub mod Grown

@@ -52,3 +52,10 @@ IfKept tells paths old new seen So =
 -- the stamp is that of the file at the path, where that is one of the set
 abbrev pub IsStampIn : List ℕ → Option ℕ → (List ℕ → Bool) → List Moment → Type 0
 IsStampIn path stamp set files = set path ≡ true → stamp ≡ stamp_of (file_at files path)
+
+-- ---- paths that a graph got
+
+-- what was seen is so of these paths where it was so of those before
+pub record StaysSeen (before after : List (List ℕ)) (old new : List Look) : Type 0 where
+  pub all : (files : List Moment) → AreSeen before files old → AreSeen after files new
+  pub kept : (set : List ℕ → Bool) (files : List Moment) → AreSeenOf set before files old → AreSeenOf set after files new

@@ -1,13 +1,13 @@
 //! What was seen of each path.
 
-ghost use Rattle.std.specs.Prelude.{◌≡◌, ◌<◌, ℕ, IfOk, OnOk, OnErr, true, false, length, slice_set};
+ghost use Rattle.std.specs.Prelude.{◌≡◌, ◌<◌, ◌≤◌, ◌++◌, ℕ, List, IfOk, OnOk, OnErr, true, false, length, slice_set};
 ghost use Rattle.std.proofs.Math.ListN.{replicate};
 ghost use Rattle.model.specs.Calls.{OnlyLooks, HasCause};
 ghost use Rattle.model.specs.Graph.{has_number};
 ghost use Rattle.paths.specs.Told.{text_at};
 ghost use Rattle.looks.specs.declared.table.Look.TheVariants.{Unasked};
 ghost use Rattle.looks.specs.Looking.{HasLooked};
-ghost use Rattle.looks.specs.Seen.{look_at, look_of, is_asked, IfKept, AreSeenOf, IsStampIn};
+ghost use Rattle.looks.specs.Seen.{look_at, look_of, is_asked, IfKept, AreSeenOf, IsStampIn, StaysSeen};
 
 use links::Graph;
 use model::SiteFault;
@@ -93,6 +93,19 @@ impl Looks {
         for path in paths {
             self.stamp(site, graph, *path)?;
         }
+        Ok(())
+    }
+
+    /// Room for the paths that the graph got: none of them was asked for. What was seen stays, and so it is of the same paths.
+    /// Where memory is refused, nothing is changed.
+    pub fn grow(&mut self, graph: &Graph) -> Result<(), AllocError>
+        requires { length self.old.seen.items ≤ length graph.now.manifest.paths }
+        ensures fits { OnOk result (length self.new.seen.items ≡ length graph.now.manifest.paths) }
+        ensures same { OnOk result ((p : ℕ) → look_at self.new.seen.items p ≡ look_at self.old.seen.items p) }
+        ensures seen { OnOk result ((paths more : List (List ℕ)) → graph.now.manifest.paths ≡ paths ++ more → length self.old.seen.items ≡ length paths → StaysSeen paths graph.now.manifest.paths self.old.seen.items self.new.seen.items) }
+        ensures err { OnErr result (self.new.seen.items ≡ self.old.seen.items) }
+    {
+        self.seen.resize(graph.paths(), Look::Unasked)?;
         Ok(())
     }
 

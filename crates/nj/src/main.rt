@@ -2,6 +2,7 @@
 #![tactic(auto)]
 
 use nj_run::run;
+use std::env::VarError;
 use std::io::{BufWriter, ErrorKind};
 use std::process::ExitCode;
 use std::{env, io};
@@ -23,9 +24,18 @@ fn main(rt: HostRuntime) -> ExitCode {
 fn run_words(rt: &HostRuntime) -> io::Result<u8> {
     let alloc = rt.alloc();
     let words: Vec<String> = env::args(rt)?.skip(1).collect(alloc)?;
-    let pattern = env::var(rt, "NINJA_STATUS").ok();
+    let pattern = pattern(rt)?;
     let mut out = BufWriter::new(alloc, rt.stdout())?;
     let mut err = BufWriter::new(alloc, rt.stderr())?;
     let pattern = pattern.as_ref().map(|pattern| pattern.as_str());
     Ok(run(rt, words.as_slice(), pattern, &mut out, &mut err))
+}
+
+/// What `NINJA_STATUS` is set to, where that is a text.
+fn pattern(rt: &HostRuntime) -> io::Result<Option<String>> {
+    match env::var(rt, "NINJA_STATUS") {
+        Ok(pattern) => Ok(Some(pattern)),
+        Err(VarError::OutOfMemory) => Err(ErrorKind::OutOfMemory.into()),
+        Err(_) => Ok(None),
+    }
 }

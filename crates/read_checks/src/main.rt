@@ -2,7 +2,8 @@
 //!
 //! A row is a word and a text, in which escapes are as `tables` says. `read` gives the only file, `both` one beside the files
 //! that `sub` gave, and `passing READS` one beside them on a device that refuses each read after so many. `beginnings NAME` and
-//! `bytes NAME` ask of the last two texts, as `sweeps` says; `none`, `doubled`, `filled` and `nested` are said in `limits`.
+//! `bytes NAME` ask of the last two texts, and `made_up NAME COUNT SEED FRONT TOKEN..` of texts that are made up in the place of one
+//! of them, as `sweeps` says; `none`, `doubled`, `filled` and `nested` are said in `limits`.
 #![tactic(auto)]
 
 mod files;

@@ -1,37 +1,69 @@
-//! Texts that use all of the language, cut at each place and with each byte replaced.
+//! Texts that use all of the language, cut at each place and with each byte replaced, and texts that are made up.
 
 use crate::files::Files;
 use crate::two::TwoTexts;
 use manifest::{FileFault, ReadError, read};
 use std::alloc::{AllocError, Global};
+use tables::{MadeUp, word};
 
-/// What the reading of some texts came to. A reading is sound that gives a manifest, or a refusal that stands in a line of a
-/// file.
+/// What the reading of some texts came to: how many gave a manifest, and how many a refusal that stands in a line of a file. A
+/// reading is wrong that gives anything else, or tells something else when it is made again.
 #[derive(Clone, Copy)]
 struct Counts {
-    sound: u32,
-    unsound: u32,
+    read: u32,
+    refused: u32,
+    wrong: u32,
+}
+
+/// What a reading gives.
+#[derive(Clone, Copy)]
+enum Given {
+    Manifest,
+    Refusal,
+    Wrong,
 }
 
 impl Counts {
     const NONE: Counts = Counts {
-        sound: 0,
-        unsound: 0,
+        read: 0,
+        refused: 0,
+        wrong: 0,
     };
 
     /// One reading more.
-    fn count(&mut self, alloc: Global, files: &mut Files) {
-        if is_sound(alloc, files) {
-            self.sound = self.sound.saturating_add(1);
-        } else {
-            self.unsound = self.unsound.saturating_add(1);
-        }
+    fn count(&mut self, alloc: Global, files: &mut Files) -> Result<(), AllocError> {
+        let count = match given_again(alloc, files)? {
+            Given::Manifest => &mut self.read,
+            Given::Refusal => &mut self.refused,
+            Given::Wrong => &mut self.wrong,
+        };
+        *count = count.saturating_add(1);
+        Ok(())
     }
 
     fn push_to(&self, alloc: Global, told: &mut String) -> Result<(), AllocError> {
-        let counts = format!(in alloc; "{} sound, {} unsound", self.sound, self.unsound)?;
+        let (read, refused, wrong) = (self.read, self.refused, self.wrong);
+        let counts = format!(in alloc; "{read} read, {refused} refused, {wrong} wrong")?;
         told.push_str(counts.as_str())
     }
+}
+
+/// What a read gives, where a second one tells the same.
+fn given_again(alloc: Global, files: &mut Files) -> Result<Given, AllocError> {
+    if is_told_again(alloc, files)? {
+        Ok(given(alloc, files))
+    } else {
+        Ok(Given::Wrong)
+    }
+}
+
+/// Whether a second read tells the same as the first.
+fn is_told_again(alloc: Global, files: &mut Files) -> Result<bool, AllocError> {
+    let mut first = String::new(alloc);
+    files.push_told(alloc, &mut first)?;
+    let mut second = String::new(alloc);
+    files.push_told(alloc, &mut second)?;
+    Ok(first.as_str() == second.as_str())
 }
 
 /// How many lines a file has, the empty one behind its last newline too.
@@ -44,11 +76,17 @@ fn count_lines(files: &Files, name: &str) -> usize {
 }
 
 /// Whether a read gives a manifest, or a refusal that stands in a line of a file.
-fn is_sound(alloc: Global, files: &mut Files) -> bool {
+fn given(alloc: Global, files: &mut Files) -> Given {
     match read(alloc, files, "build.ninja") {
-        Ok(_) => true,
-        Err(ReadError::Refused(fault)) => is_in_a_line(files, &fault),
-        Err(_) => false,
+        Ok(_) => Given::Manifest,
+        Err(ReadError::Refused(fault)) => {
+            if is_in_a_line(files, &fault) {
+                Given::Refusal
+            } else {
+                Given::Wrong
+            }
+        }
+        Err(_) => Given::Wrong,
     }
 }
 
@@ -68,7 +106,7 @@ pub fn push_beginnings(
     let text = texts.text(name);
     for length in 0..text.len() {
         let mut files = texts.files_with(alloc, name, &text[..length])?;
-        counts.count(alloc, &mut files);
+        counts.count(alloc, &mut files)?;
     }
     counts.push_to(alloc, told)
 }
@@ -100,7 +138,26 @@ fn count_at(
             *at = byte;
         }
         let mut files = texts.files_with(alloc, name, bytes.as_slice())?;
-        counts.count(alloc, &mut files);
+        counts.count(alloc, &mut files)?;
     }
     Ok(())
+}
+
+/// `made_up NAME COUNT SEED FRONT TOKEN..`: how the files are read with texts that are made up in the place of the text of that
+/// name.
+pub fn push_made_up(
+    alloc: Global,
+    texts: &TwoTexts,
+    row: &str,
+    told: &mut String,
+) -> Result<(), AllocError> {
+    let (name, rest) = word(row);
+    let mut made_up = MadeUp::by(rest);
+    let mut counts = Counts::NONE;
+    for _ in 0..made_up.count {
+        let text = made_up.text(alloc)?;
+        let mut files = texts.files_with(alloc, name, text.as_slice())?;
+        counts.count(alloc, &mut files)?;
+    }
+    counts.push_to(alloc, told)
 }

@@ -2,7 +2,7 @@
 
 use crate::files::Files;
 use crate::limits::{push_doubled, push_filled, push_nested};
-use crate::sweeps::{push_beginnings, push_changed};
+use crate::sweeps::{push_beginnings, push_changed, push_made_up};
 use crate::two::TwoTexts;
 use std::alloc::{AllocError, Global};
 use tables::{Table, unescaped, word};
@@ -19,6 +19,7 @@ impl Table for TwoTexts {
             "passing" => self.push_passing(alloc, rest, told)?,
             "beginnings" => push_beginnings(alloc, self, rest, told)?,
             "bytes" => push_changed(alloc, self, rest, told)?,
+            "made_up" => push_made_up(alloc, self, rest, told)?,
             _ => push_alone(alloc, first, rest, told)?,
         }
         Ok(true)

@@ -1,10 +1,10 @@
 -- The numbers of the records in force, path by path.
-use Rattle.std.proofs.Common.{◌≡◌, inl, inr, ℕ, ◌+◌, ◌<◌, false, List, [], ◌∷◌, ◌++◌, Option, Some, None, take, length, map, get_or, slice_get, unwrap_or, subst, sym, ◌∙◌, ap, arith}
+use Rattle.std.proofs.Common.{◌≡◌, inl, inr, ℕ, ◌+◌, ◌<◌, ◌≤◌, false, List, [], ◌∷◌, ◌++◌, Option, Some, None, take, length, map, get_or, slice_get, unwrap_or, subst, sym, ◌∙◌, ap, append_assoc, arith}
 use Rattle.std.specs.Option.{option_and_then}
-use Rattle.std.proofs.Math.Seq.{get_or-append_seam}
-use Rattle.std.proofs.lemmas.Option.{slice_get-get_or, unwrap_or-slice_get}
-use Rattle.std.proofs.lemmas.List.{get_or_append_left, length-append, map-append, take_more}
-use Rattle.std.proofs.lemmas.Bool.{cases_eq, false≢true}
+use Rattle.std.proofs.Math.Seq.{get_or-append_seam, take-append_seam}
+use Rattle.std.proofs.lemmas.Option.{slice_get-get_or, slice_get_past, unwrap_or-slice_get}
+use Rattle.std.proofs.lemmas.List.{append-nil, get_or_append_left, length-append, map-append, take_more}
+use Rattle.std.proofs.lemmas.Bool.{cases_eq, cases_lt, false≢true}
 use Rattle.model.specs.declared.graph.Edge.{Edge}
 use Rattle.model.specs.Graph.{outputs}
 use Rattle.paths.specs.declared.line.Line.{Line}
@@ -14,7 +14,7 @@ use Rattle.paths.specs.declared.manifest.Command.{Command as Commanded}
 use Rattle.paths.specs.Lists.{line_outputs}
 use Rattle.paths.specs.Told.{text_at, texts_at, edge_of}
 use Rattle.build_log.specs.Kept.{joined}
-use Rattle.records.specs.Held.{ArePlaces}
+use Rattle.records.specs.Held.{ArePlaces, AreMadeFrom, IsLonger}
 
 joined_get : (places : List (Option ℕ)) (p : ℕ) → p < length places → joined (slice_get places p) ≡ get_or places p None
 joined_get places p low = ap joined (slice_get-get_or places p None low)
@@ -25,20 +25,16 @@ place_got list places i p n found same_list same_place low got is =
     subst (λ (l : List (Option ℕ)). joined (slice_get l p) ≡ Some n) same_list
     (subst (λ (k : ℕ). joined (slice_get list k) ≡ Some n) same_place (joined_get list i low ∙ (sym got ∙ is)))
 
--- so many paths have their numbers
-abbrev pub AreMadeBelow : {R X : Type 0} → (List R → List X) → (List R → List ℕ → Option X) → ℕ → List R → List (List ℕ) → List (Option ℕ) → Type 0
-AreMadeBelow told in_force count rs paths places = (p : ℕ) → p < count → option_and_then (slice_get (told rs)) (joined (slice_get places p)) ≡ in_force rs (text_at paths p)
-
 pub longer : (old new : List (Option ℕ)) (place : ℕ) (one : Option ℕ) → length old ≡ place → new ≡ old ++ one ∷ [] → length new ≡ place + 1
 longer old new place one fits pushed = ap length pushed ∙ (length-append old (one ∷ []) ∙ ap (λ (n : ℕ). n + 1) fits)
 
-pub placed : {R X : Type 0} (told : List R → List X) (in_force : List R → List ℕ → Option X) (rs : List R) (paths : List (List ℕ)) (old new : List (Option ℕ)) (place : ℕ) (one : Option ℕ) → length old ≡ place → new ≡ old ++ one ∷ []
-    → option_and_then (slice_get (told rs)) one ≡ in_force rs (text_at paths place) → AreMadeBelow told in_force place rs paths old → AreMadeBelow told in_force (place + 1) rs paths new
-placed told in_force rs paths old new place one fits pushed is all p low = elim (cases_eq p place) [
+pub placed : {R X : Type 0} (told : List R → List X) (in_force : List R → List ℕ → Option X) (rs : List R) (paths : List (List ℕ)) (old new : List (Option ℕ)) (start place : ℕ) (one : Option ℕ) → length old ≡ place → new ≡ old ++ one ∷ []
+    → option_and_then (slice_get (told rs)) one ≡ in_force rs (text_at paths place) → AreMadeFrom told in_force start place rs paths old → AreMadeFrom told in_force start (place + 1) rs paths new
+placed told in_force rs paths old new start place one fits pushed is all p from low = elim (cases_eq p place) [
   | inl here ↦ ap (option_and_then (slice_get (told rs))) (at_end p here) ∙ (is ∙ ap (λ (n : ℕ). in_force rs (text_at paths n)) (sym here))
   | inr other ↦
       let below : p < place = omega (arith, low, other) in
-      ap (option_and_then (slice_get (told rs))) (before p below) ∙ all p below
+      ap (option_and_then (slice_get (told rs))) (before p below) ∙ all p from below
 ]
   where
     at_end : (p : ℕ) → p ≡ place → joined (slice_get new p) ≡ one
@@ -53,10 +49,49 @@ placed told in_force rs paths old new place one fits pushed is all p low = elim 
         ∙ (ap (λ (l : List (Option ℕ)). get_or l p None) pushed
         ∙ (get_or_append_left old (one ∷ []) None p (omega (arith, below, fits)) ∙ sym (joined_get old p (omega (arith, below, fits)))))
 
--- a log without records has none in force
-pub no_places : {R X : Type 0} (told : List R → List X) (in_force : List R → List ℕ → Option X) → ((o : List ℕ) → in_force [] o ≡ None) → (rs : List R) (paths : List (List ℕ)) → length rs ≡ 0 → ArePlaces told in_force rs paths []
-no_places told in_force nothing [] paths none p low = sym (nothing (text_at paths p))
-no_places told in_force nothing (r ∷ rs) paths none p low = absurd (omega (arith, none))
+-- ---- more numbers behind those that stood there
+
+pub longer_none : (old : List (Option ℕ)) → IsLonger old old
+longer_none old = record { more = []; grows = sym (append-nil old) }
+
+pub longer_push : (first old new : List (Option ℕ)) (one : Option ℕ) → new ≡ old ++ one ∷ [] → IsLonger first old → IsLonger first new
+longer_push first old new one pushed is = record {
+  more = is.more ++ one ∷ [];
+  grows = pushed ∙ (ap (λ (l : List (Option ℕ)). l ++ one ∷ []) is.grows ∙ append_assoc first is.more (one ∷ []));
+}
+
+-- so many of them are those that stood there
+pub longer_back : (old new : List (Option ℕ)) → IsLonger old new → take (length old) new ≡ old
+longer_back old new is = ap (take (length old)) is.grows ∙ take-append_seam old is.more
+
+longer_same : (old new : List (Option ℕ)) → IsLonger old new → (p : ℕ) → p < length old → joined (slice_get new p) ≡ joined (slice_get old p)
+longer_same old new is p low =
+    joined_get new p (let long = ap length is.grows in let sum = length-append old is.more in omega (arith, low, long, sum))
+    ∙ (ap (λ (l : List (Option ℕ)). get_or l p None) is.grows ∙ (get_or_append_left old is.more None p low ∙ sym (joined_get old p low)))
+
+module _ {R X : Type 0} (told : List R → List X) (in_force : List R → List ℕ → Option X) (rs : List R) (paths more grown : List (List ℕ)) (grows : grown ≡ paths ++ more) (old : List (Option ℕ)) (fits : length old ≤ length paths)
+    (are : ArePlaces told in_force rs paths old) where
+  -- what stood there is of the same paths
+  was : (p : ℕ) → p < length paths → option_and_then (slice_get (told rs)) (joined (slice_get old p)) ≡ in_force rs (text_at grown p)
+  was p low = are p low ∙ ap (in_force rs) (sym (ap (λ (l : List (List ℕ)). text_at l p) grows ∙ get_or_append_left paths more [] p low))
+
+  -- with the numbers of the other paths these are all
+  pub all_placed : (new : List (Option ℕ)) → IsLonger old new → AreMadeFrom told in_force (length old) (length grown) rs grown new → ArePlaces told in_force rs grown new
+  all_placed new longer made p low = elim (cases_lt p (length old)) [
+    | inl there ↦ ap (option_and_then (slice_get (told rs))) (longer_same old new longer p there) ∙ was p (omega (arith, there, fits))
+    | inr past ↦ made p past low
+  ]
+
+  -- a log without records has none in force
+  pub none_placed : ((o : List ℕ) → in_force [] o ≡ None) → length rs ≡ 0 → ArePlaces told in_force rs grown old
+  none_placed nothing none p low = elim (cases_lt p (length paths)) [
+    | inl there ↦ was p there
+    | inr past ↦ ap (λ (o : Option (Option ℕ)). option_and_then (slice_get (told rs)) (joined o)) (slice_get_past old p (omega (arith, past, fits))) ∙ sym (empty rs none (text_at grown p))
+  ]
+    where
+      empty : (rs : List R) → length rs ≡ 0 → (o : List ℕ) → in_force rs o ≡ None
+      empty [] none o = nothing o
+      empty (r ∷ rs) none o = absurd (omega (arith, none))
 
 -- ---- texts of numbers
 

@@ -1,6 +1,6 @@
 -- What a build keeps of a log, and how it hangs together with the file that it read. It is said of any log: by the forms of its
 -- records, what is kept of them, and what they have in force.
-use Rattle.std.specs.Prelude.{◌≡◌, ◌↔◌, ◌<◌, ◌⊎◌, ℕ, Bool, IsTrue, List, [], ◌∷◌, ◌++◌, Option, Some, None, length, slice_get}
+use Rattle.std.specs.Prelude.{◌≡◌, ◌↔◌, ◌<◌, ◌≤◌, ◌⊎◌, ℕ, Bool, IsTrue, List, [], ◌∷◌, ◌++◌, Option, Some, None, length, slice_get}
 use Rattle.std.specs.Option.{option_and_then}
 use Rattle.model.specs.World.{World, file_at, content_of}
 use Rattle.model.specs.Calls.{Sees}
@@ -48,6 +48,16 @@ pub record WasRead {R T : Type 0} (forms : Version → Form R) (Keeps : List R �
 -- these are, for each of the paths, the numbers of the records in force for it
 abbrev pub ArePlaces : {R X : Type 0} → (List R → List X) → (List R → List ℕ → Option X) → List R → List (List ℕ) → List (Option ℕ) → Type 0
 ArePlaces told in_force rs paths places = (p : ℕ) → p < length paths → option_and_then (slice_get (told rs)) (joined (slice_get places p)) ≡ in_force rs (text_at paths p)
+
+-- so they are for the paths from one place on up to another
+abbrev pub AreMadeFrom : {R X : Type 0} → (List R → List X) → (List R → List ℕ → Option X) → ℕ → ℕ → List R → List (List ℕ) → List (Option ℕ) → Type 0
+AreMadeFrom told in_force start stop rs paths places =
+    (p : ℕ) → start ≤ p → p < stop → option_and_then (slice_get (told rs)) (joined (slice_get places p)) ≡ in_force rs (text_at paths p)
+
+-- more numbers stand behind those that stood there
+pub record IsLonger (old new : List (Option ℕ)) : Type 0 where
+  pub more : List (Option ℕ)
+  pub grows : new ≡ old ++ more
 
 -- of a log nothing changed but what may be done with its file
 pub record IsSameLog {T : Type 0} (old new : Held T) : Type 0 where

@@ -23,8 +23,8 @@ pub record IsOfDeps (ds : List DepsRecord) (paths : List (List ℕ)) (records : 
   pub fits : length records.deps_places.items ≤ length paths
   pub told : ArePlaces tolds deps_in_force ds paths records.deps_places.items
 
--- So they are of both logs, for the paths that the graph had when they were read: those in front, among which are all outputs. It
--- may have got more since then.
+-- So they are of both logs, for the paths that the graph had when they were looked up: those in front, among which are all outputs.
+-- It may have got more since then.
 pub record AreKnown (graph : Graph) (rs : List Record) (ds : List DepsRecord) (records : Records) : Type 0 where
   pub paths : List (List ℕ)
   pub more : List (List ℕ)

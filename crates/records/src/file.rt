@@ -1,6 +1,6 @@
 //! The file of a log, and what it told when it was read.
 
-ghost use Rattle.std.specs.Prelude.{◌≡◌, ◌<◌, ◌≤◌, ◌↔◌, ◌^◌, ℕ, List, Option, Some, None, IfOk, OnOk, OnErr, IsFalse, false, string_bytes, length, slice_get};
+ghost use Rattle.std.specs.Prelude.{◌≡◌, ◌<◌, ◌≤◌, ◌↔◌, ◌^◌, ◌++◌, ℕ, List, Option, Some, None, IfOk, OnOk, OnErr, IsFalse, false, string_bytes, length, slice_get};
 ghost use Rattle.std.specs.Option.{option_and_then};
 ghost use Rattle.model.specs.declared.graph.Edge.{Edge};
 ghost use Rattle.model.specs.World.{World, view_of};
@@ -12,7 +12,7 @@ ghost use Rattle.build_log.specs.Kept.{WantsCompaction};
 ghost use Rattle.build_log.specs.Text.{IsRead, IsLogOf};
 ghost use Rattle.build_log.specs.Form.{IsLineOf};
 ghost use Rattle.log_theory.specs.Writes.{WritesAt};
-ghost use Rattle.records.specs.Held.{text_in, WasRead, ArePlaces, IsSameLog, TellsMore, IsKeptOrWrittenAnew, MayTellMore};
+ghost use Rattle.records.specs.Held.{text_in, WasRead, ArePlaces, AreMadeFrom, IsLonger, IsSameLog, TellsMore, IsKeptOrWrittenAnew, MayTellMore};
 ghost use Rattle.records.specs.Carried.{WhereKept, IsCarriedLog};
 
 use build_log::{Records, Tail, front_of_lines, line_grows_log, one_reading};
@@ -78,24 +78,42 @@ impl<L: Records> LogFile<L> {
         ensures fits { IfOk result (λ places. length places.items ≤ length graph.now.manifest.paths) }
         ensures made { IfOk result (λ places. (rs : List L.Record) → L.Keeps rs self.now.log → ArePlaces L.told L.in_force rs graph.now.manifest.paths places.items) }
     {
-        L::keeps_in_force();
-        if self.log.records() == 0 {
-            return Ok(Vec::new(alloc));
-        }
-        self.all_places(alloc, graph)
+        let mut places = Vec::new(alloc);
+        self.look_up(graph, &mut places)?;
+        Ok(places)
     }
 
-    /// For each path of the graph the number of the record in force.
-    fn all_places(&self, alloc: Global, graph: &Graph) -> Result<Vec<Option<usize>>, AllocError>
-        ensures fits { IfOk result (λ places. length places.items ≡ length graph.now.manifest.paths) }
-        ensures made { IfOk result (λ places. (rs : List L.Record) → L.Keeps rs self.now.log → ArePlaces L.told L.in_force rs graph.now.manifest.paths places.items) }
+    /// Puts the numbers of the records in force for the paths of the graph that have no place yet behind those of the others. Where
+    /// the log has no records, that is none, and takes no memory. Where memory is refused, some of them may stand there.
+    pub(crate) fn look_up(
+        &self,
+        graph: &Graph,
+        places: &mut Vec<Option<usize>>,
+    ) -> Result<(), AllocError>
+        ensures longer { IsLonger places.old.items places.new.items }
+        ensures fits { OnOk result (length places.old.items ≤ length graph.now.manifest.paths → length places.new.items ≤ length graph.now.manifest.paths) }
+        ensures made { OnOk result ((rs : List L.Record) (paths more : List (List ℕ)) → graph.now.manifest.paths ≡ paths ++ more → length places.old.items ≤ length paths → L.Keeps rs self.now.log → ArePlaces L.told L.in_force rs paths places.old.items → ArePlaces L.told L.in_force rs graph.now.manifest.paths places.new.items) }
+    {
+        L::keeps_in_force();
+        if self.log.records() == 0 {
+            return Ok(());
+        }
+        self.look_up_each(graph, places)?;
+        Ok(())
+    }
+
+    /// The same where the log has records, one path after the other.
+    fn look_up_each(&self, graph: &Graph, places: &mut Vec<Option<usize>>) -> Result<(), AllocError>
+        ensures longer { IsLonger places.old.items places.new.items }
+        ensures fits { OnOk result (length places.old.items ≤ length graph.now.manifest.paths → length places.new.items ≡ length graph.now.manifest.paths) }
+        ensures made { OnOk result ((rs : List L.Record) → L.Keeps rs self.now.log → AreMadeFrom L.told L.in_force (length places.old.items) (length graph.now.manifest.paths) rs graph.now.manifest.paths places.new.items) }
     {
         let count = graph.manifest.paths.len();
-        let mut places = Vec::with_capacity(alloc, count)?;
-        for place in 0..count {
+        places.reserve(count.saturating_sub(places.len()))?;
+        for place in places.len()..count {
             places.push(self.place_at(graph, place))?;
         }
-        Ok(places)
+        Ok(())
     }
 
     /// The number of the record in force for the path with this place.

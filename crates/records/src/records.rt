@@ -1,6 +1,6 @@
 //! The records of a build.
 
-ghost use Rattle.std.specs.Prelude.{◌≡◌, ◌≢◌, ◌<◌, ◌≤◌, [], ℕ, suc, List, Option, Some, None, IfOk, OnOk, OnErr, false, string_bytes, length, slice_get};
+ghost use Rattle.std.specs.Prelude.{◌≡◌, ◌≢◌, ◌<◌, ◌≤◌, ◌++◌, [], ℕ, suc, List, Option, Some, None, IfOk, OnOk, OnErr, false, string_bytes, length, slice_get};
 ghost use Rattle.std.specs.Option.{option_copied, option_map};
 ghost use Rattle.model.specs.declared.record.DepsRecord.{DepsRecord};
 ghost use Rattle.model.specs.World.{World};
@@ -15,7 +15,8 @@ ghost use Rattle.deps_log.specs.Log.{told_in};
 ghost use Rattle.log_theory.specs.Writes.{WritesAt};
 ghost use Rattle.paths.specs.Told.{text_at};
 ghost use Rattle.links.specs.Told.{declared_by};
-ghost use Rattle.records.specs.Known.{IsOf, IsOfDeps};
+ghost use Rattle.records.specs.Held.{IsLonger};
+ghost use Rattle.records.specs.Known.{IsOf, IsOfDeps, AreKnown};
 ghost use Rattle.records.specs.Laws.{WereRead};
 ghost use Rattle.records.specs.Logging.{AreSameLogs, IsLogging, IsLoggedStill, NoneInForce, IsReported, MayReport, EndedWell};
 
@@ -27,7 +28,7 @@ use links::Graph;
 use model::{Record, SiteFault};
 use paths::{EdgeId, PathId};
 use site::Site;
-use std::alloc::Global;
+use std::alloc::{AllocError, Global};
 
 /// The records of a build: what its logs told at the entry, for each path of its graph by number, and the files behind which
 /// more are put. Beside the logs as they were read a path takes 16 bytes for each log that told something; the room for a line is
@@ -71,8 +72,38 @@ impl Records {
         })
     }
 
-    /// The record in force at the entry for a path that the graph had when the logs were read; none for a path that it got
-    /// later, whatever the log tells of its text. It takes no memory.
+    /// Looks up the records of the entry for the paths that the graph got since they were looked up last, so that they are known of
+    /// outputs that it got too. The logs are left alone, and the site is not asked. Where memory is refused, nothing is changed.
+    pub fn grow(&mut self, graph: &Graph) -> Result<(), AllocError>
+        ensures logs { self.new.logs ≡ self.old.logs }
+        ensures known { OnOk result ((before : Graph) (more : List (List ℕ)) (rs : List Record) (ds : List DepsRecord) → graph.now.manifest.paths ≡ before.manifest.paths ++ more → AreKnown before rs ds self.old → AreKnown graph.now rs ds self.new) }
+        ensures places { OnErr result (self.new.places.items ≡ self.old.places.items) }
+        ensures deps_places { OnErr result (self.new.deps_places.items ≡ self.old.deps_places.items) }
+    {
+        let known = self.places.len();
+        let deps_known = self.deps_places.len();
+        let grown = self.look_up(graph);
+        if grown.is_err() {
+            self.places.truncate(known);
+            self.deps_places.truncate(deps_known);
+        }
+        grown
+    }
+
+    /// The same, but that some paths may be looked up where memory is refused.
+    fn look_up(&mut self, graph: &Graph) -> Result<(), AllocError>
+        ensures logs { self.new.logs ≡ self.old.logs }
+        ensures known { OnOk result ((before : Graph) (more : List (List ℕ)) (rs : List Record) (ds : List DepsRecord) → graph.now.manifest.paths ≡ before.manifest.paths ++ more → AreKnown before rs ds self.old → AreKnown graph.now rs ds self.new) }
+        ensures places { IsLonger self.old.places.items self.new.places.items }
+        ensures deps_places { IsLonger self.old.deps_places.items self.new.deps_places.items }
+    {
+        self.logs.build_log.look_up(graph, &mut self.places)?;
+        self.logs.deps_log.look_up(graph, &mut self.deps_places)?;
+        Ok(())
+    }
+
+    /// The record in force at the entry for a path that was looked up; none for one that the graph got since then, whatever the
+    /// log tells of its text. It takes no memory.
     pub fn made(&self, path: PathId) -> Option<&Done>
         ensures made { (rs : List Record) (paths : List (List ℕ)) → IsOf rs paths self.now → path < length paths → option_map made_of (option_copied result) ≡ in_force rs (text_at paths path) }
         ensures later { (rs : List Record) (paths : List (List ℕ)) → IsOf rs paths self.now → length paths ≤ path → result ≡ None }

@@ -6,6 +6,7 @@
 #![tactic(auto)]
 
 mod asked;
+mod sweeps;
 mod table;
 
 use std::io;

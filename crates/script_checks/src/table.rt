@@ -1,6 +1,7 @@
 //! Which row asks what.
 
 use crate::asked::{push_log_lines, push_same, push_told, push_unreadable, push_unwritable};
+use crate::sweeps::{push_beginnings, push_changed, push_made_up};
 use std::alloc::{AllocError, Global};
 use tables::{Table, unescaped, word};
 
@@ -61,6 +62,7 @@ impl Scripts {
     ) -> Result<bool, AllocError> {
         match first {
             "told" | "told_each" | "log_lines" | "unreadable" | "room" => return Ok(false),
+            "beginnings" | "other_bytes" | "made_up" => return Ok(false),
             "new" => self.begin(rest)?,
             "bytes" => self.push_line(unescaped(alloc, rest)?.as_slice())?,
             "last" => self
@@ -89,6 +91,9 @@ impl Table for Scripts {
             }
             "log_lines" => push_log_lines(alloc, text, told)?,
             "room" => push_unwritable(alloc, text, told)?,
+            "beginnings" => push_beginnings(alloc, text, told)?,
+            "other_bytes" => push_changed(alloc, text, told)?,
+            "made_up" => push_made_up(alloc, rest, told)?,
             _ => push_unreadable(alloc, text, told)?,
         }
         Ok(true)

@@ -34,7 +34,7 @@ pub fn is_success(report: &Report) -> bool {
 }
 
 /// How a build ended, but for how many commands it started.
-fn tell_end<W: Write>(told: &mut W, report: &Report) -> io::Result<()> {
+pub fn tell_end<W: Write>(told: &mut W, report: &Report) -> io::Result<()> {
     match report {
         Report::Success { .. } => write!(told, "success"),
         Report::Failed { .. } => write!(told, "failed"),

@@ -1,11 +1,13 @@
 //! Tries histories of edits and builds in which something goes wrong: the blocks of standard input, each told in one line on
 //! standard output, and parted by empty lines.
 //!
-//! A block `row NAME` is one history, in which each call goes wrong in turn: `rows` says which lines it has. A block
-//! `random COUNT SEED` has so many histories that are made up: `made_up` says of what.
+//! A block `row NAME` is one history, in which each call goes wrong in turn: `rows` says which lines it has. A block `drive NAME` has
+//! the same lines, which are carried out as one list of moves. A block `random COUNT SEED` has so many histories that are made up:
+//! `made_up` says of what.
 #![tactic(auto)]
 
 mod clean_build;
+mod driven;
 mod ends;
 mod harm;
 mod histories;
@@ -42,8 +44,11 @@ fn try_all<R: Read, W: Write>(alloc: Global, reader: &mut R, writer: &mut W) -> 
 }
 
 fn try_block<W: Write>(alloc: Global, block: &str, writer: &mut W) -> io::Result<()> {
-    if let Some(row) = rows::parse(block) {
+    if let Some(row) = rows::parse(block, "row") {
         return sweep::try_row(alloc, row, writer);
+    }
+    if let Some(row) = rows::parse(block, "drive") {
+        return driven::try_list(alloc, row, writer);
     }
     if let Some(source) = made_up::parse(block) {
         return histories::try_histories(alloc, source, writer);

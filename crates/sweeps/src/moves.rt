@@ -142,18 +142,30 @@ fn push_text(bytes: &mut Vec<u8>, text: &str) -> Result<(), AllocError> {
     Ok(())
 }
 
-/// Somebody writes this text.
-pub fn put(alloc: Global, site: &mut Sim<Toy>, path: &str, text: &str) -> Result<(), AllocError> {
+/// The bytes of a text in which `^` stands for the end of a line.
+pub fn text_of(alloc: Global, text: &str) -> Result<Vec<u8>, AllocError> {
     let mut bytes = Vec::new(alloc);
     push_text(&mut bytes, text)?;
+    Ok(bytes)
+}
+
+/// A build file with the rules, and these edges.
+pub fn edges_of(alloc: Global, edges: &str) -> Result<Vec<u8>, AllocError> {
+    let mut bytes = Vec::from_slice(alloc, RULES.as_bytes())?;
+    push_text(&mut bytes, edges)?;
+    bytes.push(b'\n')?;
+    Ok(bytes)
+}
+
+/// Somebody writes this text.
+pub fn put(alloc: Global, site: &mut Sim<Toy>, path: &str, text: &str) -> Result<(), AllocError> {
+    let bytes = text_of(alloc, text)?;
     site.put(path, bytes.as_slice())
 }
 
 /// The build file gets the rules, and these edges.
 pub fn put_edges(alloc: Global, site: &mut Sim<Toy>, edges: &str) -> Result<(), AllocError> {
-    let mut bytes = Vec::from_slice(alloc, RULES.as_bytes())?;
-    push_text(&mut bytes, edges)?;
-    bytes.push(b'\n')?;
+    let bytes = edges_of(alloc, edges)?;
     site.put("build.ninja", bytes.as_slice())
 }
 

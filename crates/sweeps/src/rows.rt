@@ -10,12 +10,16 @@ pub struct Row<'a> {
     pub moves: &'a str,
 }
 
-/// The row that a block is: a line `row NAME`, a line `outputs PATH..`, and then a line for each move.
-pub fn parse(block: &str) -> Option<Row<'_>> {
-    let (name, rest) = block.split_once('\n')?;
+/// The row that a block is: a line with this word and a name, a line `outputs PATH..`, and then a line for each move.
+pub fn parse<'a>(block: &'a str, word: &str) -> Option<Row<'a>> {
+    let (first, rest) = block.split_once('\n')?;
     let (outputs, moves) = rest.split_once('\n')?;
+    let (kind, name) = cut(first);
+    if kind != word {
+        return None;
+    }
     Some(Row {
-        name: name.strip_prefix("row ")?,
+        name,
         outputs: outputs.strip_prefix("outputs ")?,
         moves,
     })

@@ -5,7 +5,9 @@
 #![tactic(auto)]
 
 mod escapes;
+mod made_up;
 mod rows;
 
 pub use escapes::{push_escaped, unescaped};
+pub use made_up::MadeUp;
 pub use rows::{Table, push_word, run, word};

@@ -29,6 +29,7 @@ returns-clause-added c =
       named = refl;
       lines = refl;
       actions = refl;
+      defaults = refl;
       declared = told_longer graph.manifest paths c.args.path.now longer;
       makers = refl;
       recorded = refl;
