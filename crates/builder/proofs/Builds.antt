@@ -317,5 +317,5 @@ builds_lacking tells B format own graph folder limits given targets store entry 
 builds_lacking tells B format own graph folder limits given targets store entry old now found idle formed taken records cone plan seen listed known planned unasked looked looks report (inr so) =
     subst (λ (r : Report). Builds tells B format own (declared_by graph) folder limits given targets entry now r) (sym {A = Report} so.says)
     (builds_missing tells B format own (declared_by graph) folder limits given targets store entry now found idle formed taken listed.named listed.acyclic (looked_more tells entry old now looked looks so.unrefused) so.missing
-    (λ tell kept. where_all_stay (so.is store (targets_of (declared_by graph) targets) [] (under_way_at_entry graph records cone plan store folder limits targets known listed planned)) unasked tell entry.history
+    (λ tell kept. where_all_stay tells graph store (targets_of (declared_by graph) targets) old now seen _ (so.is store (targets_of (declared_by graph) targets) [] (under_way_at_entry graph records cone plan store folder limits targets known listed planned)) unasked tell entry.history
     (stays_at_entry tells entry old now now.history [] idle looked looks (sym (append-nil now.history)) tell kept.edits)))

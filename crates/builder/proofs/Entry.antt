@@ -20,7 +20,7 @@ use Rattle.records.specs.declared.records.Records.{Records}
 use Rattle.dues.specs.Quiet.{IfQuiet}
 use Rattle.dues.specs.Stores.{IsStoreOf, IsConeIn}
 use Rattle.dues.specs.UnderWay.{IsUnderWay}
-use Rattle.dues.proofs.Stays.{all_kept, all_kept_of}
+use Rattle.dues.proofs.Stays.{all_kept_of}
 use Rattle.builder.specs.declared.asked.Limits.{Limits}
 use Rattle.builder.specs.Build.{asked_of}
 
@@ -37,17 +37,17 @@ none_asked n looks is p = ap (λ (l : List Look). is_asked (look_at l p)) is ∙
     unasked (suc n) (suc p) = unasked n p
 
 -- so is what was seen of the paths of a set
-pub seen_where_all_stay : {tells : Bool} {graph : Graph} {old new : World} {before after : Looks} → HasLooked tells graph old new before after → AreUnasked before → (set : List ℕ → Bool)
+pub seen_where_all_stay : (tells : Bool) (graph : Graph) (old new : World) (before after : Looks) → HasLooked tells graph old new before after → AreUnasked before → (set : List ℕ → Bool)
     → IsTrue tells → (files : List Moment) → StaysAt files old new → AreSeenOf set graph.manifest.paths new.history after.seen.items
-seen_where_all_stay {tells} {graph} {old} {new} {before} {after} looked unasked set tell files stays =
+seen_where_all_stay tells graph old new before after looked unasked set tell files stays =
     looked.seen tell set (all_kept_of files old new stays set) (λ p asked within. absurd (false≢true (sym (unasked p) ∙ asked)))
 
 -- where all files stay, what is found is so of them
-pub where_all_stay : {tells : Bool} {graph : Graph} {store : Store} {targets : List (List ℕ)} {old new : World} {looks : Looks} {So : List Moment → Type 0} → IfQuiet tells graph store targets [] old new looks So → AreUnasked looks
+pub where_all_stay : (tells : Bool) (graph : Graph) (store : Store) (targets : List (List ℕ)) (old new : World) (looks : Looks) (So : List Moment → Type 0) → IfQuiet tells graph store targets [] old new looks So → AreUnasked looks
     → IsTrue tells → (files : List Moment) → StaysAt files old new → So files
-where_all_stay {tells} {graph} {store} {targets} {old} {new} {looks} {So} so unasked tell files stays =
+where_all_stay tells graph store targets old new looks So so unasked tell files stays =
     so (λ i command unjudged told named. all_kept_of files old new stays (bytes_eq (edge_at (declared_by graph).edges i).act.depfile))
-    tell (λ p. true) (all_kept files old new stays) (λ p asked within. absurd (false≢true (sym (unasked p) ∙ asked)))
+    tell (λ p. true) (all_kept_of files old new stays (λ p. true)) (λ p asked within. absurd (false≢true (sym (unasked p) ∙ asked)))
     record { made = λ i p due is. refl; named = λ i p is unmade. refl; recorded = λ i p is unmade. refl; requested = λ p is unmade. refl }
     files
     record {

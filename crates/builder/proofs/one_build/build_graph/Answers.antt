@@ -122,7 +122,7 @@ returns g c course has =
     (found_later tells graph asked records course old has mid looks exit grows) has.idle c.requires.formed c.requires.taken c.requires.once listed.named listed.acyclic cone.order.items cone.marks.items listed.listed
     (λ tell kept.
     let later = grows tell in
-    where_all_stay (c.in_ok-due.ensures.sources course.store (targets_of (declared_by graph) asked.targets) []
+    where_all_stay tells graph course.store (targets_of (declared_by graph) asked.targets) old mid first _ (c.in_ok-due.ensures.sources course.store (targets_of (declared_by graph) asked.targets) []
     (under_way_at_entry graph records cone plan course.store asked.folder asked.limits asked.targets (store_known tells graph asked records course old has mid looks) listed planned)) unasked tell course.entry.history
     (stays_at_entry tells course.entry old mid exit.history later.0 has.idle has.looked looks later.1 tell kept.edits))
     graph refl report (cause_since course.entry mid exit report here.unrefused.failures c.run_cone.ensures.cause) (passes_after tells course.entry mid exit (run_answer report) here c.run_cone.ensures.faults)
@@ -132,4 +132,4 @@ returns g c course has =
     (may_run tells graph asked plan records seen course old has mid looks flags planned passed
     (λ tell kept.
     let stays = stays_at_entry tells course.entry old mid mid.history [] has.idle has.looked looks (sym (append-nil mid.history)) tell kept.edits in
-    seen_where_all_stay looked unasked (is_quiet course.own (edges_of course) []) tell course.entry.history stays)))))
+    seen_where_all_stay tells graph old mid first seen looked unasked (is_quiet course.own (edges_of course) []) tell course.entry.history stays)))))

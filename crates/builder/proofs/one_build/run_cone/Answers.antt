@@ -39,18 +39,18 @@ run_plan-requires-clause-going g c =
 pub run_plan-requires-clause-enough : goal.run_plan-requires-clause-enough
 run_plan-requires-clause-enough g c = c.in_ok-state.ensures.enough
 
-pub ended-requires : goal.ended-requires
-ended-requires g c =
+pub ended-summary-requires : goal.ended-summary-requires
+ended-summary-requires g c =
     let course = c.requires.ready.0 in
     let may = c.requires.ready.1 in
     is_end g.S.Texts.tells course c.args.graph.now _ (g.S.Texts.world c.run_plan.new.site) c.in_ok-pause.pause (no_file g.S.Texts.tells c.args.graph.now c.args.asked.now c.args.plan c.args.records c.args.looks course (g.S.Texts.world c.args.site.now) may c.requires.taken)
-      (c.in_ok-pause.ensures.ran course
-      (suits g.S.Texts.tells c.args.graph.now c.args.asked.now c.args.plan c.args.records c.args.looks course (g.S.Texts.world c.args.site.now) may c.requires.taken c.requires.formed c.requires.once _ (c.as_str-2.ensures.value ∙ (c.in_ok-tick.ensures ∙ ap (λ folder. file_in folder tick_name) c.as_str.ensures)))
-      (goes g.S.Texts.tells c.args.graph.now c.args.asked.now c.args.plan c.args.records c.args.looks course (g.S.Texts.world c.args.site.now) may c.requires.taken)
-      (begins g.S.Texts.tells c.args.graph.now c.args.asked.now c.args.plan c.args.records c.args.looks course (g.S.Texts.world c.args.site.now) may c.requires.taken c.in_ok-state.state c.in_ok-state.ensures.plan c.in_ok-state.ensures.looks c.in_ok-state.ensures.records c.in_ok-state.ensures.failed c.in_ok-state.ensures.starts c.requires.fits))
+    (c.in_ok-pause.ensures.ran course
+    (suits g.S.Texts.tells c.args.graph.now c.args.asked.now c.args.plan c.args.records c.args.looks course (g.S.Texts.world c.args.site.now) may c.requires.taken c.requires.formed c.requires.once _ (c.as_str-2.ensures.value ∙ (c.in_ok-tick.ensures ∙ ap (λ folder. file_in folder tick_name) c.as_str.ensures)))
+    (goes g.S.Texts.tells c.args.graph.now c.args.asked.now c.args.plan c.args.records c.args.looks course (g.S.Texts.world c.args.site.now) may c.requires.taken)
+    (begins g.S.Texts.tells c.args.graph.now c.args.asked.now c.args.plan c.args.records c.args.looks course (g.S.Texts.world c.args.site.now) may c.requires.taken c.in_ok-state.state c.in_ok-state.ensures.plan c.in_ok-state.ensures.looks c.in_ok-state.ensures.records c.in_ok-state.ensures.failed c.in_ok-state.ensures.starts c.requires.fits))
 
 pub report-requires : goal.report-requires
-report-requires g c = edges_are c.args.graph.now c.in_ok-pause.pause c.ended.result c.ended.ensures c.in_ok-pause.ensures.pause
+report-requires g c = edges_are c.args.graph.now c.in_ok-pause.pause c.ended-summary.result c.ended-summary.ensures c.in_ok-pause.ensures.pause
 
 pub returns-in_err-pause-clause-ran : goal.returns-in_err-pause-clause-ran
 returns-in_err-pause-clause-ran g c course may = record {
@@ -64,8 +64,8 @@ returns-in_err-pause-clause-ran g c course may = record {
 
 pub returns-in_err-report-clause-ran : goal.returns-in_err-report-clause-ran
 returns-in_err-report-clause-ran g c course may = record {
-  result = Ok c.ended.result;
-  ran = has_run g.S.Texts.tells course c.args.graph.now _ (g.S.Texts.world c.run_plan.new.site) c.in_ok-pause.pause c.ended.result c.ended.ensures
+  result = Ok c.ended-summary.result;
+  ran = has_run g.S.Texts.tells course c.args.graph.now _ (g.S.Texts.world c.run_plan.new.site) c.in_ok-pause.pause c.ended-summary.result c.ended-summary.ensures
       (c.in_ok-pause.ensures.ran course
       (suits g.S.Texts.tells c.args.graph.now c.args.asked.now c.args.plan c.args.records c.args.looks course (g.S.Texts.world c.args.site.now) may c.requires.taken c.requires.formed c.requires.once _ (c.as_str-2.ensures.value ∙ (c.in_ok-tick.ensures ∙ ap (λ folder. file_in folder tick_name) c.as_str.ensures)))
       (goes g.S.Texts.tells c.args.graph.now c.args.asked.now c.args.plan c.args.records c.args.looks course (g.S.Texts.world c.args.site.now) may c.requires.taken)
@@ -75,8 +75,8 @@ returns-in_err-report-clause-ran g c course may = record {
 
 pub returns-clause-ran : goal.returns-clause-ran
 returns-clause-ran g c course may = record {
-  result = Ok c.ended.result;
-  ran = has_run g.S.Texts.tells course c.args.graph.now _ (g.S.Texts.world c.run_plan.new.site) c.in_ok-pause.pause c.ended.result c.ended.ensures
+  result = Ok c.ended-summary.result;
+  ran = has_run g.S.Texts.tells course c.args.graph.now _ (g.S.Texts.world c.run_plan.new.site) c.in_ok-pause.pause c.ended-summary.result c.ended-summary.ensures
       (c.in_ok-pause.ensures.ran course
       (suits g.S.Texts.tells c.args.graph.now c.args.asked.now c.args.plan c.args.records c.args.looks course (g.S.Texts.world c.args.site.now) may c.requires.taken c.requires.formed c.requires.once _ (c.as_str-2.ensures.value ∙ (c.in_ok-tick.ensures ∙ ap (λ folder. file_in folder tick_name) c.as_str.ensures)))
       (goes g.S.Texts.tells c.args.graph.now c.args.asked.now c.args.plan c.args.records c.args.looks course (g.S.Texts.world c.args.site.now) may c.requires.taken)
@@ -96,4 +96,4 @@ pub returns-clause-faults : goal.returns-clause-faults
 returns-clause-faults g c = passes_whole (g.S.Texts.world c.args.site.now) (g.S.Texts.world c.run_plan.new.site) _ c.in_ok-pause.ensures.starts c.in_ok-pause.ensures.calm
 
 pub returns-clause-cause : goal.returns-clause-cause
-returns-clause-cause g c = shows_end c.args.graph.now (g.S.Texts.world c.args.site.now) (g.S.Texts.world c.run_plan.new.site) c.ended.result _ c.in_ok-report.ensures
+returns-clause-cause g c = shows_end c.args.graph.now (g.S.Texts.world c.args.site.now) (g.S.Texts.world c.run_plan.new.site) c.ended-summary.result _ c.in_ok-report.ensures
