@@ -5,7 +5,7 @@ use Rattle.model.specs.SingleBuild.{PassesNoFault}
 use Rattle.runner.specs.declared.cut.Cut.TheVariants.{Other}
 use Rattle.runner.proofs.Cutting.{passes_whole}
 use Rattle.builder.specs.declared.report.Report.{Report}
-use Rattle.builder.specs.Reports.{run_answer}
+use Rattle.builder.specs.Reports.{ShowsCause, run_answer}
 use Rattle.builder.proofs.Beginning.{ran_nothing, suits, goes, begins, no_file}
 use Rattle.builder.proofs.Stages.{told_by, shows_end, is_end, has_run, edges_are}
 use Rattle.builder.proofs.one_build.run_cone.Goals as goal
@@ -97,3 +97,13 @@ returns-clause-faults g c = passes_whole (g.S.Texts.world c.args.site.now) (g.S.
 
 pub returns-clause-cause : goal.returns-clause-cause
 returns-clause-cause g c = shows_end c.args.graph.now (g.S.Texts.world c.args.site.now) (g.S.Texts.world c.run_plan.new.site) c.ended-summary.result _ c.in_ok-report.ensures
+
+pub returns-in_err-pause-clause-cause : goal.returns-in_err-pause-clause-cause
+returns-in_err-pause-clause-cause g c =
+    subst (λ (r : Report). ShowsCause (g.S.Texts.world c.args.site.now) (g.S.Texts.world c.run_plan.new.site) r)
+    (sym {A = Report} (told_by _ c.from_residual-in_err-pause.result c.from_residual-in_err-pause.ensures.1)) c.in_err-pause.ensures.seen
+
+pub returns-in_err-report-clause-cause : goal.returns-in_err-report-clause-cause
+returns-in_err-report-clause-cause g c =
+    subst (λ (r : Report). ShowsCause (g.S.Texts.world c.args.site.now) (g.S.Texts.world c.run_plan.new.site) r)
+    (sym {A = Report} (told_by _ c.from_residual-in_err-report.result c.from_residual-in_err-report.ensures.1)) tt
