@@ -4,8 +4,6 @@
 #[cfg(test)]
 mod graphs;
 #[cfg(test)]
-mod loads;
-#[cfg(test)]
 mod made_up;
 #[cfg(test)]
 mod plain_run;

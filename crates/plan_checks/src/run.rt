@@ -1,13 +1,14 @@
 //! A build that a plan is told of.
 
-ghost use Rattle.std.specs.Prelude.{◌≡◌, IfOk, vec_len};
-ghost use Rattle.plan.specs.Planned.{IsPlanOver};
+ghost use Rattle.std.specs.Prelude.{◌≡◌, ◌<◌, IfOk, IsTrue, vec_len};
+ghost use Rattle.plan.specs.Standing.{standing_at};
 
 use crate::made_up::Random;
 use links::{Cone, Graph};
 use paths::EdgeId;
 use plan::{Plan, Standing, Step, Verdict};
 use std::alloc::{AllocError, Global};
+use std::marker::Model;
 use std::test::Fail;
 
 /// What comes of the next step, whichever it is.
@@ -61,19 +62,34 @@ pub fn take_out(list: &mut Vec<EdgeId>, place: usize) -> Option<EdgeId> {
     Some(last)
 }
 
-/// A plan over a graph, and the commands that run.
+/// Whether the command of the edge runs.
+pub fn runs(plan: &Plan, edge: EdgeId) -> bool
+    ensures within { IsTrue result → edge < vec_len plan.now.standings }
+    ensures running { IsTrue result → standing_at plan.now.standings.items edge ≡ Standing.Running }
+{
+    edge.index() < plan.standings.len() && matches!(plan.standing(edge), Standing::Running)
+}
+
+/// A plan over a graph, and the commands that run. Contracts see it as how many run.
 #[derive(Drop)]
 pub struct Run<'a> {
     pub graph: &'a Graph,
     pub plan: Plan,
     pub running: Vec<EdgeId>,
-    ghost over: { IsPlanOver graph.now plan },
+}
+
+impl<'a> Model for Run<'a> {
+    ghost use Rattle.std.specs.Prelude.{ℕ, vec_len};
+    ghost use Rattle.plan.specs.Planned.{IsPlanOver};
+
+    ghost Value = { ℕ };
+
+    ghost view = { λ run. vec_len run.running };
+
+    ghost invariant = { λ run. IsPlanOver run.graph.now run.plan };
 }
 
 impl<'a> Run<'a> {
-    ghost use Rattle.std.specs.Prelude.{◌≡◌, ◌<◌, IsTrue, vec_len};
-    ghost use Rattle.plan.specs.Standing.{standing_at};
-
     pub fn new(
         alloc: Global,
         graph: &'a Graph,
@@ -111,19 +127,11 @@ impl<'a> Run<'a> {
         let Some(edge) = take_out(&mut self.running, chance.place) else {
             return Err("a wait where nothing runs".into());
         };
-        if !self.runs(edge) {
+        if !runs(&self.plan, edge) {
             return Err("an end of what does not run".into());
         }
         let flags = flags_of(alloc, self.graph.outputs(edge).len(), chance.changed)?;
         self.plan.finished(self.graph, edge, chance.ok, &flags);
         Ok(())
-    }
-
-    fn runs(&self, edge: EdgeId) -> bool
-        ensures within { IsTrue result → edge < vec_len self.now.plan.standings }
-        ensures running { IsTrue result → standing_at self.now.plan.standings.items edge ≡ Standing.Running }
-    {
-        edge.index() < self.plan.standings.len()
-            && matches!(self.plan.standing(edge), Standing::Running)
     }
 }
