@@ -179,7 +179,7 @@ module _ (tells : Bool) (B : Behaviour) (format : LogFormat) (own : OwnFiles) (g
           at_entry : IsTrue tells → IsPointAfter [] entry.history now.history entry.history
           at_entry tell =
               let call = looked.looks.history tell in
-              record { so_far = []; later = call.more; is = sym (append-nil entry.history); grows = call.grows; happened = refl; entry = λ none. refl }
+              record { so_far = []; later = call.more; is = sym (append-nil entry.history); grows = call.grows; happened = refl; entry = λ none. refl; behind = tt }
 
           at_once : IsAsked (task_of (asked_of graph folder limits targets) store) [] []
           at_once = record { at_once = refl; loaded = λ file due source. none_is_due (task_of (asked_of graph folder limits targets) store) [] (no_dyndep graph.edges taken) file due }
@@ -188,14 +188,14 @@ module _ (tells : Bool) (B : Behaviour) (format : LogFormat) (own : OwnFiles) (g
               → (IsTrue tells → FilesAreKept own graph.edges entry.history now.history → IsMissingFor graph.edges store [] (targets_of graph targets) entry.history missing.path needed)
               → BuiltAs (missing_answer missing.path needed)
           by_needed None so =
-              built_looked looked (answer.MissingTarget missing.path) (λ h. h) ((λ none. looked.looks), named, acyclic, at_once, λ tell kept. (entry.history, at_entry tell, so tell kept))
+              built_looked looked (answer.MissingTarget missing.path) (λ h. h) ((λ none. looked.looks), named, acyclic, at_once, λ tell kept apart. (entry.history, at_entry tell, so tell kept))
           by_needed (Some output) so =
               built_looked looked (answer.MissingInput missing.path output) (λ h. h) (
                 (λ none. looked.looks),
                 named,
                 acyclic,
                 at_once,
-                λ tell kept. let here = so tell kept in (here.0, here.1, (entry.history, at_entry tell, here.2)),
+                λ tell kept apart. let here = so tell kept in (here.0, here.1, (entry.history, at_entry tell, here.2)),
               )
 
     -- ---- a build that has run commands
@@ -222,10 +222,10 @@ module _ (tells : Bool) (B : Behaviour) (format : LogFormat) (own : OwnFiles) (g
         one : IsOnePhase B.dyndep ran.cut.phased.texts The store ran.steps ran.cut.phased.build
         one = one_phase_alone B.dyndep ran.cut.phased.texts The store ran.steps ran.cut.phased.build refl (no_dyndep graph.edges taken)
 
-        nothing_missing : IsTrue tells → FilesAreKept own graph.edges entry.history now.history → WasNothingMissing (task_of The store) store entry.history now.history [] ran.cut.phased.build.earlier
+        nothing_missing : IsTrue tells → FilesAreKept own graph.edges entry.history now.history → WasNothingMissing own (task_of The store) store entry.history now.history [] ran.cut.phased.build.earlier
         nothing_missing tell kept =
-            subst (λ (ps : List Phase). WasNothingMissing (task_of The store) store entry.history now.history [] ps) (sym {A = List Phase} one.earlier)
-            (λ none at point. subst (λ (files : List Moment). NothingIsMissing graph.edges store [] files (targets_of graph targets)) (sym {A = List Moment} (point.entry refl)) (sources tell kept))
+            subst (λ (ps : List Phase). WasNothingMissing own (task_of The store) store entry.history now.history [] ps) (sym {A = List Phase} one.earlier)
+            (λ none apart at point. subst (λ (files : List Moment). NothingIsMissing graph.edges store [] files (targets_of graph targets)) (sym {A = List Moment} (point.entry refl)) (sources tell kept))
 
         ordered : WasInOrder tells own The store ran.cut.phased.build.earlier ran.cut.phased.build.last entry now
         ordered = was_in_order tells B format own The store entry now found idle [] ran.steps ran.met ran.cut once (names_no_other graph.edges taken) named acyclic nothing_missing

@@ -35,10 +35,10 @@ use Rattle.builder.proofs.Looking.{Built, built_by, IsFoundAt}
 use Rattle.builder.proofs.Slices.{suc_has}
 
 -- where nothing was missing when phases began, and the last one, nothing was when they and a last one that has steps began
-in_phases : (task : Task) (store : Store) (old new : List Moment) (before : List Done) (phases : List Phase) (last : List Done) → WasNothingMissing task store old new before phases → WasNothingMissingIn task store old new before phases last
-in_phases task store old new before [] [] none = tt
-in_phases task store old new before [] (step ∷ last) none = none
-in_phases task store old new before (phase ∷ phases) last none = (none.0, in_phases task store old new (before ++ phase.steps) phases last none.1)
+in_phases : (own : OwnFiles) (task : Task) (store : Store) (old new : List Moment) (before : List Done) (phases : List Phase) (last : List Done) → WasNothingMissing own task store old new before phases → WasNothingMissingIn own task store old new before phases last
+in_phases own task store old new before [] [] none = tt
+in_phases own task store old new before [] (step ∷ last) none = none
+in_phases own task store old new before (phase ∷ phases) last none = (none.0, in_phases own task store old new (before ++ phase.steps) phases last none.1)
 
 module _ (tells : Bool) (B : Behaviour) (format : LogFormat) (own : OwnFiles) (asked : Asked) (store : Store) (entry now : World) (found : IsFoundAt tells format own store entry now) (idle : IsIdle entry.events)
     (phases : List Phase) (steps : List Done) (met : Option ℕ) (cut : IsCutOff tells B format own asked store phases steps met entry now)
@@ -141,7 +141,7 @@ module _ (tells : Bool) (B : Behaviour) (format : LogFormat) (own : OwnFiles) (a
   -- ---- it went on until nothing was left to do
 
   module _ (named : AllNamed asked) (acyclic : HasNoCycle asked store)
-      (sources : IsTrue tells → FilesAreKept own asked.graph.edges entry.history now.history → WasNothingMissing (task_of asked store) store entry.history now.history [] earlier) where
+      (sources : IsTrue tells → FilesAreKept own asked.graph.edges entry.history now.history → WasNothingMissing own (task_of asked store) store entry.history now.history [] earlier) where
     in_order : IsInOrder tells own asked store earlier entry now
     in_order = record { made_once = once; dyndep = others; named = named; no_cycle = acyclic; sources = sources }
 
@@ -152,7 +152,7 @@ module _ (tells : Bool) (B : Behaviour) (format : LogFormat) (own : OwnFiles) (a
       dyndep = others;
       named = named;
       no_cycle = acyclic;
-      sources = λ tell kept. in_phases (task_of asked store) store entry.history now.history [] earlier last (sources tell kept);
+      sources = λ tell kept. in_phases own (task_of asked store) store entry.history now.history [] earlier last (sources tell kept);
     }
 
     module _ (none : met ≡ None) (run : IsRun tells own (task_of asked store) steps entry now) (unjudged : NoneMayBeJudged (task_of asked store) steps) (unstarted : NoneMayStart (task_of asked store) steps)
