@@ -5,6 +5,7 @@ ghost use Rattle.links.specs.Links.{links_of};
 ghost use Rattle.builder.specs.Commands.{count_due_commands};
 
 use links::Graph;
+use plan::{Plan, Standing};
 
 /// How many of the edges that are due have a command.
 pub fn due_commands(graph: &Graph, due: &[bool]) -> usize
@@ -18,4 +19,20 @@ pub fn due_commands(graph: &Graph, due: &[bool]) -> usize
         }
     }
     count
+}
+
+/// How many of the edges that are due have a command that was not started.
+pub fn unstarted_commands(graph: &Graph, plan: &Plan, due: &[bool]) -> usize {
+    let mut count = 0;
+    for (place, is_due) in due.iter().enumerate() {
+        if *is_due && is_unstarted(plan.standing(graph.manifest.edge(place))) {
+            count += 1;
+        }
+    }
+    count
+}
+
+/// Whether a command stands so that was not started, and may be.
+fn is_unstarted(standing: Standing) -> bool {
+    matches!(standing, Standing::Unjudged | Standing::OutOfDate)
 }
