@@ -1,5 +1,5 @@
 -- The beginning of a run: from what was read and seen before it.
-use Rattle.std.proofs.Common.{◌≡◌, ◌≢◌, ℕ, suc, Bool, false, IsTrue, List, [], ◌++◌, Option, Some, None, Err, map, length, vec_len, arith, refl, sym, ◌∙◌, ap, subst}
+use Rattle.std.proofs.Common.{◌≡◌, ◌≢◌, ℕ, suc, Bool, true, false, IsTrue, List, [], ◌++◌, Option, Some, None, Err, map, length, vec_len, arith, refl, sym, ◌∙◌, ap, subst}
 use Rattle.std.proofs.lemmas.Bool.{false≢true}
 use Rattle.std.proofs.lemmas.List.{append-nil}
 use Rattle.model.specs.declared.event.Moment.{Moment}
@@ -20,33 +20,35 @@ use Rattle.log_theory.specs.Ledger.{IsCarried}
 use Rattle.log_theory.proofs.Ledger.{carried_entry, carried_found, carried_looks, cut_off}
 use Rattle.manifest.specs.Answer.{IsGraph}
 use Rattle.paths.specs.Told.{text_at}
-use Rattle.links.specs.declared.cone.Cone.{Cone}
 use Rattle.links.specs.declared.graph.Graph.{Graph}
 use Rattle.links.specs.Told.{declared_by, recorded_by, AreSameInputs}
-use Rattle.dues.specs.Stores.{IsStoreOf, IsConeIn}
-use Rattle.looks.specs.declared.table.Look.{Look}
+use Rattle.dues.specs.Stores.{IsStoreOf}
 use Rattle.looks.specs.declared.table.Looks.{Looks}
-use Rattle.looks.specs.Seen.{AreSeen, AreSeenOf}
+use Rattle.looks.specs.Seen.{AreSeenOf}
 use Rattle.records.specs.declared.records.Records.{Records}
 use Rattle.records.specs.Known.{AreKnown}
 use Rattle.records.specs.Logging.{IsLogging}
 use Rattle.plan.specs.Planned.{IsPlanned}
 use Rattle.runner.specs.declared.cut.Cut.TheVariants.{Other}
 use Rattle.runner.specs.declared.state.State.{State}
-use Rattle.runner.specs.Course.{Course, Suits, IsOn, edges_of, is_quiet}
+use Rattle.runner.specs.Course.{Course, Suits, IsOn, IsSince, goes_on, edges_of, is_quiet}
 use Rattle.runner.specs.Ran.{HasRun}
 use Rattle.builder.specs.declared.asked.Asked.{Asked as Request}
-use Rattle.builder.specs.Reports.{HasRead, IsConeRecorded, IsPlanFor, MayRun}
+use Rattle.builder.specs.Reports.{HasRead, MayRun}
 use Rattle.builder.specs.Taken.{IsTaken}
-use Rattle.builder.proofs.Builds.{IsFoundAt, course_of, any_own, own_in, none_kept, looked_nothing, looked_more, idle_after}
+use Rattle.builder.proofs.Looking.{IsFoundAt, course_of}
+use Rattle.builder.proofs.Builds.{any_own, own_in, none_kept, looked_nothing, looked_more, idle_after}
 use Rattle.builder.proofs.Folders.{logs_apart, tick_is_no_build_log, tick_is_no_deps_log}
-use Rattle.builder.proofs.Formed.{have_outputs}
+use Rattle.builder.proofs.Formed.{have_outputs, no_dyndep, names_no_other}
+use Rattle.std.specs.Prelude.{not, is_some}
+use Rattle.model.specs.Phases.{Phase}
+use Rattle.model.specs.Schedule.{Step as Done}
+use Rattle.model.specs.SingleBuild.{NamesOther}
+use Rattle.lowest.specs.Flags.{has as has_flag}
+use Rattle.plan.specs.declared.plan.Plan.{Plan}
+use Rattle.builder.specs.Build.{asked_of}
 
 -- ---- a run may begin
-
--- what was seen of all paths was seen of those of a set
-seen_of_set : (set : List ℕ → Bool) (paths : List (List ℕ)) (files : List Moment) (seen : List Look) → AreSeen paths files seen → AreSeenOf set paths files seen
-seen_of_set set paths files seen are p asked within = are p asked
 
 module _ (tells : Bool) (graph : Graph) (request : Request) (records : Records) (course : Course) (read : World) (has : HasRead tells graph request records course read) (now : World) (later : OnlyLooks tells read now) where
   -- a store of the records that were read is theirs
@@ -65,12 +67,16 @@ module _ (tells : Bool) (graph : Graph) (request : Request) (records : Records) 
   pub found_here : IsFoundAt tells course.format course.own course.store course.entry now
   found_here = found_later now (λ tell. ([], sym (append-nil now.history)))
 
-module _ (tells : Bool) (graph : Graph) (request : Request) (cone : Cone) (records : Records) (looks : Looks) (course : Course) (read : World) (has : HasRead tells graph request records course read)
-    (now : World) (later : OnlyLooks tells read now) where
-  pub may_run : Unrefused read now → IsConeRecorded graph request.targets cone
-      → (IsTrue tells → FilesAreKept course.own (edges_of course) course.entry.history now.history → AreSeen graph.manifest.paths now.history looks.seen.items)
-      → MayRun tells graph request cone records looks course now
-  may_run passed recorded seen = record {
+module _ (tells : Bool) (graph : Graph) (request : Request) (plan : Plan) (records : Records) (looks : Looks) (course : Course) (read : World) (has : HasRead tells graph request records course read)
+    (now : World) (later : OnlyLooks tells read now) (flags : (p : ℕ) → has_flag plan.changed.items p ≡ false)
+    (planned : IsPlanned (task_of (asked_of (declared_by graph) request.folder request.limits request.targets) course.store) graph plan []) where
+  planned_here : IsPlanned (task_of course.asked course.store) graph plan []
+  planned_here = subst (λ (a : Asked). IsPlanned (task_of a course.store) graph plan []) (sym {A = Asked} has.asked) planned
+
+  pub may_run : Unrefused read now
+      → (IsTrue tells → FilesAreKept course.own (edges_of course) course.entry.history now.history → AreSeenOf (is_quiet course.own (edges_of course) []) graph.manifest.paths now.history looks.seen.items)
+      → MayRun tells graph request plan records looks course now
+  may_run passed seen = record {
     asked = has.asked;
     owned = has.owned;
     found = λ tell kept. found_here tells graph request records course read has now later tell kept.edits;
@@ -78,13 +84,15 @@ module _ (tells : Bool) (graph : Graph) (request : Request) (cone : Cone) (recor
     reads = has.reads;
     idle = has.idle;
     looked = looked_more tells course.entry read now has.looked later passed;
-    listed = recorded course.store has.in_use;
+    unloaded = has.unloaded;
+    flags = flags;
+    planned = planned_here;
     logging = has.logging now later;
     known = has.known;
     deps = has.deps;
     told = has.told;
     store = has.store;
-    seen = λ tell kept. seen_of_set (is_quiet course.own (edges_of course) []) graph.manifest.paths now.history looks.seen.items (seen tell kept);
+    seen = seen;
   }
 
   -- the same course, but from now on, and with such files of its own that nothing is kept
@@ -95,8 +103,8 @@ module _ (tells : Bool) (graph : Graph) (request : Request) (cone : Cone) (recor
   nothing_kept kept = absurd (none_kept request.folder (edges_of course) now.history now.history kept)
 
   -- it may begin anywhere
-  pub may_run_anywhere : Unrefused read now → IsConeRecorded graph request.targets cone → MayRun tells graph request cone records looks anywhere now
-  may_run_anywhere passed recorded =
+  pub may_run_anywhere : Unrefused read now → MayRun tells graph request plan records looks anywhere now
+  may_run_anywhere passed =
       let logging = has.logging now later in
       let idle = idle_after tells course.entry now (looks_then tells course.entry read now has.looked.looks later) has.idle in
       record {
@@ -107,7 +115,9 @@ module _ (tells : Bool) (graph : Graph) (request : Request) (cone : Cone) (recor
         reads = has.reads;
         idle = idle;
         looked = looked_nothing tells now passed.goes_on;
-        listed = recorded course.store has.in_use;
+        unloaded = (refl, refl);
+        flags = flags;
+        planned = planned_here;
         logging = record {
           build_log = logging.build_log ∙ has.owned.build_log;
           deps_log = logging.deps_log ∙ has.owned.deps_log;
@@ -134,29 +144,47 @@ none_anew edges same (Some j) = refl
 none_some : (i : ℕ) → None ≡ Some i → ⊥
 none_some i is = cc
 
-module _ (tells : Bool) (graph : Graph) (request : Request) (cone : Cone) (records : Records) (looks : Looks) (course : Course) (now : World) (may : MayRun tells graph request cone records looks course now) where
+module _ (tells : Bool) (graph : Graph) (request : Request) (plan : Plan) (records : Records) (looks : Looks) (course : Course) (now : World) (may : MayRun tells graph request plan records looks course now) (taken : IsTaken (declared_by graph).edges) where
   same_graph : course.asked.graph ≡ declared_by graph
   same_graph = ap (λ (a : Asked). a.graph) may.asked
 
-  carried : IsCarried tells course.behaviour course.format course.own course.asked course.store [] None course.entry now
-  carried =
+  pub no_file : (i : ℕ) → (edge_at course.asked.graph.edges i).dyndep ≡ None
+  no_file = subst (λ (b : BuildGraph). (i : ℕ) → (edge_at b.edges i).dyndep ≡ None) (sym {A = BuildGraph} same_graph) (no_dyndep (declared_by graph).edges taken)
+
+  none_other : (file : List ℕ) → NamesOther course.asked.graph.edges file → ⊥
+  none_other = subst (λ (b : BuildGraph). (file : List ℕ) → NamesOther b.edges file → ⊥) (sym {A = BuildGraph} same_graph) (names_no_other (declared_by graph).edges taken)
+
+  unloaded : course.asked.graph.edges ≡ course.asked.declared
+  unloaded = ap (λ (a : Asked). a.graph.edges) may.asked ∙ sym (ap (λ (a : Asked). a.declared) may.asked)
+
+  pub goes : goes_on course ≡ true
+  goes = ap (λ (r : Option (List Done)). not (is_some r)) may.unloaded.1
+
+  carried_first : IsCarried tells course.behaviour course.format course.own course.asked course.store [] true [] None course.entry now
+  carried_first =
       let told = store_in course.format course.own (view_of course.entry.history) in
-      carried_found tells course.behaviour course.format course.own course.asked told course.entry course.store None now may.found
-      (carried_looks tells course.behaviour course.format course.own course.asked told course.entry [] None course.entry now may.looked.looks
-      (carried_entry tells course.behaviour course.format course.own course.asked told course.entry refl may.idle))
+      carried_found tells course.behaviour course.format course.own course.asked told course.entry unloaded none_other course.store None now may.found
+      (carried_looks tells course.behaviour course.format course.own course.asked told course.entry [] true [] None course.entry now may.looked.looks
+      (carried_entry tells course.behaviour course.format course.own course.asked told course.entry unloaded none_other refl may.idle))
+
+  carried : IsCarried tells course.behaviour course.format course.own course.asked course.store course.phases (goes_on course) [] None course.entry now
+  carried =
+      subst (λ (ps : List Phase). IsCarried tells course.behaviour course.format course.own course.asked course.store ps (goes_on course) [] None course.entry now) (sym {A = List Phase} may.unloaded.0)
+      (subst (λ (b : Bool). IsCarried tells course.behaviour course.format course.own course.asked course.store [] b [] None course.entry now) (sym {A = Bool} goes) carried_first)
 
   -- a run that found no memory before its first step
   pub ran_nothing : HasRun tells course now (Err (Other Memory))
   ran_nothing = record {
     steps = [];
     met = None;
-    cut = cut_off tells course.behaviour course.format course.own course.asked course.store course.entry [] None now carried;
+    cut = cut_off tells course.behaviour course.format course.own course.asked course.store course.entry course.phases (goes_on course) [] None now carried;
     in_hand = λ i is. absurd (none_some i is);
     ends = tt;
+    goes = tt;
     removed = tt;
   }
 
-  module _ (formed : IsGraph (declared_by graph)) (taken : IsTaken (declared_by graph).edges) (once : IsMadeOnce (declared_by graph).edges) where
+  module _ (formed : IsGraph (declared_by graph)) (once : IsMadeOnce (declared_by graph).edges) where
     -- the course is one of this graph, and of ticks in this file
     pub suits : (tick : List ℕ) → tick ≡ file_in request.folder tick_name → Suits course tick graph
     suits tick is = record {
@@ -174,11 +202,13 @@ module _ (tells : Bool) (graph : Graph) (request : Request) (cone : Cone) (recor
     }
 
   -- what is in the state at the beginning
-  pub begins : (state : State) → IsPlanFor graph cone request.limits state.plan → state.looks ≡ looks → state.records ≡ records → state.failed.items ≡ [] → vec_len state.starts ≡ length graph.manifest.lines
+  pub begins : (state : State) → state.plan ≡ plan → state.looks ≡ looks → state.records ≡ records → state.failed.items ≡ [] → vec_len state.starts ≡ length graph.manifest.lines
       → length looks.seen.items ≡ length graph.manifest.paths → IsOn tells course graph None state now
-  begins state plan looks_are records_are none starts fits = record {
+  begins state plan_is looks_are records_are none starts fits = record {
     steps = [];
-    planned = subst (λ (a : Asked). IsPlanned (task_of a course.store) graph state.plan []) (sym {A = Asked} may.asked) (plan.planned request.folder request.targets course.store may.in_use may.listed);
+    planned = subst (λ (p : Plan). IsPlanned (task_of course.asked course.store) graph p []) (sym {A = Plan} plan_is) may.planned;
+    taken = record { orderly = tt; within = λ i judged. absurd (false≢true judged) };
+    since = subst (λ (r : Option (List Done)). IsSince r []) (sym {A = Option (List Done)} may.unloaded.1) tt;
     carried = carried;
     logging = subst (λ (r : Records). IsLogging tells course.behaviour course.format course.own (edges_of course) [] None course.store course.entry now r.logs) (sym {A = Records} records_are) may.logging;
     told = record {
@@ -190,7 +220,8 @@ module _ (tells : Bool) (graph : Graph) (request : Request) (cone : Cone) (recor
     seen = λ tell kept. subst (λ (l : Looks). AreSeenOf (is_quiet course.own (edges_of course) []) graph.manifest.paths now.history l.seen.items) (sym {A = Looks} looks_are) (may.seen tell kept);
     anew = λ tell kept p lt fine.
         let text = text_at graph.manifest.paths p in
-        plan.flags p ∙ sym (none_anew (edges_of course) (is_same_number (stamp_of (file_at course.entry.history text)) (stamp_of (file_at now.history text))) (maker (edges_of course) text));
+        ap (λ (l : Plan). has_flag l.changed.items p) plan_is
+        ∙ (may.flags p ∙ sym (none_anew (edges_of course) (is_same_number (stamp_of (file_at course.entry.history text)) (stamp_of (file_at now.history text))) (maker (edges_of course) text)));
     before = λ tell kept e stale. absurd (false≢true stale);
     started = λ e runs. absurd (false≢true runs);
     removed = record { responses = λ i well. absurd (false≢true well); depfiles = λ i well. absurd (false≢true well); stay = λ i well. absurd (false≢true well) };

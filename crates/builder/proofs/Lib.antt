@@ -1,11 +1,14 @@
 pub mod Beginning
 pub mod Builds
 pub mod Counting
+pub mod Entry
 pub mod Folders
 pub mod Formed
 pub mod Joining
+pub mod Looking
 pub mod Numbering
 pub mod Opening
+pub mod Running
 pub mod Slices
 pub mod Stages
 pub mod Telling

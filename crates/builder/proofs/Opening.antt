@@ -35,7 +35,8 @@ use Rattle.builder.specs.declared.report.Report.TheVariants.{Success, Failed, Re
 use Rattle.builder.specs.Build.{asked_of}
 use Rattle.builder.specs.Recorded.{HasJoined}
 use Rattle.builder.specs.Reports.{HasRead, ShowsCause}
-use Rattle.builder.proofs.Builds.{IsFoundAt, course_of, looked_more}
+use Rattle.builder.proofs.Builds.{looked_more}
+use Rattle.builder.proofs.Looking.{IsFoundAt, course_of}
 use Rattle.builder.proofs.Folders.{logs_apart}
 
 -- a fault that is told has its cause, since no call was refused before
@@ -83,6 +84,7 @@ module _ (law : LogBegins) (tells : Bool) (graph new : Graph) (request : Request
     found = found;
     idle = idle;
     looked = looked_more tells entry old read looked looks passed;
+    unloaded = (refl, refl);
     in_use = joined.in_use store_read refl refl;
     logging = logging;
     known = rs;

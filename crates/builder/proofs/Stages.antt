@@ -1,75 +1,77 @@
 -- From what stages give to what a build has come to.
-use Rattle.std.proofs.Common.{◌≡◌, inr, ℕ, zero, suc, Bool, IsTrue, List, ◌++◌, map, None, Result, Ok, Err, refl, sym, ◌∙◌, ap, subst, replicate}
+use Rattle.std.proofs.Common.{Some, Option, ◌≡◌, inr, ℕ, Bool, IsTrue, List, [], ◌++◌, None, Result, Ok, Err, sym, ◌∙◌, subst}
 use Rattle.std.specs.Result.{IsErrAnd}
-use Rattle.std.proofs.lemmas.Bool.{false≢true}
 use Rattle.model.specs.declared.act.Act.{Act}
 use Rattle.model.specs.declared.event.Moment.{Moment}
 use Rattle.model.specs.declared.graph.BuildGraph.{BuildGraph}
 use Rattle.model.specs.declared.outcome.Outcome.{Outcome}
 use Rattle.model.specs.World.{World, View, IsIdle}
 use Rattle.model.specs.Calls.{OnlyLooks, HasCause}
-use Rattle.model.specs.declared.fault.SiteFault.TheVariants.{Memory, Stopped}
-use Rattle.model.specs.Graph.{edge_at, first_output}
+use Rattle.model.specs.Graph.{edge_at}
 use Rattle.model.specs.Outcome.{Behaviour}
-use Rattle.model.specs.SingleBuild.{PassesNoFault}
 use Rattle.model.specs.SingleBuild as answer
 use Rattle.links.specs.declared.graph.Graph.{Graph}
-use Rattle.links.specs.Told.{declared_by}
 use Rattle.runner.specs.declared.summary.Summary.{Summary}
 use Rattle.runner.specs.declared.summary.Summary.TheVariants.{Well, Failed as SomeFailed}
-use Rattle.runner.specs.Ran.{answer_of}
 use Rattle.build_theory.specs.Seen.{Looked}
 use Rattle.build_theory.proofs.Calls.{unrefused_call}
 use Rattle.deps_log.specs.Format.{HasFormat}
 use Rattle.depfile.specs.Depfile.{HasReading}
 use Rattle.manifest.specs.declared.fault.ReadError.{ReadError}
 use Rattle.manifest.specs.Answer.{IsGraph, ReadsFile}
-use Rattle.looks.specs.declared.table.Look.{Look}
-use Rattle.looks.specs.declared.table.Look.TheVariants.{Unasked}
-use Rattle.looks.specs.Seen.{look_at, is_asked, AreSeen}
 use Rattle.builder.specs.declared.asked.Limits.{Limits}
 use Rattle.builder.specs.declared.asked.Asked.{Asked}
 use Rattle.builder.specs.declared.report.Report.{Report}
 use Rattle.builder.specs.Asked.{AreTargets, IsFolder}
 use Rattle.builder.specs.Build.{Builds, BuildsFor, IsBuild}
-use Rattle.builder.specs.Reports.{report_in, run_answer, SaysEnd, ShowsCause}
+use Rattle.builder.specs.Reports.{report_in, IsEnd, SaysEnd, SaysRun, ShowsCause}
 use Rattle.builder.proofs.Builds.{looked_nothing, idle_after, any_own, own_in, builds_grow}
+use Rattle.runner.specs.declared.state.State.{State}
+use Rattle.runner.specs.declared.summary.Pause.{Pause}
+use Rattle.runner.specs.declared.summary.Pause.TheVariants.{Load, Ended}
+use Rattle.runner.specs.Course.{Course}
+use Rattle.model.specs.Phases.{Phase}
+use Rattle.model.specs.Schedule.{Step}
+use Rattle.builder.proofs.Looking.{course_of}
+use Rattle.runner.specs.Ran.{HasRun, HasPaused, AreEdgesOf, IsPauseOf}
+use Rattle.paths.specs.Told.{text_at}
 
 -- the report of an exit by `?`
 pub told_by : (told : Report) (r : Result Report Report) → IsErrAnd r (λ report. report ≡ told) → report_in r ≡ told
 told_by told (Ok report) passed = absurd passed
 told_by told (Err report) passed = passed
 
--- nothing was asked for yet
-pub nothing_seen : (paths : List (List ℕ)) (files : List Moment) (n : ℕ) (seen : List Look) → seen ≡ replicate n Unasked → AreSeen paths files seen
-nothing_seen paths files n seen none p asked = absurd (false≢true (sym (ap is_asked (ap (λ (l : List Look). look_at l p) none ∙ unasked n p)) ∙ asked))
-  where
-    unasked : (n p : ℕ) → look_at (replicate n Unasked) p ≡ Unasked
-    unasked zero p = refl
-    unasked (suc n) zero = refl
-    unasked (suc n) (suc p) = unasked n p
-
--- ---- faults of a run
-
--- a run that was not cut off, of which there was no memory to tell, passes over no fault
-pub passes_untold : (graph : Graph) (old new : World) (summary : Summary) → PassesNoFault old new (answer_of graph (Ok summary)) → PassesNoFault old new (answer.Fault Memory)
-passes_untold graph old new (Well started) passes = record { refused = λ fine. absurd (false≢true (sym fine)); starts = passes.starts; stopped = λ stopped. absurd (differ (passes.stopped stopped)); earlier = passes.earlier }
-  where
-    differ : answer.Success started ≡ answer.Fault Stopped → ⊥
-    differ is = cc
-passes_untold graph old new (SomeFailed edges) passes = record { refused = λ fine. absurd (false≢true (sym fine)); starts = passes.starts; stopped = λ stopped. absurd (differ (passes.stopped stopped)); earlier = passes.earlier }
-  where
-    differ : answer.Failed (map (λ e. first_output (edge_at (declared_by graph).edges (suc e))) edges.items) ≡ answer.Fault Stopped → ⊥
-    differ is = cc
-
-pub passes_told : (graph : Graph) (old new : World) (summary : Summary) (report : Report) → SaysEnd graph summary report → PassesNoFault old new (answer_of graph (Ok summary)) → PassesNoFault old new (run_answer report)
-passes_told graph old new (Well started) report is passes = subst (λ (r : Report). PassesNoFault old new (run_answer r)) (sym {A = Report} is) passes
-passes_told graph old new (SomeFailed edges) report is passes = subst (λ (r : Report). PassesNoFault old new (run_answer r)) (sym {A = Report} is) passes
+-- ---- a run
 
 -- an end that is no fault has no cause to show
 pub shows_end : (graph : Graph) (old new : World) (summary : Summary) (report : Report) → SaysEnd graph summary report → ShowsCause old new report
 shows_end graph old new (Well started) report is = subst (λ (r : Report). ShowsCause old new r) (sym {A = Report} is) tt
 shows_end graph old new (SomeFailed edges) report is = subst (λ (r : Report). ShowsCause old new r) (sym {A = Report} is) tt
+
+-- a course in which nothing was loaded is that of what was asked
+pub of_fresh : (tells : Bool) (course : Course) (graph : Graph) (new : World) (report : Report) → (course.phases ≡ []) × (course.refused ≡ None) → SaysRun tells course graph new report
+    → SaysRun tells (course_of course.behaviour course.format course.own course.asked course.store course.entry) graph new report
+of_fresh tells course graph new report fresh says =
+    subst (λ (r : Option (List Step)). SaysRun tells (with_all [] r) graph new report) fresh.1
+    (subst (λ (ps : List Phase). SaysRun tells (with_all ps course.refused) graph new report) fresh.0 says)
+  where
+    with_all : List Phase → Option (List Step) → Course
+    with_all ps r = record { behaviour = course.behaviour; format = course.format; own = course.own; asked = course.asked; store = course.store; entry = course.entry; phases = ps; refused = r }
+
+-- a run that has paused where no edge names a dyndep file has ended
+pub is_end : (tells : Bool) (course : Course) (graph : Graph) (state : State) (new : World) (pause : Pause) → ((i : ℕ) → (edge_at course.asked.graph.edges i).dyndep ≡ None) → HasPaused tells course graph state new (Ok pause) → IsEnd pause
+is_end tells course graph state new (Load file) none paused = differ (text_at graph.manifest.paths file) (sym (none paused.next.due.edge) ∙ paused.next.due.names)
+  where
+    differ : (path : List ℕ) → None ≡ Some path → ⊥
+    differ path is = cc
+is_end tells course graph state new (Ended summary) none paused = tt
+
+-- and so it ended
+pub has_run : (tells : Bool) (course : Course) (graph : Graph) (state : State) (new : World) (pause : Pause) (summary : Summary) → pause ≡ Ended summary → HasPaused tells course graph state new (Ok pause) → HasRun tells course new (Ok summary)
+has_run tells course graph state new pause summary is paused = subst (λ (p : Pause). HasPaused tells course graph state new (Ok p)) is paused
+
+pub edges_are : (graph : Graph) (pause : Pause) (summary : Summary) → pause ≡ Ended summary → IsPauseOf graph pause → AreEdgesOf graph summary
+edges_are graph pause summary is of = subst (λ (p : Pause). IsPauseOf graph p) is of
 
 module _ (tells : Bool) (outcome : Act → View → Outcome) (name : List ℕ) (limits : Limits) (given : List (List ℕ)) (old mid : World) (idle : IsIdle old.events) (looks : OnlyLooks tells old mid) (cause : HasCause {T = Unit {0}} old mid (Ok tt))
     (graph : BuildGraph) (formed : IsGraph graph) (file : IsTrue tells → ReadsFile name old.history mid.history (Ok graph))

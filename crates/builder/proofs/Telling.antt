@@ -10,6 +10,7 @@ use Rattle.std.proofs.lemmas.Bool.{false≢true, or_left}
 use Rattle.links.specs.declared.graph.Graph.{Graph}
 use Rattle.links.specs.Told.{declared_by, recorded_by}
 use Rattle.model.specs.Records.{Store, recorded_of}
+use Rattle.model.specs.Schedule.{Step}
 use Rattle.paths.specs.declared.line.Line.{Line}
 use Rattle.paths.specs.declared.manifest.Action.{Action}
 use Rattle.paths.specs.declared.manifest.Action.TheVariants.{Alias, Command}
@@ -125,10 +126,10 @@ none_of_phony graph store in_use i phony =
 
 -- ---- what is missing
 
-pub missing_told : (edges : List Edge) (store : Store) (requested : List (List ℕ)) (files : List Moment) (text path : List ℕ) (needed : Option ℕ) (needed_by : Option (List ℕ)) → path ≡ text
-    → needed_by ≡ option_map (λ e. first_output (edge_at edges (suc e))) needed → IsLackedBy edges store requested files text needed → IsMissingFor edges store requested files path needed_by
-missing_told edges store requested files text path needed needed_by same by lacked = subst (λ (p : List ℕ). IsMissingFor edges store requested files p needed_by) (sym same) (by_needed needed by lacked)
+pub missing_told : (edges : List Edge) (store : Store) (before : List Step) (requested : List (List ℕ)) (files : List Moment) (text path : List ℕ) (needed : Option ℕ) (needed_by : Option (List ℕ)) → path ≡ text
+    → needed_by ≡ option_map (λ e. first_output (edge_at edges (suc e))) needed → IsLackedBy edges store before requested files text needed → IsMissingFor edges store before requested files path needed_by
+missing_told edges store before requested files text path needed needed_by same by lacked = subst (λ (p : List ℕ). IsMissingFor edges store before requested files p needed_by) (sym same) (by_needed needed by lacked)
   where
-    by_needed : (needed : Option ℕ) → needed_by ≡ option_map (λ e. first_output (edge_at edges (suc e))) needed → IsLackedBy edges store requested files text needed → IsMissingFor edges store requested files text needed_by
-    by_needed None is lacked = subst (λ (n : Option (List ℕ)). IsMissingFor edges store requested files text n) (sym is) lacked
-    by_needed (Some e) is lacked = subst (λ (n : Option (List ℕ)). IsMissingFor edges store requested files text n) (sym is) (suc e, refl, lacked)
+    by_needed : (needed : Option ℕ) → needed_by ≡ option_map (λ e. first_output (edge_at edges (suc e))) needed → IsLackedBy edges store before requested files text needed → IsMissingFor edges store before requested files text needed_by
+    by_needed None is lacked = subst (λ (n : Option (List ℕ)). IsMissingFor edges store before requested files text n) (sym is) lacked
+    by_needed (Some e) is lacked = subst (λ (n : Option (List ℕ)). IsMissingFor edges store before requested files text n) (sym is) (suc e, refl, lacked)

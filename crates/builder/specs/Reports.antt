@@ -6,9 +6,10 @@ use Rattle.model.specs.declared.fault.SiteFault.TheVariants.{Memory}
 use Rattle.model.specs.declared.graph.Edge.{Edge}
 use Rattle.model.specs.World.{World, view_of, IsIdle}
 use Rattle.model.specs.Calls.{HasCause, OnlyLooks}
-use Rattle.model.specs.Graph.{edge_at, first_output, targets_of}
+use Rattle.model.specs.Graph.{edge_at, first_output}
 use Rattle.model.specs.OutOfDate.{IsFirstMissing, IsMissingInput, NothingIsMissing}
 use Rattle.model.specs.Premises.{FilesAreKept, NothingIsEdited}
+use Rattle.model.specs.Schedule.{Step}
 use Rattle.model.specs.Records.{Store, IsOwnIn, store_in}
 use Rattle.model.specs.SingleBuild as answer
 use Rattle.model.specs.SingleBuild.{Asked, Answer, task_of}
@@ -23,9 +24,11 @@ use Rattle.links.specs.declared.fault.GraphFault.{GraphFault}
 use Rattle.links.specs.declared.fault.GraphFault.TheVariants as graph
 use Rattle.links.specs.Targets.{IsNoCone}
 use Rattle.links.specs.Told.{declared_by, recorded_by}
-use Rattle.dues.specs.Stores.{IsStoreOf, IsConeIn}
+use Rattle.dues.specs.Stores.{IsConeIn}
+use Rattle.dues.specs.UnderWay.{IsUnderWay}
+use Rattle.dues.specs.Quiet.{IfQuiet}
 use Rattle.looks.specs.declared.table.Looks.{Looks}
-use Rattle.looks.specs.Seen.{IfStays, AreSeen, AreSeenOf}
+use Rattle.looks.specs.Seen.{AreSeenOf}
 use Rattle.records.specs.declared.records.Records.{Records}
 use Rattle.records.specs.Known.{AreKnown}
 use Rattle.records.specs.Logging.{IsLogging}
@@ -35,6 +38,8 @@ use Rattle.plan.specs.declared.plan.Plan.{Plan}
 use Rattle.plan.specs.Planned.{IsPlanned}
 use Rattle.lowest.specs.Flags.{has}
 use Rattle.runner.specs.declared.cut.Cut.{Cut}
+use Rattle.runner.specs.declared.summary.Pause.{Pause}
+use Rattle.runner.specs.declared.summary.Pause.TheVariants.{Load, Ended}
 use Rattle.runner.specs.declared.summary.Summary.{Summary}
 use Rattle.runner.specs.declared.summary.Summary.TheVariants.{Well, Failed as SomeFailed}
 use Rattle.runner.specs.Course.{Course, edges_of, is_quiet}
@@ -110,11 +115,11 @@ SaysNoCone graph given targets report =
 
 -- ---- missing sources
 
--- why the path is named: it is one of those that are requested, or an input of the edge with this first output
-abbrev pub IsMissingFor : List Edge → Store → List (List ℕ) → List Moment → List ℕ → Option (List ℕ) → Type 0
-IsMissingFor edges store requested files path None = IsFirstMissing edges files requested path
-IsMissingFor edges store requested files path (Some output) =
-    (i : ℕ) × (output ≡ first_output (edge_at edges i)) × IsMissingInput edges store [] files requested i path
+-- why the path is named after these steps: it is one of those that are requested, or an input of the edge with this first output
+abbrev pub IsMissingFor : List Edge → Store → List Step → List (List ℕ) → List Moment → List ℕ → Option (List ℕ) → Type 0
+IsMissingFor edges store before requested files path None = IsFirstMissing edges files requested path
+IsMissingFor edges store before requested files path (Some output) =
+    (i : ℕ) × (output ≡ first_output (edge_at edges i)) × IsMissingInput edges store before files requested i path
 
 -- a call was refused, or there was no memory
 pub record SaysFault (old new : World) (report : Report) : Type 0 where
@@ -122,33 +127,29 @@ pub record SaysFault (old new : World) (report : Report) : Type 0 where
   pub says : report ≡ Fault fault
   pub cause : HasCause {T = Unit {0}} old new (Err fault)
 
--- a source of this cone is missing, by each store whose records were read, and no call was refused
-pub record SaysMissing (tells : Bool) (graph : Graph) (records : Records) (cone : Cone) (old new : World) (report : Report) : Type 0 where
+-- a source of this cone is missing, of each build under way, and no call was refused
+pub record SaysMissing (tells : Bool) (graph : Graph) (records : Records) (cone : Cone) (plan : Plan) (old new : World) (seen : Looks) (report : Report) : Type 0 where
   pub missing : Lacking
   pub says : report ≡ Refused (Missing missing)
   pub unrefused : Unrefused old new
-  pub is : (targets : List (List ℕ)) (store : Store) → IsStoreOf graph records store → IsConeIn graph store targets cone
-      → IfStays tells old new (λ files. IsMissingFor (declared_by graph).edges store (targets_of (declared_by graph) targets) files missing.path missing.needed_by)
+  pub is : (store : Store) (targets : List (List ℕ)) (before : List Step) → IsUnderWay graph records cone plan store targets before
+      → IfQuiet tells graph store targets before old new seen (λ files. IsMissingFor (declared_by graph).edges store before targets files missing.path missing.needed_by)
 
--- no source of this cone is missing, by each store whose records were read
-abbrev pub HasSources : Bool → Graph → Records → Cone → World → World → Type 0
-HasSources tells graph records cone old new =
-    (targets : List (List ℕ)) (store : Store) → IsStoreOf graph records store → IsConeIn graph store targets cone
-    → IfStays tells old new (λ files. NothingIsMissing (declared_by graph).edges store [] files (targets_of (declared_by graph) targets))
+-- no source of this cone is missing, of each build under way
+abbrev pub HasSources : Bool → Graph → Records → Cone → Plan → World → World → Looks → Type 0
+HasSources tells graph records cone plan old new seen =
+    (store : Store) (targets : List (List ℕ)) (before : List Step) → IsUnderWay graph records cone plan store targets before
+    → IfQuiet tells graph store targets before old new seen (λ files. NothingIsMissing (declared_by graph).edges store before files targets)
 
 -- a source of this cone is missing, or that was not to be seen
-abbrev pub LacksSource : Bool → Graph → Records → Cone → World → World → Report → Type 0
-LacksSource tells graph records cone old new report = SaysFault old new report ⊎ SaysMissing tells graph records cone old new report
-
--- all that was seen is so of the files, where they stayed the same
-abbrev pub IsSeenAtEntry : Bool → Graph → World → World → Looks → Type 0
-IsSeenAtEntry tells graph old new looks = IfStays tells old new (λ files. AreSeen graph.manifest.paths files looks.seen.items)
+abbrev pub LacksSource : Bool → Graph → Records → Cone → Plan → World → World → Looks → Report → Type 0
+LacksSource tells graph records cone plan old new seen report = SaysFault old new report ⊎ SaysMissing tells graph records cone plan old new seen report
 
 -- ---- what was read
 
 -- The logs were read by a build of what was asked for, on this course: no command ran at its entry, since which there was only looked
 -- and no call was refused; what they told is the store of the course, which is that of the entry unless somebody wrote since; its
--- recorded inputs in use are those of the graph. From here on, as long as there is only looked, the logs go on.
+-- recorded inputs in use are those of the graph; nothing was loaded yet. From here on, as long as there is only looked, the logs go on.
 pub record HasRead (tells : Bool) (graph : Graph) (request : Request) (records : Records) (course : Course) (now : World) : Type 0 where
   pub asked : course.asked ≡ asked_of (declared_by graph) request.folder request.limits request.targets
   pub reads : IsReading course.behaviour.depfile
@@ -156,6 +157,7 @@ pub record HasRead (tells : Bool) (graph : Graph) (request : Request) (records :
   pub found : IsTrue tells → NothingIsEdited course.entry.history now.history → course.store ≡ store_in course.format course.own (view_of course.entry.history)
   pub idle : IsIdle course.entry.events
   pub looked : Looked tells course.entry now
+  pub unloaded : (course.phases ≡ []) × (course.refused ≡ None)
   pub in_use : IsRecordedBy graph course.store
   pub logging : (later : World) → OnlyLooks tells now later → IsLogging tells course.behaviour course.format course.own (edges_of course) [] None course.store course.entry later records.logs
   pub known : List Record
@@ -171,9 +173,9 @@ pub record IsPlanFor (graph : Graph) (cone : Cone) (limits : Limits) (plan : Pla
   pub planned : (folder : List ℕ) (targets : List (List ℕ)) (store : Store) → IsRecordedBy graph store → IsConeIn graph store targets cone
       → IsPlanned (task_of (asked_of (declared_by graph) folder limits targets) store) graph plan []
 
--- A run of what was asked for may begin on this course: no command ran at its entry, since which there was only looked; where files
--- are kept, the records that were read are those of the entry, and what was seen of files is so.
-pub record MayRun (tells : Bool) (graph : Graph) (request : Request) (cone : Cone) (records : Records) (looks : Looks) (course : Course) (now : World) : Type 0 where
+-- A run of what was asked for may begin on this course, by this plan: no command ran at its entry, since which there was only looked,
+-- and nothing was loaded yet; where files are kept, the records that were read are those of the entry, and what was seen of files is so.
+pub record MayRun (tells : Bool) (graph : Graph) (request : Request) (plan : Plan) (records : Records) (looks : Looks) (course : Course) (now : World) : Type 0 where
   pub asked : course.asked ≡ asked_of (declared_by graph) request.folder request.limits request.targets
   pub owned : IsOwnIn course.own request.folder
   pub found : IsTrue tells → FilesAreKept course.own (edges_of course) course.entry.history now.history → course.store ≡ store_in course.format course.own (view_of course.entry.history)
@@ -181,7 +183,9 @@ pub record MayRun (tells : Bool) (graph : Graph) (request : Request) (cone : Con
   pub reads : IsReading course.behaviour.depfile
   pub idle : IsIdle course.entry.events
   pub looked : Looked tells course.entry now
-  pub listed : IsConeIn graph course.store request.targets cone
+  pub unloaded : (course.phases ≡ []) × (course.refused ≡ None)
+  pub flags : (p : ℕ) → has plan.changed.items p ≡ false
+  pub planned : IsPlanned (task_of course.asked course.store) graph plan []
   pub logging : IsLogging tells course.behaviour course.format course.own (edges_of course) [] None course.store course.entry now records.logs
   pub known : List Record
   pub deps : List DepsRecord
@@ -189,6 +193,11 @@ pub record MayRun (tells : Bool) (graph : Graph) (request : Request) (cone : Con
   pub store : course.store ≡ record { records = known; deps = deps }
   pub seen : IsTrue tells → FilesAreKept course.own (edges_of course) course.entry.history now.history
       → AreSeenOf (is_quiet course.own (edges_of course) []) graph.manifest.paths now.history looks.seen.items
+
+-- nothing is left to do
+abbrev pub IsEnd : Pause → Type 0
+IsEnd (Load file) = ⊥
+IsEnd (Ended summary) = Unit {0}
 
 -- the report of a run that was not cut off
 abbrev pub SaysEnd : Graph → Summary → Report → Type 0

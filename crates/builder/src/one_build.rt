@@ -16,8 +16,9 @@ ghost use Rattle.manifest.specs.Answer.{IsGraph};
 ghost use Rattle.paths.specs.Told.{text_at};
 ghost use Rattle.runner.specs.Course.{Course};
 ghost use Rattle.runner.specs.Ran.{AreEdgesOf};
+ghost use Rattle.runner.specs.declared.summary.Pause.TheVariants.{Ended};
 ghost use Rattle.builder.specs.Build.{limits_of, Builds, IsBuild};
-ghost use Rattle.builder.specs.Reports.{report_in, HasRead, IsConeRecorded, SaysNoCone, SaysFault, ShowsFault, IsPlanFor, MayRun, SaysEnd, SaysRun, ShowsCause, run_answer};
+ghost use Rattle.builder.specs.Reports.{report_in, HasRead, IsConeRecorded, SaysNoCone, SaysFault, ShowsFault, IsPlanFor, MayRun, IsEnd, SaysEnd, SaysRun, ShowsCause, run_answer};
 ghost use Rattle.builder.specs.Taken.{IsTaken};
 
 use crate::asked::{Asked, Limits};
@@ -26,16 +27,17 @@ use crate::names::{first_outputs, path_texts};
 use crate::own_files::{DEPS_LOG, LOG, TICK, own_path};
 use crate::recorded::join_recorded;
 use crate::report::{Options, Refusal, Report};
-use crate::sources::{Known, check_sources};
+use crate::sources::check_sources;
 use crate::taken::check_taken;
 use depfile::has_reading;
 use deps_log::has_format;
 use display::Display;
 use links::{Cone, ConeFault, Graph, lists_stand};
+use looks::Looks;
 use manifest::reads_longer;
 use plan::{Plan, task_of};
 use records::{Records, log_begins};
-use runner::{Setting, State, Summary, run_plan};
+use runner::{Pause, Setting, State, Summary, run_plan};
 use site::Site;
 use std::alloc::{AllocError, Global};
 use text::Text;
@@ -121,8 +123,12 @@ fn build_graph<S: Site>(
     ensures { (course : Course) → HasRead S.tells graph.now asked.now records course (S.world site.old) → Builds S.tells course.behaviour course.format course.own (declared_by graph.now) asked.now.folder asked.now.limits asked.now.given.now asked.now.targets course.entry (S.world site.new) (report_in result) }
 {
     let cone = cone_of(alloc, graph, asked)?;
-    let known = check_sources(alloc, site, graph, &cone, &records)?;
-    run_cone(alloc, site, graph, &cone, asked, options, records, known)
+    let plan = plan_of(alloc, graph, &cone, asked.limits)?;
+    let mut looks = Looks::new(alloc, graph)?;
+    let due = check_sources(alloc, site, graph, &cone, &plan, &mut looks, &records)?;
+    run_cone(
+        alloc, site, graph, asked, options, plan, looks, records, due,
+    )
 }
 
 /// The cone of what was asked for.
@@ -167,43 +173,53 @@ fn target_at(alloc: Global, given: &[Text], place: usize) -> Result<Text, AllocE
     }
 }
 
-/// Runs the commands of a cone, shows them as the options say, and reports how that ended.
+/// Runs the commands of a cone by its plan, shows them as the options say, and reports how that ended.
 fn run_cone<S: Site>(
     alloc: Global,
     site: &mut S,
     graph: &Graph,
-    cone: &Cone,
     asked: &Asked<'_>,
     options: &Options,
+    plan: Plan,
+    looks: Looks,
     records: Records,
-    known: Known,
+    due: Vec<bool>,
 ) -> Result<Report, Report>
     requires idle { IsIdle (S.world site.old).events }
     requires running { (S.world site.old).stopped ≡ false }
     requires formed { IsGraph (declared_by graph.now) }
     requires taken { IsTaken (declared_by graph.now).edges }
     requires once { IsMadeOnce (declared_by graph.now).edges }
-    requires marks { vec_len cone.now.marks ≡ length graph.now.manifest.lines }
-    requires due { vec_len known.due ≡ length graph.now.manifest.lines }
-    requires fits { length known.looks.seen.items ≡ length graph.now.manifest.paths }
-    requires ready { (course : Course) × MayRun S.tells graph.now asked.now cone.now records known.looks course (S.world site.old) }
-    ensures ran { (course : Course) → MayRun S.tells graph.now asked.now cone.now records known.looks course (S.world site.old) → SaysRun S.tells course graph.now (S.world site.new) (report_in result) }
+    requires due { vec_len due ≡ length graph.now.manifest.lines }
+    requires fits { length looks.seen.items ≡ length graph.now.manifest.paths }
+    requires ready { (course : Course) × MayRun S.tells graph.now asked.now plan records looks course (S.world site.old) }
+    ensures ran { (course : Course) → MayRun S.tells graph.now asked.now plan records looks course (S.world site.old) → SaysRun S.tells course graph.now (S.world site.new) (report_in result) }
     ensures cause { ShowsCause (S.world site.old) (S.world site.new) (report_in result) }
     ensures faults { PassesNoFault (S.world site.old) (S.world site.new) (run_answer (report_in result)) }
 {
-    let Known { looks, due } = known;
     let tick = own_path(alloc, asked.folder.as_str(), TICK)?;
-    let plan = plan_of(alloc, graph, cone, asked.limits)?;
     let unstarted = due_commands(graph, &due);
     let display = Display::new(alloc, &options.pattern, options.verbose, unstarted);
-    let state = State::new(alloc, graph, plan, looks, records, display, due)?;
+    let mut state = State::new(alloc, graph, plan, looks, records, display, due)?;
     let setting = Setting {
         alloc,
         graph,
         tick: tick.as_str(),
     };
-    let summary = run_plan(site, setting, state)?;
+    let pause = run_plan(site, setting, &mut state)?;
+    let summary = ended(pause);
     Ok(report(alloc, graph, summary)?)
+}
+
+/// What a run came to that is not to load a dyndep file: no edge names one.
+fn ended(pause: Pause) -> Summary
+    requires { IsEnd pause }
+    ensures { pause ≡ Ended result }
+{
+    match pause {
+        Pause::Ended(summary) => summary,
+        Pause::Load(_) => unreachable!(),
+    }
 }
 
 /// The plan of a cone within these limits, in which nothing is judged yet.

@@ -1,15 +1,12 @@
 //! Missing sources.
 
-ghost use Rattle.std.specs.Prelude.{◌≡◌, ◌<◌, false, length, vec_len, IfOk, IfErr, OnOk};
+ghost use Rattle.std.specs.Prelude.{◌≡◌, ◌<◌, ℕ, false, length, vec_len, All, IfOk, IfErr, OnOk};
 ghost use Rattle.std.specs.Option.{option_map};
-ghost use Rattle.model.specs.Calls.{OnlyLooks};
 ghost use Rattle.build_theory.specs.Seen.{Unrefused};
-ghost use Rattle.links.specs.Told.{declared_by};
+ghost use Rattle.looks.specs.Looking.{HasLooked};
 ghost use Rattle.paths.specs.Told.{text_at};
-ghost use Rattle.dues.specs.Lacks.{IsEdgeBelow, IsLackOf};
-ghost use Rattle.dues.specs.Stores.{IsAnyCone};
-ghost use Rattle.builder.specs.Reports.{first_output_of, HasSources, IsSeenAtEntry, LacksSource};
-ghost use Rattle.builder.specs.Taken.{IsTaken};
+ghost use Rattle.dues.specs.Lacks.{HasDue, IsEdgeBelow, IsLackOf};
+ghost use Rattle.builder.specs.Reports.{first_output_of, HasSources, LacksSource};
 
 use crate::names::{first_output, path_text};
 use crate::report::{Missing, Refusal, Report};
@@ -17,44 +14,39 @@ use dues::{Found, Lack, sources};
 use links::{Cone, Graph};
 use looks::Looks;
 use paths::EdgeId;
+use plan::Plan;
 use records::Records;
 use site::Site;
 use std::alloc::{AllocError, Global};
 use text::Path;
 
-/// What is known of a cone before anything runs: what was seen of files, and for each edge of the graph whether it is in the cone
-/// and due.
-#[derive(Drop)]
-pub struct Known {
-    pub looks: Looks,
-    pub due: Vec<bool>,
-}
-
-/// Refuses a cone of which a source is missing. It only looks.
+/// Refuses a cone of which a source is missing; else a flag for each edge of the graph says whether it is in the cone and due. Steps of
+/// the plan may be done by then, and commands may run. It only looks.
 pub fn check_sources<S: Site>(
     alloc: Global,
     site: &mut S,
     graph: &Graph,
     cone: &Cone,
+    plan: &Plan,
+    looks: &mut Looks,
     records: &Records,
-) -> Result<Known, Report>
+) -> Result<Vec<bool>, Report>
     requires running { (S.world site.old).stopped ≡ false }
-    requires cone { IsAnyCone graph.now cone.now }
-    requires taken { IsTaken (declared_by graph.now).edges }
-    ensures looks { OnlyLooks S.tells (S.world site.old) (S.world site.new) }
+    requires fits { length looks.old.seen.items ≡ length graph.now.manifest.paths }
+    requires order { All (λ e. e < length graph.now.manifest.lines) cone.now.order.items }
+    requires targets { All (λ p. p < length graph.now.manifest.paths) cone.now.targets.items }
+    requires plan { vec_len plan.now.standings ≡ length graph.now.manifest.lines }
+    ensures looked { HasLooked S.tells graph.now (S.world site.old) (S.world site.new) looks.old looks.new }
     ensures passed { OnOk result (Unrefused (S.world site.old) (S.world site.new)) }
-    ensures seen { IfOk result (λ known. IsSeenAtEntry S.tells graph.now (S.world site.old) (S.world site.new) known.looks) }
-    ensures fits { IfOk result (λ known. length known.looks.seen.items ≡ length graph.now.manifest.paths) }
-    ensures due { IfOk result (λ known. vec_len known.due ≡ length graph.now.manifest.lines) }
-    ensures sources { OnOk result (HasSources S.tells graph.now records.now cone.now (S.world site.old) (S.world site.new)) }
-    ensures lacking { IfErr result (LacksSource S.tells graph.now records.now cone.now (S.world site.old) (S.world site.new)) }
+    ensures due { IfOk result (λ due. HasDue S.tells graph.now records.now cone.now plan.now (S.world site.old) (S.world site.new) looks.old due.items) }
+    ensures sources { OnOk result (HasSources S.tells graph.now records.now cone.now plan.now (S.world site.old) (S.world site.new) looks.old) }
+    ensures lacking { IfErr result (LacksSource S.tells graph.now records.now cone.now plan.now (S.world site.old) (S.world site.new) looks.old) }
 {
-    let mut looks = Looks::new(alloc, graph)?;
-    match sources(alloc, site, graph, cone, &mut looks, records)? {
+    match sources(alloc, site, graph, cone, plan, looks, records)? {
         Found::Missing(lack) => Err(Report::Refused(Refusal::Missing(missing(
             alloc, graph, lack,
         )?))),
-        Found::Present(due) => Ok(Known { looks, due }),
+        Found::Present(due) => Ok(due),
     }
 }
 

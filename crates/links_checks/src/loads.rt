@@ -82,7 +82,7 @@ pub fn extend(
         return told.push_str("no file");
     }
     match graph.extend(alloc, additions.as_slice(), number) {
-        Ok(()) => told.push_str("fits"),
+        Ok(_) => told.push_str("fits"),
         Err(fault) => push_fault(&fault, told),
     }
 }

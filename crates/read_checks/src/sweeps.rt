@@ -17,7 +17,7 @@ struct Counts {
 
 /// What a reading gives.
 #[derive(Clone, Copy)]
-enum Given {
+enum Outcome {
     Manifest,
     Refusal,
     Wrong,
@@ -32,10 +32,10 @@ impl Counts {
 
     /// One reading more.
     fn count(&mut self, alloc: Global, files: &mut Files) -> Result<(), AllocError> {
-        let count = match given_again(alloc, files)? {
-            Given::Manifest => &mut self.read,
-            Given::Refusal => &mut self.refused,
-            Given::Wrong => &mut self.wrong,
+        let count = match read_twice(alloc, files)? {
+            Outcome::Manifest => &mut self.read,
+            Outcome::Refusal => &mut self.refused,
+            Outcome::Wrong => &mut self.wrong,
         };
         *count = count.saturating_add(1);
         Ok(())
@@ -49,11 +49,11 @@ impl Counts {
 }
 
 /// What a read gives, where a second one tells the same.
-fn given_again(alloc: Global, files: &mut Files) -> Result<Given, AllocError> {
+fn read_twice(alloc: Global, files: &mut Files) -> Result<Outcome, AllocError> {
     if is_told_again(alloc, files)? {
-        Ok(given(alloc, files))
+        Ok(read_once(alloc, files))
     } else {
-        Ok(Given::Wrong)
+        Ok(Outcome::Wrong)
     }
 }
 
@@ -76,17 +76,17 @@ fn count_lines(files: &Files, name: &str) -> usize {
 }
 
 /// Whether a read gives a manifest, or a refusal that stands in a line of a file.
-fn given(alloc: Global, files: &mut Files) -> Given {
+fn read_once(alloc: Global, files: &mut Files) -> Outcome {
     match read(alloc, files, "build.ninja") {
-        Ok(_) => Given::Manifest,
+        Ok(_) => Outcome::Manifest,
         Err(ReadError::Refused(fault)) => {
             if is_in_a_line(files, &fault) {
-                Given::Refusal
+                Outcome::Refusal
             } else {
-                Given::Wrong
+                Outcome::Wrong
             }
         }
-        Err(_) => Given::Wrong,
+        Err(_) => Outcome::Wrong,
     }
 }
 

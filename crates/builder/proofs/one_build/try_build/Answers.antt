@@ -14,7 +14,8 @@ use Rattle.builder.specs.declared.report.Report.{Report}
 use Rattle.builder.specs.Build.{Builds, asked_of, limits_of}
 use Rattle.builder.specs.Reports.{report_in, SaysNotTaken}
 use Rattle.builder.specs.Taken.{IsTaken}
-use Rattle.builder.proofs.Builds.{course_of, any_own, own_in, builds_not_taken, builds_ungraphed, builds_fault, builds_memory, looked_nothing, looked_more, idle_after}
+use Rattle.builder.proofs.Looking.{course_of}
+use Rattle.builder.proofs.Builds.{any_own, own_in, builds_not_taken, builds_ungraphed, builds_fault, builds_memory, looked_nothing, looked_more, idle_after}
 use Rattle.builder.proofs.Opening.{has_read}
 use Rattle.builder.proofs.Stages.{told_by, built_here, built_later}
 use Rattle.builder.proofs.one_build.try_build.Goals as goal
