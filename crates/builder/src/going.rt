@@ -17,14 +17,13 @@ use crate::stop::Stop;
 use links::{Cone, Graph};
 use paths::PathId;
 use plan::{Plan, Step};
-use runner::{Cut, Pause, Setting, State, Summary, finish, give_up, run_plan};
+use runner::{Pause, Setting, State, Summary, finish, give_up, run_plan};
 use site::Site;
 use std::alloc::Global;
 
-/// Runs the plan until nothing is left to do, and loads the dyndep files that become known. Sources are asked for before anything
-/// runs, and after each load; before that, files that no edge makes are loaded.
+/// Runs the plan until nothing is left to do, and loads the dyndep files that become known (manual: "Dynamic Dependencies").
 ///
-/// A refusal, or a missing source, ends the build: what runs is taken in and recorded. After a fault it is taken in alone.
+/// A refused load or a missing source ends the build: what runs is taken in, recorded and shown. After a fault it is taken in alone.
 pub fn run_graph<S: Site>(
     alloc: Global,
     site: &mut S,
@@ -41,19 +40,17 @@ pub fn run_graph<S: Site>(
     ensures seen { IfErr result (λ stop. IfFault stop (IsSeen (S.world site.old) (S.world site.new))) }
     ensures faults { PassesNoFault (S.world site.old) (S.world site.new) (stop_answer result) }
 {
-    match go_on(alloc, site, graph, cone, tick, state) {
+    match run_and_load(alloc, site, graph, cone, tick, state) {
         Err(Stop::Refused(refusal)) => {
-            if state.plan.running() > 0 {
-                finish(site, Setting { alloc, graph, tick }, state)?;
-            }
+            finish(site, Setting { alloc, graph, tick }, state)?;
             Err(Stop::Refused(refusal))
         }
-        result => result,
+        ended => ended,
     }
 }
 
 /// The same, but that after a refusal commands may run.
-fn go_on<S: Site>(
+fn run_and_load<S: Site>(
     alloc: Global,
     site: &mut S,
     graph: &mut Graph,
@@ -62,21 +59,15 @@ fn go_on<S: Site>(
     state: &mut State<'_>,
 ) -> Result<Summary, Stop> {
     'run: loop {
-        let file = match source_to_load(graph, &state.plan) {
-            Some(file) => file,
-            None => match run_on(alloc, site, graph, cone, tick, state)? {
-                Pause::Ended(summary) => return Ok(summary),
-                Pause::Load(file) => file,
-            },
-        };
-        if let Err(stop) = load(alloc, site, graph, cone, state, file) {
-            return Err(given_up(site, &state.plan, stop));
+        match run_to_load(alloc, site, graph, cone, tick, state)? {
+            Pause::Ended(summary) => return Ok(summary),
+            Pause::Load(file) => load_file(alloc, site, graph, cone, state, file)?,
         }
     }
 }
 
-/// Asks for sources, and runs the plan until it pauses. Where a load is next, nothing is run.
-fn run_on<S: Site>(
+/// Asks for sources, and runs the plan until it pauses. Where a file that no edge makes is to be loaded, that is done first.
+fn run_to_load<S: Site>(
     alloc: Global,
     site: &mut S,
     graph: &Graph,
@@ -84,6 +75,29 @@ fn run_on<S: Site>(
     tick: &str,
     state: &mut State<'_>,
 ) -> Result<Pause, Stop> {
+    if let Some(file) = source_to_load(graph, &state.plan) {
+        return Ok(Pause::Load(file));
+    }
+    ask_for_sources(alloc, site, graph, cone, state)?;
+    Ok(run_plan(site, Setting { alloc, graph, tick }, state)?)
+}
+
+/// The dyndep file that is loaded next, if no edge makes it.
+fn source_to_load(graph: &Graph, plan: &Plan) -> Option<PathId> {
+    match plan.next() {
+        Step::Load(file) if graph.maker(file).is_none() => Some(file),
+        _ => None,
+    }
+}
+
+/// Refuses a cone of which a source is missing; else what is due by now is noted, and counted by what is shown. Commands may run.
+fn ask_for_sources<S: Site>(
+    alloc: Global,
+    site: &mut S,
+    graph: &Graph,
+    cone: &Cone,
+    state: &mut State<'_>,
+) -> Result<(), Stop> {
     match check_sources(
         alloc,
         site,
@@ -94,31 +108,34 @@ fn run_on<S: Site>(
         &state.records,
     ) {
         Ok(due) => {
-            state
-                .display
-                .recount(unstarted_commands(graph, &state.plan, &due));
+            let unstarted = unstarted_commands(graph, &state.plan, &due);
+            state.display.recount(unstarted);
             state.due = due;
+            Ok(())
         }
-        Err(stop) => return Err(given_up(site, &state.plan, stop)),
+        Err(stop) => Err(given_up(site, &state.plan, stop)),
     }
-    if let Step::Load(file) = state.plan.next() {
-        return Ok(Pause::Load(file));
-    }
-    Ok(run_plan(site, Setting { alloc, graph, tick }, state)?)
 }
 
-/// Takes in what runs, where a fault stopped the build.
+/// Loads the dyndep file. Commands may run.
+fn load_file<S: Site>(
+    alloc: Global,
+    site: &mut S,
+    graph: &mut Graph,
+    cone: &mut Cone,
+    state: &mut State<'_>,
+    file: PathId,
+) -> Result<(), Stop> {
+    match load(alloc, site, graph, cone, state, file) {
+        Ok(()) => Ok(()),
+        Err(stop) => Err(given_up(site, &state.plan, stop)),
+    }
+}
+
+/// After a fault what runs is taken in; a refusal stays as it is.
 fn given_up<S: Site>(site: &mut S, plan: &Plan, stop: Stop) -> Stop {
     match stop {
         Stop::Fault(fault) => Stop::Fault(give_up(site, plan, fault).fault()),
         Stop::Refused(refusal) => Stop::Refused(refusal),
-    }
-}
-
-/// The dyndep file that is loaded next, if no edge makes it.
-fn source_to_load(graph: &Graph, plan: &Plan) -> Option<PathId> {
-    match plan.next() {
-        Step::Load(file) if graph.maker(file).is_none() => Some(file),
-        _ => None,
     }
 }

@@ -15,7 +15,7 @@ use crate::recorded::join_loaded;
 use crate::report::{Refusal, Unfit};
 use crate::stop::Stop;
 use dyndep::{Addition, DynFault, ReadError, parse};
-use links::{Cone, ConeFault, ExtendFault, Graph};
+use links::{Before, Cone, ConeFault, ExtendFault, Graph};
 use model::SiteFault;
 use paths::PathId;
 use runner::State;
@@ -53,25 +53,42 @@ pub fn load<S: Site>(
     ensures cut { IfErr result (λ stop. IfFault stop (λ fault. (tick : List ℕ) (course : Course) (edges : List Edge) (phases : List Phase) → (stands : StandsAt S.tells tick course edges phases graph.old cone.old state.old (S.world site.old)) → IsLoadNext course edges graph.old state.old stands.on.steps file → HasAsked S.tells course edges phases (S.world site.old) → IsCutThere S.tells course state.new (S.world site.new))) }
 {
     let additions = additions_in(alloc, site, graph, file)?;
-    let before = match graph.extend(alloc, additions.as_slice(), file) {
-        Ok(before) => before,
-        Err(fault) => return Err(unfit(alloc, graph, file, fault)?),
-    };
+    let before = extend(alloc, graph, file, additions.as_slice())?;
     state.records.grow(graph)?;
     join_loaded(alloc, graph, &state.records, &before.edges)?;
-    let targets = cone.targets.as_slice().to_vec(alloc)?;
-    match graph.cone_again(alloc, targets) {
-        Ok(next) => {
-            grow(alloc, graph, &next, state)?;
-            *cone = next;
+    match cone_again(alloc, graph, cone) {
+        Ok(grown) => {
+            grow(alloc, graph, &grown, state)?;
+            *cone = grown;
             Ok(())
         }
-        Err(fault) => {
-            let stop = circle(alloc, graph, fault)?;
+        Err(stop) => {
             graph.take_back(alloc, before);
             state.records.shrink(graph);
             Err(stop)
         }
+    }
+}
+
+/// What the file says joins the graph; what undoes that.
+fn extend(
+    alloc: Global,
+    graph: &mut Graph,
+    file: PathId,
+    additions: &[Addition],
+) -> Result<Before, Stop> {
+    match graph.extend(alloc, additions, file) {
+        Ok(before) => Ok(before),
+        Err(fault) => Err(unfit(alloc, graph, file, fault)?),
+    }
+}
+
+/// The cone of the same targets over the graph as it is now.
+fn cone_again(alloc: Global, graph: &Graph, cone: &Cone) -> Result<Cone, Stop> {
+    let targets = cone.targets.as_slice().to_vec(alloc)?;
+    match graph.cone_again(alloc, targets) {
+        Ok(grown) => Ok(grown),
+        Err(fault) => Err(circle(alloc, graph, fault)?),
     }
 }
 
