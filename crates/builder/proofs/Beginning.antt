@@ -215,7 +215,7 @@ module _ (tells : Bool) (graph : Graph) (request : Request) (plan : Plan) (recor
       records = may.known;
       deps = may.deps;
       known = subst (λ (r : Records). AreKnown graph may.known may.deps r) (sym {A = Records} records_are) may.told;
-      same = λ tell kept. (ap (λ (s : Store). s.records) may.store, ap (λ (s : Store). s.deps) may.store);
+      same = (ap (λ (s : Store). s.records) may.store, ap (λ (s : Store). s.deps) may.store);
     };
     seen = λ tell kept. subst (λ (l : Looks). AreSeenOf (is_quiet course.own (edges_of course) []) graph.manifest.paths now.history l.seen.items) (sym {A = Looks} looks_are) (may.seen tell kept);
     anew = λ tell kept p lt fine.

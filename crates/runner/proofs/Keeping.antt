@@ -159,7 +159,7 @@ module _ (tells : Bool) (course : Course) (graph : Graph) where
 
   -- over a call that keeps quiet paths
   pub told_over : (steps : List Done) (state : State) (now new : World) → Quietly steps now new → AreTold tells course graph state now → AreTold tells course graph state new
-  told_over steps state now new quiet told = record { records = told.records; deps = told.deps; known = told.known; same = λ tell kept. told.same tell (quiet tell kept).0 }
+  told_over steps state now new quiet told = record { records = told.records; deps = told.deps; known = told.known; same = told.same }
 
   pub seen_over : (steps : List Done) (state : State) (now new : World) → Quietly steps now new → IsSeenStill tells course graph steps state now → IsSeenStill tells course graph steps state new
   seen_over steps state now new quiet seen tell kept =

@@ -299,7 +299,7 @@ module _ (tells : Bool) (course : Course) (tick : List ℕ) (graph grown : Graph
   -- ---- the logs, and the files of commands that ended well
 
   pub loaded_told : AreTold tells later grown after now
-  loaded_told = record { records = on.told.records; deps = on.told.deps; known = room.known on.told.records on.told.deps on.told.known; same = λ tell files. on.told.same tell (before tell files) }
+  loaded_told = record { records = on.told.records; deps = on.told.deps; known = room.known on.told.records on.told.deps on.told.known; same = on.told.same }
 
   pub loaded_removed : AreRemoved tells course.own next on.steps None course.entry now
   loaded_removed = record {
