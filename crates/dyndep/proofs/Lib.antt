@@ -1,3 +1,10 @@
 pub mod Additions
 pub mod Parts
 pub mod Answer
+pub mod Answered
+pub mod Fronts
+pub mod Grammars
+pub mod Canonical
+pub mod Told
+pub mod Decided
+pub mod Total

@@ -111,6 +111,9 @@ is_split lines n is = record {
   ends = ap begins_block (map_drop n lines ∙ ap (λ (m : ℕ). drop m (forms_in lines)) is) ∙ behind_ends (forms_in lines);
 }
 
+pub forms_split : (forms : List Form) → IsSplit forms (take (block_length forms) forms) (drop (block_length forms) forms)
+forms_split forms = record { whole = sym (take-append-drop (block_length forms) forms); all = front_all forms; ends = behind_ends forms }
+
 -- ---- refusals
 
 pub refused : {P Q : Type 0} (error : ReadError) → RefusedWhere P error → (P → Q) → RefusedWhere Q error

@@ -140,3 +140,7 @@ accepted (Err fault) = None
 -- a function that reads each dyndep file as it says here, and gives None where it is refused
 abbrev pub IsReading : (List ℕ → Option (List Addition)) → Type 0
 IsReading reading = (bytes : List ℕ) → (said : Result (List Addition) DynFault) × IsRead bytes said × (reading bytes ≡ accepted said)
+
+-- there is such a function
+abbrev pub HasReading : Type 0
+HasReading = (reading : List ℕ → Option (List Addition)) × IsReading reading

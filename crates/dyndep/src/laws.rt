@@ -1,7 +1,7 @@
-//! That a dyndep file says one thing.
+//! That a dyndep file says one thing, whatever it holds.
 
 ghost use Rattle.std.specs.Prelude.{◌≡◌, ℕ, List, Result};
-ghost use Rattle.dyndep.specs.Dyndep.{IsRead};
+ghost use Rattle.dyndep.specs.Dyndep.{IsRead, HasReading};
 ghost use Rattle.dyndep.specs.declared.addition.Addition.{Addition};
 ghost use Rattle.dyndep.specs.declared.fault.DynFault.{DynFault};
 
@@ -14,3 +14,8 @@ pub fn one_answer()
     one_form();
     one_reading();
 }
+
+/// A law, which runs nothing: there is a function that reads each dyndep file as its grammar says.
+pub fn has_reading()
+    ensures { HasReading }
+{}
