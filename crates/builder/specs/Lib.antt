@@ -1,6 +1,8 @@
 pub mod Asked
 pub mod Build
 pub mod Commands
+pub mod Loads
+pub mod Going
 pub mod Recorded
 pub mod Reports
-pub mod Taken
+pub mod Sources

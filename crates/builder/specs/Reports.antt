@@ -49,13 +49,13 @@ use Rattle.builder.specs.declared.asked.Asked.{Asked as Request}
 use Rattle.builder.specs.declared.asked.Limits.{Limits}
 use Rattle.builder.specs.declared.report.Missing.{Missing as Lacking}
 use Rattle.builder.specs.declared.report.Refusal.{Refusal}
-use Rattle.builder.specs.declared.report.Refusal.TheVariants.{MadeTwice, NoDyndepInput, NotTaken, UnknownTarget, Cycle, Missing}
+use Rattle.builder.specs.declared.report.Refusal.TheVariants.{MadeTwice, NoDyndepInput, UnknownTarget, Cycle}
 use Rattle.builder.specs.declared.report.Report.{Report}
 use Rattle.builder.specs.declared.report.Report.TheVariants.{Success, Failed, Refused, Fault}
 use Rattle.builder.specs.Build.{asked_of}
 use Rattle.depfile.specs.Depfile.{IsReading}
 use Rattle.builder.specs.Recorded.{IsRecordedBy}
-use Rattle.builder.specs.Taken.{IsFirstNotTaken}
+use Rattle.builder.specs.Loads.{ReadsDyndeps}
 
 -- a stage that ends the build gives its report as an error
 abbrev pub report_in : Result Report Report → Report
@@ -67,17 +67,6 @@ report_in (Err report) = report
 -- the first output of this edge
 abbrev pub first_output_of : Manifest → ℕ → List ℕ
 first_output_of manifest e = first_output (edge_at (graph_of manifest).edges (suc e))
-
--- this edge is the lowest that has something which is not taken yet
-pub record IsNotTakenAt (manifest : Manifest) (edge : ℕ) : Type 0 where
-  pub within : edge < length manifest.lines
-  pub first : IsFirstNotTaken (graph_of manifest).edges (first_output_of manifest edge)
-
--- something is not taken yet, or there was no memory to say so
-pub record SaysNotTaken (edges : List Edge) (report : Report) : Type 0 where
-  pub path : List ℕ
-  pub first : IsFirstNotTaken edges path
-  pub says : (report ≡ Refused (NotTaken path)) ⊎ (report ≡ Fault Memory)
 
 -- the report of edges that are no graph
 abbrev pub ungraphed : GraphFault → Report
@@ -127,24 +116,6 @@ pub record SaysFault (old new : World) (report : Report) : Type 0 where
   pub says : report ≡ Fault fault
   pub cause : HasCause {T = Unit {0}} old new (Err fault)
 
--- a source of this cone is missing, of each build under way, and no call was refused
-pub record SaysMissing (tells : Bool) (graph : Graph) (records : Records) (cone : Cone) (plan : Plan) (old new : World) (seen : Looks) (report : Report) : Type 0 where
-  pub missing : Lacking
-  pub says : report ≡ Refused (Missing missing)
-  pub unrefused : Unrefused old new
-  pub is : (store : Store) (targets : List (List ℕ)) (before : List Step) → IsUnderWay graph records cone plan store targets before
-      → IfQuiet tells graph store targets before old new seen (λ files. IsMissingFor (declared_by graph).edges store before targets files missing.path missing.needed_by)
-
--- no source of this cone is missing, of each build under way
-abbrev pub HasSources : Bool → Graph → Records → Cone → Plan → World → World → Looks → Type 0
-HasSources tells graph records cone plan old new seen =
-    (store : Store) (targets : List (List ℕ)) (before : List Step) → IsUnderWay graph records cone plan store targets before
-    → IfQuiet tells graph store targets before old new seen (λ files. NothingIsMissing (declared_by graph).edges store before files targets)
-
--- a source of this cone is missing, or that was not to be seen
-abbrev pub LacksSource : Bool → Graph → Records → Cone → Plan → World → World → Looks → Report → Type 0
-LacksSource tells graph records cone plan old new seen report = SaysFault old new report ⊎ SaysMissing tells graph records cone plan old new seen report
-
 -- ---- what was read
 
 -- The logs were read by a build of what was asked for, on this course: no command ran at its entry, since which there was only looked
@@ -153,6 +124,7 @@ LacksSource tells graph records cone plan old new seen report = SaysFault old ne
 pub record HasRead (tells : Bool) (graph : Graph) (request : Request) (records : Records) (course : Course) (now : World) : Type 0 where
   pub asked : course.asked ≡ asked_of (declared_by graph) request.folder request.limits request.targets
   pub reads : IsReading course.behaviour.depfile
+  pub dyndeps : ReadsDyndeps course.behaviour.dyndep
   pub owned : IsOwnIn course.own request.folder
   pub found : IsTrue tells → NothingIsEdited course.entry.history now.history → course.store ≡ store_in course.format course.own (view_of course.entry.history)
   pub idle : IsIdle course.entry.events

@@ -15,7 +15,7 @@ ghost use Rattle.builder.specs.Reports.{IsUnrecorded};
 ghost use Rattle.builder.specs.Recorded.{are_known, is_in_use, HasMorePaths, HasOnlyMorePaths, AreJoined, AreNumbered, IsNumberedToo, HaveJust, IsShared, HasJoined, deps_place, named_by, texts_of};
 
 use deps_log::Deps;
-use links::Graph;
+use links::{Graph, LoadedEdge};
 use model::Act;
 use paths::{Action, EdgeId, PathId};
 use records::Records;
@@ -30,6 +30,20 @@ pub fn join_recorded(alloc: Global, graph: &mut Graph, records: &Records) -> Res
     for place in 0..graph.edges() {
         let edge = graph.manifest.edge(place);
         join_edge(alloc, graph, records, &mut numbers, edge)?;
+    }
+    Ok(())
+}
+
+/// The same of these edges alone, whose dyndep file was loaded.
+pub fn join_loaded(
+    alloc: Global,
+    graph: &mut Graph,
+    records: &Records,
+    edges: &[LoadedEdge],
+) -> Result<(), AllocError> {
+    let mut numbers = Vec::new(alloc);
+    for loaded in edges {
+        join_edge(alloc, graph, records, &mut numbers, loaded.edge)?;
     }
     Ok(())
 }

@@ -34,8 +34,14 @@ pub enum Refusal {
     MadeTwice(Path),
     /// A dyndep file is none of the inputs of an edge that names it.
     NoDyndepInput(Path),
-    /// The edge with this first output has something that is not taken yet: a dyndep file.
-    NotTaken(Path),
+    /// A dyndep file that is to be loaded is absent.
+    NoDyndep(Path),
+    /// A dyndep file begins with no known version.
+    BadVersion(Path),
+    /// A dyndep file says something that is no statement of one.
+    BadStatement(Path),
+    /// What a dyndep file says is not of the edges that name it.
+    Unfit(Unfit),
     /// No build statement names the target; it stands here as it was given.
     UnknownTarget(Text),
     /// Edges need one another in a circle. The paths lead round it.
@@ -53,7 +59,10 @@ impl fmt::Display for Refusal {
             }
             Refusal::MadeTwice(path) => write!(f, "N17: '{path}' is made twice"),
             Refusal::NoDyndepInput(path) => write!(f, "N53: dyndep '{path}' is not an input"),
-            Refusal::NotTaken(path) => write!(f, "N70: '{path}' is not taken yet"),
+            Refusal::NoDyndep(path) => write!(f, "N14: cannot find '{path}'"),
+            Refusal::BadVersion(path) => write!(f, "N50: bad version of dyndep '{path}'"),
+            Refusal::BadStatement(path) => write!(f, "N51: bad statement in dyndep '{path}'"),
+            Refusal::Unfit(unfit) => write!(f, "N52: {unfit}"),
             Refusal::UnknownTarget(target) => write!(f, "N30: unknown target '{target}'"),
             Refusal::Cycle(paths) => write_cycle(f, paths.as_slice()),
             Refusal::Missing(missing) => write!(f, "N32: {missing}"),
@@ -92,6 +101,21 @@ impl fmt::Display for Missing {
             ),
             None => write!(f, "'{path}' is missing and no rule makes it"),
         }
+    }
+}
+
+/// A dyndep file whose statements do not fit the edges that name it.
+#[derive(Debug, Drop)]
+pub struct Unfit {
+    pub file: Path,
+    /// The first output of an edge that names the file and has no statement in it; or the output of a statement that is of no
+    /// such edge, or of one that has a statement before.
+    pub output: Path,
+}
+
+impl fmt::Display for Unfit {
+    fn fmt<W: fmt::Write>(&self, f: &mut fmt::Formatter<W>) -> fmt::Result {
+        write!(f, "dyndep '{}' does not fit '{}'", self.file, self.output)
     }
 }
 

@@ -90,6 +90,12 @@ impl Records {
         grown
     }
 
+    /// Forgets what was looked up for paths that the graph has no more, as a load was taken back. It takes no memory.
+    pub fn shrink(&mut self, graph: &Graph) {
+        self.places.truncate(graph.paths());
+        self.deps_places.truncate(graph.paths());
+    }
+
     /// The same, but that some paths may be looked up where memory is refused.
     fn look_up(&mut self, graph: &Graph) -> Result<(), AllocError>
         ensures logs { self.new.logs ≡ self.old.logs }

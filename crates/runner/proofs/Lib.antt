@@ -23,3 +23,4 @@ pub mod Comparing
 pub mod Recording
 pub mod Onward
 pub mod Refused
+pub mod Loaded

@@ -1,14 +1,9 @@
 //! One turn of a run.
 
-ghost use Rattle.std.specs.Prelude.{◌≡◌, ◌<◌, ℕ, suc, None, true, false, length, vec_len, IfOk, IfErr, OnOk, OnErr, MatchOption};
-ghost use Rattle.model.specs.World.{World};
-ghost use Rattle.links.specs.declared.graph.Graph.{Graph};
-ghost use Rattle.model.specs.SingleBuild.{task_of};
-ghost use Rattle.plan.specs.declared.step.Step.TheVariants as step;
-ghost use Rattle.plan.specs.Planned.{IsNextOf};
+ghost use Rattle.std.specs.Prelude.{◌≡◌, ◌<◌, None, true, false, IfOk, OnErr, MatchOption};
 ghost use Rattle.runner.specs.Course.{Course, goes_on, Suits, IsOn};
 ghost use Rattle.runner.specs.Going.{IsGoing, IsHalted, IsCut, AreSet, work_left};
-ghost use Rattle.runner.specs.Cutting.{Cuts, IsOfWait};
+ghost use Rattle.runner.specs.Cutting.{Cuts};
 
 use crate::cut::Cut;
 use crate::judge::judge;

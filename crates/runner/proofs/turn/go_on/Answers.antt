@@ -1,8 +1,6 @@
-use Rattle.std.proofs.Common.{Bool}
 use Rattle.runner.proofs.Results.{on_err, ok_by, err_by}
 use Rattle.runner.proofs.Ends.{cut_looking, at_load}
 use Rattle.runner.proofs.Onward.{said_next, may_wait}
-use Rattle.runner.specs.Course.{Course}
 use Rattle.runner.proofs.turn.go_on.Goals as goal
 
 pub judge-requires-clause-going : goal.judge-requires-clause-going
