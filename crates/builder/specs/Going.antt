@@ -5,12 +5,13 @@ use Rattle.model.specs.declared.event.Moment.{Moment}
 use Rattle.model.specs.declared.fault.SiteFault.{SiteFault}
 use Rattle.model.specs.declared.graph.Edge.{Edge}
 use Rattle.model.specs.World.{World, view_of}
+use Rattle.model.specs.Calls.{OnlyLooks}
 use Rattle.model.specs.Graph.{Addition, first_output, edge_at, has_number, targets_of, IsMadeOnce, IsMadeTwice}
 use Rattle.model.specs.OutOfDate.{IsFirstMissing, IsMissingInput}
-use Rattle.model.specs.Phases.{Phase, IsGrownBy, IsNextLoad, IsPointAfter, AreAskedApart, WasNothingMissing, WasNothingMissingIn}
+use Rattle.model.specs.Phases.{Phase, steps_of, IsGrownBy, IsNextLoad, IsPointAfter, AreAskedApart, WasNothingMissing, WasNothingMissingIn}
 use Rattle.model.specs.Premises.{FilesAreKept}
 use Rattle.model.specs.Records.{recorded_inputs}
-use Rattle.model.specs.Schedule.{Task, Step as Done}
+use Rattle.model.specs.Schedule.{Task, Step as Done, started_in}
 use Rattle.model.specs.SingleBuild as answer
 use Rattle.model.specs.SingleBuild.{Answer, IsAsked, IsShownCycle, HasNoCycle, NamesOther, asked_with, declared_graph, task_of}
 use Rattle.paths.specs.Told.{text_at, texts_at}
@@ -18,6 +19,8 @@ use Rattle.links.specs.declared.cone.Cone.{Cone}
 use Rattle.links.specs.declared.graph.Graph.{Graph}
 use Rattle.links.specs.Linked.{IsConeOf}
 use Rattle.links.specs.Told.{declared_by}
+use Rattle.log_theory.specs.Ledger.{IsPhased}
+use Rattle.looks.specs.Seen.{AreSeen}
 use Rattle.runner.specs.declared.cut.Cut.{Cut}
 use Rattle.runner.specs.declared.state.State.{State}
 use Rattle.runner.specs.declared.summary.Summary.{Summary}
@@ -65,8 +68,13 @@ ended_course course done = record {
 abbrev pub task_over : Course → List Edge → Task
 task_over course edges = task_of (asked_with course.asked edges) course.store
 
+-- it has only looked since the entry, and what it has seen is so
+pub record IsUnstarted (tells : Bool) (course : Course) (graph : Graph) (state : State) (now : World) : Type 0 where
+  pub looks : OnlyLooks tells course.entry now
+  pub seen : IsTrue tells → now.history ≡ course.entry.history → AreSeen graph.manifest.paths now.history state.looks.seen.items
+
 -- A build of the course stands between two steps of its run: these are the edges now, and these phases ended with a load. The graph
--- has them, and the cone is that of what was asked for.
+-- has them, and the cone is that of what was asked for. Before the first start it has only looked.
 pub record StandsAt (tells : Bool) (tick : List ℕ) (course : Course) (edges : List Edge) (phases : List Phase) (graph : Graph) (cone : Cone) (state : State) (now : World) : Type 0 where
   pub goes : goes_on course ≡ true
   pub dyndeps : ReadsDyndeps course.behaviour.dyndep
@@ -77,6 +85,7 @@ pub record StandsAt (tells : Bool) (tick : List ℕ) (course : Course) (edges : 
   pub acyclic : HasNoCycle (asked_with course.asked edges) course.store
   pub within : All (λ p. p < length graph.manifest.paths) cone.targets.items
   pub numbers : texts_at graph.manifest.paths cone.targets.items ≡ (task_over course edges).targets
+  pub unstarted : started_in on.steps ≡ [] → IsUnstarted tells course graph state now
 
 -- nothing was missing when each of these phases, and the present one, began
 abbrev pub HasAsked : Bool → Course → List Edge → List Phase → World → Type 0
@@ -191,7 +200,8 @@ pub record HasDone (tells : Bool) (course : Course) (graph : Graph) (cone : Cone
   pub acyclic : HasNoCycle (asked_with course.asked edges) course.store
   pub listed : IsConeOf edges (recorded_inputs course.store edges) (task_over course edges).targets cone.order.items cone.marks.items
 
--- A refusal has ended it after these steps, and what ran was taken in.
+-- A refusal has ended it after these steps, with which its last phase ended, and what ran was taken in; before the first step it has
+-- only looked.
 pub record HasStopped (tells : Bool) (course : Course) (now : World) (refusal : Refusal) : Type 0 where
   pub edges : List Edge
   pub phases : List Phase
@@ -199,10 +209,13 @@ pub record HasStopped (tells : Bool) (course : Course) (now : World) (refusal : 
   pub graph : Graph
   pub state : State
   pub finished : IsFinished tells (ended_course (grown_course course edges phases) done) graph state now
+  pub phased : IsPhased tells course.behaviour course.own (asked_with course.asked edges) course.store phases finished.on.steps course.entry now
+  pub up_to : steps_of phases ++ phased.build.last ≡ done
+  pub untouched : finished.on.steps ≡ [] → OnlyLooks tells course.entry now
   pub cause : IsRefusedBy tells course edges phases done now refusal
   pub once : IsMadeOnce edges
   pub acyclic : HasNoCycle (asked_with course.asked edges) course.store
-  pub asked : HadAsked tells course edges phases finished.on.carried.phased.build.last now
+  pub asked : HadAsked tells course edges phases phased.build.last now
 
 -- A fault has cut it off.
 pub record WasCut (tells : Bool) (course : Course) (now : World) (fault : SiteFault) : Type 0 where
