@@ -39,8 +39,8 @@ def one(place, project):
     ran = pair.build("nj", *project.words)
     first(pair, project, ran)
     rest(pair, project)
-    for what, path in project.edits:
-        pair.edit(lambda it, path=path: touch(it, path))
+    for what, path, *texts in project.edits:
+        pair.edit(lambda it, path=path, texts=texts: replace(it, path, *texts) if texts else touch(it, path))
         ran = pair.step(what, *project.words, passed_over=NOTES)
         place.expect(ran.commands, f"{project.name}, {what}", "nothing was run")
         rest(pair, project)

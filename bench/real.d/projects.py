@@ -11,6 +11,7 @@ class Project:
     wants: tuple
     files: dict
     prepares: list
+    # What is edited and where: it is touched, or the first text in it becomes the second.
     edits: list
     build: str = "build"
     words: tuple = ()
@@ -106,6 +107,18 @@ FORTRAN = {
     "main.f90": "program main\n  use units\n  print '(a,i0)', 'sum ', twice(21)\nend program\n",
 }
 
+# Modules of three libraries: `plans` uses one of `units` and later one of its own more.
+FORTRAN_MANY = {
+    "CMakeLists.txt": "cmake_minimum_required(VERSION 3.20)\nproject(tried LANGUAGES Fortran)\nadd_library(units length.f90 weight.f90)\n"
+    "add_library(plans early.f90 late.f90)\ntarget_link_libraries(plans units)\nadd_executable(app main.f90)\n"
+    "target_link_libraries(app plans)\n",
+    "length.f90": "module length\n  integer, parameter :: metre = 2\nend module\n",
+    "weight.f90": "module weight\n  use length\n  integer, parameter :: gram = 3 * metre\nend module\n",
+    "early.f90": "module early\n  use weight\n  integer, parameter :: first = gram\nend module\n",
+    "late.f90": "module late\n  integer, parameter :: second = 1\nend module\n",
+    "main.f90": "program main\n  use early\n  use late\n  print '(a,i0)', 'sum ', first + second + 35\nend program\n",
+}
+
 WHOLE = CMAKE_MADE + CMAKE_LIBRARIES + CMAKE_MAIN
 CMAKES = [
     cmake("cmake", WHOLE + CMAKE_TESTS, files={
@@ -120,6 +133,11 @@ CMAKES = [
     cmake("cmake-folders", "", files=CMAKE_MANY, edits=[("a source", "lib3/lib3.cc"), ("the lowest header", "lib1/include/lib1.h")], tells="sum 12"),
     cmake("cmake-again", WHOLE, regenerates=("CMakeLists.txt", "add_executable(app", "add_compile_definitions(AGAIN)\nadd_executable(app")),
     cmake("cmake-fortran", "", wants=("cmake", "gfortran"), files=FORTRAN, edits=[("a module", "units.f90"), ("a program", "main.f90")]),
+    cmake("cmake-fortran-modules", "", wants=("cmake", "gfortran"), files=FORTRAN_MANY, edits=[
+        ("a module is used more", "late.f90", "module late\n", "module late\n  use early, only: first\n"), ("the lowest module", "length.f90"),
+        ("a module is used no more", "late.f90", "  use early, only: first\n", ""),
+        ("a module is another", "weight.f90", "end module\n", "end module\nmodule kilos\n  integer, parameter :: kilo = 1000\nend module\n"),
+        ("it is used", "early.f90", "  use weight\n", "  use weight\n  use kilos\n"), ("a program", "main.f90")]),
 ]
 
 MESON_HEAD = "project('tried', 'c', 'cpp', version: '1.2', default_options: ['buildtype=debug'])\n"
