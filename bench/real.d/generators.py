@@ -37,9 +37,6 @@ def fill_of(project):
 def one(place, project):
     pair = Pair(place, project.name, fill_of(project), project.build)
     ran = pair.build("nj", *project.words)
-    if "N70: " in ran.text:
-        place.leave_out(project.name, ran.text.strip())
-        return
     first(pair, project, ran)
     rest(pair, project)
     for what, path in project.edits:
