@@ -23,7 +23,7 @@ use Rattle.model.specs.SingleBuild.{Asked, Answer, SingleBuild, is_fault, asked_
 use Rattle.model.specs.World.{World, View, IsIdle}
 use Rattle.deps_log.specs.Format.{ReadsLogs, HasFormat}
 use Rattle.depfile.specs.Depfile.{IsReading, HasReading}
-use Rattle.dyndep.specs.Dyndep.{HasReading as HasDyndeps}
+use Rattle.dyndep_law.specs.Readings.{HasReading as HasDyndeps}
 use Rattle.links.specs.Extended.{addition_of}
 use Rattle.manifest.specs.Answer.{site_part}
 use Rattle.manifest.specs.declared.fault.ReadError.{ReadError}

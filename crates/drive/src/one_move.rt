@@ -11,7 +11,7 @@ use crate::edits::{delete, write};
 use builder::{Options, Report, build};
 use depfile::has_reading;
 use deps_log::has_format;
-use dyndep::has_reading as has_dyndeps;
+use dyndep_law::has_reading as has_dyndeps;
 use model::Move;
 use site::Site;
 use std::alloc::{AllocError, Global};

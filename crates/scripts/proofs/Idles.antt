@@ -15,7 +15,7 @@ use Rattle.builder.specs.declared.report.Report.{Report}
 use Rattle.builder.specs.declared.report.Report.TheVariants.{Success, Failed, Refused, Fault}
 use Rattle.deps_log.specs.Format.{HasFormat}
 use Rattle.depfile.specs.Depfile.{HasReading}
-use Rattle.dyndep.specs.Dyndep.{HasReading as HasDyndeps}
+use Rattle.dyndep_law.specs.Readings.{HasReading as HasDyndeps}
 use Rattle.links.specs.Extended.{addition_of}
 use Rattle.builder.specs.Build.{missing_answer, Says, IsBuild}
 use Rattle.builder.specs.Loads.{ReadsDyndeps}
