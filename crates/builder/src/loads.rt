@@ -109,7 +109,7 @@ fn join(
 {
     loads_go_on();
     let before = extend(alloc, graph, file, additions)?;
-    record(alloc, graph, &mut state.records, &before)?;
+    join_inputs(alloc, graph, &mut state.records, &before)?;
     match cone_again(alloc, graph, cone) {
         Ok(grown) => {
             grow(alloc, graph, &grown, state)?;
@@ -146,7 +146,7 @@ fn extend(
 
 /// The records are looked up for what the graph got by the load that this undoes, and the recorded inputs of its edges join them
 /// where they are in use.
-fn record(
+fn join_inputs(
     alloc: Global,
     graph: &mut Graph,
     records: &mut Records,
