@@ -225,7 +225,7 @@ same_texts paths ms ns same p = by_test (cases_Bool (has (texts_at paths ms) p))
     by_test (inl there) = there ∙ sym (one_way ms ns same there)
     by_test (inr absent) = absent ∙ sym (false_from_ne_true _ (λ h. false≢true (sym absent ∙ one_way ns ms (λ n. sym (same n)) h)))
 
-nothing_of : (paths : List (List ℕ)) (numbers : List ℕ) → texts_at paths numbers ≡ [] → numbers ≡ []
+pub nothing_of : (paths : List (List ℕ)) (numbers : List ℕ) → texts_at paths numbers ≡ [] → numbers ≡ []
 nothing_of paths [] is = refl
 nothing_of paths (n ∷ numbers) is = absurd (differ is)
   where

@@ -16,7 +16,7 @@ ghost use Rattle.links.specs.Extended.{HasLoaded, IsRefusedLoad, addition_of};
 ghost use Rattle.links.specs.LoadedEdges.{numbers_in};
 ghost use Rattle.links.specs.Targets.{IsConeOfNumbers, IsNoConeAgain};
 ghost use Rattle.links.specs.Told.{declared_by, recorded_by, AreSameInputs};
-ghost use Rattle.records.specs.Known.{AreKnown};
+ghost use Rattle.records.specs.Known.{IsOf, IsOfDeps, AreKnown};
 ghost use Rattle.plan.specs.Extended.{MayGoOn, GoesOn};
 ghost use Rattle.runner.specs.Course.{Course};
 ghost use Rattle.runner.specs.Going.{AreSet};
@@ -157,6 +157,7 @@ fn join_inputs(
     ensures logs { records.new.logs ≡ records.old.logs }
     ensures joined { OnOk result ((old : Graph) (more : List (List ℕ)) (rs : List Record) (ds : List DepsRecord) → graph.old.manifest.paths ≡ old.manifest.paths ++ more → AreKnown old rs ds records.old → AreToJoin (numbers_in before.now.edges.items) graph.old rs ds → HasJoinedOf (numbers_in before.now.edges.items) graph.old graph.new rs ds) }
     ensures known { OnOk result ((old : Graph) (more : List (List ℕ)) (rs : List Record) (ds : List DepsRecord) → graph.old.manifest.paths ≡ old.manifest.paths ++ more → AreKnown old rs ds records.old → AreKnown graph.old rs ds records.new) }
+    ensures all { OnOk result ((old : Graph) (more : List (List ℕ)) (rs : List Record) (ds : List DepsRecord) → graph.old.manifest.paths ≡ old.manifest.paths ++ more → AreKnown old rs ds records.old → IsOf rs graph.old.manifest.paths records.new × IsOfDeps ds graph.old.manifest.paths records.new) }
 {
     records.grow(graph)?;
     join_loaded(alloc, graph, records, &before.edges)?;
