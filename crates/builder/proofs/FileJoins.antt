@@ -72,7 +72,7 @@ names_other graph e file within other is = by_dyndep (dyndep_at graph e) refl
             (slice_get-get_or graph.manifest.paths file [] within ∙ ap (λ (t : List ℕ). Some t) (sym {A = List ℕ} same))
 
 -- an edge with a file that is not loaded has no recorded inputs in use
-none_unloaded : (phony : Bool) (d : Option (List ℕ)) (f : List ℕ) (rest : List (List ℕ)) (p : List ℕ) → d ≡ Some f → has (cond phony [] (cond (is_some d) [] rest)) p ≡ true → ⊥
+pub none_unloaded : (phony : Bool) (d : Option (List ℕ)) (f : List ℕ) (rest : List (List ℕ)) (p : List ℕ) → d ≡ Some f → has (cond phony [] (cond (is_some d) [] rest)) p ≡ true → ⊥
 none_unloaded true d f rest p is there = false≢true there
 none_unloaded false d f rest p is there = false≢true (sym (ap (λ (o : Option (List ℕ)). has (cond (is_some o) [] rest) p) is) ∙ there)
 
@@ -85,18 +85,18 @@ nothing_in (x ∷ xs) none = absurd (none x (here x xs))
 
 -- ---- lists in front
 
-text_front : (paths more : List (List ℕ)) (p : ℕ) → p < length paths → text_at (paths ++ more) p ≡ text_at paths p
+pub text_front : (paths more : List (List ℕ)) (p : ℕ) → p < length paths → text_at (paths ++ more) p ≡ text_at paths p
 text_front [] more p lt = absurd (omega (arith, lt))
 text_front (x ∷ paths) more zero lt = refl
 text_front (x ∷ paths) more (suc p) lt = text_front paths more p (omega (arith, lt))
 
-texts_front : (paths more : List (List ℕ)) (numbers : List ℕ) → All (λ p. p < length paths) numbers → texts_at (paths ++ more) numbers ≡ texts_at paths numbers
+pub texts_front : (paths more : List (List ℕ)) (numbers : List ℕ) → All (λ p. p < length paths) numbers → texts_at (paths ++ more) numbers ≡ texts_at paths numbers
 texts_front paths more [] within = refl
 texts_front paths more (n ∷ numbers) within =
     ap (λ (t : List ℕ). t ∷ texts_at (paths ++ more) numbers) (text_front paths more n (within 0 n (omega arith)))
     ∙ ap (λ (l : List (List ℕ)). text_at paths n ∷ l) (texts_front paths more numbers (λ k d lt. within (suc k) d (omega (arith, lt))))
 
-same_graph : (b : BuildGraph) (pools : List Pool) (defaults : List (List ℕ)) (builddir : List ℕ) → pools ≡ b.pools → defaults ≡ b.defaults → builddir ≡ b.builddir
+pub same_graph : (b : BuildGraph) (pools : List Pool) (defaults : List (List ℕ)) (builddir : List ℕ) → pools ≡ b.pools → defaults ≡ b.defaults → builddir ≡ b.builddir
     → record { edges = b.edges; pools = pools; defaults = defaults; builddir = builddir } ≡ b
 same_graph b pools defaults builddir one two three =
     ap (λ (x : List Pool). record { edges = b.edges; pools = x; defaults = defaults; builddir = builddir }) one

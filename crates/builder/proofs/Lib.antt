@@ -6,6 +6,7 @@ pub mod FileJoins
 pub mod Folders
 pub mod Formed
 pub mod Joining
+pub mod Loading
 pub mod Looking
 pub mod Numbering
 pub mod Opening

@@ -141,8 +141,8 @@ pub record HasRoomIn (graph : Graph) (old new : State) : Type 0 where
   pub fits : length new.looks.seen.items ≡ length graph.manifest.paths
   pub looks : (p : ℕ) → look_at new.looks.seen.items p ≡ look_at old.looks.seen.items p
   pub changed : (p : ℕ) → has new.plan.changed.items p ≡ has old.plan.changed.items p
-  pub starts : new.starts ≡ old.starts
-  pub failed : new.failed ≡ old.failed
+  pub starts : new.starts.items ≡ old.starts.items
+  pub failed : new.failed.items ≡ old.failed.items
 
 -- what was known of the one graph is known of the other
 abbrev pub StayKnown : Graph → Graph → Records → Records → Type 0
@@ -153,6 +153,6 @@ pub record IsAsBefore (old new : State) : Type 0 where
   pub plan : new.plan ≡ old.plan
   pub looks : new.looks ≡ old.looks
   pub logs : new.records.logs ≡ old.records.logs
-  pub starts : new.starts ≡ old.starts
-  pub failed : new.failed ≡ old.failed
+  pub starts : new.starts.items ≡ old.starts.items
+  pub failed : new.failed.items ≡ old.failed.items
   pub set : new.set ≡ old.set

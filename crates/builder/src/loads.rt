@@ -56,6 +56,7 @@ pub fn load<S: Site>(
     requires running { (S.world site.old).stopped ≡ false }
     requires stands { (tick : List ℕ) × (course : Course) × (edges : List Edge) × (phases : List Phase) × (stands : StandsAt S.tells tick course edges phases graph.old cone.old state.old (S.world site.old)) × IsLoadNext course edges graph.old state.old stands.on.steps file }
     ensures looks { OnlyLooks S.tells (S.world site.old) (S.world site.new) }
+    ensures earlier { (S.world site.new).earlier ≡ (S.world site.old).earlier }
     ensures unrefused { OnOk result (Unrefused (S.world site.old) (S.world site.new)) }
     ensures begun { OnOk result ((tick : List ℕ) (course : Course) (edges : List Edge) (phases : List Phase) → (stands : StandsAt S.tells tick course edges phases graph.old cone.old state.old (S.world site.old)) → IsLoadNext course edges graph.old state.old stands.on.steps file → HasAsked S.tells course edges phases (S.world site.old) → HasBegun S.tells tick course phases graph.new cone.new state.new (S.world site.new)) }
     ensures set { OnOk result (AreSet graph.new state.new.set.items) }
@@ -211,6 +212,7 @@ fn additions_in<S: Site>(
 ) -> Result<Items<Addition>, Stop>
     requires running { (S.world site.old).stopped ≡ false }
     ensures looks { OnlyLooks S.tells (S.world site.old) (S.world site.new) }
+    ensures earlier { (S.world site.new).earlier ≡ (S.world site.old).earlier }
     ensures unrefused { OnOk result (Unrefused (S.world site.old) (S.world site.new)) }
     ensures read { IfOk result (λ additions. WasHeld S.tells (text_at graph.now.manifest.paths file) (IsSaying (Ok additions)) (S.world site.old) (S.world site.new)) }
     ensures calm { IfErr result (λ stop. IfRefused stop (λ refusal. Unrefused (S.world site.old) (S.world site.new))) }
