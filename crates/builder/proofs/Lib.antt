@@ -2,6 +2,7 @@ pub mod Beginning
 pub mod Builds
 pub mod Counting
 pub mod Entry
+pub mod Fewer
 pub mod FileJoins
 pub mod Folders
 pub mod Formed
