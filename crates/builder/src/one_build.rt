@@ -28,6 +28,7 @@ use crate::report::{Options, Refusal, Report};
 use depfile::has_reading;
 use deps_log::has_format;
 use display::Display;
+use dyndep::has_reading as has_dyndeps;
 use links::{Cone, ConeFault, Graph, lists_stand};
 use looks::Looks;
 use manifest::reads_longer;
@@ -76,6 +77,7 @@ fn try_build<S: Site>(
     reads_longer();
     has_format();
     has_reading();
+    has_dyndeps();
     log_begins();
     let records = read_records(alloc, site, &graph, &asked)?;
     join_recorded(alloc, &mut graph, &records)?;

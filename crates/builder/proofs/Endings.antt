@@ -1,0 +1,359 @@
+-- How a build ends that ran what was asked for, in the words of its contract.
+use Rattle.std.proofs.Common.{◌≡◌, ◌⊎◌, inl, inr, ℕ, suc, Bool, false, cond, IsTrue, List, [], ◌∷◌, ◌++◌, map, Option, Some, None, bytes_eq, Vec, Global, Result, Ok, Err, refl, sym, ◌∙◌, ap, subst}
+use Rattle.std.proofs.lemmas.Bool.{cases_Bool}
+use Rattle.model.specs.declared.event.Moment.{Moment}
+use Rattle.model.specs.declared.fault.SiteFault.{SiteFault}
+use Rattle.model.specs.declared.fault.SiteFault.TheVariants.{Memory}
+use Rattle.model.specs.declared.graph.Edge.{Edge}
+use Rattle.model.specs.World.{World, View, view_of, IsIdle}
+use Rattle.model.specs.Graph.{Addition, edge_at, first_output, maker, IsMadeTwice}
+use Rattle.model.specs.Premises.{FilesAreKept}
+use Rattle.model.specs.Records.{Store}
+use Rattle.model.specs.Schedule.{Task, Step as Done, failed_in}
+use Rattle.model.specs.Phases.{Phase, steps_of, next_edges, IsNextLoad, IsLoad, ArePhasesFrom, IsLawfulBuild, AreAskedApart, WasNothingMissing, WasNothingMissingIn, task_with}
+use Rattle.model.specs.SingleBuild as answer
+use Rattle.model.specs.SingleBuild.{Asked, Answer, IsSuccess, IsAnswer, IsAsked, IsShownCycle, WentOn, WasInOrder, PassesNoFault, NamesOther, asked_with, task_of}
+use Rattle.build_theory.specs.Seen.{IsSeen}
+use Rattle.build_theory.proofs.Lists.{same_bytes}
+use Rattle.links.specs.declared.cone.Cone.{Cone}
+use Rattle.links.specs.declared.graph.Graph.{Graph}
+use Rattle.links.specs.Told.{declared_by}
+use Rattle.log_theory.specs.Ledger.{IsCutOff}
+use Rattle.log_theory.proofs.Ledger.{cut_off}
+use Rattle.log_theory.proofs.Phased.{HoldsAll, with_text, holds_all, holds_it}
+use Rattle.runner.specs.declared.summary.Summary.{Summary}
+use Rattle.runner.specs.declared.summary.Summary.TheVariants.{Well, Failed as SomeFailed}
+use Rattle.runner.specs.Course.{Course}
+use Rattle.builder.specs.declared.report.Missing.{Missing as Lacking}
+use Rattle.builder.specs.declared.report.Refusal.{Refusal}
+use Rattle.builder.specs.declared.report.Refusal.TheVariants.{File, MadeTwice, NoDyndepInput, NoDyndep, BadVersion, BadStatement, Unfit, UnknownTarget, Cycle, Missing}
+use Rattle.builder.specs.declared.report.Report.{Report}
+use Rattle.builder.specs.declared.report.Report.TheVariants.{Success, Failed, Refused, Fault}
+use Rattle.builder.specs.declared.stop.Stop.{Stop}
+use Rattle.builder.specs.declared.stop.Stop.TheVariants as stop
+use Rattle.builder.specs.Build.{Says, missing_answer}
+use Rattle.builder.specs.Going.{task_over, IsHeldLoad, IsLacking, IsMissingAfter, IfFault, HasDone, HasStopped, WasCut, HasEndedSo, stop_answer}
+use Rattle.builder.specs.Loads.{RefusesFile}
+use Rattle.builder.specs.Reports.{first_output_of, SaysEnd, report_of}
+use Rattle.builder.proofs.Looking.{Built, IsFoundAt, passes_any}
+use Rattle.builder.proofs.Running.{held, built_ended, built_cut, built_failed, built_well, was_in_order}
+use Rattle.builder.proofs.Slices.{map_suc}
+
+-- ---- other files that are held
+
+module _ (reading : List ℕ → Option (List Addition)) (texts more : View) (holds : HoldsAll texts more) (task : Task) (store : Store) where
+  load_with : (task : Task) (before : List Done) (next : List Edge) → IsLoad reading texts task before next → IsLoad reading more task before next
+  load_with task before next load = record {
+    file = load.file;
+    is_next = load.is_next;
+    content = load.content;
+    holds = holds load.file load.content load.holds;
+    additions = load.additions;
+    read = load.read;
+    grown = load.grown;
+  }
+
+  phases_with : (before : List Done) (phases : List Phase) → ArePhasesFrom reading texts task store before phases → ArePhasesFrom reading more task store before phases
+  phases_with before [] lawful = tt
+  phases_with before (phase ∷ phases) lawful = (
+    lawful.0,
+    load_with (task_with task store phase.edges) (before ++ phase.steps) (next_edges phases task.graph.edges) lawful.1,
+    lawful.2,
+    phases_with (before ++ phase.steps) phases lawful.3,
+  )
+
+  -- of phases it does not matter what else is held
+  abbrev pub build_with : (declared : List Edge) (steps : List Done) → IsLawfulBuild reading texts declared task store steps → IsLawfulBuild reading more declared task store steps
+  build_with declared steps build = record {
+    earlier = build.earlier;
+    last = build.last;
+    taken_in = build.taken_in;
+    whole = build.whole;
+    begins = build.begins;
+    phases = phases_with [] build.earlier build.phases;
+    lawful = build.lawful;
+    rest = build.rest;
+    cause = build.cause;
+  }
+
+-- ---- what it is reported
+
+-- A build of the course has ended, and is reported so; these are the edges at the end.
+pub record EndsSo (tells : Bool) (course : Course) (now : World) (report : Report) : Type 0 where
+  pub grown : List Edge
+  pub said : Answer
+  pub says : (edges : List Edge) (given targets : List (List ℕ)) → Says edges given targets report said
+  pub built : Built tells course.behaviour course.format course.own (asked_with course.asked grown) course.entry now said report
+
+module _ (tells : Bool) (course : Course) (now : World) (found : IsFoundAt tells course.format course.own course.store course.entry now) (idle : IsIdle course.entry.events)
+    (others : (file : List ℕ) → NamesOther course.asked.declared file → ⊥) (named : answer.AllNamed course.asked) where
+  abbrev EndsAs : Report → Type 0
+  EndsAs report = EndsSo tells course now report
+
+  -- ---- nothing was left to do
+
+  module _ (graph : Graph) (cone : Cone) (passes : PassesNoFault course.entry now answer.Refused) where
+    module _ (summary : Summary) (done : HasDone tells course graph cone now summary) where
+      abbrev asked_then : Asked
+      asked_then = asked_with course.asked done.edges
+
+      sources : IsTrue tells → FilesAreKept course.own done.edges course.entry.history now.history
+          → WasNothingMissing course.own (task_of asked_then course.store) course.store course.entry.history now.history [] done.ran.cut.phased.build.earlier
+      sources tell kept =
+          subst (λ (ps : List Phase). WasNothingMissing course.own (task_of asked_then course.store) course.store course.entry.history now.history [] ps) (sym {A = List Phase} done.ran.cut.phased.so) (done.asked tell kept)
+
+      ordered : WasInOrder tells course.own asked_then course.store done.ran.cut.phased.build.earlier done.ran.cut.phased.build.last course.entry now
+      ordered = was_in_order tells course.behaviour course.format course.own asked_then course.store course.entry now found idle done.phases done.ran.steps done.ran.met done.ran.cut done.once others named done.acyclic sources
+
+      -- but there was no memory to tell it
+      done_untold : EndsAs (Fault Memory)
+      done_untold = record {
+        grown = done.edges;
+        said = answer.Fault Memory;
+        says = λ edges given targets. refl;
+        built = built_cut tells course.behaviour course.format course.own asked_then course.store course.entry now found idle done.phases done.ran.steps done.ran.met done.ran.cut done.once others done.ran.in_hand (inr ordered)
+            Memory tt (passes_any course.entry now passes (answer.Fault Memory));
+      }
+
+    done_well : (started : ℕ) → HasDone tells course graph cone now (Well started) → EndsAs (Success started)
+    done_well started done =
+        let run = done.ran.ends.1 in
+        let over = done.ran.ends.2 in
+        record {
+          grown = done.edges;
+          said = answer.Success started;
+          says = λ edges given targets. refl;
+          built = built_well tells course.behaviour course.format course.own (asked_with course.asked done.edges) course.store course.entry now found idle done.phases done.ran.steps done.ran.met done.ran.cut done.once others named done.acyclic
+              (sources (Well started) done) done.ran.ends.0 run over.0 over.1 over.2 done.ran.ends.3 done.ran.goes done.ran.removed cone.order.items cone.marks.items done.listed started over.3 done.ran.ends.4
+              (passes_any course.entry now passes (answer.Success started));
+        }
+
+    done_badly : (failed : Vec ℕ Global) → HasDone tells course graph cone now (SomeFailed failed) → EndsAs (Failed (map (first_output_of graph.manifest) failed.items))
+    done_badly failed done =
+        let run = done.ran.ends.1 in
+        let over = done.ran.ends.2 in
+        let outputs = map (first_output_of graph.manifest) failed.items in
+        let told : map (λ i. first_output (edge_at done.edges i)) (failed_in done.ran.steps) ≡ outputs =
+        ap (λ (l : List ℕ). map (λ i. first_output (edge_at done.edges i)) l) (sym done.ran.ends.4)
+        ∙ (ap (λ (es : List Edge). map (λ i. first_output (edge_at es i)) (map suc failed.items)) (sym done.same) ∙ sym (map_suc (λ i. first_output (edge_at (declared_by graph).edges i)) failed.items)) in
+        record {
+          grown = done.edges;
+          said = answer.Failed outputs;
+          says = λ edges given targets. refl;
+          built = built_failed tells course.behaviour course.format course.own (asked_with course.asked done.edges) course.store course.entry now found idle done.phases done.ran.steps done.ran.met done.ran.cut done.once others named
+              done.acyclic (sources (SomeFailed failed) done) done.ran.ends.0 run over.0 over.1 over.2 done.ran.ends.3 done.ran.goes done.ran.removed outputs told over.3
+              (passes_any course.entry now passes (answer.Failed outputs));
+        }
+
+    pub ends_done : (summary : Summary) → HasDone tells course graph cone now summary → (report : Report) → (report ≡ Fault Memory) ⊎ SaysEnd graph summary report → EndsAs report
+    ends_done summary done report (inl is) = subst (λ (r : Report). EndsAs r) (sym {A = Report} is) (done_untold summary done)
+    ends_done (Well started) done report (inr is) = subst (λ (r : Report). EndsAs r) (sym {A = Report} is) (done_well started done)
+    ends_done (SomeFailed failed) done report (inr is) = subst (λ (r : Report). EndsAs r) (sym {A = Report} is) (done_badly failed done)
+
+  -- ---- a fault has cut it off
+
+  pub ends_cut : (fault : SiteFault) → WasCut tells course now fault → IsSeen course.entry now fault → PassesNoFault course.entry now (answer.Fault fault) → EndsAs (Fault fault)
+  ends_cut fault cut seen passes = record {
+    grown = cut.edges;
+    said = answer.Fault fault;
+    says = λ edges given targets. refl;
+    built = built_cut tells course.behaviour course.format course.own (asked_with course.asked cut.edges) course.store course.entry now found idle cut.phases cut.ran.steps cut.ran.met cut.ran.cut cut.once others cut.ran.in_hand (inr ordered)
+        fault seen passes;
+  }
+    where
+      ordered : WasInOrder tells course.own (asked_with course.asked cut.edges) course.store cut.ran.cut.phased.build.earlier cut.ran.cut.phased.build.last course.entry now
+      ordered = record {
+        made_once = cut.once;
+        dyndep = others;
+        named = named;
+        no_cycle = cut.acyclic;
+        sources = λ tell kept.
+            subst (λ (ps : List Phase). WasNothingMissingIn course.own (task_over course cut.edges) course.store course.entry.history now.history [] ps cut.ran.cut.phased.build.last) (sym {A = List Phase} cut.ran.cut.phased.so)
+            (cut.asked tell kept);
+      }
+
+  -- ---- a refusal has ended it
+
+  module _ (refusal : Refusal) (stopped : HasStopped tells course now refusal) (passes : PassesNoFault course.entry now answer.Refused) where
+    abbrev asked_now : Asked
+    asked_now = asked_with course.asked stopped.edges
+
+    abbrev task : Task
+    task = task_of asked_now course.store
+
+    abbrev steps : List Done
+    steps = stopped.finished.on.steps
+
+    abbrev build : IsLawfulBuild course.behaviour.dyndep stopped.phased.texts course.asked.declared task course.store steps
+    build = stopped.phased.build
+
+    abbrev cut : IsCutOff tells course.behaviour course.format course.own asked_now course.store stopped.phases steps None course.entry now
+    cut =
+        let off = cut_off tells course.behaviour course.format course.own asked_now course.store course.entry stopped.phases false steps None now stopped.finished.on.carried in
+        record { phased = stopped.phased; run = off.run; beside = off.beside }
+
+    -- the steps up to the refusal
+    done_is : steps_of build.earlier ++ build.last ≡ stopped.done
+    done_is = ap (λ (ps : List Phase). steps_of ps ++ build.last) stopped.phased.so ∙ stopped.up_to
+
+    ordered : WasInOrder tells course.own asked_now course.store build.earlier build.last course.entry now
+    ordered = record {
+      made_once = stopped.once;
+      dyndep = others;
+      named = named;
+      no_cycle = stopped.acyclic;
+      sources = λ tell kept.
+          subst (λ (ps : List Phase). WasNothingMissingIn course.own task course.store course.entry.history now.history [] ps build.last) (sym {A = List Phase} stopped.phased.so) (stopped.asked tell kept);
+    }
+
+    abbrev HoldStill : View → Type 0
+    HoldStill texts =
+        IsTrue tells → FilesAreKept course.own stopped.edges course.entry.history now.history → (file content : List ℕ) → texts file ≡ Some content → (maker course.asked.declared file ≡ None → maker stopped.edges file ≡ None)
+        → view_of now.history file ≡ Some content
+
+    held_still : HoldStill stopped.phased.texts
+    held_still = held tells course.behaviour course.format course.own asked_now course.store course.entry now found idle stopped.phases steps None cut stopped.once others
+
+    -- these are what loaded files held, the refused one included where it was read
+    module _ (texts : View) (build : IsLawfulBuild course.behaviour.dyndep texts course.asked.declared task course.store steps) (holds : HoldStill texts)
+        (ordered : WasInOrder tells course.own asked_now course.store build.earlier build.last course.entry now) where
+      stopped_with : (said : Answer) → RefusesFile tells course.own asked_now course.store (steps_of build.earlier ++ build.last) course.entry now (Refused refusal) → (IsSuccess said → ⊥) → (WentOn said → ⊥)
+          → IsAnswer tells course.behaviour course.own texts asked_now course.store build.earlier (steps_of build.earlier ++ build.last) steps course.entry now said
+          → Built tells course.behaviour course.format course.own asked_now course.entry now said (Refused refusal)
+      stopped_with said refused failed ended is =
+          built_ended tells course.behaviour course.format course.own asked_now course.store course.entry now found idle stopped.phases steps None cut stopped.once others texts build holds
+          refl stopped.finished.on.carried.run stopped.finished.none stopped.finished.on.removed ordered said (Refused refusal) refused (λ on. absurd (ended on)) is (λ success. absurd (failed success))
+          (passes_any course.entry now passes said)
+
+    -- a dyndep file is refused
+    stopped_unread : RefusesFile tells course.own asked_now course.store stopped.done course.entry now (Refused refusal) → (file : List ℕ) → IsNextLoad task stopped.done file
+        → Built tells course.behaviour course.format course.own asked_now course.entry now answer.Refused (Refused refusal)
+    stopped_unread refused file next =
+        stopped_with stopped.phased.texts build held_still ordered answer.Refused
+        (subst (λ (l : List Done). RefusesFile tells course.own asked_now course.store l course.entry now (Refused refusal)) (sym done_is) refused) (λ h. h) (λ h. h)
+        (stopped.untouched, inr (file, subst (λ (l : List Done). IsNextLoad task l file) (sym done_is) next))
+
+    -- a source is missing where a phase begins
+    stopped_lacking : RefusesFile tells course.own asked_now course.store (steps_of build.earlier ++ build.last) course.entry now (Refused refusal) → (missing : Lacking) → IsLacking tells course stopped.edges stopped.phases stopped.done now missing
+        → Built tells course.behaviour course.format course.own asked_now course.entry now (missing_answer missing.path missing.needed_by) (Refused refusal)
+    stopped_lacking refused missing lacks = by_needed missing.needed_by lacks.is
+      where
+        asked_at : IsAsked task build.earlier (steps_of build.earlier ++ build.last)
+        asked_at =
+            subst (λ (l : List Done). IsAsked task build.earlier l) (sym done_is)
+            (subst (λ (ps : List Phase). IsAsked task ps stopped.done) (sym {A = List Phase} stopped.phased.so) lacks.asked)
+
+        abbrev Lacks : Option (List ℕ) → List Done → Type 0
+        Lacks needed done =
+            IsTrue tells → FilesAreKept course.own stopped.edges course.entry.history now.history → AreAskedApart course.own task done → IsMissingAfter course stopped.edges done now missing.path needed
+
+        lacks_then : (needed : Option (List ℕ)) → Lacks needed stopped.done → Lacks needed (steps_of build.earlier ++ build.last)
+        lacks_then needed is = subst (λ (l : List Done). Lacks needed l) (sym done_is) is
+
+        by_needed : (needed : Option (List ℕ)) → Lacks needed stopped.done → Built tells course.behaviour course.format course.own asked_now course.entry now (missing_answer missing.path needed) (Refused refusal)
+        by_needed None is =
+            stopped_with stopped.phased.texts build held_still ordered (answer.MissingTarget missing.path) refused (λ h. h) (λ h. h)
+            (stopped.untouched, named, stopped.acyclic, asked_at, λ tell kept apart. lacks_then None is tell kept apart)
+        by_needed (Some output) is =
+            stopped_with stopped.phased.texts build held_still ordered (answer.MissingInput missing.path output) refused (λ h. h) (λ h. h)
+            (stopped.untouched, named, stopped.acyclic, asked_at, λ tell kept apart. lacks_then (Some output) is tell kept apart)
+
+    -- a dyndep file was read, and what it adds makes no build
+    module _ (next : List Edge) (load : IsHeldLoad tells course stopped.edges stopped.done now next) where
+      abbrev texts : View
+      texts = with_text load.file load.content stopped.phased.texts
+
+      more : HoldsAll stopped.phased.texts texts
+      more = holds_all stopped.phased.texts load.file load.content (stopped.phased.unread load.is_next.due.edge load.file load.is_next.due.names)
+
+      abbrev build_read : IsLawfulBuild course.behaviour.dyndep texts course.asked.declared task course.store steps
+      build_read = build_with course.behaviour.dyndep stopped.phased.texts texts more task course.store course.asked.declared steps build
+
+      held_read : HoldStill texts
+      held_read tell kept p content is same = elim (cases_Bool (bytes_eq load.file p)) [
+        | inl here ↦
+            subst (λ (q : List ℕ). view_of now.history q ≡ Some content) (same_bytes load.file p here)
+            (load.holds tell kept ∙ sym (ap (λ (b : Bool). cond b (Some load.content) (stopped.phased.texts p)) here) ∙ is)
+        | inr other ↦ held_still tell kept p content (sym (ap (λ (b : Bool). cond b (Some load.content) (stopped.phased.texts p)) other) ∙ is) same
+      ]
+
+      is_load : IsLoad course.behaviour.dyndep texts task (steps_of build_read.earlier ++ build_read.last) next
+      is_load = record {
+        file = load.file;
+        is_next = subst (λ (l : List Done). IsNextLoad task l load.file) (sym done_is) load.is_next;
+        content = load.content;
+        holds = holds_it stopped.phased.texts load.file load.content;
+        additions = load.additions;
+        read = load.read;
+        grown = load.grown;
+      }
+
+      stopped_twice : RefusesFile tells course.own asked_now course.store (steps_of build.earlier ++ build.last) course.entry now (Refused refusal) → (path : List ℕ) → IsMadeTwice next path
+          → Built tells course.behaviour course.format course.own asked_now course.entry now (answer.MadeTwice path) (Refused refusal)
+      stopped_twice refused path twice =
+          stopped_with texts build_read held_read ordered (answer.MadeTwice path) refused (λ h. h) (λ h. h)
+          (stopped.untouched, (asked_with asked_now next, inr (next, refl, is_load), twice))
+
+      stopped_round : RefusesFile tells course.own asked_now course.store (steps_of build.earlier ++ build.last) course.entry now (Refused refusal) → (paths : List (List ℕ)) → IsShownCycle (asked_with course.asked next) course.store paths
+          → Built tells course.behaviour course.format course.own asked_now course.entry now (answer.Cyclic paths) (Refused refusal)
+      stopped_round refused paths cycle =
+          stopped_with texts build_read held_read ordered (answer.Cyclic paths) refused (λ h. h) (λ h. h)
+          (stopped.untouched, named, (asked_with asked_now next, inr (next, refl, is_load), cycle))
+
+  ends_refused : (refusal : Refusal) → HasStopped tells course now refusal → PassesNoFault course.entry now answer.Refused → EndsAs (Refused refusal)
+  ends_refused (File fault) stopped passes = absurd stopped.cause
+  ends_refused (NoDyndepInput path) stopped passes = absurd stopped.cause
+  ends_refused (UnknownTarget target) stopped passes = absurd stopped.cause
+  ends_refused (MadeTwice path) stopped passes = record {
+    grown = stopped.edges;
+    said = answer.MadeTwice path;
+    says = λ edges given targets. refl;
+    built = stopped_twice (MadeTwice path) stopped passes stopped.cause.0 stopped.cause.1 tt path stopped.cause.2;
+  }
+  ends_refused (Cycle paths) stopped passes = record {
+    grown = stopped.edges;
+    said = answer.Cyclic paths;
+    says = λ edges given targets. refl;
+    built = stopped_round (Cycle paths) stopped passes stopped.cause.0 stopped.cause.1 tt paths stopped.cause.3;
+  }
+  ends_refused (Missing missing) stopped passes = record {
+    grown = stopped.edges;
+    said = missing_answer missing.path missing.needed_by;
+    says = λ edges given targets. refl;
+    built = stopped_lacking (Missing missing) stopped passes tt missing stopped.cause;
+  }
+  ends_refused (NoDyndep file) stopped passes = record {
+    grown = stopped.edges;
+    said = answer.Refused;
+    says = λ edges given targets. refl;
+    built = stopped_unread (NoDyndep file) stopped passes stopped.cause file stopped.cause.next;
+  }
+  ends_refused (BadVersion file) stopped passes = record {
+    grown = stopped.edges;
+    said = answer.Refused;
+    says = λ edges given targets. refl;
+    built = stopped_unread (BadVersion file) stopped passes stopped.cause file stopped.cause.next;
+  }
+  ends_refused (BadStatement file) stopped passes = record {
+    grown = stopped.edges;
+    said = answer.Refused;
+    says = λ edges given targets. refl;
+    built = stopped_unread (BadStatement file) stopped passes stopped.cause file stopped.cause.next;
+  }
+  ends_refused (Unfit unfit) stopped passes = record {
+    grown = stopped.edges;
+    said = answer.Refused;
+    says = λ edges given targets. refl;
+    built = stopped_unread (Unfit unfit) stopped passes stopped.cause unfit.file stopped.cause.next;
+  }
+
+  -- a refusal or a fault
+  pub ends_stopped : (graph : Graph) (cone : Cone) (stop : Stop) → HasEndedSo tells course graph cone now (Err stop) → IfFault stop (IsSeen course.entry now) → PassesNoFault course.entry now (stop_answer (Err stop)) → EndsAs (report_of stop)
+  ends_stopped graph cone (stop.Refused refusal) ended seen passes = ends_refused refusal ended passes
+  ends_stopped graph cone (stop.Fault fault) ended seen passes = ends_cut fault ended seen passes
+
+-- however it ended, the history grew since the entry
+pub ended_grows : (tells : Bool) (course : Course) (graph : Graph) (cone : Cone) (now : World) (result : Result Summary Stop) → HasEndedSo tells course graph cone now result → IsTrue tells → (later : List Moment) × (now.history ≡ course.entry.history ++ later)
+ended_grows tells course graph cone now (Ok summary) done tell = let told = done.ran.cut.run.history tell in (told.more, told.grows)
+ended_grows tells course graph cone now (Err (stop.Refused refusal)) stopped tell = let told = stopped.finished.on.carried.run.history tell in (told.more, told.grows)
+ended_grows tells course graph cone now (Err (stop.Fault fault)) cut tell = let told = cut.ran.cut.run.history tell in (told.more, told.grows)
