@@ -4,11 +4,13 @@ use Rattle.std.proofs.lemmas.Bool.{cases_Bool}
 use Rattle.model.specs.declared.event.Moment.{Moment}
 use Rattle.model.specs.declared.fault.SiteFault.{SiteFault}
 use Rattle.model.specs.declared.fault.SiteFault.TheVariants.{Memory}
+use Rattle.model.specs.declared.graph.BuildGraph.{BuildGraph}
 use Rattle.model.specs.declared.graph.Edge.{Edge}
 use Rattle.model.specs.World.{World, View, view_of, IsIdle}
 use Rattle.model.specs.Graph.{Addition, edge_at, first_output, maker, IsMadeTwice}
 use Rattle.model.specs.Premises.{FilesAreKept}
-use Rattle.model.specs.Records.{Store}
+use Rattle.model.specs.Outcome.{Behaviour}
+use Rattle.model.specs.Records.{Store, OwnFiles, LogFormat}
 use Rattle.model.specs.Schedule.{Task, Step as Done, failed_in}
 use Rattle.model.specs.Phases.{Phase, steps_of, next_edges, IsNextLoad, IsLoad, ArePhasesFrom, IsLawfulBuild, AreAskedApart, WasNothingMissing, WasNothingMissingIn, task_with}
 use Rattle.model.specs.SingleBuild as answer
@@ -31,11 +33,13 @@ use Rattle.builder.specs.declared.report.Report.{Report}
 use Rattle.builder.specs.declared.report.Report.TheVariants.{Success, Failed, Refused, Fault}
 use Rattle.builder.specs.declared.stop.Stop.{Stop}
 use Rattle.builder.specs.declared.stop.Stop.TheVariants as stop
-use Rattle.builder.specs.Build.{Says, missing_answer}
+use Rattle.builder.specs.declared.asked.Limits.{Limits}
+use Rattle.builder.specs.Build.{Says, Builds, missing_answer, asked_of}
 use Rattle.builder.specs.Going.{task_over, IsHeldLoad, IsLacking, IsMissingAfter, IfFault, HasDone, HasStopped, WasCut, HasEndedSo, stop_answer}
 use Rattle.builder.specs.Loads.{RefusesFile}
 use Rattle.builder.specs.Reports.{first_output_of, SaysEnd, report_of}
-use Rattle.builder.proofs.Looking.{Built, IsFoundAt, passes_any}
+use Rattle.builder.proofs.Builds.{builds_over}
+use Rattle.builder.proofs.Looking.{Built, IsFoundAt, course_of, passes_any}
 use Rattle.builder.proofs.Running.{held, built_ended, built_cut, built_failed, built_well, was_in_order}
 use Rattle.builder.proofs.Slices.{map_suc}
 
@@ -357,3 +361,11 @@ pub ended_grows : (tells : Bool) (course : Course) (graph : Graph) (cone : Cone)
 ended_grows tells course graph cone now (Ok summary) done tell = let told = done.ran.cut.run.history tell in (told.more, told.grows)
 ended_grows tells course graph cone now (Err (stop.Refused refusal)) stopped tell = let told = stopped.finished.on.carried.run.history tell in (told.more, told.grows)
 ended_grows tells course graph cone now (Err (stop.Fault fault)) cut tell = let told = cut.ran.cut.run.history tell in (told.more, told.grows)
+
+-- ---- of what was asked for
+
+-- a build that began with a graph is that of the graph
+pub builds_so : (tells : Bool) (B : Behaviour) (format : LogFormat) (own : OwnFiles) (graph : BuildGraph) (folder : List ℕ) (limits : Limits) (given targets : List (List ℕ)) (store : Store) (entry now : World) → IsFoundAt tells format own store entry now
+    → IsIdle entry.events → (report : Report) → EndsSo tells (course_of B format own (asked_of graph folder limits targets) store entry) now report → Builds tells B format own graph folder limits given targets entry now report
+builds_so tells B format own graph folder limits given targets store entry now found idle report ends =
+    builds_over tells B format own graph folder limits given targets store entry now found idle ends.grown report ends.said (ends.says graph.edges given targets) ends.built
