@@ -11,7 +11,7 @@ use Rattle.model.specs.OutOfDate.{IsFirstMissing, IsMissingInput}
 use Rattle.model.specs.Phases.{Phase, steps_of, IsGrownBy, IsNextLoad, IsPointAfter, AreAskedApart, WasNothingMissing, WasNothingMissingIn}
 use Rattle.model.specs.Premises.{FilesAreKept}
 use Rattle.model.specs.Records.{recorded_inputs}
-use Rattle.model.specs.Schedule.{Task, Step as Done}
+use Rattle.model.specs.Schedule.{Task, Step as Done, started_in}
 use Rattle.model.specs.SingleBuild as answer
 use Rattle.model.specs.SingleBuild.{Answer, IsAsked, IsShownCycle, HasNoCycle, NamesOther, asked_with, declared_graph, task_of}
 use Rattle.paths.specs.Told.{text_at, texts_at}
@@ -20,6 +20,7 @@ use Rattle.links.specs.declared.graph.Graph.{Graph}
 use Rattle.links.specs.Linked.{IsConeOf}
 use Rattle.links.specs.Told.{declared_by}
 use Rattle.log_theory.specs.Ledger.{IsPhased}
+use Rattle.looks.specs.Seen.{AreSeen}
 use Rattle.runner.specs.declared.cut.Cut.{Cut}
 use Rattle.runner.specs.declared.state.State.{State}
 use Rattle.runner.specs.declared.summary.Summary.{Summary}
@@ -67,8 +68,13 @@ ended_course course done = record {
 abbrev pub task_over : Course → List Edge → Task
 task_over course edges = task_of (asked_with course.asked edges) course.store
 
+-- it has only looked since the entry, and what it has seen is so
+pub record IsUnstarted (tells : Bool) (course : Course) (graph : Graph) (state : State) (now : World) : Type 0 where
+  pub looks : OnlyLooks tells course.entry now
+  pub seen : IsTrue tells → now.history ≡ course.entry.history → AreSeen graph.manifest.paths now.history state.looks.seen.items
+
 -- A build of the course stands between two steps of its run: these are the edges now, and these phases ended with a load. The graph
--- has them, and the cone is that of what was asked for. Before the first step it has only looked.
+-- has them, and the cone is that of what was asked for. Before the first start it has only looked.
 pub record StandsAt (tells : Bool) (tick : List ℕ) (course : Course) (edges : List Edge) (phases : List Phase) (graph : Graph) (cone : Cone) (state : State) (now : World) : Type 0 where
   pub goes : goes_on course ≡ true
   pub dyndeps : ReadsDyndeps course.behaviour.dyndep
@@ -79,7 +85,7 @@ pub record StandsAt (tells : Bool) (tick : List ℕ) (course : Course) (edges : 
   pub acyclic : HasNoCycle (asked_with course.asked edges) course.store
   pub within : All (λ p. p < length graph.manifest.paths) cone.targets.items
   pub numbers : texts_at graph.manifest.paths cone.targets.items ≡ (task_over course edges).targets
-  pub untouched : on.steps ≡ [] → OnlyLooks tells course.entry now
+  pub unstarted : started_in on.steps ≡ [] → IsUnstarted tells course graph state now
 
 -- nothing was missing when each of these phases, and the present one, began
 abbrev pub HasAsked : Bool → Course → List Edge → List Phase → World → Type 0

@@ -15,24 +15,47 @@ pub enum Stop {
 }
 
 impl From<SiteFault> for Stop {
+    ghost use Rattle.std.specs.Prelude.{◌≡◌};
+    ghost use Rattle.builder.specs.declared.stop.Stop.TheVariants.{Fault};
+
+    ghost from_gives = { λ fault stop. stop ≡ Fault fault };
+
     fn from(fault: SiteFault) -> Stop {
         Stop::Fault(fault)
     }
 }
 
 impl From<Cut> for Stop {
+    ghost use Rattle.std.specs.Prelude.{◌≡◌};
+    ghost use Rattle.runner.specs.Cut.{fault_of};
+    ghost use Rattle.builder.specs.declared.stop.Stop.TheVariants.{Fault};
+
+    ghost from_gives = { λ cut stop. stop ≡ Fault (fault_of cut) };
+
     fn from(cut: Cut) -> Stop {
         Stop::Fault(cut.fault())
     }
 }
 
 impl From<AllocError> for Stop {
+    ghost use Rattle.std.specs.Prelude.{◌≡◌};
+    ghost use Rattle.model.specs.declared.fault.SiteFault.TheVariants.{Memory};
+    ghost use Rattle.builder.specs.declared.stop.Stop.TheVariants.{Fault};
+
+    ghost from_gives = { λ _ stop. stop ≡ Fault Memory };
+
     fn from(_: AllocError) -> Stop {
         Stop::Fault(SiteFault::Memory)
     }
 }
 
 impl<T: Drop> From<AllocFailed<T>> for Stop {
+    ghost use Rattle.std.specs.Prelude.{◌≡◌};
+    ghost use Rattle.model.specs.declared.fault.SiteFault.TheVariants.{Memory};
+    ghost use Rattle.builder.specs.declared.stop.Stop.TheVariants.{Fault};
+
+    ghost from_gives = { λ _ stop. stop ≡ Fault Memory };
+
     fn from(_: AllocFailed<T>) -> Stop {
         Stop::Fault(SiteFault::Memory)
     }

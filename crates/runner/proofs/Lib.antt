@@ -24,3 +24,4 @@ pub mod Recording
 pub mod Onward
 pub mod Refused
 pub mod Loaded
+pub mod After
