@@ -1,5 +1,5 @@
 -- The beginning of a run: from what was read before it.
-use Rattle.std.proofs.Common.{◌≡◌, ◌≢◌, ℕ, suc, Bool, true, false, IsTrue, List, [], ◌∷◌, ◌++◌, Option, Some, None, map, length, vec_len, arith, refl, sym, ◌∙◌, ap, subst}
+use Rattle.std.proofs.Common.{◌≡◌, ◌≢◌, ℕ, suc, Bool, true, false, IsTrue, List, [], ◌∷◌, ◌++◌, Option, Some, None, map, length, vec_len, arith, refl, sym, ◌∙◌, ap, subst, replicate}
 use Rattle.std.proofs.lemmas.Bool.{false≢true}
 use Rattle.std.proofs.lemmas.List.{append-nil}
 use Rattle.model.specs.declared.event.Moment.{Moment}
@@ -27,6 +27,7 @@ use Rattle.links.specs.declared.graph.Graph.{Graph}
 use Rattle.links.specs.Told.{declared_by}
 use Rattle.dues.specs.Stores.{IsConeIn}
 use Rattle.looks.specs.declared.table.Looks.{Looks}
+use Rattle.looks.specs.declared.table.Look.TheVariants.{Unasked}
 use Rattle.records.specs.declared.records.Records.{Records}
 use Rattle.records.specs.Known.{AreKnown}
 use Rattle.records.specs.Logging.{IsLogging}
@@ -40,10 +41,10 @@ use Rattle.builder.specs.Build.{asked_of}
 use Rattle.builder.specs.Going.{BeginsAt, grown_course}
 use Rattle.builder.specs.Loads.{ReadsDyndeps}
 use Rattle.builder.specs.Recorded.{IsRecordedBy}
-use Rattle.builder.specs.Reports.{HasRead}
+use Rattle.builder.specs.Reports.{HasRead, IsConeRecorded, IsPlanFor}
 use Rattle.builder.proofs.Looking.{IsFoundAt, course_of}
 use Rattle.builder.proofs.Builds.{any_own, own_in, none_kept, looked_nothing, idle_after}
-use Rattle.builder.proofs.Entry.{AreUnasked}
+use Rattle.builder.proofs.Entry.{AreUnasked, none_asked, all_there}
 use Rattle.builder.proofs.Folders.{logs_apart, tick_is_no_build_log, tick_is_no_deps_log}
 use Rattle.builder.proofs.Formed.{have_outputs}
 
@@ -172,8 +173,11 @@ module _ (tells : Bool) (graph : Graph) (request : Request) (records : Records) 
   }
 
   module _ (cone : Cone) (listed : IsConeIn graph store request.targets cone) (plan : Plan) (flags : (p : ℕ) → has_flag plan.changed.items p ≡ false) (planned : IsPlanned (task_of asked store) graph plan [])
-      (looks : Looks) (unasked : AreUnasked looks) (fits : length looks.seen.items ≡ length graph.manifest.paths)
+      (looks : Looks) (unseen : looks.seen.items ≡ replicate (length graph.manifest.paths) Unasked)
       (state : State) (plan_is : state.plan ≡ plan) (looks_are : state.looks ≡ looks) (records_are : state.records ≡ records) (none : state.failed.items ≡ []) (starts : vec_len state.starts ≡ length graph.manifest.lines) where
+    unasked : AreUnasked state.looks
+    unasked = none_asked (length graph.manifest.paths) state.looks (ap (λ (l : Looks). l.seen.items) looks_are ∙ unseen)
+
     abbrev on : IsOn tells first graph None state now
     on = record {
       steps = [];
@@ -188,7 +192,7 @@ module _ (tells : Bool) (graph : Graph) (request : Request) (records : Records) 
         known = subst (λ (r : Records). AreKnown graph store.records store.deps r) (sym {A = Records} records_are) may.known;
         same = (refl, refl);
       };
-      seen = λ tell kept p within asked quiet. absurd (false≢true (sym (subst (λ (l : Looks). AreUnasked l) (sym {A = Looks} looks_are) unasked p) ∙ asked));
+      seen = λ tell kept p asked quiet. absurd (false≢true (sym (unasked p) ∙ asked));
       anew = λ tell kept p lt fine.
           let text = text_at graph.manifest.paths p in
           ap (λ (l : Plan). has_flag l.changed.items p) plan_is
@@ -196,7 +200,7 @@ module _ (tells : Bool) (graph : Graph) (request : Request) (records : Records) 
       before = λ tell kept e stale. absurd (false≢true stale);
       started = λ e runs. absurd (false≢true runs);
       removed = record { responses = λ i well. absurd (false≢true well); depfiles = λ i well. absurd (false≢true well); stay = λ i well. absurd (false≢true well) };
-      room = record { looks = ap (λ (l : Looks). length l.seen.items) looks_are ∙ fits; starts = omega (arith, starts, state.starts.ok.0) };
+      room = record { looks = ap (λ (l : Looks). length l.seen.items) looks_are ∙ all_there (length graph.manifest.paths) looks unseen; starts = omega (arith, starts, state.starts.ok.0) };
       noted = ap (map suc) none;
     }
 
@@ -212,8 +216,33 @@ module _ (tells : Bool) (graph : Graph) (request : Request) (records : Records) 
         acyclic = listed.acyclic;
         within = listed.within;
         numbers = listed.numbers;
-        untouched = λ none. may.looked.looks;
+        unstarted = λ none. record { looks = may.looked.looks; seen = λ tell same p asked. absurd (false≢true (sym (unasked p) ∙ asked)) };
       };
       fresh = last_of_none carried.phased.build.earlier carried.phased.build.last carried.phased.build.taken_in carried.phased.build.whole;
       asked = λ tell kept. tt;
     }
+
+-- so it begins on the course by which was read, and anew from here
+module _ (tells : Bool) (graph : Graph) (request : Request) (records : Records) (course : Course) (now : World) (has : HasRead tells graph request records course now)
+    (formed : IsGraph (declared_by graph)) (once : IsMadeOnce (declared_by graph).edges) (others : (file : List ℕ) → NamesOther (declared_by graph).edges file → ⊥)
+    (cone : Cone) (coned : IsConeRecorded graph request.targets cone) (plan : Plan) (first : IsPlanFor graph cone request.limits plan) (looks : Looks) (unseen : looks.seen.items ≡ replicate (length graph.manifest.paths) Unasked)
+    (state : State) (plan_is : state.plan ≡ plan) (looks_are : state.looks ≡ looks) (records_are : state.records ≡ records) (none : state.failed.items ≡ []) (starts : vec_len state.starts ≡ length graph.manifest.lines)
+    (tick : List ℕ) (is : tick ≡ file_in request.folder tick_name) where
+  abbrev pub this : Course
+  this = course_of course.behaviour course.format course.own (asked_of (declared_by graph) request.folder request.limits request.targets) course.store course.entry
+
+  abbrev pub here : Course
+  here = course_of course.behaviour course.format (any_own request.folder) (asked_of (declared_by graph) request.folder request.limits request.targets) course.store now
+
+  of_course : (own : OwnFiles) (entry : World) → MayBegin tells graph request records course.behaviour course.format own course.store entry now
+      → BeginsAt tells tick (course_of course.behaviour course.format own (asked_of (declared_by graph) request.folder request.limits request.targets) course.store entry) (declared_by graph).edges [] graph cone state now
+  of_course own entry may =
+      let listed = coned course.store has.in_use in
+      begins tells graph request records course.behaviour course.format own course.store entry now may formed once others cone listed plan first.flags (first.planned request.folder request.targets course.store has.in_use listed)
+      looks unseen state plan_is looks_are records_are none starts tick is
+
+  pub begins_this : BeginsAt tells tick this (declared_by graph).edges [] graph cone state now
+  begins_this = of_course course.own course.entry (may_begin tells graph request records course now has)
+
+  pub begins_here : BeginsAt tells tick here (declared_by graph).edges [] graph cone state now
+  begins_here = of_course (any_own request.folder) now (may_begin_here tells graph request records course now has)

@@ -4,13 +4,11 @@ use Rattle.std.proofs.lemmas.Bool.{cases_Bool}
 use Rattle.model.specs.declared.event.Moment.{Moment}
 use Rattle.model.specs.declared.fault.SiteFault.{SiteFault}
 use Rattle.model.specs.declared.fault.SiteFault.TheVariants.{Memory}
-use Rattle.model.specs.declared.graph.BuildGraph.{BuildGraph}
 use Rattle.model.specs.declared.graph.Edge.{Edge}
 use Rattle.model.specs.World.{World, View, view_of, IsIdle}
 use Rattle.model.specs.Graph.{Addition, edge_at, first_output, maker, IsMadeTwice}
 use Rattle.model.specs.Premises.{FilesAreKept}
-use Rattle.model.specs.Outcome.{Behaviour}
-use Rattle.model.specs.Records.{Store, OwnFiles, LogFormat}
+use Rattle.model.specs.Records.{Store}
 use Rattle.model.specs.Schedule.{Task, Step as Done, failed_in}
 use Rattle.model.specs.Phases.{Phase, steps_of, next_edges, IsNextLoad, IsLoad, ArePhasesFrom, IsLawfulBuild, AreAskedApart, WasNothingMissing, WasNothingMissingIn, task_with}
 use Rattle.model.specs.SingleBuild as answer
@@ -19,6 +17,7 @@ use Rattle.build_theory.specs.Seen.{IsSeen}
 use Rattle.build_theory.proofs.Lists.{same_bytes}
 use Rattle.links.specs.declared.cone.Cone.{Cone}
 use Rattle.links.specs.declared.graph.Graph.{Graph}
+use Rattle.records.specs.declared.records.Records.{Records}
 use Rattle.links.specs.Told.{declared_by}
 use Rattle.log_theory.specs.Ledger.{IsCutOff}
 use Rattle.log_theory.proofs.Ledger.{cut_off}
@@ -33,13 +32,15 @@ use Rattle.builder.specs.declared.report.Report.{Report}
 use Rattle.builder.specs.declared.report.Report.TheVariants.{Success, Failed, Refused, Fault}
 use Rattle.builder.specs.declared.stop.Stop.{Stop}
 use Rattle.builder.specs.declared.stop.Stop.TheVariants as stop
-use Rattle.builder.specs.declared.asked.Limits.{Limits}
 use Rattle.builder.specs.Build.{Says, Builds, missing_answer, asked_of}
 use Rattle.builder.specs.Going.{task_over, IsHeldLoad, IsLacking, IsMissingAfter, IfFault, HasDone, HasStopped, WasCut, HasEndedSo, stop_answer}
 use Rattle.builder.specs.Loads.{RefusesFile}
-use Rattle.builder.specs.Reports.{first_output_of, SaysEnd, report_of}
-use Rattle.builder.proofs.Builds.{builds_over}
-use Rattle.builder.proofs.Looking.{Built, IsFoundAt, course_of, passes_any}
+use Rattle.builder.specs.declared.asked.Asked.{Asked as Request}
+use Rattle.builder.specs.Reports.{first_output_of, HasRead, IsConeRecorded, SaysEnd, report_of}
+use Rattle.builder.proofs.Beginning.{found_later}
+use Rattle.builder.proofs.Builds.{any_own, builds_over}
+use Rattle.builder.proofs.Opening.{cause_since}
+use Rattle.builder.proofs.Looking.{Built, IsFoundAt, course_of, passes_any, passes_after}
 use Rattle.builder.proofs.Running.{held, built_ended, built_cut, built_failed, built_well, was_in_order}
 use Rattle.builder.proofs.Slices.{map_suc}
 
@@ -364,8 +365,48 @@ ended_grows tells course graph cone now (Err (stop.Fault fault)) cut tell = let 
 
 -- ---- of what was asked for
 
--- a build that began with a graph is that of the graph
-pub builds_so : (tells : Bool) (B : Behaviour) (format : LogFormat) (own : OwnFiles) (graph : BuildGraph) (folder : List ℕ) (limits : Limits) (given targets : List (List ℕ)) (store : Store) (entry now : World) → IsFoundAt tells format own store entry now
-    → IsIdle entry.events → (report : Report) → EndsSo tells (course_of B format own (asked_of graph folder limits targets) store entry) now report → Builds tells B format own graph folder limits given targets entry now report
-builds_so tells B format own graph folder limits given targets store entry now found idle report ends =
-    builds_over tells B format own graph folder limits given targets store entry now found idle ends.grown report ends.said (ends.says graph.edges given targets) ends.built
+-- The run of what was asked for has ended: on the course by which was read, and on one that begins anew there.
+module _ (tells : Bool) (graph : Graph) (request : Request) (records : Records) (course : Course) (old : World) (has : HasRead tells graph request records course old)
+    (others : (file : List ℕ) → NamesOther (declared_by graph).edges file → ⊥) (cone : Cone) (coned : IsConeRecorded graph request.targets cone) (after : Graph) (last : Cone) (exit : World) where
+  abbrev The : Asked
+  The = asked_of (declared_by graph) request.folder request.limits request.targets
+
+  abbrev this : Course
+  this = course_of course.behaviour course.format course.own The course.store course.entry
+
+  abbrev here : Course
+  here = course_of course.behaviour course.format (any_own request.folder) The course.store old
+
+  abbrev BuildsAs : Report → Type 0
+  BuildsAs report = Builds tells course.behaviour course.format course.own (declared_by graph) request.folder request.limits request.given.now request.targets course.entry exit report
+
+  module _ (result : Result Summary Stop) (anew : HasEndedSo tells here after last exit result) (passes : PassesNoFault old exit (stop_answer result)) where
+    found : IsFoundAt tells course.format course.own course.store course.entry exit
+    found = found_later tells graph request records course old has exit (ended_grows tells here after last exit result anew)
+
+    builds_so : (report : Report) → EndsSo tells this exit report → BuildsAs report
+    builds_so report ends =
+        builds_over tells course.behaviour course.format course.own (declared_by graph) request.folder request.limits request.given.now request.targets course.store course.entry exit found has.idle ends.grown report ends.said
+        (ends.says (declared_by graph).edges request.given.now request.targets) ends.built
+
+    named : answer.AllNamed The
+    named = (coned course.store has.in_use).named
+
+    passes_all : PassesNoFault course.entry exit (stop_answer result)
+    passes_all = passes_after tells course.entry old exit (stop_answer result) has.looked passes
+
+  -- nothing was left to do
+  pub builds_done : (summary : Summary) → HasEndedSo tells this after last exit (Ok summary) → HasEndedSo tells here after last exit (Ok summary) → PassesNoFault old exit answer.Refused
+      → (report : Report) → (report ≡ Fault Memory) ⊎ SaysEnd after summary report → BuildsAs report
+  builds_done summary ended anew passes report says =
+      builds_so (Ok summary) anew passes report
+      (ends_done tells this exit (found (Ok summary) anew passes) has.idle others (named (Ok summary) anew passes) after last (passes_all (Ok summary) anew passes) summary ended report says)
+
+  -- a refusal or a fault
+  pub builds_stopped : (stop : Stop) → HasEndedSo tells this after last exit (Err stop) → HasEndedSo tells here after last exit (Err stop) → PassesNoFault old exit (stop_answer (Err stop)) → IfFault stop (IsSeen old exit)
+      → (report : Report) → report ≡ report_of stop → BuildsAs report
+  builds_stopped stop ended anew passes seen report is =
+      subst (λ (r : Report). BuildsAs r) (sym {A = Report} is)
+      (builds_so (Err stop) anew passes (report_of stop)
+      (ends_stopped tells this exit (found (Err stop) anew passes) has.idle others (named (Err stop) anew passes) after last stop ended
+      (cause_since course.entry old exit stop has.looked.unrefused.failures seen) (passes_all (Err stop) anew passes)))

@@ -1,16 +1,13 @@
-use Rattle.std.proofs.Common.{[], inl, inr, length, refl, sym, ◌∙◌, ap, subst}
+use Rattle.std.proofs.Common.{[], inl, inr, refl, sym, ◌∙◌, ap, subst}
 use Rattle.model.specs.Records.{file_in, tick_name}
 use Rattle.links.specs.Told.{declared_by}
 use Rattle.builder.specs.declared.report.Report.{Report}
-use Rattle.looks.specs.declared.table.Look.TheVariants.{Unasked}
 use Rattle.builder.specs.Build.{Builds, asked_of}
-use Rattle.builder.specs.Reports.{report_in, report_of, SaysNoCone}
-use Rattle.builder.proofs.Beginning.{found_later, may_begin, may_begin_here, begins}
+use Rattle.builder.specs.Reports.{report_in, SaysNoCone}
+use Rattle.builder.proofs.Beginning.{begins_this, begins_here}
 use Rattle.builder.proofs.Builds.{any_own, builds_memory, builds_uncut}
-use Rattle.builder.proofs.Endings.{ends_done, ends_stopped, ended_grows, builds_so}
-use Rattle.builder.proofs.Entry.{none_asked}
-use Rattle.builder.proofs.Looking.{course_of, passes_after}
-use Rattle.builder.proofs.Opening.{cause_since}
+use Rattle.builder.proofs.Endings.{builds_done, builds_stopped}
+use Rattle.builder.proofs.Looking.{course_of}
 use Rattle.builder.proofs.Stages.{told_by}
 use Rattle.builder.proofs.one_build.build_graph.Goals as goal
 
@@ -73,29 +70,20 @@ returns-in_err-state g c course has =
     (sym {A = Report} (told_by _ c.from_residual-in_err-state.result c.from_residual-in_err-state.ensures.1))
     (builds_memory g.S.Texts.tells course.behaviour course.format course.own (declared_by graph) asked.folder asked.limits asked.given.now asked.targets course.store course.entry old has.found has.idle has.looked)
 
--- with files of its own of which none is kept
 pub run_graph-requires-clause-begins : goal.run_graph-requires-clause-begins
 run_graph-requires-clause-begins g c =
     let tells = g.S.Texts.tells in
     let graph = c.args.graph.now in
     let asked = c.args.asked.now in
-    let records = c.args.records in
-    let cone = c.in_ok-cone.cone in
-    let plan = c.in_ok-plan.plan in
-    let looks = c.in_ok-looks.looks in
-    let state = c.in_ok-state.state in
     let old = g.S.Texts.world c.args.site.now in
+    let is_tick = c.as_str-2.ensures.value ∙ (c.in_ok-tick.ensures ∙ ap (λ folder. file_in folder tick_name) c.as_str.ensures) in
     let course = c.requires.read.0 in
-    let has = c.requires.read.1 in
-    let listed = c.in_ok-cone.ensures.cone course.store has.in_use in (
+    let has = c.requires.read.1 in (
       course_of course.behaviour course.format course.own (asked_of (declared_by graph) asked.folder asked.limits asked.targets) course.store course.entry,
       (declared_by graph).edges,
       [],
-      (begins tells graph asked records course.behaviour course.format course.own course.store course.entry old (may_begin tells graph asked records course old has) c.requires.formed c.requires.once c.requires.inputs
-    cone listed plan c.in_ok-plan.ensures.flags (c.in_ok-plan.ensures.planned asked.folder asked.targets course.store has.in_use listed) looks
-    (none_asked (length graph.manifest.paths) looks c.in_ok-looks.ensures) (ap length c.in_ok-looks.ensures ∙ length-replicate (length graph.manifest.paths) Unasked)
-    state c.in_ok-state.ensures.plan c.in_ok-state.ensures.looks c.in_ok-state.ensures.records c.in_ok-state.ensures.failed c.in_ok-state.ensures.starts
-    _ (c.as_str-2.ensures.value ∙ (c.in_ok-tick.ensures ∙ ap (λ folder. file_in folder tick_name) c.as_str.ensures))),
+      (begins_this tells graph asked c.args.records course old has c.requires.formed c.requires.once c.requires.inputs c.in_ok-cone.cone c.in_ok-cone.ensures.cone c.in_ok-plan.plan c.in_ok-plan.ensures c.in_ok-looks.looks
+    c.in_ok-looks.ensures c.in_ok-state.state c.in_ok-state.ensures.plan c.in_ok-state.ensures.looks c.in_ok-state.ensures.records c.in_ok-state.ensures.failed c.in_ok-state.ensures.starts _ is_tick),
     )
 
 pub returns-in_err-summary : goal.returns-in_err-summary
@@ -103,35 +91,16 @@ returns-in_err-summary g c course has =
     let tells = g.S.Texts.tells in
     let graph = c.args.graph.now in
     let asked = c.args.asked.now in
-    let records = c.args.records in
-    let cone = c.in_ok-cone.cone in
-    let plan = c.in_ok-plan.plan in
-    let looks = c.in_ok-looks.looks in
-    let state = c.in_ok-state.state in
     let old = g.S.Texts.world c.args.site.now in
-    let exit = g.S.Texts.world c.run_graph.new.site in
-    let listed = c.in_ok-cone.ensures.cone course.store has.in_use in
-    let here = course_of course.behaviour course.format (any_own asked.folder) (asked_of (declared_by graph) asked.folder asked.limits asked.targets) course.store old in
-    let this = course_of course.behaviour course.format course.own (asked_of (declared_by graph) asked.folder asked.limits asked.targets) course.store course.entry in
-    let grows = ended_grows tells here _ _ exit _ (c.in_err-summary.ensures.ended here (declared_by graph).edges []
-    (begins tells graph asked records course.behaviour course.format (any_own asked.folder) course.store old old (may_begin_here tells graph asked records course old has) c.requires.formed c.requires.once c.requires.inputs
-    cone listed plan c.in_ok-plan.ensures.flags (c.in_ok-plan.ensures.planned asked.folder asked.targets course.store has.in_use listed) looks
-    (none_asked (length graph.manifest.paths) looks c.in_ok-looks.ensures) (ap length c.in_ok-looks.ensures ∙ length-replicate (length graph.manifest.paths) Unasked)
-    state c.in_ok-state.ensures.plan c.in_ok-state.ensures.looks c.in_ok-state.ensures.records c.in_ok-state.ensures.failed c.in_ok-state.ensures.starts
-    _ (c.as_str-2.ensures.value ∙ (c.in_ok-tick.ensures ∙ ap (λ folder. file_in folder tick_name) c.as_str.ensures)))) in
-    let found = found_later tells graph asked records course old has exit grows in
-    let ended = c.in_err-summary.ensures.ended this (declared_by graph).edges []
-    (begins tells graph asked records course.behaviour course.format course.own course.store course.entry old (may_begin tells graph asked records course old has) c.requires.formed c.requires.once c.requires.inputs
-    cone listed plan c.in_ok-plan.ensures.flags (c.in_ok-plan.ensures.planned asked.folder asked.targets course.store has.in_use listed) looks
-    (none_asked (length graph.manifest.paths) looks c.in_ok-looks.ensures) (ap length c.in_ok-looks.ensures ∙ length-replicate (length graph.manifest.paths) Unasked)
-    state c.in_ok-state.ensures.plan c.in_ok-state.ensures.looks c.in_ok-state.ensures.records c.in_ok-state.ensures.failed c.in_ok-state.ensures.starts
-    _ (c.as_str-2.ensures.value ∙ (c.in_ok-tick.ensures ∙ ap (λ folder. file_in folder tick_name) c.as_str.ensures))) in
-    let passes = passes_after tells course.entry old exit _ has.looked c.in_err-summary.ensures.faults in
-    let stop = c.in_err-summary.field-0.0 in
-    subst (λ (r : Report). Builds tells course.behaviour course.format course.own (declared_by graph) asked.folder asked.limits asked.given.now asked.targets course.entry exit r)
-    (sym {A = Report} (told_by _ c.from_residual-in_err-summary.result c.from_residual-in_err-summary.ensures.1))
-    (builds_so tells course.behaviour course.format course.own (declared_by graph) asked.folder asked.limits asked.given.now asked.targets course.store course.entry exit found has.idle (report_of stop)
-    (ends_stopped tells this exit found has.idle c.requires.inputs listed.named _ _ stop ended (cause_since course.entry old exit stop has.looked.unrefused.failures c.in_err-summary.ensures.seen) passes))
+    let is_tick = c.as_str-2.ensures.value ∙ (c.in_ok-tick.ensures ∙ ap (λ folder. file_in folder tick_name) c.as_str.ensures) in
+    builds_stopped tells graph asked c.args.records course old has c.requires.inputs c.in_ok-cone.cone c.in_ok-cone.ensures.cone _ _ (g.S.Texts.world c.run_graph.new.site) c.in_err-summary.field-0.0
+    (c.in_err-summary.ensures.ended (course_of course.behaviour course.format course.own (asked_of (declared_by graph) asked.folder asked.limits asked.targets) course.store course.entry) (declared_by graph).edges []
+    (begins_this tells graph asked c.args.records course old has c.requires.formed c.requires.once c.requires.inputs c.in_ok-cone.cone c.in_ok-cone.ensures.cone c.in_ok-plan.plan c.in_ok-plan.ensures c.in_ok-looks.looks
+    c.in_ok-looks.ensures c.in_ok-state.state c.in_ok-state.ensures.plan c.in_ok-state.ensures.looks c.in_ok-state.ensures.records c.in_ok-state.ensures.failed c.in_ok-state.ensures.starts _ is_tick))
+    (c.in_err-summary.ensures.ended (course_of course.behaviour course.format (any_own asked.folder) (asked_of (declared_by graph) asked.folder asked.limits asked.targets) course.store old) (declared_by graph).edges []
+    (begins_here tells graph asked c.args.records course old has c.requires.formed c.requires.once c.requires.inputs c.in_ok-cone.cone c.in_ok-cone.ensures.cone c.in_ok-plan.plan c.in_ok-plan.ensures c.in_ok-looks.looks
+    c.in_ok-looks.ensures c.in_ok-state.state c.in_ok-state.ensures.plan c.in_ok-state.ensures.looks c.in_ok-state.ensures.records c.in_ok-state.ensures.failed c.in_ok-state.ensures.starts _ is_tick))
+    c.in_err-summary.ensures.faults c.in_err-summary.ensures.seen _ (told_by _ c.from_residual-in_err-summary.result c.from_residual-in_err-summary.ensures.1)
 
 -- there was no memory to tell it
 pub returns-in_err-report : goal.returns-in_err-report
@@ -139,61 +108,29 @@ returns-in_err-report g c course has =
     let tells = g.S.Texts.tells in
     let graph = c.args.graph.now in
     let asked = c.args.asked.now in
-    let records = c.args.records in
-    let cone = c.in_ok-cone.cone in
-    let plan = c.in_ok-plan.plan in
-    let looks = c.in_ok-looks.looks in
-    let state = c.in_ok-state.state in
     let old = g.S.Texts.world c.args.site.now in
-    let exit = g.S.Texts.world c.run_graph.new.site in
-    let listed = c.in_ok-cone.ensures.cone course.store has.in_use in
-    let here = course_of course.behaviour course.format (any_own asked.folder) (asked_of (declared_by graph) asked.folder asked.limits asked.targets) course.store old in
-    let this = course_of course.behaviour course.format course.own (asked_of (declared_by graph) asked.folder asked.limits asked.targets) course.store course.entry in
-    let grows = ended_grows tells here _ _ exit _ (c.in_ok-summary.ensures.ended here (declared_by graph).edges []
-    (begins tells graph asked records course.behaviour course.format (any_own asked.folder) course.store old old (may_begin_here tells graph asked records course old has) c.requires.formed c.requires.once c.requires.inputs
-    cone listed plan c.in_ok-plan.ensures.flags (c.in_ok-plan.ensures.planned asked.folder asked.targets course.store has.in_use listed) looks
-    (none_asked (length graph.manifest.paths) looks c.in_ok-looks.ensures) (ap length c.in_ok-looks.ensures ∙ length-replicate (length graph.manifest.paths) Unasked)
-    state c.in_ok-state.ensures.plan c.in_ok-state.ensures.looks c.in_ok-state.ensures.records c.in_ok-state.ensures.failed c.in_ok-state.ensures.starts
-    _ (c.as_str-2.ensures.value ∙ (c.in_ok-tick.ensures ∙ ap (λ folder. file_in folder tick_name) c.as_str.ensures)))) in
-    let found = found_later tells graph asked records course old has exit grows in
-    let ended = c.in_ok-summary.ensures.ended this (declared_by graph).edges []
-    (begins tells graph asked records course.behaviour course.format course.own course.store course.entry old (may_begin tells graph asked records course old has) c.requires.formed c.requires.once c.requires.inputs
-    cone listed plan c.in_ok-plan.ensures.flags (c.in_ok-plan.ensures.planned asked.folder asked.targets course.store has.in_use listed) looks
-    (none_asked (length graph.manifest.paths) looks c.in_ok-looks.ensures) (ap length c.in_ok-looks.ensures ∙ length-replicate (length graph.manifest.paths) Unasked)
-    state c.in_ok-state.ensures.plan c.in_ok-state.ensures.looks c.in_ok-state.ensures.records c.in_ok-state.ensures.failed c.in_ok-state.ensures.starts
-    _ (c.as_str-2.ensures.value ∙ (c.in_ok-tick.ensures ∙ ap (λ folder. file_in folder tick_name) c.as_str.ensures))) in
-    let passes = passes_after tells course.entry old exit _ has.looked c.in_ok-summary.ensures.faults in
-    builds_so tells course.behaviour course.format course.own (declared_by graph) asked.folder asked.limits asked.given.now asked.targets course.store course.entry exit found has.idle _
-    (ends_done tells this exit found has.idle c.requires.inputs listed.named _ _ passes c.in_ok-summary.summary ended _ (inl (told_by _ c.from_residual-in_err-report.result c.from_residual-in_err-report.ensures.1)))
+    let is_tick = c.as_str-2.ensures.value ∙ (c.in_ok-tick.ensures ∙ ap (λ folder. file_in folder tick_name) c.as_str.ensures) in
+    builds_done tells graph asked c.args.records course old has c.requires.inputs c.in_ok-cone.cone c.in_ok-cone.ensures.cone _ _ (g.S.Texts.world c.run_graph.new.site) c.in_ok-summary.summary
+    (c.in_ok-summary.ensures.ended (course_of course.behaviour course.format course.own (asked_of (declared_by graph) asked.folder asked.limits asked.targets) course.store course.entry) (declared_by graph).edges []
+    (begins_this tells graph asked c.args.records course old has c.requires.formed c.requires.once c.requires.inputs c.in_ok-cone.cone c.in_ok-cone.ensures.cone c.in_ok-plan.plan c.in_ok-plan.ensures c.in_ok-looks.looks
+    c.in_ok-looks.ensures c.in_ok-state.state c.in_ok-state.ensures.plan c.in_ok-state.ensures.looks c.in_ok-state.ensures.records c.in_ok-state.ensures.failed c.in_ok-state.ensures.starts _ is_tick))
+    (c.in_ok-summary.ensures.ended (course_of course.behaviour course.format (any_own asked.folder) (asked_of (declared_by graph) asked.folder asked.limits asked.targets) course.store old) (declared_by graph).edges []
+    (begins_here tells graph asked c.args.records course old has c.requires.formed c.requires.once c.requires.inputs c.in_ok-cone.cone c.in_ok-cone.ensures.cone c.in_ok-plan.plan c.in_ok-plan.ensures c.in_ok-looks.looks
+    c.in_ok-looks.ensures c.in_ok-state.state c.in_ok-state.ensures.plan c.in_ok-state.ensures.looks c.in_ok-state.ensures.records c.in_ok-state.ensures.failed c.in_ok-state.ensures.starts _ is_tick))
+    c.in_ok-summary.ensures.faults _ (inl (told_by _ c.from_residual-in_err-report.result c.from_residual-in_err-report.ensures.1))
 
 pub returns : goal.returns
 returns g c course has =
     let tells = g.S.Texts.tells in
     let graph = c.args.graph.now in
     let asked = c.args.asked.now in
-    let records = c.args.records in
-    let cone = c.in_ok-cone.cone in
-    let plan = c.in_ok-plan.plan in
-    let looks = c.in_ok-looks.looks in
-    let state = c.in_ok-state.state in
     let old = g.S.Texts.world c.args.site.now in
-    let exit = g.S.Texts.world c.run_graph.new.site in
-    let listed = c.in_ok-cone.ensures.cone course.store has.in_use in
-    let here = course_of course.behaviour course.format (any_own asked.folder) (asked_of (declared_by graph) asked.folder asked.limits asked.targets) course.store old in
-    let this = course_of course.behaviour course.format course.own (asked_of (declared_by graph) asked.folder asked.limits asked.targets) course.store course.entry in
-    let grows = ended_grows tells here _ _ exit _ (c.in_ok-summary.ensures.ended here (declared_by graph).edges []
-    (begins tells graph asked records course.behaviour course.format (any_own asked.folder) course.store old old (may_begin_here tells graph asked records course old has) c.requires.formed c.requires.once c.requires.inputs
-    cone listed plan c.in_ok-plan.ensures.flags (c.in_ok-plan.ensures.planned asked.folder asked.targets course.store has.in_use listed) looks
-    (none_asked (length graph.manifest.paths) looks c.in_ok-looks.ensures) (ap length c.in_ok-looks.ensures ∙ length-replicate (length graph.manifest.paths) Unasked)
-    state c.in_ok-state.ensures.plan c.in_ok-state.ensures.looks c.in_ok-state.ensures.records c.in_ok-state.ensures.failed c.in_ok-state.ensures.starts
-    _ (c.as_str-2.ensures.value ∙ (c.in_ok-tick.ensures ∙ ap (λ folder. file_in folder tick_name) c.as_str.ensures)))) in
-    let found = found_later tells graph asked records course old has exit grows in
-    let ended = c.in_ok-summary.ensures.ended this (declared_by graph).edges []
-    (begins tells graph asked records course.behaviour course.format course.own course.store course.entry old (may_begin tells graph asked records course old has) c.requires.formed c.requires.once c.requires.inputs
-    cone listed plan c.in_ok-plan.ensures.flags (c.in_ok-plan.ensures.planned asked.folder asked.targets course.store has.in_use listed) looks
-    (none_asked (length graph.manifest.paths) looks c.in_ok-looks.ensures) (ap length c.in_ok-looks.ensures ∙ length-replicate (length graph.manifest.paths) Unasked)
-    state c.in_ok-state.ensures.plan c.in_ok-state.ensures.looks c.in_ok-state.ensures.records c.in_ok-state.ensures.failed c.in_ok-state.ensures.starts
-    _ (c.as_str-2.ensures.value ∙ (c.in_ok-tick.ensures ∙ ap (λ folder. file_in folder tick_name) c.as_str.ensures))) in
-    let passes = passes_after tells course.entry old exit _ has.looked c.in_ok-summary.ensures.faults in
-    builds_so tells course.behaviour course.format course.own (declared_by graph) asked.folder asked.limits asked.given.now asked.targets course.store course.entry exit found has.idle _
-    (ends_done tells this exit found has.idle c.requires.inputs listed.named _ _ passes c.in_ok-summary.summary ended _ (inr c.in_ok-report.ensures))
+    let is_tick = c.as_str-2.ensures.value ∙ (c.in_ok-tick.ensures ∙ ap (λ folder. file_in folder tick_name) c.as_str.ensures) in
+    builds_done tells graph asked c.args.records course old has c.requires.inputs c.in_ok-cone.cone c.in_ok-cone.ensures.cone _ _ (g.S.Texts.world c.run_graph.new.site) c.in_ok-summary.summary
+    (c.in_ok-summary.ensures.ended (course_of course.behaviour course.format course.own (asked_of (declared_by graph) asked.folder asked.limits asked.targets) course.store course.entry) (declared_by graph).edges []
+    (begins_this tells graph asked c.args.records course old has c.requires.formed c.requires.once c.requires.inputs c.in_ok-cone.cone c.in_ok-cone.ensures.cone c.in_ok-plan.plan c.in_ok-plan.ensures c.in_ok-looks.looks
+    c.in_ok-looks.ensures c.in_ok-state.state c.in_ok-state.ensures.plan c.in_ok-state.ensures.looks c.in_ok-state.ensures.records c.in_ok-state.ensures.failed c.in_ok-state.ensures.starts _ is_tick))
+    (c.in_ok-summary.ensures.ended (course_of course.behaviour course.format (any_own asked.folder) (asked_of (declared_by graph) asked.folder asked.limits asked.targets) course.store old) (declared_by graph).edges []
+    (begins_here tells graph asked c.args.records course old has c.requires.formed c.requires.once c.requires.inputs c.in_ok-cone.cone c.in_ok-cone.ensures.cone c.in_ok-plan.plan c.in_ok-plan.ensures c.in_ok-looks.looks
+    c.in_ok-looks.ensures c.in_ok-state.state c.in_ok-state.ensures.plan c.in_ok-state.ensures.looks c.in_ok-state.ensures.records c.in_ok-state.ensures.failed c.in_ok-state.ensures.starts _ is_tick))
+    c.in_ok-summary.ensures.faults _ (inr c.in_ok-report.ensures)
