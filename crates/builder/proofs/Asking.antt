@@ -175,7 +175,7 @@ module _ (tells : Bool) (tick : List ℕ) (course : Course) (edges : List Edge) 
     -- ---- where nothing was started
 
     module _ (none : started_in steps ≡ []) where
-      untouched : IsUnstarted tells here graph state now
+      untouched : IsUnstarted tells course graph state now
       untouched = stands.unstarted none
 
       -- the history is that of the entry
