@@ -29,6 +29,7 @@ pub fn give_up<S: Site>(site: &mut S, plan: &Plan, fault: SiteFault) -> Cut
     ensures left { IsLeft (S.world site.new) result }
     ensures grows { ComesAfter S.tells (S.world site.old) (S.world site.new) }
     ensures takes_in { TakesIn (S.world site.old) (S.world site.new) result }
+    ensures rest { (course : Course) (steps : List Done) (met : Option ℕ) → IsCutOff S.tells course.behaviour course.format course.own course.asked course.store course.phases steps met course.entry (S.world site.old) → IsCutOff S.tells course.behaviour course.format course.own course.asked course.store course.phases steps met course.entry (S.world site.new) }
 {
     take_in_rest(site, plan.running(), Cut::Other(fault))
 }
