@@ -3,12 +3,15 @@ pub mod Builds
 pub mod Counting
 pub mod Endings
 pub mod Entry
+pub mod FileJoins
 pub mod Folders
 pub mod Formed
 pub mod Joining
+pub mod Loading
 pub mod Looking
 pub mod Numbering
 pub mod Opening
+pub mod Points
 pub mod Running
 pub mod Slices
 pub mod Stages
