@@ -53,13 +53,13 @@ module _ (tells : Bool) (B : Behaviour) (format : LogFormat) (own : OwnFiles) (g
   abbrev The : Asked
   The = asked_of graph folder limits targets
 
+  -- where nothing was loaded
   abbrev pub BuildsAs : Report → Type 0
-  BuildsAs report = Builds tells B format own graph folder limits given targets entry now report
+  BuildsAs report = Builds tells B format own graph folder limits given targets graph.edges entry now report
 
   -- these are the edges at the end, and the report gives the answer
-  pub builds_over : (grown : List Edge) (report : Report) (said : Answer) → Says graph.edges given targets report said → Built tells B format own (asked_with The grown) entry now said report → BuildsAs report
+  pub builds_over : (grown : List Edge) (report : Report) (said : Answer) → Says graph.edges given targets report said → Built tells B format own (asked_with The grown) entry now said report → Builds tells B format own graph folder limits given targets grown entry now report
   builds_over grown report said says built = record {
-    grown = grown;
     answer = said;
     said = says;
     build = built.build;
@@ -138,6 +138,6 @@ own_in folder = record { build_log = refl; deps_log = refl; is_log = refl; is_de
 pub none_kept : (folder : List ℕ) (edges : List Edge) (old new : List Moment) → FilesAreKept (any_own folder) edges old new → ⊥
 none_kept folder edges old new kept = false≢true (kept.own_files.within [] refl)
 
-pub builds_grow : (tells : Bool) (B : Behaviour) (format : LogFormat) (own : OwnFiles) (graph : BuildGraph) (folder : List ℕ) (limits : Limits) (given targets : List (List ℕ)) (old new : World) (report : Report)
-    → Builds tells B format own graph folder limits given targets old new report → IsTrue tells → (later : List Moment) × (new.history ≡ old.history ++ later)
-builds_grow tells B format own graph folder limits given targets old new report builds tell = let frame = builds.build.frame tell in (frame.more, frame.grows)
+pub builds_grow : (tells : Bool) (B : Behaviour) (format : LogFormat) (own : OwnFiles) (graph : BuildGraph) (folder : List ℕ) (limits : Limits) (given targets : List (List ℕ)) (grown : List Edge) (old new : World) (report : Report)
+    → Builds tells B format own graph folder limits given targets grown old new report → IsTrue tells → (later : List Moment) × (new.history ≡ old.history ++ later)
+builds_grow tells B format own graph folder limits given targets grown old new report builds tell = let frame = builds.build.frame tell in (frame.more, frame.grows)

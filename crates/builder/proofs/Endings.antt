@@ -1,6 +1,9 @@
 -- How a build ends that ran what was asked for, in the words of its contract.
-use Rattle.std.proofs.Common.{◌≡◌, ◌⊎◌, inl, inr, ℕ, suc, Bool, false, cond, IsTrue, List, [], ◌∷◌, ◌++◌, map, Option, Some, None, bytes_eq, Vec, Global, Result, Ok, Err, refl, sym, ◌∙◌, ap, subst}
+use Rattle.std.proofs.Common.{◌≡◌, ◌⊎◌, inl, inr, ℕ, suc, Bool, false, cond, IsTrue, List, [], ◌∷◌, ◌++◌, map, Option, Some, None, bytes_eq, Vec, Global, Result, Ok, Err, refl, sym, ◌∙◌, ap, subst, append_assoc}
 use Rattle.std.proofs.lemmas.Bool.{cases_Bool}
+use Rattle.build_theory.proofs.Looks.{kept_before}
+use Rattle.build_theory.proofs.Runs.{rest_begins}
+use Rattle.build_theory.proofs.Settled.{settled_command}
 use Rattle.model.specs.declared.event.Moment.{Moment}
 use Rattle.model.specs.declared.fault.SiteFault.{SiteFault}
 use Rattle.model.specs.declared.fault.SiteFault.TheVariants.{Memory}
@@ -9,8 +12,8 @@ use Rattle.model.specs.World.{World, View, view_of, IsIdle}
 use Rattle.model.specs.Graph.{Addition, edge_at, first_output, maker, IsMadeTwice}
 use Rattle.model.specs.Premises.{FilesAreKept}
 use Rattle.model.specs.Records.{Store}
-use Rattle.model.specs.Schedule.{Task, Step as Done, failed_in}
-use Rattle.model.specs.Phases.{Phase, steps_of, next_edges, IsNextLoad, IsLoad, ArePhasesFrom, IsLawfulBuild, AreAskedApart, WasNothingMissing, WasNothingMissingIn, task_with}
+use Rattle.model.specs.Schedule.{Task, Step as Done, failed_in, done_in}
+use Rattle.model.specs.Phases.{IsPointAfter, Phase, steps_of, next_edges, IsNextLoad, IsLoad, ArePhasesFrom, IsLawfulBuild, AreAskedApart, WasNothingMissing, WasNothingMissingIn, task_with}
 use Rattle.model.specs.SingleBuild as answer
 use Rattle.model.specs.SingleBuild.{Asked, Answer, IsSuccess, IsAnswer, IsAsked, IsShownCycle, WentOn, WasInOrder, PassesNoFault, NamesOther, asked_with, task_of}
 use Rattle.build_theory.specs.Seen.{IsSeen}
@@ -19,7 +22,7 @@ use Rattle.links.specs.declared.cone.Cone.{Cone}
 use Rattle.links.specs.declared.graph.Graph.{Graph}
 use Rattle.records.specs.declared.records.Records.{Records}
 use Rattle.links.specs.Told.{declared_by}
-use Rattle.log_theory.specs.Ledger.{IsCutOff}
+use Rattle.log_theory.specs.Ledger.{IsCutOff, LoadedThen}
 use Rattle.log_theory.proofs.Ledger.{cut_off}
 use Rattle.log_theory.proofs.Phased.{HoldsAll, with_text, holds_all, holds_it}
 use Rattle.runner.specs.declared.summary.Summary.{Summary}
@@ -41,7 +44,7 @@ use Rattle.builder.proofs.Beginning.{found_later}
 use Rattle.builder.proofs.Builds.{any_own, builds_over}
 use Rattle.builder.proofs.Opening.{cause_since}
 use Rattle.builder.proofs.Looking.{Built, IsFoundAt, course_of, passes_any, passes_after}
-use Rattle.builder.proofs.Running.{held, built_ended, built_cut, built_failed, built_well, was_in_order}
+use Rattle.builder.proofs.Running.{holds_still, held, built_ended, built_cut, built_failed, built_well, was_in_order}
 use Rattle.builder.proofs.Slices.{map_suc}
 
 -- ---- other files that are held
@@ -81,28 +84,41 @@ module _ (reading : List ℕ → Option (List Addition)) (texts more : View) (ho
     cause = build.cause;
   }
 
+-- ---- since a refusal
+
+-- a point of then is one of now
+point_later : (before : List Done) (old then now at : List Moment) → (later : List Moment) × (now ≡ then ++ later) → IsPointAfter before old then at → IsPointAfter before old now at
+point_later before old then now at more point = record {
+  so_far = point.so_far;
+  later = point.later ++ more.0;
+  is = point.is;
+  grows = more.1 ∙ (ap (λ (l : List Moment). l ++ more.0) point.grows ∙ append_assoc at point.later more.0);
+  happened = point.happened;
+  entry = point.entry;
+  behind = point.behind;
+}
+
 -- ---- what it is reported
 
--- A build of the course has ended, and is reported so; these are the edges at the end.
-pub record EndsSo (tells : Bool) (course : Course) (now : World) (report : Report) : Type 0 where
-  pub grown : List Edge
+-- A build of the course has ended, with these edges, and is reported so.
+pub record EndsSo (tells : Bool) (course : Course) (grown : List Edge) (now : World) (report : Report) : Type 0 where
   pub said : Answer
   pub says : (edges : List Edge) (given targets : List (List ℕ)) → Says edges given targets report said
   pub built : Built tells course.behaviour course.format course.own (asked_with course.asked grown) course.entry now said report
 
-module _ (tells : Bool) (course : Course) (now : World) (found : IsFoundAt tells course.format course.own course.store course.entry now) (idle : IsIdle course.entry.events)
+module _ (tells : Bool) (course : Course) (grown : List Edge) (now : World) (found : IsFoundAt tells course.format course.own course.store course.entry now) (idle : IsIdle course.entry.events)
     (others : (file : List ℕ) → NamesOther course.asked.declared file → ⊥) (named : answer.AllNamed course.asked) where
   abbrev EndsAs : Report → Type 0
-  EndsAs report = EndsSo tells course now report
+  EndsAs report = EndsSo tells course grown now report
 
   -- ---- nothing was left to do
 
   module _ (graph : Graph) (cone : Cone) (passes : PassesNoFault course.entry now answer.Refused) where
-    module _ (summary : Summary) (done : HasDone tells course graph cone now summary) where
+    module _ (summary : Summary) (done : HasDone tells course grown graph cone now summary) where
       abbrev asked_then : Asked
-      asked_then = asked_with course.asked done.edges
+      asked_then = asked_with course.asked grown
 
-      sources : IsTrue tells → FilesAreKept course.own done.edges course.entry.history now.history
+      sources : IsTrue tells → FilesAreKept course.own grown course.entry.history now.history
           → WasNothingMissing course.own (task_of asked_then course.store) course.store course.entry.history now.history [] done.ran.cut.phased.build.earlier
       sources tell kept =
           subst (λ (ps : List Phase). WasNothingMissing course.own (task_of asked_then course.store) course.store course.entry.history now.history [] ps) (sym {A = List Phase} done.ran.cut.phased.so) (done.asked tell kept)
@@ -113,75 +129,71 @@ module _ (tells : Bool) (course : Course) (now : World) (found : IsFoundAt tells
       -- but there was no memory to tell it
       done_untold : EndsAs (Fault Memory)
       done_untold = record {
-        grown = done.edges;
         said = answer.Fault Memory;
         says = λ edges given targets. refl;
         built = built_cut tells course.behaviour course.format course.own asked_then course.store course.entry now found idle done.phases done.ran.steps done.ran.met done.ran.cut done.once others done.ran.in_hand (inr ordered)
             Memory tt (passes_any course.entry now passes (answer.Fault Memory));
       }
 
-    done_well : (started : ℕ) → HasDone tells course graph cone now (Well started) → EndsAs (Success started)
+    done_well : (started : ℕ) → HasDone tells course grown graph cone now (Well started) → EndsAs (Success started)
     done_well started done =
         let run = done.ran.ends.1 in
         let over = done.ran.ends.2 in
         record {
-          grown = done.edges;
-          said = answer.Success started;
+            said = answer.Success started;
           says = λ edges given targets. refl;
-          built = built_well tells course.behaviour course.format course.own (asked_with course.asked done.edges) course.store course.entry now found idle done.phases done.ran.steps done.ran.met done.ran.cut done.once others named done.acyclic
+          built = built_well tells course.behaviour course.format course.own (asked_with course.asked grown) course.store course.entry now found idle done.phases done.ran.steps done.ran.met done.ran.cut done.once others named done.acyclic
               (sources (Well started) done) done.ran.ends.0 run over.0 over.1 over.2 done.ran.ends.3 done.ran.goes done.ran.removed cone.order.items cone.marks.items done.listed started over.3 done.ran.ends.4
               (passes_any course.entry now passes (answer.Success started));
         }
 
-    done_badly : (failed : Vec ℕ Global) → HasDone tells course graph cone now (SomeFailed failed) → EndsAs (Failed (map (first_output_of graph.manifest) failed.items))
+    done_badly : (failed : Vec ℕ Global) → HasDone tells course grown graph cone now (SomeFailed failed) → EndsAs (Failed (map (first_output_of graph.manifest) failed.items))
     done_badly failed done =
         let run = done.ran.ends.1 in
         let over = done.ran.ends.2 in
         let outputs = map (first_output_of graph.manifest) failed.items in
-        let told : map (λ i. first_output (edge_at done.edges i)) (failed_in done.ran.steps) ≡ outputs =
-        ap (λ (l : List ℕ). map (λ i. first_output (edge_at done.edges i)) l) (sym done.ran.ends.4)
+        let told : map (λ i. first_output (edge_at grown i)) (failed_in done.ran.steps) ≡ outputs =
+        ap (λ (l : List ℕ). map (λ i. first_output (edge_at grown i)) l) (sym done.ran.ends.4)
         ∙ (ap (λ (es : List Edge). map (λ i. first_output (edge_at es i)) (map suc failed.items)) (sym done.same) ∙ sym (map_suc (λ i. first_output (edge_at (declared_by graph).edges i)) failed.items)) in
         record {
-          grown = done.edges;
-          said = answer.Failed outputs;
+            said = answer.Failed outputs;
           says = λ edges given targets. refl;
-          built = built_failed tells course.behaviour course.format course.own (asked_with course.asked done.edges) course.store course.entry now found idle done.phases done.ran.steps done.ran.met done.ran.cut done.once others named
+          built = built_failed tells course.behaviour course.format course.own (asked_with course.asked grown) course.store course.entry now found idle done.phases done.ran.steps done.ran.met done.ran.cut done.once others named
               done.acyclic (sources (SomeFailed failed) done) done.ran.ends.0 run over.0 over.1 over.2 done.ran.ends.3 done.ran.goes done.ran.removed outputs told over.3
               (passes_any course.entry now passes (answer.Failed outputs));
         }
 
-    pub ends_done : (summary : Summary) → HasDone tells course graph cone now summary → (report : Report) → (report ≡ Fault Memory) ⊎ SaysEnd graph summary report → EndsAs report
+    pub ends_done : (summary : Summary) → HasDone tells course grown graph cone now summary → (report : Report) → (report ≡ Fault Memory) ⊎ SaysEnd graph summary report → EndsAs report
     ends_done summary done report (inl is) = subst (λ (r : Report). EndsAs r) (sym {A = Report} is) (done_untold summary done)
     ends_done (Well started) done report (inr is) = subst (λ (r : Report). EndsAs r) (sym {A = Report} is) (done_well started done)
     ends_done (SomeFailed failed) done report (inr is) = subst (λ (r : Report). EndsAs r) (sym {A = Report} is) (done_badly failed done)
 
   -- ---- a fault has cut it off
 
-  pub ends_cut : (fault : SiteFault) → WasCut tells course now fault → IsSeen course.entry now fault → PassesNoFault course.entry now (answer.Fault fault) → EndsAs (Fault fault)
+  pub ends_cut : (fault : SiteFault) → WasCut tells course grown now fault → IsSeen course.entry now fault → PassesNoFault course.entry now (answer.Fault fault) → EndsAs (Fault fault)
   ends_cut fault cut seen passes = record {
-    grown = cut.edges;
     said = answer.Fault fault;
     says = λ edges given targets. refl;
-    built = built_cut tells course.behaviour course.format course.own (asked_with course.asked cut.edges) course.store course.entry now found idle cut.phases cut.ran.steps cut.ran.met cut.ran.cut cut.once others cut.ran.in_hand (inr ordered)
+    built = built_cut tells course.behaviour course.format course.own (asked_with course.asked grown) course.store course.entry now found idle cut.phases cut.ran.steps cut.ran.met cut.ran.cut cut.once others cut.ran.in_hand (inr ordered)
         fault seen passes;
   }
     where
-      ordered : WasInOrder tells course.own (asked_with course.asked cut.edges) course.store cut.ran.cut.phased.build.earlier cut.ran.cut.phased.build.last course.entry now
+      ordered : WasInOrder tells course.own (asked_with course.asked grown) course.store cut.ran.cut.phased.build.earlier cut.ran.cut.phased.build.last course.entry now
       ordered = record {
         made_once = cut.once;
         dyndep = others;
         named = named;
         no_cycle = cut.acyclic;
         sources = λ tell kept.
-            subst (λ (ps : List Phase). WasNothingMissingIn course.own (task_over course cut.edges) course.store course.entry.history now.history [] ps cut.ran.cut.phased.build.last) (sym {A = List Phase} cut.ran.cut.phased.so)
+            subst (λ (ps : List Phase). WasNothingMissingIn course.own (task_over course grown) course.store course.entry.history now.history [] ps cut.ran.cut.phased.build.last) (sym {A = List Phase} cut.ran.cut.phased.so)
             (cut.asked tell kept);
       }
 
   -- ---- a refusal has ended it
 
-  module _ (refusal : Refusal) (stopped : HasStopped tells course now refusal) (passes : PassesNoFault course.entry now answer.Refused) where
+  module _ (refusal : Refusal) (stopped : HasStopped tells course grown now refusal) (passes : PassesNoFault course.entry now answer.Refused) where
     abbrev asked_now : Asked
-    asked_now = asked_with course.asked stopped.edges
+    asked_now = asked_with course.asked grown
 
     abbrev task : Task
     task = task_of asked_now course.store
@@ -196,6 +208,21 @@ module _ (tells : Bool) (course : Course) (now : World) (found : IsFoundAt tells
     cut =
         let off = cut_off tells course.behaviour course.format course.own asked_now course.store course.entry stopped.phases false steps None now stopped.finished.on.carried in
         record { phased = stopped.phased; run = off.run; beside = off.beside }
+
+    -- files that are kept were so then
+    kept_then : IsTrue tells → FilesAreKept course.own grown course.entry.history now.history → FilesAreKept course.own grown course.entry.history stopped.then.history
+    kept_then tell kept = let more = stopped.after.history tell in kept_before course.own grown course.entry.history stopped.then.history now.history more.0 more.1 kept
+
+    refused_now : (file : List ℕ) (Faulty : Option (List ℕ) → Type 0) → IsRefusedFile tells course.own asked_now course.store stopped.done course.entry stopped.then file Faulty
+        → IsRefusedFile tells course.own asked_now course.store stopped.done course.entry now file Faulty
+    refused_now file Faulty refused = record {
+      next = refused.next;
+      held = refused.held;
+      faulty = refused.faulty;
+      is = λ tell kept.
+          let was = refused.is tell (kept_then tell kept) in
+          record { at = was.at; point = point_later stopped.done course.entry.history stopped.then.history now.history was.at (stopped.after.history tell) was.point; is = was.is };
+    }
 
     -- the steps up to the refusal
     done_is : steps_of build.earlier ++ build.last ≡ stopped.done
@@ -213,7 +240,7 @@ module _ (tells : Bool) (course : Course) (now : World) (found : IsFoundAt tells
 
     abbrev HoldStill : View → Type 0
     HoldStill texts =
-        IsTrue tells → FilesAreKept course.own stopped.edges course.entry.history now.history → (file content : List ℕ) → texts file ≡ Some content → (maker course.asked.declared file ≡ None → maker stopped.edges file ≡ None)
+        IsTrue tells → FilesAreKept course.own grown course.entry.history now.history → (file content : List ℕ) → texts file ≡ Some content → (maker course.asked.declared file ≡ None → maker grown file ≡ None)
         → view_of now.history file ≡ Some content
 
     held_still : HoldStill stopped.phased.texts
@@ -239,9 +266,9 @@ module _ (tells : Bool) (course : Course) (now : World) (found : IsFoundAt tells
         (stopped.untouched, inr (file, subst (λ (l : List Done). IsNextLoad task l file) (sym done_is) next))
 
     -- a source is missing where a phase begins
-    stopped_lacking : RefusesFile tells course.own asked_now course.store (steps_of build.earlier ++ build.last) course.entry now (Refused refusal) → (missing : Lacking) → IsLacking tells course stopped.edges stopped.phases stopped.done now missing
+    stopped_lacking : RefusesFile tells course.own asked_now course.store (steps_of build.earlier ++ build.last) course.entry now (Refused refusal) → (missing : Lacking) → IsLacking tells course grown stopped.phases stopped.done stopped.then missing
         → Built tells course.behaviour course.format course.own asked_now course.entry now (missing_answer missing.path missing.needed_by) (Refused refusal)
-    stopped_lacking refused missing lacks = by_needed missing.needed_by lacks.is
+    stopped_lacking refused missing lacks = by_needed missing.needed_by (lacks_now missing.needed_by (λ tell kept apart. lacks.is tell (kept_then tell kept) apart))
       where
         asked_at : IsAsked task build.earlier (steps_of build.earlier ++ build.last)
         asked_at =
@@ -250,7 +277,17 @@ module _ (tells : Bool) (course : Course) (now : World) (found : IsFoundAt tells
 
         abbrev Lacks : Option (List ℕ) → List Done → Type 0
         Lacks needed done =
-            IsTrue tells → FilesAreKept course.own stopped.edges course.entry.history now.history → AreAskedApart course.own task done → IsMissingAfter course stopped.edges done now missing.path needed
+            IsTrue tells → FilesAreKept course.own grown course.entry.history now.history → AreAskedApart course.own task done → IsMissingAfter course grown done now missing.path needed
+
+        lacks_now : (needed : Option (List ℕ))
+            → (IsTrue tells → FilesAreKept course.own grown course.entry.history now.history → AreAskedApart course.own task stopped.done → IsMissingAfter course grown stopped.done stopped.then missing.path needed) → Lacks needed stopped.done
+        lacks_now None is tell kept apart =
+            let was = is tell kept apart in
+            (was.0, point_later stopped.done course.entry.history stopped.then.history now.history was.0 (stopped.after.history tell) was.1, was.2)
+        lacks_now (Some output) is tell kept apart =
+            let was = is tell kept apart in
+            let at = was.2 in
+            (was.0, was.1, (at.0, point_later stopped.done course.entry.history stopped.then.history now.history at.0 (stopped.after.history tell) at.1, at.2))
 
         lacks_then : (needed : Option (List ℕ)) → Lacks needed stopped.done → Lacks needed (steps_of build.earlier ++ build.last)
         lacks_then needed is = subst (λ (l : List Done). Lacks needed l) (sym done_is) is
@@ -264,7 +301,7 @@ module _ (tells : Bool) (course : Course) (now : World) (found : IsFoundAt tells
             (stopped.untouched, named, stopped.acyclic, asked_at, λ tell kept apart. lacks_then (Some output) is tell kept apart)
 
     -- a dyndep file was read, and what it adds makes no build
-    module _ (next : List Edge) (load : IsHeldLoad tells course stopped.edges stopped.done now next) where
+    module _ (next : List Edge) (load : IsHeldLoad tells course grown stopped.done stopped.then next) where
       abbrev texts : View
       texts = with_text load.file load.content stopped.phased.texts
 
@@ -274,11 +311,32 @@ module _ (tells : Bool) (course : Course) (now : World) (found : IsFoundAt tells
       abbrev build_read : IsLawfulBuild course.behaviour.dyndep texts course.asked.declared task course.store steps
       build_read = build_with course.behaviour.dyndep stopped.phased.texts texts more task course.store course.asked.declared steps build
 
+      -- what makes it was settled
+      loaded_then : IsTrue tells → LoadedThen tells course.own asked_now course.store load.file load.content steps course.entry now
+      loaded_then tell =
+          let due = load.is_next.due in
+          let since = stopped.finished.on.since in
+          let more = stopped.after.history tell in
+          record {
+            before = stopped.done;
+            later = since.0;
+            splits = since.1;
+            mid = stopped.then;
+            run = rest_begins tells course.own task course.entry stopped.done stopped.then stopped.run;
+            more = more.0;
+            grows = more.1;
+            holds = load.holds tell;
+            input = (due.edge, stopped.phased.inputs due.edge load.file due.names);
+            settled = λ same j makes command. settled_command grown (done_in stopped.done) j command (due.settled j makes);
+          }
+
       held_read : HoldStill texts
       held_read tell kept p content is same = elim (cases_Bool (bytes_eq load.file p)) [
         | inl here ↦
-            subst (λ (q : List ℕ). view_of now.history q ≡ Some content) (same_bytes load.file p here)
-            (load.holds tell kept ∙ sym (ap (λ (b : Bool). cond b (Some load.content) (stopped.phased.texts p)) here) ∙ is)
+            let told : Some load.content ≡ Some content = sym (ap (λ (b : Bool). cond b (Some load.content) (stopped.phased.texts p)) here) ∙ is in
+            holds_still tells course.behaviour course.format course.own asked_now course.store course.entry now found idle stopped.phases steps None cut stopped.once others tell kept p content
+            (subst (λ (q : List ℕ). LoadedThen tells course.own asked_now course.store q content steps course.entry now) (same_bytes load.file p here)
+            (subst (λ (c : List ℕ). LoadedThen tells course.own asked_now course.store load.file c steps course.entry now) (same_some load.content content told) (loaded_then tell))) same
         | inr other ↦ held_still tell kept p content (sym (ap (λ (b : Bool). cond b (Some load.content) (stopped.phased.texts p)) other) ∙ is) same
       ]
 
@@ -305,69 +363,62 @@ module _ (tells : Bool) (course : Course) (now : World) (found : IsFoundAt tells
           stopped_with texts build_read held_read ordered (answer.Cyclic paths) refused (λ h. h) (λ h. h)
           (stopped.untouched, named, (asked_with asked_now next, inr (next, refl, is_load), cycle))
 
-  ends_refused : (refusal : Refusal) → HasStopped tells course now refusal → PassesNoFault course.entry now answer.Refused → EndsAs (Refused refusal)
+  ends_refused : (refusal : Refusal) → HasStopped tells course grown now refusal → PassesNoFault course.entry now answer.Refused → EndsAs (Refused refusal)
   ends_refused (File fault) stopped passes = absurd stopped.cause
   ends_refused (NoDyndepInput path) stopped passes = absurd stopped.cause
   ends_refused (UnknownTarget target) stopped passes = absurd stopped.cause
   ends_refused (MadeTwice path) stopped passes = record {
-    grown = stopped.edges;
     said = answer.MadeTwice path;
     says = λ edges given targets. refl;
     built = stopped_twice (MadeTwice path) stopped passes stopped.cause.0 stopped.cause.1 tt path stopped.cause.2;
   }
   ends_refused (Cycle paths) stopped passes = record {
-    grown = stopped.edges;
     said = answer.Cyclic paths;
     says = λ edges given targets. refl;
     built = stopped_round (Cycle paths) stopped passes stopped.cause.0 stopped.cause.1 tt paths stopped.cause.3;
   }
   ends_refused (Missing missing) stopped passes = record {
-    grown = stopped.edges;
     said = missing_answer missing.path missing.needed_by;
     says = λ edges given targets. refl;
     built = stopped_lacking (Missing missing) stopped passes tt missing stopped.cause;
   }
   ends_refused (NoDyndep file) stopped passes = record {
-    grown = stopped.edges;
     said = answer.Refused;
     says = λ edges given targets. refl;
-    built = stopped_unread (NoDyndep file) stopped passes stopped.cause file stopped.cause.next;
+    built = stopped_unread (NoDyndep file) stopped passes (refused_now (NoDyndep file) stopped passes file _ stopped.cause) file stopped.cause.next;
   }
   ends_refused (BadVersion file) stopped passes = record {
-    grown = stopped.edges;
     said = answer.Refused;
     says = λ edges given targets. refl;
-    built = stopped_unread (BadVersion file) stopped passes stopped.cause file stopped.cause.next;
+    built = stopped_unread (BadVersion file) stopped passes (refused_now (BadVersion file) stopped passes file _ stopped.cause) file stopped.cause.next;
   }
   ends_refused (BadStatement file) stopped passes = record {
-    grown = stopped.edges;
     said = answer.Refused;
     says = λ edges given targets. refl;
-    built = stopped_unread (BadStatement file) stopped passes stopped.cause file stopped.cause.next;
+    built = stopped_unread (BadStatement file) stopped passes (refused_now (BadStatement file) stopped passes file _ stopped.cause) file stopped.cause.next;
   }
   ends_refused (Unfit unfit) stopped passes = record {
-    grown = stopped.edges;
     said = answer.Refused;
     says = λ edges given targets. refl;
-    built = stopped_unread (Unfit unfit) stopped passes stopped.cause unfit.file stopped.cause.next;
+    built = stopped_unread (Unfit unfit) stopped passes (refused_now (Unfit unfit) stopped passes unfit.file _ stopped.cause) unfit.file stopped.cause.next;
   }
 
   -- a refusal or a fault
-  pub ends_stopped : (graph : Graph) (cone : Cone) (stop : Stop) → HasEndedSo tells course graph cone now (Err stop) → IfFault stop (IsSeen course.entry now) → PassesNoFault course.entry now (stop_answer (Err stop)) → EndsAs (report_of stop)
+  pub ends_stopped : (graph : Graph) (cone : Cone) (stop : Stop) → HasEndedSo tells course grown graph cone now (Err stop) → IfFault stop (IsSeen course.entry now) → PassesNoFault course.entry now (stop_answer (Err stop)) → EndsAs (report_of stop)
   ends_stopped graph cone (stop.Refused refusal) ended seen passes = ends_refused refusal ended passes
   ends_stopped graph cone (stop.Fault fault) ended seen passes = ends_cut fault ended seen passes
 
 -- however it ended, the history grew since the entry
-pub ended_grows : (tells : Bool) (course : Course) (graph : Graph) (cone : Cone) (now : World) (result : Result Summary Stop) → HasEndedSo tells course graph cone now result → IsTrue tells → (later : List Moment) × (now.history ≡ course.entry.history ++ later)
-ended_grows tells course graph cone now (Ok summary) done tell = let told = done.ran.cut.run.history tell in (told.more, told.grows)
-ended_grows tells course graph cone now (Err (stop.Refused refusal)) stopped tell = let told = stopped.finished.on.carried.run.history tell in (told.more, told.grows)
-ended_grows tells course graph cone now (Err (stop.Fault fault)) cut tell = let told = cut.ran.cut.run.history tell in (told.more, told.grows)
+pub ended_grows : (tells : Bool) (course : Course) (grown : List Edge) (graph : Graph) (cone : Cone) (now : World) (result : Result Summary Stop) → HasEndedSo tells course grown graph cone now result → IsTrue tells → (later : List Moment) × (now.history ≡ course.entry.history ++ later)
+ended_grows tells course grown graph cone now (Ok summary) done tell = let told = done.ran.cut.run.history tell in (told.more, told.grows)
+ended_grows tells course grown graph cone now (Err (stop.Refused refusal)) stopped tell = let told = stopped.finished.on.carried.run.history tell in (told.more, told.grows)
+ended_grows tells course grown graph cone now (Err (stop.Fault fault)) cut tell = let told = cut.ran.cut.run.history tell in (told.more, told.grows)
 
 -- ---- of what was asked for
 
 -- The run of what was asked for has ended: on the course by which was read, and on one that begins anew there.
 module _ (tells : Bool) (graph : Graph) (request : Request) (records : Records) (course : Course) (old : World) (has : HasRead tells graph request records course old)
-    (others : (file : List ℕ) → NamesOther (declared_by graph).edges file → ⊥) (cone : Cone) (coned : IsConeRecorded graph request.targets cone) (after : Graph) (last : Cone) (exit : World) where
+    (others : (file : List ℕ) → NamesOther (declared_by graph).edges file → ⊥) (cone : Cone) (coned : IsConeRecorded graph request.targets cone) (grown : List Edge) (after : Graph) (last : Cone) (exit : World) where
   abbrev The : Asked
   The = asked_of (declared_by graph) request.folder request.limits request.targets
 
@@ -378,15 +429,15 @@ module _ (tells : Bool) (graph : Graph) (request : Request) (records : Records) 
   here = course_of course.behaviour course.format (any_own request.folder) The course.store old
 
   abbrev BuildsAs : Report → Type 0
-  BuildsAs report = Builds tells course.behaviour course.format course.own (declared_by graph) request.folder request.limits request.given.now request.targets course.entry exit report
+  BuildsAs report = Builds tells course.behaviour course.format course.own (declared_by graph) request.folder request.limits request.given.now request.targets grown course.entry exit report
 
-  module _ (result : Result Summary Stop) (anew : HasEndedSo tells here after last exit result) (passes : PassesNoFault old exit (stop_answer result)) where
+  module _ (result : Result Summary Stop) (anew : HasEndedSo tells here grown after last exit result) (passes : PassesNoFault old exit (stop_answer result)) where
     found : IsFoundAt tells course.format course.own course.store course.entry exit
-    found = found_later tells graph request records course old has exit (ended_grows tells here after last exit result anew)
+    found = found_later tells graph request records course old has exit (ended_grows tells here grown after last exit result anew)
 
-    builds_so : (report : Report) → EndsSo tells this exit report → BuildsAs report
+    builds_so : (report : Report) → EndsSo tells this grown exit report → BuildsAs report
     builds_so report ends =
-        builds_over tells course.behaviour course.format course.own (declared_by graph) request.folder request.limits request.given.now request.targets course.store course.entry exit found has.idle ends.grown report ends.said
+        builds_over tells course.behaviour course.format course.own (declared_by graph) request.folder request.limits request.given.now request.targets course.store course.entry exit found has.idle grown report ends.said
         (ends.says (declared_by graph).edges request.given.now request.targets) ends.built
 
     named : answer.AllNamed The
@@ -396,17 +447,17 @@ module _ (tells : Bool) (graph : Graph) (request : Request) (records : Records) 
     passes_all = passes_after tells course.entry old exit (stop_answer result) has.looked passes
 
   -- nothing was left to do
-  pub builds_done : (summary : Summary) → HasEndedSo tells this after last exit (Ok summary) → HasEndedSo tells here after last exit (Ok summary) → PassesNoFault old exit answer.Refused
+  pub builds_done : (summary : Summary) → HasEndedSo tells this grown after last exit (Ok summary) → HasEndedSo tells here grown after last exit (Ok summary) → PassesNoFault old exit answer.Refused
       → (report : Report) → (report ≡ Fault Memory) ⊎ SaysEnd after summary report → BuildsAs report
   builds_done summary ended anew passes report says =
       builds_so (Ok summary) anew passes report
-      (ends_done tells this exit (found (Ok summary) anew passes) has.idle others (named (Ok summary) anew passes) after last (passes_all (Ok summary) anew passes) summary ended report says)
+      (ends_done tells this grown exit (found (Ok summary) anew passes) has.idle others (named (Ok summary) anew passes) after last (passes_all (Ok summary) anew passes) summary ended report says)
 
   -- a refusal or a fault
-  pub builds_stopped : (stop : Stop) → HasEndedSo tells this after last exit (Err stop) → HasEndedSo tells here after last exit (Err stop) → PassesNoFault old exit (stop_answer (Err stop)) → IfFault stop (IsSeen old exit)
+  pub builds_stopped : (stop : Stop) → HasEndedSo tells this grown after last exit (Err stop) → HasEndedSo tells here grown after last exit (Err stop) → PassesNoFault old exit (stop_answer (Err stop)) → IfFault stop (IsSeen old exit)
       → (report : Report) → report ≡ report_of stop → BuildsAs report
   builds_stopped stop ended anew passes seen report is =
       subst (λ (r : Report). BuildsAs r) (sym {A = Report} is)
       (builds_so (Err stop) anew passes (report_of stop)
-      (ends_stopped tells this exit (found (Err stop) anew passes) has.idle others (named (Err stop) anew passes) after last stop ended
+      (ends_stopped tells this grown exit (found (Err stop) anew passes) has.idle others (named (Err stop) anew passes) after last stop ended
       (cause_since course.entry old exit stop has.looked.unrefused.failures seen) (passes_all (Err stop) anew passes)))

@@ -55,15 +55,16 @@ module _ (tells : Bool) (B : Behaviour) (format : LogFormat) (own : OwnFiles) (a
       IsTrue tells → FilesAreKept own asked.graph.edges entry.history now.history → (file content : List ℕ) → texts file ≡ Some content → (maker asked.declared file ≡ None → maker asked.graph.edges file ≡ None)
       → view_of now.history file ≡ Some content
 
+  pub holds_still : IsTrue tells → FilesAreKept own asked.graph.edges entry.history now.history → (file content : List ℕ) → LoadedThen tells own asked store file content steps entry now
+      → (maker asked.declared file ≡ None → maker asked.graph.edges file ≡ None) → view_of now.history file ≡ Some content
+  holds_still tell kept file content was same =
+      ap content_of
+      (settled_stays tells own asked store was.before was.later entry was.mid now was.more tell idle once was.run
+      (subst (λ (l : List Done). IsRunOrRest tells own (task_of asked store) l entry now) was.splits cut.run) was.grows kept file (kept.own_files.inputs was.input.0 file was.input.1) (was.settled same))
+      ∙ was.holds (kept_before own asked.graph.edges entry.history was.mid.history now.history was.more was.grows kept)
+
   pub held : HoldStill cut.phased.texts
-  held tell kept file content is same = by_then (cut.phased.held tell file content is)
-    where
-      by_then : LoadedThen tells own asked store file content steps entry now → view_of now.history file ≡ Some content
-      by_then was =
-          ap content_of
-          (settled_stays tells own asked store was.before was.later entry was.mid now was.more tell idle once was.run
-          (subst (λ (l : List Done). IsRunOrRest tells own (task_of asked store) l entry now) was.splits cut.run) was.grows kept file (kept.own_files.inputs was.input.0 file was.input.1) (was.settled same))
-          ∙ was.holds (kept_before own asked.graph.edges entry.history was.mid.history now.history was.more was.grows kept)
+  held tell kept file content is same = holds_still tell kept file content (cut.phased.held tell file content is) same
 
   -- ---- by these phases, and what the loaded files held
 

@@ -4,6 +4,7 @@ use Rattle.std.specs.Result.{IsErrAnd}
 use Rattle.model.specs.declared.act.Act.{Act}
 use Rattle.model.specs.declared.event.Moment.{Moment}
 use Rattle.model.specs.declared.graph.BuildGraph.{BuildGraph}
+use Rattle.model.specs.declared.graph.Edge.{Edge}
 use Rattle.model.specs.declared.outcome.Outcome.{Outcome}
 use Rattle.model.specs.World.{World, View, IsIdle}
 use Rattle.model.specs.Calls.{OnlyLooks, HasCause}
@@ -42,9 +43,9 @@ module _ (tells : Bool) (outcome : Act → View → Outcome) (name : List ℕ) (
   looked : Looked tells old mid
   looked = record { looks = looks; unrefused = unrefused_call old mid _ cause }
 
-  built_on : (new : World) (report : Report) → (IsTrue tells → ReadsFile name old.history new.history (Ok graph)) → BuildsFor tells graph asked mid new report
+  built_on : (new : World) (report : Report) (grown : List Edge) → (IsTrue tells → ReadsFile name old.history new.history (Ok graph)) → BuildsFor tells graph asked grown mid new report
       → IsBuild tells outcome name limits given old new report
-  built_on new report file builds = inr record {
+  built_on new report grown file builds = inr record {
     graph = graph;
     formed = formed;
     file = file;
@@ -52,23 +53,24 @@ module _ (tells : Bool) (outcome : Act → View → Outcome) (name : List ℕ) (
     canonical = canonical;
     folder = asked.folder;
     in_folder = in_folder;
+    grown = grown;
     builds = λ own format depfile dyndep depfiles dyndeps reads owned.
-        subst (λ (l : Limits). Builds tells (record { outcome = outcome; depfile = depfile; dyndep = dyndep }) format own graph asked.folder l given asked.targets old new report) limits_is
-        (subst (λ (g : List (List ℕ)). Builds tells (record { outcome = outcome; depfile = depfile; dyndep = dyndep }) format own graph asked.folder asked.limits g asked.targets old new report) given_is
+        subst (λ (l : Limits). Builds tells (record { outcome = outcome; depfile = depfile; dyndep = dyndep }) format own graph asked.folder l given asked.targets grown old new report) limits_is
+        (subst (λ (g : List (List ℕ)). Builds tells (record { outcome = outcome; depfile = depfile; dyndep = dyndep }) format own graph asked.folder asked.limits g asked.targets grown old new report) given_is
         (builds (record { outcome = outcome; depfile = depfile; dyndep = dyndep }) format own old depfiles dyndeps reads owned idle looked));
   }
 
   -- right after the files were read
-  pub built_here : (report : Report) → BuildsFor tells graph asked mid mid report → IsBuild tells outcome name limits given old mid report
-  built_here report builds = built_on mid report file builds
+  pub built_here : (report : Report) → BuildsFor tells graph asked graph.edges mid mid report → IsBuild tells outcome name limits given old mid report
+  built_here report builds = built_on mid report graph.edges file builds
 
   pub built_later : HasFormat → HasReading → HasDyndeps → ((name : List ℕ) (old mid new later : List Moment) (result : Result BuildGraph ReadError) → new ≡ mid ++ later → ReadsFile name old mid result → ReadsFile name old new result)
-      → (new : World) (report : Report) → BuildsFor tells graph asked mid new report → IsBuild tells outcome name limits given old new report
-  built_later logs depfiles dyndeps longer new report builds = built_on new report (λ tell. let later = grown tell in longer name old.history mid.history new.history later.0 (Ok graph) later.1 (file tell)) builds
+      → (new : World) (report : Report) (grown : List Edge) → BuildsFor tells graph asked grown mid new report → IsBuild tells outcome name limits given old new report
+  built_later logs depfiles dyndeps longer new report grown builds = built_on new report grown (λ tell. let later = more tell in longer name old.history mid.history new.history later.0 (Ok graph) later.1 (file tell)) builds
     where
       any : Behaviour
       any = record { outcome = outcome; depfile = depfiles.0; dyndep = (reads_dyndeps dyndeps).0 }
 
-      grown : IsTrue tells → (later : List Moment) × (new.history ≡ mid.history ++ later)
-      grown tell = builds_grow tells any logs.0 (any_own asked.folder) graph asked.folder asked.limits asked.given.now asked.targets mid new report
+      more : IsTrue tells → (later : List Moment) × (new.history ≡ mid.history ++ later)
+      more tell = builds_grow tells any logs.0 (any_own asked.folder) graph asked.folder asked.limits asked.given.now asked.targets grown mid new report
           (builds any logs.0 (any_own asked.folder) mid depfiles.1 (reads_dyndeps dyndeps).1 logs.1 (own_in asked.folder) (idle_after tells old mid looks idle) (looked_nothing tells mid cause.stopped)) tell
