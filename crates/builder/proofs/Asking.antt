@@ -1,5 +1,5 @@
 -- What is found of sources where a phase begins is so right behind the last start or finish of the steps so far.
-use Rattle.std.proofs.Common.{◌≡◌, ◌≢◌, ◌⊎◌, inl, inr, ℕ, ◌≤◌, Bool, true, IsTrue, List, [], ◌∷◌, ◌++◌, Option, Some, None, bytes_eq, refl, sym, ◌∙◌, ap, subst, arith}
+use Rattle.std.proofs.Common.{◌≡◌, ◌≢◌, ◌⊎◌, inl, inr, ℕ, Bool, true, IsTrue, List, [], ◌∷◌, ◌++◌, Option, Some, None, bytes_eq, refl, sym, ◌∙◌, ap, subst, append_assoc}
 use Rattle.std.specs.List.{AllByRecursion}
 use Rattle.std.proofs.lemmas.List.{append-nil}
 use Rattle.std.proofs.lemmas.Bool.{false≢true, false_from_ne_true}
@@ -12,9 +12,9 @@ use Rattle.model.specs.World.{World, file_at, IsRunning}
 use Rattle.model.specs.Calls.{OnlyLooks}
 use Rattle.model.specs.Graph.{has, has_number, edge_at, maker, IsCommand}
 use Rattle.model.specs.OutOfDate.{NothingIsMissing}
-use Rattle.model.specs.Phases.{Phase, steps_of, happened_in, IsPointAfter, AreAskedApart, IsNothingMissing, WasNothingMissing, WasNothingMissingIn}
+use Rattle.model.specs.Phases.{Phase, steps_of, IsPointAfter, AreAskedApart, IsNothingMissing, WasNothingMissing, WasNothingMissingIn}
 use Rattle.model.specs.Premises.{FilesAreKept, RecordedApart, IsWithinEdge, IsNoEdit}
-use Rattle.model.specs.Records.{Store, recorded_inputs}
+use Rattle.model.specs.Records.{OwnFiles, Store, recorded_inputs}
 use Rattle.model.specs.Schedule.{Task, Step as Done, judged_in, out_of_date_in, started_in, running_in}
 use Rattle.build_theory.specs.Run.{IsRun}
 use Rattle.build_theory.proofs.Calls.{looks_then}
@@ -47,7 +47,22 @@ use Rattle.runner.specs.Course.{Course, is_quiet, IsOn}
 use Rattle.runner.proofs.Keeping.{looks_carried, looks_quiet}
 use Rattle.runner.proofs.Quiet.{all_kept, quiet_parts, quiet_from}
 use Rattle.builder.specs.Going.{grown_course, task_over, StandsAt, IsUnstarted, HasAsked, HadAsked}
-use Rattle.builder.proofs.Behind.{count_of, first_count, told_count, missing_on, missing_on_before, missing_in, missing_also}
+use Rattle.builder.proofs.Points.{point_now, asked_later, had_asked_later}
+
+module _ (own : OwnFiles) (task : Task) (store : Store) (old now : List Moment) where
+  -- whatever steps the last phase has
+  missing_in : (before : List Done) (phases : List Phase) (last : List Done) → WasNothingMissing own task store old now before phases → WasNothingMissingIn own task store old now before phases last
+  missing_in before [] [] nothing = tt
+  missing_in before [] (step ∷ last) nothing = nothing
+  missing_in before (phase ∷ phases) last nothing = (nothing.0, missing_in (before ++ phase.steps) phases last nothing.1)
+
+  -- where the last phase was asked for, too
+  missing_also : (before : List Done) (phases : List Phase) → WasNothingMissingIn own task store old now before phases [] → IsNothingMissing own task store (before ++ steps_of phases) old now → WasNothingMissing own task store old now before phases
+  missing_also before [] nothing also = subst (λ (l : List Done). IsNothingMissing own task store l old now) (append-nil before) also
+  missing_also before (phase ∷ phases) nothing also = (
+    nothing.0,
+    missing_also (before ++ phase.steps) phases nothing.1 (subst (λ (l : List Done). IsNothingMissing own task store l old now) (sym (append_assoc before phase.steps (steps_of phases))) also),
+  )
 
 -- ---- where the history has grown
 
@@ -65,27 +80,18 @@ module _ (tells : Bool) (course : Course) (edges : List Edge) (phases : List Pha
   fresh_steps fresh none =
       whole ∙ (ap (λ (l : List Done). steps_of phases ++ (l ++ on.carried.phased.build.taken_in)) fresh ∙ (ap (λ (l : List Done). steps_of phases ++ l) none ∙ append-nil (steps_of phases)))
 
-  counts : (tell : IsTrue tells) → count_of (steps_of phases) ≤ happened_in (on.carried.run.history tell).more
-  counts tell =
-      first_count (steps_of phases) (on.carried.phased.build.last ++ on.carried.phased.build.taken_in) (happened_in (on.carried.run.history tell).more)
-      (as_many (count_of on.steps) (count_of (steps_of phases ++ (on.carried.phased.build.last ++ on.carried.phased.build.taken_in))) (happened_in (on.carried.run.history tell).more) (ap count_of whole)
-      (told_count tells course.own task on.steps course.entry now on.carried.run tell))
-    where
-      as_many : (n m k : ℕ) → n ≡ m → k ≡ n → m ≤ k
-      as_many n m k same is = omega (arith, same, is)
-
   module _ (new : World) (after : ComesAfter tells now new) where
     files_then : (tell : IsTrue tells) → FilesAreKept course.own edges course.entry.history new.history → FilesAreKept course.own edges course.entry.history now.history
     files_then tell files = kept_before course.own edges course.entry.history now.history new.history (after.history tell).0 (after.history tell).1 files
 
     pub asked_on : HasAsked tells course edges phases now → HasAsked tells course edges phases new
     asked_on asked tell files =
-        missing_on course.own task course.store course.entry.history (on.carried.run.history tell).more now.history (after.history tell).0 new.history (on.carried.run.history tell).grows (after.history tell).1 [] phases (counts tell)
+        asked_later tells course.own task on.steps course.entry now on.carried.run tell (after.history tell).0 new.history (after.history tell).1 phases (on.carried.phased.build.last ++ on.carried.phased.build.taken_in) whole task course.store
         (asked tell (files_then tell files))
 
-    pub had_asked_on : HadAsked tells course edges phases [] now → HadAsked tells course edges phases [] new
-    had_asked_on asked tell files =
-        missing_on_before course.own task course.store course.entry.history (on.carried.run.history tell).more now.history (after.history tell).0 new.history (on.carried.run.history tell).grows (after.history tell).1 [] phases (counts tell)
+    pub had_asked_on : (last : List Done) → HadAsked tells course edges phases last now → HadAsked tells course edges phases last new
+    had_asked_on last asked tell files =
+        had_asked_later tells course.own task on.steps course.entry now on.carried.run tell (after.history tell).0 new.history (after.history tell).1 phases (on.carried.phased.build.last ++ on.carried.phased.build.taken_in) whole task course.store last
         (asked tell (files_then tell files))
 
   -- whatever steps the last phase has
@@ -169,7 +175,7 @@ module _ (tells : Bool) (tick : List ℕ) (course : Course) (edges : List Edge) 
     -- ---- where nothing was started
 
     module _ (none : started_in steps ≡ []) where
-      untouched : IsUnstarted tells here graph state now
+      untouched : IsUnstarted tells course graph state now
       untouched = stands.unstarted none
 
       -- the history is that of the entry
