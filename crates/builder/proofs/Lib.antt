@@ -2,12 +2,15 @@ pub mod Beginning
 pub mod Builds
 pub mod Counting
 pub mod Entry
+pub mod FileJoins
 pub mod Folders
 pub mod Formed
 pub mod Joining
+pub mod Loading
 pub mod Looking
 pub mod Numbering
 pub mod Opening
+pub mod Points
 pub mod Running
 pub mod Slices
 pub mod Stages
