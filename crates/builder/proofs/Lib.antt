@@ -1,6 +1,7 @@
 pub mod Beginning
 pub mod Builds
 pub mod Counting
+pub mod Endings
 pub mod Entry
 pub mod FileJoins
 pub mod Folders

@@ -235,52 +235,49 @@ IsStopOf old new (stop.Fault fault) = IsFaulted old new fault
 -- ---- how a run ends
 
 -- Nothing is left to do, over these edges.
-pub record HasDone (tells : Bool) (course : Course) (graph : Graph) (cone : Cone) (now : World) (summary : Summary) : Type 0 where
-  pub edges : List Edge
+pub record HasDone (tells : Bool) (course : Course) (grown : List Edge) (graph : Graph) (cone : Cone) (now : World) (summary : Summary) : Type 0 where
   pub phases : List Phase
-  pub ran : HasRun tells (grown_course course edges phases) now (Ok summary)
-  pub asked : HasAsked tells course edges phases now
-  pub same : (declared_by graph).edges ≡ edges
-  pub once : IsMadeOnce edges
-  pub acyclic : HasNoCycle (asked_with course.asked edges) course.store
-  pub listed : IsConeOf edges (recorded_inputs course.store edges) (task_over course edges).targets cone.order.items cone.marks.items
+  pub ran : HasRun tells (grown_course course grown phases) now (Ok summary)
+  pub asked : HasAsked tells course grown phases now
+  pub same : (declared_by graph).edges ≡ grown
+  pub once : IsMadeOnce grown
+  pub acyclic : HasNoCycle (asked_with course.asked grown) course.store
+  pub listed : IsConeOf grown (recorded_inputs course.store grown) (task_over course grown).targets cone.order.items cone.marks.items
 
 -- A refusal has ended it after these steps, with which its last phase ended; since then, where the site was so, what ran was taken in.
 -- Before the first step it has only looked.
-pub record HasStopped (tells : Bool) (course : Course) (now : World) (refusal : Refusal) : Type 0 where
-  pub edges : List Edge
+pub record HasStopped (tells : Bool) (course : Course) (grown : List Edge) (now : World) (refusal : Refusal) : Type 0 where
   pub phases : List Phase
   pub done : List Done
   pub graph : Graph
   pub state : State
-  pub finished : IsFinished tells (ended_course (grown_course course edges phases) done) graph state now
-  pub phased : IsPhased tells course.behaviour course.own (asked_with course.asked edges) course.store phases finished.on.steps course.entry now
+  pub finished : IsFinished tells (ended_course (grown_course course grown phases) done) graph state now
+  pub phased : IsPhased tells course.behaviour course.own (asked_with course.asked grown) course.store phases finished.on.steps course.entry now
   pub up_to : steps_of phases ++ phased.build.last ≡ done
   pub untouched : finished.on.steps ≡ [] → OnlyLooks tells course.entry now
   pub then : World
-  pub run : IsRun tells course.own (task_over course edges) done course.entry then
+  pub run : IsRun tells course.own (task_over course grown) done course.entry then
   pub after : ComesAfter tells then now
-  pub cause : IsRefusedBy tells course edges phases done then refusal
-  pub once : IsMadeOnce edges
-  pub acyclic : HasNoCycle (asked_with course.asked edges) course.store
-  pub asked : HadAsked tells course edges phases phased.build.last now
+  pub cause : IsRefusedBy tells course grown phases done then refusal
+  pub once : IsMadeOnce grown
+  pub acyclic : HasNoCycle (asked_with course.asked grown) course.store
+  pub asked : HadAsked tells course grown phases phased.build.last now
 
 -- A fault has cut it off.
-pub record WasCut (tells : Bool) (course : Course) (now : World) (fault : SiteFault) : Type 0 where
-  pub edges : List Edge
+pub record WasCut (tells : Bool) (course : Course) (grown : List Edge) (now : World) (fault : SiteFault) : Type 0 where
   pub phases : List Phase
   pub cut : Cut
   pub is : fault_of cut ≡ fault
-  pub ran : HasRun tells (grown_course course edges phases) now (Err cut)
-  pub once : IsMadeOnce edges
-  pub acyclic : HasNoCycle (asked_with course.asked edges) course.store
-  pub asked : HadAsked tells course edges phases ran.cut.phased.build.last now
+  pub ran : HasRun tells (grown_course course grown phases) now (Err cut)
+  pub once : IsMadeOnce grown
+  pub acyclic : HasNoCycle (asked_with course.asked grown) course.store
+  pub asked : HadAsked tells course grown phases ran.cut.phased.build.last now
 
 -- a run ends so that goes on from where a phase begins
-abbrev pub HasEndedSo : Bool → Course → Graph → Cone → World → Result Summary Stop → Type 0
-HasEndedSo tells course graph cone now (Ok summary) = HasDone tells course graph cone now summary
-HasEndedSo tells course graph cone now (Err (stop.Refused refusal)) = HasStopped tells course now refusal
-HasEndedSo tells course graph cone now (Err (stop.Fault fault)) = WasCut tells course now fault
+abbrev pub HasEndedSo : Bool → Course → List Edge → Graph → Cone → World → Result Summary Stop → Type 0
+HasEndedSo tells course grown graph cone now (Ok summary) = HasDone tells course grown graph cone now summary
+HasEndedSo tells course grown graph cone now (Err (stop.Refused refusal)) = HasStopped tells course grown now refusal
+HasEndedSo tells course grown graph cone now (Err (stop.Fault fault)) = WasCut tells course grown now fault
 
 -- Where a stop comes about: it is refused where it stands, or a fault cuts it off, before what runs is taken in,
 abbrev pub StoppedThere : Bool → List ℕ → Course → Graph → Cone → State → World → Stop → Type 0
