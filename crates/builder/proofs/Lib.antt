@@ -16,4 +16,5 @@ pub mod Points
 pub mod Running
 pub mod Slices
 pub mod Stages
+pub mod StopCases
 pub mod Telling

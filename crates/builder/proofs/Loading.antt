@@ -14,7 +14,7 @@ use Rattle.model.specs.World.{World, File, file_at, content_of, stamp_of, view_o
 use Rattle.model.specs.Calls.{OnlyLooks, OthersWrote, Sees}
 use Rattle.model.specs.Graph.{has, has_number, edge_at, maker, inputs, outputs, Addition, IsCommand, IsMadeOnce}
 use Rattle.model.specs.Kept.{StartedUnder}
-use Rattle.model.specs.Phases.{Phase, steps_of, IsNextLoad, IsPointAfter, IsInOrderAt, WasNothingMissing, WasNothingMissingIn}
+use Rattle.model.specs.Phases.{Phase, steps_of, IsGrownBy, IsNextLoad, IsPointAfter, IsInOrderAt, WasNothingMissing, WasNothingMissingIn}
 use Rattle.model.specs.Premises.{FilesAreKept}
 use Rattle.model.specs.Reading.{IsInCone, IsCycle}
 use Rattle.model.specs.Records.{OwnFiles, Store, recorded_of, recorded_inputs}
@@ -69,6 +69,7 @@ use Rattle.builder.specs.declared.report.Refusal.TheVariants.{File as BuildFile,
 use Rattle.builder.specs.Going.{grown_course, task_over, IsUnstarted, StandsAt, HasAsked, HadAsked, BeginsAt, IsLoadNext, IsHeldLoad, IsRefusedBy, HasBegun, IsStopped, IsCutThere, files_left}
 use Rattle.builder.specs.Joined.{WasHeld, IsUnread, IsUnfitBy, IsCircleBy, IsUnjoined, MayJoin, HasJoinedFile, GoesOnWith, IsLeftWith, HasRoomIn, StayKnown, IsAsBefore}
 use Rattle.builder.specs.Loads.{ReadsDyndeps, HeldThen, IsRefusedFile, IsSaying, IsUnfitFor}
+use Rattle.builder.proofs.Fewer.{fewer_left}
 use Rattle.builder.proofs.FileJoins.{none_unloaded, text_front, texts_front, same_graph}
 use Rattle.builder.proofs.Points.{point_now, asked_later, asked_load}
 use Rattle.builder.proofs.Telling.{none_of_phony}
@@ -189,7 +190,7 @@ module _ (tells : Bool) (tick : List ℕ) (course : Course) (edges : List Edge) 
         noted = ap (map suc) same.failed ∙ on_new.noted;
       }
 
-      pub stands_after : StandsAt tells tick course edges phases graph cone after new
+      abbrev pub stands_after : StandsAt tells tick course edges phases graph cone after new
       stands_after = record {
         goes = stands.goes;
         dyndeps = stands.dyndeps;
@@ -204,6 +205,14 @@ module _ (tells : Bool) (tick : List ℕ) (course : Course) (edges : List Edge) 
             let was = unstarted_new none in
             record { looks = was.looks; seen = λ tell is. subst (λ (l : Looks). AreSeen graph.manifest.paths new.history l.seen.items) (sym {A = Looks} same.looks) (was.seen tell is) };
       }
+
+      -- the load is refused there
+      pub stopped_there : (refusal : Refusal) → IsRefusedBy tells course edges phases steps new refusal → IsStopped tells tick course edges phases graph cone after new refusal
+      stopped_there refusal cause = record { stands = stands_after; cause = cause }
+
+    -- the state is as it was
+    pub stopped_here : (refusal : Refusal) → IsRefusedBy tells course edges phases steps new refusal → IsStopped tells tick course edges phases graph cone state new refusal
+    stopped_here refusal cause = stopped_there state (record { plan = refl; looks = refl; logs = refl; starts = refl; failed = refl; set = refl }) (λ rs ds known. known) refusal cause
 
     -- ---- what the file held
 
@@ -502,6 +511,10 @@ module _ (tells : Bool) (tick : List ℕ) (course : Course) (edges : List Edge) 
                     let sum = ap length gains.paths ∙ length-append graph.manifest.paths gains.added in
                     omega (arith, low, sum)
 
+            -- the file was loaded
+            pub has_begun : HasBegun tells tick course phases grown grown_cone after new
+            has_begun = (next, ended, begun)
+
     -- ---- a fault
 
     -- a fault before that
@@ -537,3 +550,9 @@ module _ (tells : Bool) (tick : List ℕ) (course : Course) (edges : List Edge) 
         split_here : steps ≡ steps_of phases ++ on_new.carried.phased.build.last
         split_here = so_far tells course.behaviour course.own here.asked course.store course.entry phases steps new on_new.carried.phased (on_new.carried.goes stands.goes)
             ∙ ap (λ (l : List Phase). steps_of l ++ on_new.carried.phased.build.last) on_new.carried.phased.so
+
+  -- fewer edges name a file behind the load
+  pub fewer_by : (grown : Graph) (additions : List Addition) → HasJoinedFile course.store graph grown path additions → files_left (declared_by grown).edges < files_left (declared_by graph).edges
+  fewer_by grown additions joined =
+      fewer_left path additions (declared_by graph).edges (declared_by grown).edges (subst (λ (b : BuildGraph). IsGrownBy path additions (declared_by graph).edges b.edges) (sym {A = BuildGraph} joined.more.declared) joined.has.grown)
+      next_load.next.due.edge (subst (λ (b : BuildGraph). (edge_at b.edges next_load.next.due.edge).dyndep ≡ Some path) stands.suits.same next_load.next.due.names)
