@@ -28,9 +28,9 @@ fault_then (stop.Refused refusal) p f = tt
 fault_then (stop.Fault fault) p f = f fault p
 
 -- what is so of a stop is so of an exit by `?` that passes it on
-pub passed : {T : Type 0} {P : Stop → Type 0} (told : Stop) (r : Result T Stop) → IsErrAnd r (λ s. s ≡ told) → P told → IfErr r P
-passed told (Ok x) is p = tt
-passed {P = P} told (Err s) is p = subst P (sym {A = Stop} is) p
+pub passed : {T : Type 0} (P : Stop → Type 0) (told : Stop) (r : Result T Stop) → IsErrAnd r (λ s. s ≡ told) → P told → IfErr r P
+passed P told (Ok x) is p = tt
+passed P told (Err s) is p = subst P (sym {A = Stop} is) p
 
 -- a fault has this left, by whichever exit
 pub left_by : {T : Type 0} {P : Type 0} (r : Result T Stop) → P → IfErr r (λ s. IfFault s (λ fault. P))

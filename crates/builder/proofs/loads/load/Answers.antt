@@ -20,7 +20,7 @@ returns-in_err-additions-clause-stopped g c =
     let file = c.args.file in
     let old = g.S.Texts.world c.args.site.now in
     let new = g.S.Texts.world c.additions_in.new.site in
-    passed _ c.from_residual-in_err-additions.result c.from_residual-in_err-additions.ensures.1
+    passed _ _ c.from_residual-in_err-additions.result c.from_residual-in_err-additions.ensures.1
     (refused_then _ c.in_err-additions.ensures.refused (λ refusal unread tick course edges phases stands next.
     stopped_here tells tick course edges phases graph cone state old stands file next c.log_stays.ensures new c.additions_in.ensures.looks refusal
     (unread_cause tells tick course edges phases graph cone state old stands file next c.log_stays.ensures new c.additions_in.ensures.looks refusal unread)))

@@ -1,4 +1,4 @@
-use Rattle.std.proofs.Common.{◌≡◌, ◌<◌, ◌++◌, ℕ, List, [], ◌∷◌, take, length, get_or, sym, ◌∙◌, ap, subst, arith}
+use Rattle.std.proofs.Common.{◌≡◌, ◌<◌, ◌++◌, ℕ, true, List, [], ◌∷◌, take, length, get_or, sym, ◌∙◌, ap, subst, arith}
 use Rattle.model.specs.Graph.{has_number}
 use Rattle.links.specs.Held.{list_at}
 use Rattle.links.specs.LoadedEdges.{numbers_in}
