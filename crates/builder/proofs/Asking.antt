@@ -146,19 +146,14 @@ module _ (tells : Bool) (tick : List ℕ) (course : Course) (edges : List Edge) 
 
     keeps_depfile : (i : ℕ) → IsCommand edges i → has_number (judged_in steps) i ≡ false → KeepsDepfile tells edges now new i
     keeps_depfile i command fresh told named =
-        all_kept (bytes_eq depfile) now.history call.more new.history call.grows (λ p is.
-        subst (λ (q : List ℕ). AllByRecursion (IsElsewhere q) call.more) (same_bytes depfile p is)
-        (private_elsewhere course.own edges files.own_files i command depfile (record { named = named; is = inl refl }) (IsRunning now.events) others call.more call.all
+        let call = looks.history told in
+        let so_far = stands.on.carried.run.history told in
+        all_kept (bytes_eq (edge_at edges i).act.depfile) now.history call.more new.history call.grows (λ p is.
+        subst (λ (q : List ℕ). AllByRecursion (IsElsewhere q) call.more) (same_bytes (edge_at edges i).act.depfile p is)
+        (private_elsewhere course.own edges files.own_files i command (edge_at edges i).act.depfile (record { named = named; is = inl refl }) (IsRunning now.events) others call.more call.all
         (since (IsWithinEdge edges) course.entry.history so_far.more now.history call.more new.history so_far.grows call.grows files.commands)
         (since IsNoEdit course.entry.history so_far.more now.history call.more new.history so_far.grows call.grows files.edits)))
       where
-        abbrev depfile : List ℕ
-        depfile = (edge_at edges i).act.depfile
-
-        abbrev call = looks.history told
-
-        abbrev so_far = stands.on.carried.run.history told
-
         others : OthersRun edges i (IsRunning now.events)
         others = others_run tells here.behaviour here.format here.own here.asked here.store here.entry steps now stands.on.carried.beside.idle
             (rest_begins tells here.own (task_over course edges) here.entry steps now stands.on.carried.run) i

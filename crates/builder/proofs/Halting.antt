@@ -26,7 +26,7 @@ use Rattle.looks.specs.Seen.{AreKept}
 use Rattle.plan.specs.declared.plan.Plan.{Plan}
 use Rattle.plan.specs.Planned.{IsPlanned}
 use Rattle.records.specs.Laws.{LogStays}
-use Rattle.display.specs.declared.display.Display.{Display as Showing}
+use Rattle.display.specs.Shown.{Showing}
 use Rattle.runner.specs.declared.cut.Cut.{Cut}
 use Rattle.runner.specs.declared.state.State.{State}
 use Rattle.runner.specs.declared.summary.Summary.{Summary}
@@ -85,8 +85,8 @@ module _ (tells : Bool) (course : Course) (task : Task) (graph : Graph) (first s
     seen = λ tell same p asked.
         let told = run.history tell in
         let more = grows.history tell in
-        let then = none_between course.entry.history now.history new.history told.more more.0 told.grows more.1 same in
-        call.seen tell (λ q. true) (same_kept (λ q. true) now.history new.history (same ∙ sym then)) (λ q was_asked is. untouched.seen tell then q was_asked) p asked refl;
+        let still = none_between course.entry.history now.history new.history told.more more.0 told.grows more.1 same in
+        call.seen tell (λ q. true) (same_kept (λ q. true) now.history new.history (same ∙ sym still)) (λ q was_asked is. untouched.seen tell still q was_asked) p asked refl;
   }
     where
       new_is : new.events ≡ course.entry.events
@@ -139,9 +139,8 @@ module _ (tells : Bool) (tick : List ℕ) (course : Course) (edges : List Edge) 
 
   -- ---- at its end
 
-  pub done_at : (summary : Summary) (new : World) → ComesAfter tells now new → HasAsked tells course edges phases now → HasRun tells here new (Ok summary) → HasDone tells course graph cone new summary
+  pub done_at : (summary : Summary) (new : World) → ComesAfter tells now new → HasAsked tells course edges phases now → HasRun tells here new (Ok summary) → HasDone tells course edges graph cone new summary
   done_at summary new grows asked ran = record {
-    edges = edges;
     phases = phases;
     ran = ran;
     asked = asked_on tells course edges phases stands.on.steps now stands.on.carried.run stands.on.carried.phased new grows asked;
@@ -151,9 +150,8 @@ module _ (tells : Bool) (tick : List ℕ) (course : Course) (edges : List Edge) 
     listed = stands.listed;
   }
 
-  pub cut_at : (cut : Cut) (new : World) → ComesAfter tells now new → HasAsked tells course edges phases now → HasRun tells here new (Err cut) → WasCut tells course new (fault_of cut)
+  pub cut_at : (cut : Cut) (new : World) → ComesAfter tells now new → HasAsked tells course edges phases now → HasRun tells here new (Err cut) → WasCut tells course edges new (fault_of cut)
   cut_at cut new grows asked ran = record {
-    edges = edges;
     phases = phases;
     cut = cut;
     is = refl;
@@ -199,9 +197,8 @@ module _ (tells : Bool) (tick : List ℕ) (course : Course) (edges : List Edge) 
     stands_looked display due = stands_on (with_sources display due) new (after_looks tells now new looked.looks) (λ same. looked) (on_sources display due)
 
     -- a fault cuts it off
-    pub cut_looked : (state_after : State) → state_after.plan ≡ state.plan → HadAsked tells course edges phases stands.on.carried.phased.build.last new → IsCutThere tells course state_after new
+    pub cut_looked : (state_after : State) → state_after.plan ≡ state.plan → HadAsked tells course edges phases stands.on.carried.phased.build.last new → IsCutThere tells course edges state_after new
     cut_looked state_after same asked = record {
-      edges = edges;
       phases = phases;
       graph = graph;
       cut = record {

@@ -1,5 +1,5 @@
 -- How a run of a graph is stopped: by a missing source, by a load that is refused, or by a fault; and what is taken in behind that.
-use Rattle.std.proofs.Common.{◌≡◌, ◌⊎◌, inl, inr, ℕ, suc, not, is_some, Bool, true, false, IsTrue, List, [], ◌∷◌, ◌++◌, Option, Some, None, Ok, Err, refl, sym, ◌∙◌, ap, subst}
+use Rattle.std.proofs.Common.{◌≡◌, ◌⊎◌, inl, inr, ℕ, suc, not, is_some, Bool, true, false, IsTrue, List, [], ◌∷◌, ◌++◌, ◌<◌, length, Vec, Global, Option, Some, None, Ok, Err, refl, sym, ◌∙◌, ap, subst}
 use Rattle.std.proofs.lemmas.List.{append-nil}
 use Rattle.model.specs.declared.event.Moment.{Moment}
 use Rattle.model.specs.declared.fault.SiteFault.{SiteFault}
@@ -12,7 +12,7 @@ use Rattle.model.specs.Premises.{FilesAreKept}
 use Rattle.model.specs.Records.{Store}
 use Rattle.model.specs.Schedule.{Task, Step as Done, started_in}
 use Rattle.model.specs.SingleBuild.{asked_with}
-use Rattle.build_theory.proofs.Runs.{rest_begins}
+use Rattle.build_theory.proofs.Lists.{same_rest}
 use Rattle.log_theory.specs.Ledger.{IsPhased, IsRefused, IsCutOff}
 use Rattle.log_theory.proofs.Phased.{phased_on}
 use Rattle.links.specs.declared.cone.Cone.{Cone}
@@ -26,7 +26,7 @@ use Rattle.plan.specs.declared.plan.Plan.{Plan}
 use Rattle.plan.specs.declared.step.Step.TheVariants.{Load}
 use Rattle.plan.specs.Planned.{IsOffered, IsDueNext}
 use Rattle.records.specs.Laws.{LogStays}
-use Rattle.display.specs.declared.display.Display.{Display as Showing}
+use Rattle.display.specs.Shown.{Showing}
 use Rattle.runner.specs.declared.cut.Cut.{Cut}
 use Rattle.runner.specs.declared.state.State.{State}
 use Rattle.runner.specs.After.{ComesAfter, LooksUnlessMore}
@@ -131,14 +131,13 @@ module _ (tells : Bool) (tick : List ℕ) (course : Course) (edges : List Edge) 
 
     -- one is missing, or a fault was met
     pub lacking_there : NoSourceIsDue graph state.plan → (stopped : Stop) → LacksSource tells graph state.records cone state.plan now new state.looks stopped
-        → StoppedThere tells tick course graph cone (with_looks tells here graph state after) new stopped
+        → StoppedThere tells tick course edges graph cone (with_looks tells here graph state after) new stopped
     lacking_there made stopped (inl fault) =
-        subst (λ (s : Stop). StoppedThere tells tick course graph cone (with_looks tells here graph state after) new s) (sym {A = Stop} fault.says)
+        subst (λ (s : Stop). StoppedThere tells tick course edges graph cone (with_looks tells here graph state after) new s) (sym {A = Stop} fault.says)
         (cut_looked tells tick course edges phases graph cone state now stands stays new after looked (with_looks tells here graph state after) refl had_last)
     lacking_there made stopped (inr lack) =
-        subst (λ (s : Stop). StoppedThere tells tick course graph cone (with_looks tells here graph state after) new s) (sym {A = Stop} lack.says)
+        subst (λ (s : Stop). StoppedThere tells tick course edges graph cone (with_looks tells here graph state after) new s) (sym {A = Stop} lack.says)
         (record {
-          edges = edges;
           phases = phases;
           stopped = record { stands = stands_looked tells tick course edges phases graph cone state now stands stays new after looked state.display state.due; cause = cause };
           asked = had_last;
@@ -162,10 +161,10 @@ module _ (tells : Bool) (tick : List ℕ) (course : Course) (edges : List Edge) 
 -- ---- a load that is not made
 
 -- where it is stopped, by what is so of a refusal and of a fault
-pub stopped_there : (tells : Bool) (tick : List ℕ) (course : Course) (graph : Graph) (cone : Cone) (state : State) (now : World) (stopped : Stop) → IfRefused stopped (λ refusal. IsRefusedAt tells tick course graph cone state now refusal)
-    → IfFault stopped (λ fault. IsCutThere tells course state now) → StoppedThere tells tick course graph cone state now stopped
-stopped_there tells tick course graph cone state now (stop.Refused refusal) refused faulted = refused
-stopped_there tells tick course graph cone state now (stop.Fault fault) refused faulted = faulted
+pub stopped_there : (tells : Bool) (tick : List ℕ) (course : Course) (grown : List Edge) (graph : Graph) (cone : Cone) (state : State) (now : World) (stopped : Stop) → IfRefused stopped (λ refusal. IsRefusedAt tells tick course grown graph cone state now refusal)
+    → IfFault stopped (λ fault. IsCutThere tells course grown state now) → StoppedThere tells tick course grown graph cone state now stopped
+stopped_there tells tick course grown graph cone state now (stop.Refused refusal) refused faulted = refused
+stopped_there tells tick course grown graph cone state now (stop.Fault fault) refused faulted = faulted
 
 pub if_refused_then : (stopped : Stop) (P Q : Refusal → Type 0) → ((refusal : Refusal) → P refusal → Q refusal) → IfRefused stopped P → IfRefused stopped Q
 if_refused_then (stop.Refused refusal) P Q f p = f refusal p
@@ -177,9 +176,8 @@ if_fault_then (stop.Fault fault) P Q f p = f fault p
 
 -- the load is refused where the build stands
 pub load_refused : (tells : Bool) (tick : List ℕ) (course : Course) (edges : List Edge) (phases : List Phase) (graph grown : Graph) (cone next : Cone) (state after : State) (file : ℕ) (now new : World) (refusal : Refusal)
-    → IsAtNextLoad tells tick course edges phases graph cone state file now → OnlyLooks tells now new → IsStopped tells tick course edges phases grown next after new refusal → IsRefusedAt tells tick course grown next after new refusal
+    → IsAtNextLoad tells tick course edges phases graph cone state file now → OnlyLooks tells now new → IsStopped tells tick course edges phases grown next after new refusal → IsRefusedAt tells tick course edges grown next after new refusal
 load_refused tells tick course edges phases graph grown cone next state after file now new refusal at looks stopped = record {
-  edges = edges;
   phases = phases;
   stopped = stopped;
   asked = asked_in tells course edges phases at.stands.on.steps now at.stands.on.carried.run at.stands.on.carried.phased stopped.stands.on.carried.phased.build.last new
@@ -189,11 +187,10 @@ load_refused tells tick course edges phases graph grown cone next state after fi
 -- ---- behind a fault
 
 -- what runs was taken in
-pub given_up_cut : (tells : Bool) (course : Course) (state : State) (plan : Plan) (now new : World) (cut : Cut) → state.plan ≡ plan → IsCutThere tells course state now → ComesAfter tells now new
+pub given_up_cut : (tells : Bool) (course : Course) (grown : List Edge) (state : State) (now new : World) (cut : Cut) → IsCutThere tells course grown state now → ComesAfter tells now new
     → ((of : Course) (steps : List Done) (met : Option ℕ) → IsCutOff tells of.behaviour of.format of.own of.asked of.store of.phases steps met of.entry now → IsCutOff tells of.behaviour of.format of.own of.asked of.store of.phases steps met of.entry new)
-    → WasCut tells course new (fault_of cut)
-given_up_cut tells course state plan now new cut same there after rest = record {
-  edges = there.edges;
+    → WasCut tells course grown new (fault_of cut)
+given_up_cut tells course grown state now new cut there after rest = record {
   phases = there.phases;
   cut = cut;
   is = refl;
@@ -201,7 +198,7 @@ given_up_cut tells course state plan now new cut same there after rest = record 
     steps = there.cut.steps;
     met = there.cut.met;
     cut = record {
-      phased = phased_on tells here.behaviour here.own here.asked here.store here.entry there.phases there.cut.steps now new (λ tell. (after.history tell).0) (λ tell. (after.history tell).1) there.cut.cut.phased;
+      phased = phased_on tells course.behaviour course.own (asked_with course.asked grown) course.store course.entry there.phases there.cut.steps now new (λ tell. (after.history tell).0) (λ tell. (after.history tell).1) there.cut.cut.phased;
       run = off.run;
       beside = off.beside;
     };
@@ -213,21 +210,15 @@ given_up_cut tells course state plan now new cut same there after rest = record 
   };
   once = there.once;
   acyclic = there.acyclic;
-  asked = had_asked_on tells course there.edges there.phases there.cut.steps now there.cut.run there.cut.cut.phased new after there.cut.cut.phased.build.last there.asked;
+  asked = had_asked_on tells course grown there.phases there.cut.steps now there.cut.run there.cut.cut.phased new after there.cut.cut.phased.build.last there.asked;
 }
   where
-    abbrev here : Course
-    here = grown_course course there.edges there.phases
-
-    off : IsCutOff tells here.behaviour here.format here.own here.asked here.store there.phases there.cut.steps there.cut.met here.entry new
-    off = rest here there.cut.steps there.cut.met there.cut.cut
+    off : IsCutOff tells course.behaviour course.format course.own (asked_with course.asked grown) course.store there.phases there.cut.steps there.cut.met course.entry new
+    off = rest (grown_course course grown there.phases) there.cut.steps there.cut.met there.cut.cut
 
 -- ---- behind a refusal
 
-module _ (tells : Bool) (tick : List ℕ) (course : Course) (graph : Graph) (cone : Cone) (state : State) (now : World) (refusal : Refusal) (refused : IsRefusedAt tells tick course graph cone state now refusal) where
-  abbrev edges : List Edge
-  edges = refused.edges
-
+module _ (tells : Bool) (tick : List ℕ) (course : Course) (edges : List Edge) (graph : Graph) (cone : Cone) (state : State) (now : World) (refusal : Refusal) (refused : IsRefusedAt tells tick course edges graph cone state now refusal) where
   abbrev phases : List Phase
   phases = refused.phases
 
@@ -311,9 +302,8 @@ module _ (tells : Bool) (tick : List ℕ) (course : Course) (graph : Graph) (con
         (phased_finished tells course.behaviour course.own (asked_with course.asked edges) course.store phases course.entry since.0 done now stands.on.carried.phased cause since.2 new (λ tell. (grows.history tell).0) (λ tell. (grows.history tell).1))
 
     -- all that ran was taken in
-    pub stopped_finished : (after : State) → LooksUnlessMore tells graph now new state.looks after.looks → IsFinished tells ends graph after new → HasStopped tells course new refusal
+    pub stopped_finished : (after : State) → LooksUnlessMore tells graph now new state.looks after.looks → IsFinished tells ends graph after new → HasStopped tells course edges new refusal
     stopped_finished after looked finished = record {
-      edges = edges;
       phases = phases;
       done = done;
       graph = graph;
@@ -322,7 +312,7 @@ module _ (tells : Bool) (tick : List ℕ) (course : Course) (graph : Graph) (con
       phased = since.phased;
       up_to = ap (λ (l : List Done). steps_of phases ++ l) since.last_is ∙ up_to;
       untouched = λ none. (still_unstarted tells course task graph state after done finished.on.steps now new stands.on.carried.run finished.on.carried.run grows looked stands.unstarted (ap started_in none)).looks;
-      then = now;
+      there = now;
       run = stands.on.carried.run;
       after = grows;
       cause = refused.stopped.cause;
@@ -335,9 +325,8 @@ module _ (tells : Bool) (tick : List ℕ) (course : Course) (graph : Graph) (con
         since = phases_since finished.on.steps finished.on.since
 
     -- a fault was met
-    pub stopped_cut : (cut : Cut) → HasRun tells ends new (Err cut) → WasCut tells course new (fault_of cut)
+    pub stopped_cut : (cut : Cut) → HasRun tells ends new (Err cut) → WasCut tells course edges new (fault_of cut)
     stopped_cut cut ran = record {
-      edges = edges;
       phases = phases;
       cut = cut;
       is = refl;
