@@ -1,5 +1,5 @@
 -- Where a run of a graph halts: before a load, at its end, or where it is stopped.
-use Rattle.std.proofs.Common.{◌≡◌, ◌⊎◌, inl, inr, ℕ, suc, not, Bool, true, false, IsTrue, List, [], ◌∷◌, ◌++◌, ◌==◌, ◌+◌, length, Vec, Global, Option, Some, None, Ok, Err, refl, sym, ◌∙◌, ap, subst, append_assoc, length-append, arith}
+use Rattle.std.proofs.Common.{◌≡◌, ℕ, Bool, true, List, [], ◌∷◌, ◌++◌, ◌==◌, ◌+◌, length, Vec, Global, Some, None, Ok, Err, refl, sym, ◌∙◌, ap, subst, length-append, arith}
 use Rattle.std.proofs.lemmas.List.{append-nil}
 use Rattle.std.proofs.lemmas.Bool.{false≢true, or_left, eq-eqb}
 use Rattle.model.specs.declared.event.Event.{Event}
@@ -15,7 +15,7 @@ use Rattle.build_theory.proofs.Calls.{looks_then}
 use Rattle.build_theory.proofs.Events.{as_many}
 use Rattle.build_theory.proofs.Lists.{same_rest}
 use Rattle.build_theory.proofs.Orderly.{kept_orderly}
-use Rattle.log_theory.specs.Ledger.{IsCutOff}
+use Rattle.log_theory.specs.Ledger.{IsPhased, IsCutOff}
 use Rattle.log_theory.proofs.Ledger.{cut_off}
 use Rattle.log_theory.proofs.Phased.{phased_on}
 use Rattle.links.specs.declared.cone.Cone.{Cone}
@@ -33,11 +33,11 @@ use Rattle.runner.specs.declared.summary.Summary.{Summary}
 use Rattle.runner.specs.After.{ComesAfter, LooksUnlessMore}
 use Rattle.runner.specs.Course.{Course, goes_on, IsOn}
 use Rattle.runner.specs.Cut.{fault_of}
-use Rattle.runner.specs.Going.{IsAtLoad, IsCut, IsInHand}
+use Rattle.runner.specs.Going.{IsAtLoad, IsInHand}
 use Rattle.runner.specs.Ran.{HasRun}
 use Rattle.runner.proofs.After.{after_looks, none_between}
 use Rattle.runner.proofs.Noticed.{with_looks, on_looked}
-use Rattle.builder.specs.Going.{grown_course, task_over, IsUnstarted, StandsAt, HasAsked, HadAsked, IsLoadNext, IsAtNextLoad, IsCutThere, HasDone, WasCut}
+use Rattle.builder.specs.Going.{grown_course, task_over, IsUnstarted, StandsAt, HasAsked, HadAsked, IsAtNextLoad, IsCutThere, HasDone, WasCut}
 use Rattle.builder.proofs.Asking.{asked_on, asked_in}
 
 -- ---- before the first start
@@ -168,7 +168,8 @@ module _ (tells : Bool) (tick : List ℕ) (course : Course) (edges : List Edge) 
     base = on_looked tells here graph stays tick stands.suits state now new after looked stands.on
 
     -- the same phases, of the world now
-    abbrev same_phases = phased_on tells here.behaviour here.own here.asked here.store here.entry phases stands.on.steps now new (λ tell. (looked.looks.history tell).more) (λ tell. (looked.looks.history tell).grows) stands.on.carried.phased
+    abbrev same_phases : IsPhased tells here.behaviour here.own here.asked here.store phases stands.on.steps here.entry new
+    same_phases = phased_on tells here.behaviour here.own here.asked here.store here.entry phases stands.on.steps now new (λ tell. (looked.looks.history tell).more) (λ tell. (looked.looks.history tell).grows) stands.on.carried.phased
 
     -- with what is shown, and what is due
     abbrev pub with_sources : Showing → Vec Bool Global → State

@@ -1,5 +1,6 @@
 pub mod Asking
 pub mod Beginning
+pub mod Behind
 pub mod Builds
 pub mod Counting
 pub mod Endings

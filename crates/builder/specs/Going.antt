@@ -6,7 +6,7 @@ use Rattle.model.specs.declared.fault.SiteFault.{SiteFault}
 use Rattle.model.specs.declared.graph.Edge.{Edge}
 use Rattle.model.specs.World.{World, view_of}
 use Rattle.model.specs.Calls.{OnlyLooks}
-use Rattle.model.specs.Graph.{Addition, first_output, edge_at, has_number, maker, targets_of, IsMadeOnce, IsMadeTwice}
+use Rattle.model.specs.Graph.{Addition, first_output, edge_at, has_number, maker, IsMadeOnce, IsMadeTwice}
 use Rattle.model.specs.OutOfDate.{IsFirstMissing, IsMissingInput}
 use Rattle.model.specs.Phases.{Phase, steps_of, IsGrownBy, IsDueLoad, IsNextLoad, IsPointAfter, AreAskedApart, WasNothingMissing, WasNothingMissingIn}
 use Rattle.model.specs.Premises.{FilesAreKept}
@@ -34,7 +34,7 @@ use Rattle.runner.specs.After.{ComesAfter}
 use Rattle.runner.specs.Course.{Course, goes_on, Suits, IsOn}
 use Rattle.runner.specs.Cut.{fault_of}
 use Rattle.runner.specs.Going.{IsCut, IsFinished}
-use Rattle.runner.specs.Ran.{HasRun, AreEdgesOf}
+use Rattle.runner.specs.Ran.{HasRun}
 use Rattle.builder.specs.declared.report.Missing.{Missing as Lacking}
 use Rattle.builder.specs.declared.report.Refusal.{Refusal}
 use Rattle.builder.specs.declared.report.Refusal.TheVariants.{File, MadeTwice, NoDyndepInput, NoDyndep, BadVersion, BadStatement, Unfit, UnknownTarget, Cycle, Missing}
