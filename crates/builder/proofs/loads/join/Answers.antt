@@ -134,7 +134,7 @@ take_back-requires c =
     let may = c.requires.may.2 in
     let grown = c.join_inputs.new.graph in
     let joined = c.in_ok-join_inputs.ensures.joined graph has_it.added store.records store.deps has_it.paths may.known (to_join asked store graph cone state c.args.file may before loaded additions undoes has_it) in
-    (graph, loaded, may_take_back asked store graph cone state c.args.file may before loaded additions undoes has_it grown joined)
+    (graph, (loaded, may_take_back asked store graph cone state c.args.file may before loaded additions undoes has_it grown joined))
 
 pub returns-in_ok-grow-in-Ok-clause-goes : goal.returns-in_ok-grow-in-Ok-clause-goes
 returns-in_ok-grow-in-Ok-clause-goes c asked store may =
