@@ -44,7 +44,7 @@ fewer_left file additions edges next grown zero names = absurd (none_some names)
     none_some : None ≡ Some file → ⊥
     none_some is = cc
 fewer_left file additions edges next grown (suc k) names =
-    fewer_at edges next k grown.as_many (let now = none_now (suc k) names in let then = ap (λ (d : Option (List ℕ)). cond (is_some d) 1 0) names in omega (arith, now, then)) each
+    fewer_at edges next k grown.as_many (let now = none_now (suc k) names in let then = ap {B = ℕ} (λ (d : Option (List ℕ)). cond (is_some d) 1 0) names in omega (arith, now, then)) each
   where
     none_now : (i : ℕ) → (edge_at edges i).dyndep ≡ Some file → left_of (edge_at next i) ≡ 0
     none_now i is = ap left_of (grown.named i is).2

@@ -119,6 +119,12 @@ asked_below (look ∷ seen) (suc p) asked = let lt = asked_below seen p asked in
 
 -- ---- a build that stands before a load
 
+-- whatever the course of the build that stood before the load of this file, it is refused where it stood
+abbrev pub StopsThere : Bool → Graph → Cone → State → World → ℕ → World → Refusal → Type 0
+StopsThere tells graph cone state old file new refusal =
+    (tick : List ℕ) (course : Course) (edges : List Edge) (phases : List Phase) → (stands : StandsAt tells tick course edges phases graph cone state old) → IsLoadNext course edges graph state stands.on.steps file
+    → IsStopped tells tick course edges phases graph cone state new refusal
+
 module _ (tells : Bool) (tick : List ℕ) (course : Course) (edges : List Edge) (phases : List Phase) (graph : Graph) (cone : Cone) (state : State) (now : World) (stands : StandsAt tells tick course edges phases graph cone state now) (file : ℕ)
     (next_load : IsLoadNext course edges graph state stands.on.steps file) where
   abbrev here : Course
@@ -156,7 +162,7 @@ module _ (tells : Bool) (tick : List ℕ) (course : Course) (edges : List Edge) 
     rest : IsRunOrRest tells course.own (task_over course edges) steps course.entry new
     rest = rest_begins tells course.own (task_over course edges) course.entry steps new on_new.carried.run
 
-    unstarted_new : started_in steps ≡ [] → IsUnstarted tells course graph state new
+    pub unstarted_new : started_in steps ≡ [] → IsUnstarted tells course graph state new
     unstarted_new none = record {
       looks = looks_then tells course.entry now new was.looks looks;
       seen = λ tell same.

@@ -15,9 +15,10 @@ pub refused_then : {P Q : Refusal → Type 0} (s : Stop) → IfRefused s P → (
 refused_then (stop.Refused refusal) p f = f refusal p
 refused_then (stop.Fault fault) p f = tt
 
-pub refused_both : {P Q R : Refusal → Type 0} (s : Stop) → IfRefused s P → IfRefused s Q → ((refusal : Refusal) → P refusal → Q refusal → R refusal) → IfRefused s R
-refused_both (stop.Refused refusal) p q f = f refusal p q
-refused_both (stop.Fault fault) p q f = tt
+-- four clauses of one call
+pub refused_four : {P Q R S T : Refusal → Type 0} (s : Stop) → IfRefused s P → IfRefused s Q → IfRefused s R → IfRefused s S → ((refusal : Refusal) → P refusal → Q refusal → R refusal → S refusal → T refusal) → IfRefused s T
+refused_four (stop.Refused refusal) p q r s f = f refusal p q r s
+refused_four (stop.Fault fault) p q r s f = tt
 
 pub fault_any : {P : Type 0} (s : Stop) → P → IfFault s (λ fault. P)
 fault_any (stop.Refused refusal) p = tt
