@@ -1,6 +1,6 @@
 -- A build stands before the load of a dyndep file: what the file that was read held, and how the build goes on behind the load, is
 -- refused, or is cut off.
-use Rattle.std.proofs.Common.{◌≡◌, ◌⊎◌, inl, inr, ℕ, zero, suc, ◌<◌, ◌≤◌, cond, Bool, true, false, IsTrue, List, [], ◌∷◌, ◌++◌, map, length, get_or, bytes_eq, Option, Some, None, is_some, Result, Ok, Err, refl, sym, ◌∙◌, ap, subst, append_assoc, arith}
+use Rattle.std.proofs.Common.{◌≡◌, ◌⊎◌, inl, inr, ℕ, zero, suc, ◌<◌, cond, Bool, true, false, IsTrue, List, [], ◌∷◌, ◌++◌, map, length, get_or, bytes_eq, Option, Some, None, is_some, Result, Ok, Err, refl, sym, ◌∙◌, ap, subst, append_assoc, arith}
 use Rattle.std.specs.List.{All}
 use Rattle.std.specs.Option.{option_map}
 use Rattle.std.proofs.lemmas.Bool.{false≢true, true≢false, false_from_ne_true}
@@ -10,16 +10,16 @@ use Rattle.model.specs.declared.graph.BuildGraph.{BuildGraph}
 use Rattle.model.specs.declared.graph.Edge.{Edge}
 use Rattle.model.specs.declared.record.Record.{Record}
 use Rattle.model.specs.declared.record.DepsRecord.{DepsRecord}
-use Rattle.model.specs.World.{World, File, file_at, content_of, stamp_of, view_of}
-use Rattle.model.specs.Calls.{OnlyLooks, OthersWrote, Sees}
-use Rattle.model.specs.Graph.{has, has_number, edge_at, maker, inputs, outputs, Addition, IsCommand, IsMadeOnce}
+use Rattle.model.specs.World.{World, file_at, content_of, stamp_of, view_of}
+use Rattle.model.specs.Calls.{OnlyLooks, Sees}
+use Rattle.model.specs.Graph.{has, has_number, edge_at, outputs, Addition, IsCommand, IsMadeOnce}
 use Rattle.model.specs.Kept.{StartedUnder}
-use Rattle.model.specs.Phases.{Phase, steps_of, IsGrownBy, IsNextLoad, IsPointAfter, IsInOrderAt, WasNothingMissing, WasNothingMissingIn}
+use Rattle.model.specs.Phases.{Phase, steps_of, IsGrownBy, IsPointAfter, IsInOrderAt, WasNothingMissing, WasNothingMissingIn}
 use Rattle.model.specs.Premises.{FilesAreKept}
 use Rattle.model.specs.Reading.{IsInCone, IsCycle}
 use Rattle.model.specs.Records.{OwnFiles, Store, recorded_of, recorded_inputs}
-use Rattle.model.specs.Schedule.{Task, Step as Done, out_of_date_in, started_in, running_in, done_in}
-use Rattle.model.specs.SingleBuild.{Asked, HasNoCycle, asked_with, task_of}
+use Rattle.model.specs.Schedule.{Task, Step as Done, started_in, running_in}
+use Rattle.model.specs.SingleBuild.{HasNoCycle, asked_with, task_of}
 use Rattle.build_theory.specs.Run.{IsRunOrRest}
 use Rattle.build_theory.proofs.Calls.{looks_then}
 use Rattle.build_theory.proofs.Growth.{HasGrown, grown_by}
@@ -42,33 +42,31 @@ use Rattle.lowest.specs.Flags as flags
 use Rattle.paths.specs.Told.{text_at, texts_at}
 use Rattle.links.specs.declared.cone.Cone.{Cone}
 use Rattle.links.specs.declared.graph.Graph.{Graph}
-use Rattle.links.specs.Extended.{addition_of, IsUnfit}
+use Rattle.links.specs.Extended.{addition_of}
 use Rattle.links.specs.Linked.{StandFor, IsConeOf}
 use Rattle.links.specs.Links.{links_of}
-use Rattle.links.specs.Targets.{IsConeOfNumbers}
-use Rattle.links.specs.Told.{declared_by, recorded_by, AreSameInputs}
+use Rattle.links.specs.Told.{declared_by}
 use Rattle.looks.specs.declared.table.Look.{Look}
 use Rattle.looks.specs.declared.table.Looks.{Looks}
 use Rattle.looks.specs.Seen.{look_at, look_of, is_asked, AreKept, AreSeen}
 use Rattle.plan.specs.declared.plan.Plan.{Plan}
-use Rattle.plan.specs.Extended.{GoesOn}
 use Rattle.plan.specs.Planned.{IsDeclaredTask, IsTaskOf, IsPlanned, AreTaken}
 use Rattle.records.specs.declared.logs.Logs.{Logs}
 use Rattle.records.specs.Known.{AreKnown}
 use Rattle.records.specs.Laws.{LogStays}
 use Rattle.records.specs.Logging.{IsLogging}
 use Rattle.runner.specs.declared.state.State.{State}
-use Rattle.runner.specs.Course.{Course, edges_of, goes_on, Suits, IsSince, IsOn, is_quiet}
-use Rattle.runner.specs.Going.{IsCut, IsInHand}
+use Rattle.runner.specs.Course.{Course, edges_of, goes_on, IsOn, is_quiet}
+use Rattle.runner.specs.Going.{IsInHand}
 use Rattle.runner.proofs.Keeping.{looks_quiet, on_looks}
 use Rattle.runner.proofs.Loaded.{HasMore, HasRoomFor, loaded_course, on_loaded, suits_loaded}
-use Rattle.runner.proofs.Quiet.{IsQuiet, quiet_from}
+use Rattle.runner.proofs.Quiet.{quiet_from}
 use Rattle.runner.proofs.Settled.{settled_rests}
 use Rattle.builder.specs.declared.report.Refusal.{Refusal}
 use Rattle.builder.specs.declared.report.Refusal.TheVariants.{File as BuildFile, MadeTwice, NoDyndepInput, NoDyndep, BadVersion, BadStatement, Unfit, UnknownTarget, Cycle, Missing}
-use Rattle.builder.specs.Going.{grown_course, task_over, IsUnstarted, StandsAt, HasAsked, HadAsked, BeginsAt, IsLoadNext, IsHeldLoad, IsRefusedBy, HasBegun, IsStopped, IsCutThere, files_left}
-use Rattle.builder.specs.Joined.{WasHeld, IsUnread, IsUnfitBy, IsCircleBy, IsUnjoined, MayJoin, HasJoinedFile, GoesOnWith, IsLeftWith, HasRoomIn, StayKnown, IsAsBefore}
-use Rattle.builder.specs.Loads.{ReadsDyndeps, HeldThen, IsRefusedFile, IsSaying, IsUnfitFor}
+use Rattle.builder.specs.Going.{grown_course, task_over, IsUnstarted, StandsAt, HasAsked, BeginsAt, IsLoadNext, IsHeldLoad, IsRefusedBy, HasBegun, IsStopped, IsCutThere, files_left}
+use Rattle.builder.specs.Joined.{WasHeld, IsUnread, IsUnfitBy, IsCircleBy, IsUnjoined, MayJoin, HasJoinedFile, GoesOnWith, HasRoomIn, StayKnown, IsAsBefore}
+use Rattle.builder.specs.Loads.{HeldThen, IsRefusedFile, IsSaying, IsUnfitFor}
 use Rattle.builder.proofs.Fewer.{fewer_left}
 use Rattle.builder.proofs.FileJoins.{none_unloaded, text_front, texts_front, same_graph}
 use Rattle.builder.proofs.Points.{point_now, asked_later, asked_load}

@@ -1,4 +1,4 @@
-use Rattle.std.proofs.Common.{inl, inr, refl, sym, subst, ap, List, ℕ, map, Ok}
+use Rattle.std.proofs.Common.{inl, inr, refl, sym, subst, List, Ok}
 use Rattle.model.specs.SingleBuild.{asked_with}
 use Rattle.links.specs.declared.graph.Graph.{Graph}
 use Rattle.links.specs.declared.cone.Cone.{Cone}

@@ -1,9 +1,8 @@
-use Rattle.std.proofs.Common.{◌≡◌, ◌<◌, ◌++◌, ℕ, true, List, [], ◌∷◌, take, length, get_or, sym, ◌∙◌, ap, subst, arith}
+use Rattle.std.proofs.Common.{◌≡◌, ◌<◌, ◌++◌, ℕ, true, List, [], ◌∷◌, take, length, sym, ◌∙◌, ap, subst, arith}
 use Rattle.model.specs.Graph.{has_number}
-use Rattle.links.specs.Held.{list_at}
 use Rattle.links.specs.LoadedEdges.{numbers_in}
 use Rattle.links.specs.declared.back.LoadedEdge.{LoadedEdge}
-use Rattle.builder.specs.Recorded.{MayBeJoined, IsJoined, HasJoinedOf}
+use Rattle.builder.specs.Recorded.{HasJoinedOf}
 use Rattle.builder.proofs.Joining.{known_more, numbers_next, numbers_at, numbers_whole, may_be_now, joined_push}
 use Rattle.builder.proofs.Numbering.{more_then}
 use Rattle.builder.proofs.recorded.join_loaded.Goals as goal
