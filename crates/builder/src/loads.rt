@@ -182,12 +182,7 @@ fn cone_again(alloc: Global, graph: &Graph, cone: &Cone) -> Result<Cone, Stop>
 }
 
 /// The run goes on over the graph as it is now, of whose targets this is the cone.
-fn grow(
-    alloc: Global,
-    graph: &Graph,
-    cone: &Cone,
-    state: &mut State<'_>,
-) -> Result<(), AllocError>
+fn grow(alloc: Global, graph: &Graph, cone: &Cone, state: &mut State<'_>) -> Result<(), AllocError>
     requires marks { vec_len cone.now.marks ≡ length graph.now.manifest.lines }
     requires may { MayGoOn graph.now state.old.plan }
     requires fits { length state.old.looks.seen.items ≤ length graph.now.manifest.paths }
@@ -242,12 +237,7 @@ fn unread(path: Path, error: ReadError) -> Stop
 }
 
 /// Why what the file says does not join the graph.
-fn unfit(
-    alloc: Global,
-    graph: &Graph,
-    file: PathId,
-    fault: ExtendFault,
-) -> Result<Stop, AllocError>
+fn unfit(alloc: Global, graph: &Graph, file: PathId, fault: ExtendFault) -> Result<Stop, AllocError>
     ensures refused { IfOk result (λ stop. IfRefused stop (λ refusal. (of : Graph) (additions : List Added) → IsRefusedLoad of (text_at graph.now.manifest.paths file) additions fault → IsUnfitBy (declared_by of).edges (text_at graph.now.manifest.paths file) additions refusal)) }
     ensures memory { IfOk result IsMemory }
 {

@@ -57,8 +57,7 @@ cone_again-requires-clause-asked c =
     let store = c.requires.may.1 in
     let may = c.requires.may.2 in
     let grown = c.join_inputs.new.graph in
-    let joined = c.in_ok-join_inputs.ensures.joined graph has_it.added store.records store.deps has_it.paths may.known (to_join asked store graph cone state c.args.file may before loaded additions undoes has_it) in
-    (
+    let joined = c.in_ok-join_inputs.ensures.joined graph has_it.added store.records store.deps has_it.paths may.known (to_join asked store graph cone state c.args.file may before loaded additions undoes has_it) in (
       asked_now asked store graph cone state c.args.file may before loaded additions undoes has_it grown joined,
       store,
       asked_same asked store graph cone state c.args.file may before loaded additions undoes has_it grown joined,

@@ -35,8 +35,11 @@ returns-in_err-additions-clause-cut g c =
     let file = c.args.file in
     let old = g.S.Texts.world c.args.site.now in
     let new = g.S.Texts.world c.additions_in.new.site in
-    left_by c.from_residual.result ((declared_by graph).edges, λ tick course edges phases stands next was.
-    cut_here tells tick course edges phases graph cone state old stands file next c.log_stays.ensures new c.additions_in.ensures.looks state refl was)
+    left_by c.from_residual.result (
+      (declared_by graph).edges,
+      λ tick course edges phases stands next was.
+          cut_here tells tick course edges phases graph cone state old stands file next c.log_stays.ensures new c.additions_in.ensures.looks state refl was,
+    )
 
 pub join-joined-requires : goal.join-joined-requires
 join-joined-requires g c =
@@ -121,7 +124,10 @@ returns-clause-cut g c =
     let read = subst (λ (l : List Statement). WasHeld tells (text_at graph.manifest.paths file) (IsSaying (Ok l)) old new) (sym {A = List Statement} c.as_slice.ensures) c.in_ok-additions.ensures.read in
     fault_then c.in-Err.stop c.in-Err.ensures.left (λ fault left. elim left [
       | inl same ↦ ((declared_by graph).edges, λ tick course edges phases stands next was. cut_here tells tick course edges phases graph cone state old stands file next c.log_stays.ensures new c.additions_in.ensures.looks c.join-joined.new.state same was)
-      | inr goes ↦ ((declared_by c.join-joined.new.graph).edges, λ tick course edges phases stands next was.
-          let gone = goes (asked_with course.asked edges) course.store (may_join tells tick course edges phases graph cone state old stands file next) in
-          cut_later tells tick course edges phases graph cone state old stands file next c.log_stays.ensures new c.additions_in.ensures.looks c.one_answer.ensures adds read c.join-joined.new.graph c.join-joined.new.state gone.0 gone.1 c.lists_stand.ensures c.lists_stand-2.ensures c.task_of.ensures was)
+      | inr goes ↦ (
+        (declared_by c.join-joined.new.graph).edges,
+        λ tick course edges phases stands next was.
+            let gone = goes (asked_with course.asked edges) course.store (may_join tells tick course edges phases graph cone state old stands file next) in
+            cut_later tells tick course edges phases graph cone state old stands file next c.log_stays.ensures new c.additions_in.ensures.looks c.one_answer.ensures adds read c.join-joined.new.graph c.join-joined.new.state gone.0 gone.1 c.lists_stand.ensures c.lists_stand-2.ensures c.task_of.ensures was,
+      )
     ])
