@@ -61,7 +61,6 @@ pub fn run_plan<S: Site>(
 }
 
 /// Does what the plan says until it says no step.
-#[tactic(auto, using(crate::proofs::After::after_then, crate::proofs::After::looks_then_looks, crate::proofs::After::after_same))]
 fn run<S: Site>(site: &mut S, setting: Setting<'_>, state: &mut State<'_>) -> Result<Halt, Cut>
     requires running { (S.world site.old).stopped ≡ false }
     requires going { (going : IsGoing S.tells setting.tick.now setting.graph.now state.old (S.world site.old)) × (goes_on going.course ≡ true) }
