@@ -20,4 +20,5 @@ pub mod Running
 pub mod Slices
 pub mod Stages
 pub mod Stopping
+pub mod Stops
 pub mod Telling

@@ -21,11 +21,13 @@ use Rattle.paths.specs.Told.{text_at}
 use Rattle.plan.specs.declared.plan.Plan.{Plan}
 use Rattle.plan.specs.declared.step.Step.TheVariants.{Load}
 use Rattle.plan.specs.Planned.{IsOffered, IsDueNext}
+use Rattle.records.specs.declared.records.Records.{Records}
 use Rattle.records.specs.Laws.{LogStays}
 use Rattle.display.specs.Shown.{Showing}
 use Rattle.runner.specs.declared.cut.Cut.{Cut}
 use Rattle.runner.specs.declared.state.State.{State}
 use Rattle.runner.specs.After.{ComesAfter}
+use Rattle.runner.specs.Going.{IsCut}
 use Rattle.runner.specs.Course.{Course}
 use Rattle.runner.specs.Cut.{fault_of}
 use Rattle.runner.proofs.After.{after_looks}
@@ -33,11 +35,12 @@ use Rattle.runner.proofs.Noticed.{with_looks}
 use Rattle.builder.specs.declared.report.Refusal.{Refusal}
 use Rattle.builder.specs.declared.stop.Stop.{Stop}
 use Rattle.builder.specs.declared.stop.Stop.TheVariants as stop
-use Rattle.builder.specs.Going.{grown_course, task_over, StandsAt, HadAsked, BeginsAt, IsAtNextLoad, HasSourcesAt, IsLacking, IsMissingAfter, IsStopped, IsRefusedAt, IsCutThere, WasCut, StoppedThere, NoSourceIsDue, IfRefused, IfFault}
+use Rattle.builder.specs.Going.{grown_course, task_over, StandsAt, HadAsked, BeginsAt, IsAtNextLoad, HasSourcesAt, IsLacking, IsMissingAfter, IsStopped, IsRefusedAt, IsCutThere, WasCut, StoppedThere, NoSourceIsDue, IsStopOf, IfRefused, IfFault}
 use Rattle.builder.specs.Reports.{IsMissingFor}
 use Rattle.builder.specs.Sources.{HasSources, LacksSource}
 use Rattle.builder.proofs.Asking.{fresh_steps, asked_on, had_asked_on, asked_in, asked_also, under, same_edges, run_new, found_at, nothing_missing_now}
 use Rattle.builder.proofs.Halting.{with_sources, stands_looked, cut_looked}
+use Rattle.builder.proofs.Faults.{faulted_call, well_looks}
 use Rattle.builder.proofs.Points.{point_now}
 
 -- ---- files that no edge makes
@@ -147,6 +150,18 @@ module _ (tells : Bool) (tick : List ℕ) (course : Course) (edges : List Edge) 
               (λ at. IsMissingFor (declared_by graph).edges course.store stands.on.steps task.targets at lack.missing.path lack.missing.needed_by)
               (lack.is course.store task.targets stands.on.steps (under tells tick course edges phases graph cone state now stands)) apart last.0 last.1));
         }
+
+    pub lacking_met : NoSourceIsDue graph state.plan → (stopped : Stop) → LacksSource tells graph state.records cone state.plan now new state.looks stopped → IfFault stopped (λ fault. (of : Course) × (at : Graph) × IsCut tells of at state.plan new)
+    lacking_met made stopped lacks = met stopped (lacking_there made stopped lacks)
+      where
+        met : (s : Stop) → StoppedThere tells tick course edges graph cone (with_looks tells here graph state after) new s → IfFault s (λ fault. (of : Course) × (at : Graph) × IsCut tells of at state.plan new)
+        met (stop.Refused refusal) there = tt
+        met (stop.Fault fault) there = (grown_course course edges there.phases, there.graph, there.cut)
+
+-- what the site shows of that
+pub lacking_stop : (tells : Bool) (graph : Graph) (records : Records) (cone : Cone) (plan : Plan) (now new : World) (seen : Looks) (stopped : Stop) → OnlyLooks tells now new → LacksSource tells graph records cone plan now new seen stopped → IsStopOf now new stopped
+lacking_stop tells graph records cone plan now new seen stopped looks (inl fault) = subst (λ (s : Stop). IsStopOf now new s) (sym {A = Stop} fault.says) (faulted_call tells now new fault.fault looks fault.cause)
+lacking_stop tells graph records cone plan now new seen stopped looks (inr lack) = subst (λ (s : Stop). IsStopOf now new s) (sym {A = Stop} lack.says) (well_looks tells now new looks lack.unrefused)
 
 -- ---- a load that is not made
 
