@@ -11,6 +11,7 @@ pub mod Folders
 pub mod Formed
 pub mod Halting
 pub mod Joining
+pub mod LoadEnds
 pub mod Loading
 pub mod Looking
 pub mod Numbering

@@ -1,5 +1,5 @@
 -- How a run of a graph is stopped: by a missing source, by a load that is refused, or by a fault; and what is taken in behind that.
-use Rattle.std.proofs.Common.{◌≡◌, inl, inr, ℕ, suc, Bool, List, [], ◌<◌, length, Vec, Global, Option, Some, None, refl, sym, ◌∙◌, ap, subst}
+use Rattle.std.proofs.Common.{◌≡◌, inl, inr, ℕ, suc, Bool, List, [], ◌<◌, length, Vec, Global, MatchOption, Option, Some, None, refl, sym, ◌∙◌, ap, subst}
 use Rattle.model.specs.declared.event.Moment.{Moment}
 use Rattle.model.specs.declared.fault.SiteFault.{SiteFault}
 use Rattle.model.specs.declared.graph.Edge.{Edge}
@@ -66,6 +66,14 @@ made_next graph plan file e wanted due made task steps planned taken other other
     not_before : GoesBefore task.graph.edges (text_at graph.manifest.paths file) other → ⊥
     not_before (BySource j none is) = some_none (sym maker_is ∙ none)
     not_before (ByNamer i k first named other_named less) = some_none (sym maker_is ∙ first source)
+
+-- the file that is loaded next, where no edge makes it, or that of sources none is due
+pub source_said : (graph : Graph) (plan : Plan) (file : ℕ) (found : Option ℕ) → IsOffered plan (Load file) → IsDueNext plan (Load file)
+    → MatchOption found ((edge : ℕ) × ((links_of graph).maker file ≡ Some edge)) (λ source. (source ≡ file) × ((links_of graph).maker file ≡ None))
+    → MatchOption found (NoSourceIsDue graph plan) (λ source. IsOffered plan (Load source) × IsDueNext plan (Load source) × ((links_of graph).maker source ≡ None))
+source_said graph plan file None wanted due made = made_next graph plan file made.0 wanted due made.1
+source_said graph plan file (Some source) wanted due is =
+    subst (λ (p : ℕ). IsOffered plan (Load p) × IsDueNext plan (Load p) × ((links_of graph).maker p ≡ None)) (sym is.0) (wanted, due, is.1)
 
 -- ---- where a phase begins
 
@@ -220,3 +228,7 @@ given_up_cut tells course grown state now new cut there after rest = record {
   where
     off : IsCutOff tells course.behaviour course.format course.own (asked_with course.asked grown) course.store there.phases there.cut.steps there.cut.met course.entry new
     off = rest (grown_course course grown there.phases) there.cut.steps there.cut.met there.cut.cut
+
+pub refused_both : (stopped : Stop) (P Q : Type 0) → IfRefused stopped (λ refusal. P) → IfRefused stopped (λ refusal. Q) → IfRefused stopped (λ refusal. P × Q)
+refused_both (stop.Refused refusal) P Q p q = (p, q)
+refused_both (stop.Fault fault) P Q p q = tt

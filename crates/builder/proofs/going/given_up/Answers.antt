@@ -1,4 +1,4 @@
-use Rattle.builder.proofs.Stops.{fault_so, fault_unrefused, fault_stopped, fault_on, fault_halted, refusal_on, refusal_same, refusal_halted}
+use Rattle.builder.proofs.Stops.{fault_so, fault_unrefused, fault_fault, fault_stopped, fault_on, fault_halted, refusal_on, refusal_same, refusal_halted, refusal_no_fault}
 use Rattle.builder.proofs.going.given_up.Goals as goal
 
 pub give_up-requires-clause-met : goal.give_up-requires-clause-met
@@ -27,3 +27,9 @@ returns-in-Refused-clause-same g c = refusal_same c.args.stop c.in-Refused.refus
 pub returns-in-Refused-clause-halted : goal.returns-in-Refused-clause-halted
 returns-in-Refused-clause-halted g c tick course grown graph cone state same there =
     refusal_halted g.S.Texts.tells tick course grown graph cone state (g.S.Texts.world c.args.site.now) c.args.stop c.in-Refused.refusal c.in-Refused.is there
+
+pub returns-in-Fault-clause-faults : goal.returns-in-Fault-clause-faults
+returns-in-Fault-clause-faults g c = fault_fault c.args.stop c.in-Fault.fault c.fault.result c.in-Fault.is
+
+pub returns-in-Refused-clause-faults : goal.returns-in-Refused-clause-faults
+returns-in-Refused-clause-faults g c = refusal_no_fault c.args.stop c.in-Refused.refusal _ c.in-Refused.is
