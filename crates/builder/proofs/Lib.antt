@@ -2,6 +2,7 @@ pub mod Asking
 pub mod Beginning
 pub mod Behind
 pub mod Builds
+pub mod Closing
 pub mod Counting
 pub mod Endings
 pub mod Entry
@@ -16,6 +17,7 @@ pub mod Loading
 pub mod Looking
 pub mod Numbering
 pub mod Opening
+pub mod Pausing
 pub mod Points
 pub mod Running
 pub mod Slices
