@@ -116,7 +116,10 @@ fn source_to_load(graph: &Graph, plan: &Plan) -> Option<PathId>
 {
     match plan.next() {
         Step::Load(file) => source(graph, file),
-        Step::Judge(_) | Step::Start(_) | Step::Wait | Step::Ended(_) => None,
+        Step::Judge(_) => None,
+        Step::Start(_) => None,
+        Step::Wait => None,
+        Step::Ended(_) => None,
     }
 }
 
