@@ -2,6 +2,7 @@ pub mod Asking
 pub mod Beginning
 pub mod Behind
 pub mod Builds
+pub mod Closing
 pub mod Counting
 pub mod Endings
 pub mod Entry
@@ -12,14 +13,17 @@ pub mod Folders
 pub mod Formed
 pub mod Halting
 pub mod Joining
+pub mod LoadEnds
 pub mod Loading
 pub mod Looking
 pub mod Numbering
 pub mod Opening
+pub mod Pausing
 pub mod Points
 pub mod Running
 pub mod Slices
 pub mod Stages
 pub mod StopCases
 pub mod Stopping
+pub mod Stops
 pub mod Telling

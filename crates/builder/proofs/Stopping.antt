@@ -1,5 +1,5 @@
 -- How a run of a graph is stopped: by a missing source, by a load that is refused, or by a fault; and what is taken in behind that.
-use Rattle.std.proofs.Common.{◌≡◌, inl, inr, ℕ, suc, Bool, List, [], ◌<◌, length, Vec, Global, Option, Some, None, refl, sym, ◌∙◌, ap, subst}
+use Rattle.std.proofs.Common.{◌≡◌, inl, inr, ℕ, suc, Bool, List, [], ◌<◌, length, Vec, Global, MatchOption, Option, Some, None, refl, sym, ◌∙◌, ap, subst}
 use Rattle.model.specs.declared.event.Moment.{Moment}
 use Rattle.model.specs.declared.fault.SiteFault.{SiteFault}
 use Rattle.model.specs.declared.graph.Edge.{Edge}
@@ -21,11 +21,13 @@ use Rattle.paths.specs.Told.{text_at}
 use Rattle.plan.specs.declared.plan.Plan.{Plan}
 use Rattle.plan.specs.declared.step.Step.TheVariants.{Load}
 use Rattle.plan.specs.Planned.{IsOffered, IsDueNext}
+use Rattle.records.specs.declared.records.Records.{Records}
 use Rattle.records.specs.Laws.{LogStays}
 use Rattle.display.specs.Shown.{Showing}
 use Rattle.runner.specs.declared.cut.Cut.{Cut}
 use Rattle.runner.specs.declared.state.State.{State}
 use Rattle.runner.specs.After.{ComesAfter}
+use Rattle.runner.specs.Going.{IsCut}
 use Rattle.runner.specs.Course.{Course}
 use Rattle.runner.specs.Cut.{fault_of}
 use Rattle.runner.proofs.After.{after_looks}
@@ -33,11 +35,12 @@ use Rattle.runner.proofs.Noticed.{with_looks}
 use Rattle.builder.specs.declared.report.Refusal.{Refusal}
 use Rattle.builder.specs.declared.stop.Stop.{Stop}
 use Rattle.builder.specs.declared.stop.Stop.TheVariants as stop
-use Rattle.builder.specs.Going.{grown_course, task_over, StandsAt, HadAsked, BeginsAt, IsAtNextLoad, HasSourcesAt, IsLacking, IsMissingAfter, IsStopped, IsRefusedAt, IsCutThere, WasCut, StoppedThere, NoSourceIsDue, IfRefused, IfFault}
+use Rattle.builder.specs.Going.{grown_course, task_over, StandsAt, HadAsked, BeginsAt, IsAtNextLoad, HasSourcesAt, IsLacking, IsMissingAfter, IsStopped, IsRefusedAt, IsCutThere, WasCut, StoppedThere, NoSourceIsDue, IsStopOf, IfRefused, IfFault}
 use Rattle.builder.specs.Reports.{IsMissingFor}
 use Rattle.builder.specs.Sources.{HasSources, LacksSource}
 use Rattle.builder.proofs.Asking.{fresh_steps, asked_on, had_asked_on, asked_in, asked_also, under, same_edges, run_new, found_at, nothing_missing_now}
 use Rattle.builder.proofs.Halting.{with_sources, stands_looked, cut_looked}
+use Rattle.builder.proofs.Faults.{faulted_call, well_looks}
 use Rattle.builder.proofs.Points.{point_now}
 
 -- ---- files that no edge makes
@@ -63,6 +66,14 @@ made_next graph plan file e wanted due made task steps planned taken other other
     not_before : GoesBefore task.graph.edges (text_at graph.manifest.paths file) other → ⊥
     not_before (BySource j none is) = some_none (sym maker_is ∙ none)
     not_before (ByNamer i k first named other_named less) = some_none (sym maker_is ∙ first source)
+
+-- the file that is loaded next, where no edge makes it, or that of sources none is due
+pub source_said : (graph : Graph) (plan : Plan) (file : ℕ) (found : Option ℕ) → IsOffered plan (Load file) → IsDueNext plan (Load file)
+    → MatchOption found ((edge : ℕ) × ((links_of graph).maker file ≡ Some edge)) (λ source. (source ≡ file) × ((links_of graph).maker file ≡ None))
+    → MatchOption found (NoSourceIsDue graph plan) (λ source. IsOffered plan (Load source) × IsDueNext plan (Load source) × ((links_of graph).maker source ≡ None))
+source_said graph plan file None wanted due made = made_next graph plan file made.0 wanted due made.1
+source_said graph plan file (Some source) wanted due is =
+    subst (λ (p : ℕ). IsOffered plan (Load p) × IsDueNext plan (Load p) × ((links_of graph).maker p ≡ None)) (sym is.0) (wanted, due, is.1)
 
 -- ---- where a phase begins
 
@@ -148,6 +159,18 @@ module _ (tells : Bool) (tick : List ℕ) (course : Course) (edges : List Edge) 
               (lack.is course.store task.targets stands.on.steps (under tells tick course edges phases graph cone state now stands)) apart last.0 last.1));
         }
 
+    pub lacking_met : NoSourceIsDue graph state.plan → (stopped : Stop) → LacksSource tells graph state.records cone state.plan now new state.looks stopped → IfFault stopped (λ fault. (of : Course) × (at : Graph) × IsCut tells of at state.plan new)
+    lacking_met made stopped lacks = met stopped (lacking_there made stopped lacks)
+      where
+        met : (s : Stop) → StoppedThere tells tick course edges graph cone (with_looks tells here graph state after) new s → IfFault s (λ fault. (of : Course) × (at : Graph) × IsCut tells of at state.plan new)
+        met (stop.Refused refusal) there = tt
+        met (stop.Fault fault) there = (grown_course course edges there.phases, there.graph, there.cut)
+
+-- what the site shows of that
+pub lacking_stop : (tells : Bool) (graph : Graph) (records : Records) (cone : Cone) (plan : Plan) (now new : World) (seen : Looks) (stopped : Stop) → OnlyLooks tells now new → LacksSource tells graph records cone plan now new seen stopped → IsStopOf now new stopped
+lacking_stop tells graph records cone plan now new seen stopped looks (inl fault) = subst (λ (s : Stop). IsStopOf now new s) (sym {A = Stop} fault.says) (faulted_call tells now new fault.fault looks fault.cause)
+lacking_stop tells graph records cone plan now new seen stopped looks (inr lack) = subst (λ (s : Stop). IsStopOf now new s) (sym {A = Stop} lack.says) (well_looks tells now new looks lack.unrefused)
+
 -- ---- a load that is not made
 
 -- where it is stopped, by what is so of a refusal and of a fault
@@ -205,3 +228,7 @@ given_up_cut tells course grown state now new cut there after rest = record {
   where
     off : IsCutOff tells course.behaviour course.format course.own (asked_with course.asked grown) course.store there.phases there.cut.steps there.cut.met course.entry new
     off = rest (grown_course course grown there.phases) there.cut.steps there.cut.met there.cut.cut
+
+pub refused_both : (stopped : Stop) (P Q : Type 0) → IfRefused stopped (λ refusal. P) → IfRefused stopped (λ refusal. Q) → IfRefused stopped (λ refusal. P × Q)
+refused_both (stop.Refused refusal) P Q p q = (p, q)
+refused_both (stop.Fault fault) P Q p q = tt

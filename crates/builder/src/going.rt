@@ -116,7 +116,10 @@ fn source_to_load(graph: &Graph, plan: &Plan) -> Option<PathId>
 {
     match plan.next() {
         Step::Load(file) => source(graph, file),
-        Step::Judge(_) | Step::Start(_) | Step::Wait | Step::Ended(_) => None,
+        Step::Judge(_) => None,
+        Step::Start(_) => None,
+        Step::Wait => None,
+        Step::Ended(_) => None,
     }
 }
 
@@ -198,6 +201,7 @@ fn given_up<S: Site>(site: &mut S, plan: &Plan, stop: Stop) -> Stop
     requires stop { (entry : World) × IsStopOf entry (S.world site.old) stop }
     ensures stop { (entry : World) → IsStopOf entry (S.world site.old) stop → IsStopOf entry (S.world site.new) result }
     ensures same { IfRefused stop (λ refusal. result ≡ stop) }
+    ensures faults { IfFault stop (λ fault. IfRefused result (λ refusal. ⊥)) }
     ensures halted { (tick : List ℕ) (course : Course) (grown : List Edge) (graph : GraphOf) (cone : ConeOf) (state : StateOf) → state.plan ≡ plan.now → StoppedThere S.tells tick course grown graph cone state (S.world site.old) stop → HasHalted S.tells tick course grown graph cone state (S.world site.new) result }
 {
     match stop {
