@@ -1,3 +1,4 @@
+pub mod Asking
 pub mod Beginning
 pub mod Builds
 pub mod Counting
