@@ -15,6 +15,7 @@ use Rattle.model.specs.OutOfDate.{NothingIsMissing}
 use Rattle.model.specs.Phases.{Phase, steps_of, IsPointAfter, AreAskedApart, IsNothingMissing, WasNothingMissing, WasNothingMissingIn}
 use Rattle.model.specs.Premises.{FilesAreKept, RecordedApart, IsWithinEdge, IsNoEdit}
 use Rattle.model.specs.Records.{OwnFiles, Store, recorded_inputs}
+use Rattle.model.specs.SingleBuild.{asked_with}
 use Rattle.model.specs.Schedule.{Task, Step as Done, judged_in, out_of_date_in, started_in, running_in}
 use Rattle.build_theory.specs.Run.{IsRun}
 use Rattle.build_theory.proofs.Calls.{looks_then}
@@ -25,6 +26,7 @@ use Rattle.build_theory.proofs.Makers.{maker_is}
 use Rattle.build_theory.proofs.Orderly.{IsKept, kept_orderly}
 use Rattle.build_theory.proofs.Runs.{rest_begins}
 use Rattle.build_theory.proofs.Starting.{OthersRun, since, private_elsewhere}
+use Rattle.log_theory.specs.Ledger.{IsPhased}
 use Rattle.log_theory.proofs.Ledger.{others_run}
 use Rattle.links.specs.declared.cone.Cone.{Cone}
 use Rattle.links.specs.declared.graph.Graph.{Graph}
@@ -43,11 +45,11 @@ use Rattle.dues.proofs.Callers.{under_way}
 use Rattle.dues.proofs.Points.{HasQuiet, IsSpared, paths_for, points_alike}
 use Rattle.runner.specs.declared.state.State.{State}
 use Rattle.runner.specs.After.{ComesAfter}
-use Rattle.runner.specs.Course.{Course, is_quiet, IsOn}
+use Rattle.runner.specs.Course.{Course, is_quiet}
 use Rattle.runner.proofs.Keeping.{looks_carried, looks_quiet}
 use Rattle.runner.proofs.Quiet.{all_kept, quiet_parts, quiet_from}
 use Rattle.builder.specs.Going.{grown_course, task_over, StandsAt, IsUnstarted, HasAsked, HadAsked}
-use Rattle.builder.proofs.Points.{point_now, asked_later, had_asked_later}
+use Rattle.builder.proofs.Points.{asked_later, had_asked_later}
 
 module _ (own : OwnFiles) (task : Task) (store : Store) (old now : List Moment) where
   -- whatever steps the last phase has
@@ -66,19 +68,19 @@ module _ (own : OwnFiles) (task : Task) (store : Store) (old now : List Moment) 
 
 -- ---- where the history has grown
 
-module _ (tells : Bool) (course : Course) (edges : List Edge) (phases : List Phase) (graph : Graph) (state : State) (now : World) (on : IsOn tells (grown_course course edges phases) graph None state now) where
+module _ (tells : Bool) (course : Course) (edges : List Edge) (phases : List Phase) (steps : List Done) (now : World) (run : IsRun tells course.own (task_over course edges) steps course.entry now)
+    (phased : IsPhased tells course.behaviour course.own (asked_with course.asked edges) course.store phases steps course.entry now)
+  where
   abbrev task : Task
   task = task_over course edges
 
-  whole : on.steps ≡ steps_of phases ++ (on.carried.phased.build.last ++ on.carried.phased.build.taken_in)
-  whole =
-      subst (λ (earlier : List Phase). on.steps ≡ steps_of earlier ++ (on.carried.phased.build.last ++ on.carried.phased.build.taken_in)) on.carried.phased.so
-      on.carried.phased.build.whole
+  pub whole : steps ≡ steps_of phases ++ (phased.build.last ++ phased.build.taken_in)
+  whole = subst (λ (earlier : List Phase). steps ≡ steps_of earlier ++ (phased.build.last ++ phased.build.taken_in)) phased.so phased.build.whole
 
   -- where no step of the last phase was taken, the steps are those of the phases before
-  pub fresh_steps : on.carried.phased.build.last ≡ [] → on.carried.phased.build.taken_in ≡ [] → on.steps ≡ steps_of phases
+  pub fresh_steps : phased.build.last ≡ [] → phased.build.taken_in ≡ [] → steps ≡ steps_of phases
   fresh_steps fresh none =
-      whole ∙ (ap (λ (l : List Done). steps_of phases ++ (l ++ on.carried.phased.build.taken_in)) fresh ∙ (ap (λ (l : List Done). steps_of phases ++ l) none ∙ append-nil (steps_of phases)))
+      whole ∙ (ap (λ (l : List Done). steps_of phases ++ (l ++ phased.build.taken_in)) fresh ∙ (ap (λ (l : List Done). steps_of phases ++ l) none ∙ append-nil (steps_of phases)))
 
   module _ (new : World) (after : ComesAfter tells now new) where
     files_then : (tell : IsTrue tells) → FilesAreKept course.own edges course.entry.history new.history → FilesAreKept course.own edges course.entry.history now.history
@@ -86,17 +88,24 @@ module _ (tells : Bool) (course : Course) (edges : List Edge) (phases : List Pha
 
     pub asked_on : HasAsked tells course edges phases now → HasAsked tells course edges phases new
     asked_on asked tell files =
-        asked_later tells course.own task on.steps course.entry now on.carried.run tell (after.history tell).0 new.history (after.history tell).1 phases (on.carried.phased.build.last ++ on.carried.phased.build.taken_in) whole task course.store
+        asked_later tells course.own task steps course.entry now run tell (after.history tell).0 new.history (after.history tell).1 phases (phased.build.last ++ phased.build.taken_in) whole task course.store
         (asked tell (files_then tell files))
 
     pub had_asked_on : (last : List Done) → HadAsked tells course edges phases last now → HadAsked tells course edges phases last new
     had_asked_on last asked tell files =
-        had_asked_later tells course.own task on.steps course.entry now on.carried.run tell (after.history tell).0 new.history (after.history tell).1 phases (on.carried.phased.build.last ++ on.carried.phased.build.taken_in) whole task course.store last
+        had_asked_later tells course.own task steps course.entry now run tell (after.history tell).0 new.history (after.history tell).1 phases (phased.build.last ++ phased.build.taken_in) whole task course.store last
         (asked tell (files_then tell files))
 
   -- whatever steps the last phase has
   pub asked_in : (last : List Done) (at : World) → HasAsked tells course edges phases at → HadAsked tells course edges phases last at
   asked_in last at asked tell files = missing_in course.own task course.store course.entry.history at.history [] phases last (asked tell files)
+
+  -- where a phase begins, and nothing is missing
+  pub asked_also : (at : World) → phased.build.last ≡ [] → phased.build.taken_in ≡ [] → HadAsked tells course edges phases [] at
+      → (IsTrue tells → FilesAreKept course.own edges course.entry.history at.history → IsNothingMissing course.own task course.store steps course.entry.history at.history) → HasAsked tells course edges phases at
+  asked_also at fresh none had nothing tell files =
+      missing_also course.own task course.store course.entry.history at.history [] phases (had tell files)
+      (subst (λ (l : List Done). IsNothingMissing course.own task course.store l course.entry.history at.history) (fresh_steps fresh none) (nothing tell files))
 
 -- ---- what is found where the build stands
 
@@ -107,7 +116,7 @@ module _ (tells : Bool) (tick : List ℕ) (course : Course) (edges : List Edge) 
   abbrev steps : List Done
   steps = stands.on.steps
 
-  same_edges : edges ≡ (declared_by graph).edges
+  pub same_edges : edges ≡ (declared_by graph).edges
   same_edges = ap (λ (b : BuildGraph). b.edges) stands.suits.same
 
   known : IsStoreOf graph state.records course.store
@@ -130,7 +139,7 @@ module _ (tells : Bool) (tick : List ℕ) (course : Course) (edges : List Edge) 
     quietly : FilesAreKept course.own edges course.entry.history now.history × AreKept (is_quiet course.own edges steps) now.history new.history × ((more : List Moment) × (new.history ≡ now.history ++ more))
     quietly = looks_quiet tells here graph stays None state now new stands.on looks tell files
 
-    run_new : IsRun tells course.own (task_over course edges) steps course.entry new
+    pub run_new : IsRun tells course.own (task_over course edges) steps course.entry new
     run_new = (looks_carried tells here graph stays None state now new stands.on looks).run
 
     -- ---- the depfiles of commands that were not judged

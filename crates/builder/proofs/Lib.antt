@@ -4,6 +4,7 @@ pub mod Builds
 pub mod Counting
 pub mod Endings
 pub mod Entry
+pub mod Fewer
 pub mod FileJoins
 pub mod Folders
 pub mod Formed

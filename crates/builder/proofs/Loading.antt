@@ -427,9 +427,8 @@ module _ (tells : Bool) (tick : List ℕ) (course : Course) (edges : List Edge) 
 
         module _ (was : HasAsked tells course edges phases now) where
           -- a fault behind that
-          pub cut_later : IsCutThere tells course after new
+          pub cut_later : IsCutThere tells course next after new
           cut_later = record {
-            edges = next;
             phases = phases ++ ended ∷ [];
             graph = grown;
             cut = record {
@@ -506,9 +505,8 @@ module _ (tells : Bool) (tick : List ℕ) (course : Course) (edges : List Edge) 
     -- ---- a fault
 
     -- a fault before that
-    pub cut_here : (after : State) → after.plan ≡ state.plan → HasAsked tells course edges phases now → IsCutThere tells course after new
-    cut_here after same was = record {
-      edges = edges;
+    pub cut_here : (after : State) → after.plan ≡ state.plan → HasAsked tells course edges phases now → IsCutThere tells course (declared_by graph).edges after new
+    cut_here after same was = subst (λ (es : List Edge). IsCutThere tells course es after new) (ap (λ (b : BuildGraph). b.edges) stands.suits.same) (record {
       phases = phases;
       graph = graph;
       cut = record {
@@ -528,7 +526,7 @@ module _ (tells : Bool) (tick : List ℕ) (course : Course) (edges : List Edge) 
           let so_far = kept_before course.own edges course.entry.history now.history new.history call.more call.grows files in
           asked_in course.own (task_over course edges) course.store course.entry.history new.history [] phases cut_now.phased.build.last
           (asked_later tells course.own (task_over course edges) steps course.entry now stands.on.carried.run tell call.more new.history call.grows phases on_new.carried.phased.build.last split_here (task_over course edges) course.store (was tell so_far));
-    }
+    })
       where
         cut_now : IsCutOff tells course.behaviour course.format course.own here.asked course.store phases steps None course.entry new
         cut_now = cut_off tells course.behaviour course.format course.own here.asked course.store course.entry phases (goes_on here) steps None new on_new.carried

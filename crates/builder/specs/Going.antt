@@ -184,15 +184,14 @@ pub record IsStopped (tells : Bool) (tick : List ℕ) (course : Course) (edges :
   pub stands : StandsAt tells tick course edges phases graph cone state now
   pub cause : IsRefusedBy tells course edges phases stands.on.steps now refusal
 
--- A fault has cut it off, before the load or behind it.
-pub record IsCutThere (tells : Bool) (course : Course) (state : State) (now : World) : Type 0 where
-  pub edges : List Edge
+-- A fault has cut it off, before the load or behind it, over these edges.
+pub record IsCutThere (tells : Bool) (course : Course) (grown : List Edge) (state : State) (now : World) : Type 0 where
   pub phases : List Phase
   pub graph : Graph
-  pub cut : IsCut tells (grown_course course edges phases) graph state.plan now
-  pub once : IsMadeOnce edges
-  pub acyclic : HasNoCycle (asked_with course.asked edges) course.store
-  pub asked : HadAsked tells course edges phases cut.cut.phased.build.last now
+  pub cut : IsCut tells (grown_course course grown phases) graph state.plan now
+  pub once : IsMadeOnce grown
+  pub acyclic : HasNoCycle (asked_with course.asked grown) course.store
+  pub asked : HadAsked tells course grown phases cut.cut.phased.build.last now
 
 -- ---- where a run halts
 

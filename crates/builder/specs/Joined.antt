@@ -133,8 +133,10 @@ pub record GoesOnWith (store : Store) (graph grown : Graph) (targets : List ℕ)
   pub planned : GoesOn grown cone old new
 
 -- a fault leaves the plan as it was, or so
-abbrev pub IsLeftWith : Store → Graph → Graph → List ℕ → Plan → Plan → List ℕ → List Addition → Type 0
-IsLeftWith store graph grown targets old new file additions = (new ≡ old) ⊎ ((cone : Cone) × GoesOnWith store graph grown targets cone old new file additions)
+abbrev pub IsLeftWith : Graph → Graph → Cone → State → State → ℕ → List ℕ → List Addition → Type 0
+IsLeftWith graph grown cone old new file path additions =
+    (new.plan ≡ old.plan)
+    ⊎ ((asked : Asked) (store : Store) → MayJoin asked store graph cone old file → (then : Cone) × GoesOnWith store graph grown cone.targets.items then old.plan new.plan path additions)
 
 -- the state has room for the paths of the graph, and what it knew stays
 pub record HasRoomIn (graph : Graph) (old new : State) : Type 0 where

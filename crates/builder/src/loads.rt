@@ -68,7 +68,7 @@ pub fn load<S: Site>(
     ensures stopped { IfErr result (λ stop. IfRefused stop (λ refusal. (tick : List ℕ) (course : Course) (edges : List Edge) (phases : List Phase) → (stands : StandsAt S.tells tick course edges phases graph.old cone.old state.old (S.world site.old)) → IsLoadNext course edges graph.old state.old stands.on.steps file → IsStopped S.tells tick course edges phases graph.new cone.new state.new (S.world site.new) refusal)) }
     ensures seen { IfErr result (λ stop. IfFault stop (λ fault. IsSeen (S.world site.old) (S.world site.new) fault)) }
     ensures stop { IfErr result (λ stop. IfFault stop (λ fault. (S.world site.new).stopped ≡ is_stop {T = Unit {0}} (Err fault))) }
-    ensures cut { IfErr result (λ stop. IfFault stop (λ fault. (tick : List ℕ) (course : Course) (edges : List Edge) (phases : List Phase) → (stands : StandsAt S.tells tick course edges phases graph.old cone.old state.old (S.world site.old)) → IsLoadNext course edges graph.old state.old stands.on.steps file → HasAsked S.tells course edges phases (S.world site.old) → IsCutThere S.tells course state.new (S.world site.new))) }
+    ensures cut { IfErr result (λ stop. IfFault stop (λ fault. (grown : List Edge) × ((tick : List ℕ) (course : Course) (edges : List Edge) (phases : List Phase) → (stands : StandsAt S.tells tick course edges phases graph.old cone.old state.old (S.world site.old)) → IsLoadNext course edges graph.old state.old stands.on.steps file → HasAsked S.tells course edges phases (S.world site.old) → IsCutThere S.tells course grown state.new (S.world site.new)))) }
 {
     log_stays();
     one_answer();
@@ -106,7 +106,7 @@ fn join(
     ensures records { IfErr result (λ stop. IfRefused stop (λ refusal. StayKnown graph.old graph.new state.old.records state.new.records)) }
     ensures cause { IfErr result (λ stop. IfRefused stop (λ refusal. (asked : Asked) (store : Store) → MayJoin asked store graph.old cone.old state.old file → IsUnjoined asked store (text_at graph.old.manifest.paths file) (map addition_of additions.now) refusal)) }
     ensures memory { IfErr result IsMemory }
-    ensures left { IfErr result (λ stop. IfFault stop (λ fault. (asked : Asked) (store : Store) → MayJoin asked store graph.old cone.old state.old file → IsLeftWith store graph.old graph.new cone.old.targets.items state.old.plan state.new.plan (text_at graph.old.manifest.paths file) (map addition_of additions.now))) }
+    ensures left { IfErr result (λ stop. IfFault stop (λ fault. IsLeftWith graph.old graph.new cone.old state.old state.new file (text_at graph.old.manifest.paths file) (map addition_of additions.now))) }
 {
     loads_go_on();
     let before = extend(alloc, graph, file, additions)?;

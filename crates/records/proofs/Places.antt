@@ -1,5 +1,5 @@
 -- The numbers of the records in force, path by path.
-use Rattle.std.proofs.Common.{◌≡◌, inl, inr, ℕ, zero, suc, ◌+◌, ◌<◌, ◌≤◌, false, List, [], ◌∷◌, ◌++◌, Option, Some, None, take, length, map, get_or, slice_get, unwrap_or, subst, sym, ◌∙◌, ap, append_assoc, arith}
+use Rattle.std.proofs.Common.{◌≡◌, inl, inr, ℕ, zero, suc, ◌+◌, ◌<◌, ◌≤◌, false, List, [], ◌∷◌, ◌++◌, Option, Some, None, take, length, map, get_or, slice_get, unwrap_or, subst, sym, ◌∙◌, ap, append_assoc, arith, refl}
 use Rattle.std.specs.Option.{option_and_then}
 use Rattle.std.proofs.Math.Seq.{get_or-append_seam, take-append_seam}
 use Rattle.std.proofs.lemmas.Option.{slice_get-get_or, slice_get_past, unwrap_or-slice_get}
