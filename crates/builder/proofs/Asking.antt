@@ -1,5 +1,5 @@
 -- What is found of sources where a phase begins is so right behind the last start or finish of the steps so far.
-use Rattle.std.proofs.Common.{◌≡◌, ◌≢◌, ◌⊎◌, inl, inr, ℕ, Bool, true, IsTrue, List, [], ◌∷◌, ◌++◌, Option, Some, None, bytes_eq, refl, sym, ◌∙◌, ap, subst, append_assoc}
+use Rattle.std.proofs.Common.{◌≡◌, inl, inr, ℕ, Bool, true, false, IsTrue, List, [], ◌∷◌, ◌++◌, None, bytes_eq, refl, sym, ◌∙◌, ap, subst, append_assoc}
 use Rattle.std.specs.List.{AllByRecursion}
 use Rattle.std.proofs.lemmas.List.{append-nil}
 use Rattle.std.proofs.lemmas.Bool.{false≢true, false_from_ne_true}
@@ -10,13 +10,13 @@ use Rattle.model.specs.declared.record.Record.{Record}
 use Rattle.model.specs.declared.record.DepsRecord.{DepsRecord}
 use Rattle.model.specs.World.{World, file_at, IsRunning}
 use Rattle.model.specs.Calls.{OnlyLooks}
-use Rattle.model.specs.Graph.{has, has_number, edge_at, maker, IsCommand}
+use Rattle.model.specs.Graph.{has, has_number, edge_at, IsCommand}
 use Rattle.model.specs.OutOfDate.{NothingIsMissing}
 use Rattle.model.specs.Phases.{Phase, steps_of, IsPointAfter, AreAskedApart, IsNothingMissing, WasNothingMissing, WasNothingMissingIn}
-use Rattle.model.specs.Premises.{FilesAreKept, RecordedApart, IsWithinEdge, IsNoEdit}
+use Rattle.model.specs.Premises.{FilesAreKept, IsWithinEdge, IsNoEdit}
 use Rattle.model.specs.Records.{OwnFiles, Store, recorded_inputs}
 use Rattle.model.specs.SingleBuild.{asked_with}
-use Rattle.model.specs.Schedule.{Task, Step as Done, judged_in, out_of_date_in, started_in, running_in}
+use Rattle.model.specs.Schedule.{Task, Step as Done, judged_in, started_in}
 use Rattle.build_theory.specs.Run.{IsRun}
 use Rattle.build_theory.proofs.Calls.{looks_then}
 use Rattle.build_theory.proofs.Files.{IsElsewhere}
@@ -32,8 +32,6 @@ use Rattle.links.specs.declared.cone.Cone.{Cone}
 use Rattle.links.specs.declared.graph.Graph.{Graph}
 use Rattle.links.specs.Linked.{IsConeOf}
 use Rattle.links.specs.Told.{declared_by, recorded_by}
-use Rattle.looks.specs.declared.table.Looks.{Looks}
-use Rattle.looks.specs.Looking.{HasLooked}
 use Rattle.looks.specs.Seen.{AreKept, AreSeenOf}
 use Rattle.records.specs.Known.{AreKnown}
 use Rattle.records.specs.Laws.{LogStays}
@@ -146,19 +144,14 @@ module _ (tells : Bool) (tick : List ℕ) (course : Course) (edges : List Edge) 
 
     keeps_depfile : (i : ℕ) → IsCommand edges i → has_number (judged_in steps) i ≡ false → KeepsDepfile tells edges now new i
     keeps_depfile i command fresh told named =
-        all_kept (bytes_eq depfile) now.history call.more new.history call.grows (λ p is.
-        subst (λ (q : List ℕ). AllByRecursion (IsElsewhere q) call.more) (same_bytes depfile p is)
-        (private_elsewhere course.own edges files.own_files i command depfile (record { named = named; is = inl refl }) (IsRunning now.events) others call.more call.all
+        let call = looks.history told in
+        let so_far = stands.on.carried.run.history told in
+        all_kept (bytes_eq (edge_at edges i).act.depfile) now.history call.more new.history call.grows (λ p is.
+        subst (λ (q : List ℕ). AllByRecursion (IsElsewhere q) call.more) (same_bytes (edge_at edges i).act.depfile p is)
+        (private_elsewhere course.own edges files.own_files i command (edge_at edges i).act.depfile (record { named = named; is = inl refl }) (IsRunning now.events) others call.more call.all
         (since (IsWithinEdge edges) course.entry.history so_far.more now.history call.more new.history so_far.grows call.grows files.commands)
         (since IsNoEdit course.entry.history so_far.more now.history call.more new.history so_far.grows call.grows files.edits)))
       where
-        abbrev depfile : List ℕ
-        depfile = (edge_at edges i).act.depfile
-
-        abbrev call = looks.history told
-
-        abbrev so_far = stands.on.carried.run.history told
-
         others : OthersRun edges i (IsRunning now.events)
         others = others_run tells here.behaviour here.format here.own here.asked here.store here.entry steps now stands.on.carried.beside.idle
             (rest_begins tells here.own (task_over course edges) here.entry steps now stands.on.carried.run) i

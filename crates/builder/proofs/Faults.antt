@@ -1,5 +1,5 @@
 -- What the site shows of a run that is stopped: each fault is passed on.
-use Rattle.std.proofs.Common.{◌≡◌, ◌⊎◌, inl, inr, ℕ, Bool, true, false, IsTrue, Unit, Result, Ok, Err, IfErr, OnOk, refl, sym, ◌∙◌, ap}
+use Rattle.std.proofs.Common.{◌≡◌, inl, inr, Bool, true, Err, refl, sym, ◌∙◌}
 use Rattle.std.proofs.lemmas.Bool.{false≢true, true≢false, cases_Bool}
 use Rattle.model.specs.declared.fault.SiteFault.{SiteFault}
 use Rattle.model.specs.declared.fault.SiteFault.TheVariants.{Device, Stopped, Memory}
@@ -10,11 +10,9 @@ use Rattle.model.specs.SingleBuild as answer
 use Rattle.build_theory.specs.Seen.{IsSeen, Unrefused, StartsUnrefused}
 use Rattle.build_theory.proofs.Calls.{unrefused_then, seen_of, seen_since}
 use Rattle.runner.specs.declared.cut.Cut.{Cut}
-use Rattle.runner.specs.declared.summary.Summary.{Summary}
 use Rattle.runner.specs.Cut.{fault_of}
 use Rattle.runner.specs.Cutting.{TakesIn}
 use Rattle.runner.proofs.Cutting.{starts_then, starts_cut, passes_whole}
-use Rattle.builder.specs.declared.report.Refusal.{Refusal}
 use Rattle.builder.specs.declared.stop.Stop.{Stop}
 use Rattle.builder.specs.declared.stop.Stop.TheVariants as stop
 use Rattle.builder.specs.Going.{GoesWell, IsFaulted, IsStopOf, IfFault, stop_answer}

@@ -1,5 +1,5 @@
 -- Where a run of a graph halts: before a load, at its end, or where it is stopped.
-use Rattle.std.proofs.Common.{◌≡◌, ◌⊎◌, inl, inr, ℕ, suc, not, Bool, true, false, IsTrue, List, [], ◌∷◌, ◌++◌, ◌==◌, ◌+◌, length, Vec, Global, Option, Some, None, Ok, Err, refl, sym, ◌∙◌, ap, subst, append_assoc, length-append, arith}
+use Rattle.std.proofs.Common.{◌≡◌, ℕ, Bool, true, List, [], ◌∷◌, ◌++◌, ◌==◌, ◌+◌, length, Vec, Global, Some, None, Ok, Err, refl, sym, ◌∙◌, ap, subst, length-append, arith}
 use Rattle.std.proofs.lemmas.List.{append-nil}
 use Rattle.std.proofs.lemmas.Bool.{false≢true, or_left, eq-eqb}
 use Rattle.model.specs.declared.event.Event.{Event}
@@ -15,7 +15,7 @@ use Rattle.build_theory.proofs.Calls.{looks_then}
 use Rattle.build_theory.proofs.Events.{as_many}
 use Rattle.build_theory.proofs.Lists.{same_rest}
 use Rattle.build_theory.proofs.Orderly.{kept_orderly}
-use Rattle.log_theory.specs.Ledger.{IsCutOff}
+use Rattle.log_theory.specs.Ledger.{IsPhased, IsCutOff}
 use Rattle.log_theory.proofs.Ledger.{cut_off}
 use Rattle.log_theory.proofs.Phased.{phased_on}
 use Rattle.links.specs.declared.cone.Cone.{Cone}
@@ -26,18 +26,18 @@ use Rattle.looks.specs.Seen.{AreKept}
 use Rattle.plan.specs.declared.plan.Plan.{Plan}
 use Rattle.plan.specs.Planned.{IsPlanned}
 use Rattle.records.specs.Laws.{LogStays}
-use Rattle.display.specs.declared.display.Display.{Display as Showing}
+use Rattle.display.specs.Shown.{Showing}
 use Rattle.runner.specs.declared.cut.Cut.{Cut}
 use Rattle.runner.specs.declared.state.State.{State}
 use Rattle.runner.specs.declared.summary.Summary.{Summary}
 use Rattle.runner.specs.After.{ComesAfter, LooksUnlessMore}
 use Rattle.runner.specs.Course.{Course, goes_on, IsOn}
 use Rattle.runner.specs.Cut.{fault_of}
-use Rattle.runner.specs.Going.{IsAtLoad, IsCut, IsInHand}
+use Rattle.runner.specs.Going.{IsAtLoad, IsInHand}
 use Rattle.runner.specs.Ran.{HasRun}
 use Rattle.runner.proofs.After.{after_looks, none_between}
 use Rattle.runner.proofs.Noticed.{with_looks, on_looked}
-use Rattle.builder.specs.Going.{grown_course, task_over, IsUnstarted, StandsAt, HasAsked, HadAsked, IsLoadNext, IsAtNextLoad, IsCutThere, HasDone, WasCut}
+use Rattle.builder.specs.Going.{grown_course, task_over, IsUnstarted, StandsAt, HasAsked, HadAsked, IsAtNextLoad, IsCutThere, HasDone, WasCut}
 use Rattle.builder.proofs.Asking.{asked_on, asked_in}
 
 -- ---- before the first start
@@ -85,8 +85,8 @@ module _ (tells : Bool) (course : Course) (task : Task) (graph : Graph) (first s
     seen = λ tell same p asked.
         let told = run.history tell in
         let more = grows.history tell in
-        let then = none_between course.entry.history now.history new.history told.more more.0 told.grows more.1 same in
-        call.seen tell (λ q. true) (same_kept (λ q. true) now.history new.history (same ∙ sym then)) (λ q was_asked is. untouched.seen tell then q was_asked) p asked refl;
+        let still = none_between course.entry.history now.history new.history told.more more.0 told.grows more.1 same in
+        call.seen tell (λ q. true) (same_kept (λ q. true) now.history new.history (same ∙ sym still)) (λ q was_asked is. untouched.seen tell still q was_asked) p asked refl;
   }
     where
       new_is : new.events ≡ course.entry.events
@@ -139,9 +139,8 @@ module _ (tells : Bool) (tick : List ℕ) (course : Course) (edges : List Edge) 
 
   -- ---- at its end
 
-  pub done_at : (summary : Summary) (new : World) → ComesAfter tells now new → HasAsked tells course edges phases now → HasRun tells here new (Ok summary) → HasDone tells course graph cone new summary
+  pub done_at : (summary : Summary) (new : World) → ComesAfter tells now new → HasAsked tells course edges phases now → HasRun tells here new (Ok summary) → HasDone tells course edges graph cone new summary
   done_at summary new grows asked ran = record {
-    edges = edges;
     phases = phases;
     ran = ran;
     asked = asked_on tells course edges phases stands.on.steps now stands.on.carried.run stands.on.carried.phased new grows asked;
@@ -151,9 +150,8 @@ module _ (tells : Bool) (tick : List ℕ) (course : Course) (edges : List Edge) 
     listed = stands.listed;
   }
 
-  pub cut_at : (cut : Cut) (new : World) → ComesAfter tells now new → HasAsked tells course edges phases now → HasRun tells here new (Err cut) → WasCut tells course new (fault_of cut)
+  pub cut_at : (cut : Cut) (new : World) → ComesAfter tells now new → HasAsked tells course edges phases now → HasRun tells here new (Err cut) → WasCut tells course edges new (fault_of cut)
   cut_at cut new grows asked ran = record {
-    edges = edges;
     phases = phases;
     cut = cut;
     is = refl;
@@ -170,7 +168,8 @@ module _ (tells : Bool) (tick : List ℕ) (course : Course) (edges : List Edge) 
     base = on_looked tells here graph stays tick stands.suits state now new after looked stands.on
 
     -- the same phases, of the world now
-    abbrev same_phases = phased_on tells here.behaviour here.own here.asked here.store here.entry phases stands.on.steps now new (λ tell. (looked.looks.history tell).more) (λ tell. (looked.looks.history tell).grows) stands.on.carried.phased
+    abbrev same_phases : IsPhased tells here.behaviour here.own here.asked here.store phases stands.on.steps here.entry new
+    same_phases = phased_on tells here.behaviour here.own here.asked here.store here.entry phases stands.on.steps now new (λ tell. (looked.looks.history tell).more) (λ tell. (looked.looks.history tell).grows) stands.on.carried.phased
 
     -- with what is shown, and what is due
     abbrev pub with_sources : Showing → Vec Bool Global → State
@@ -199,9 +198,8 @@ module _ (tells : Bool) (tick : List ℕ) (course : Course) (edges : List Edge) 
     stands_looked display due = stands_on (with_sources display due) new (after_looks tells now new looked.looks) (λ same. looked) (on_sources display due)
 
     -- a fault cuts it off
-    pub cut_looked : (state_after : State) → state_after.plan ≡ state.plan → HadAsked tells course edges phases stands.on.carried.phased.build.last new → IsCutThere tells course state_after new
+    pub cut_looked : (state_after : State) → state_after.plan ≡ state.plan → HadAsked tells course edges phases stands.on.carried.phased.build.last new → IsCutThere tells course edges state_after new
     cut_looked state_after same asked = record {
-      edges = edges;
       phases = phases;
       graph = graph;
       cut = record {

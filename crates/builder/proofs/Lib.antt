@@ -1,13 +1,16 @@
 pub mod Asking
 pub mod Beginning
+pub mod Behind
 pub mod Builds
 pub mod Counting
 pub mod Endings
 pub mod Entry
 pub mod Fewer
 pub mod FileJoins
+pub mod Faults
 pub mod Folders
 pub mod Formed
+pub mod Halting
 pub mod Joining
 pub mod Loading
 pub mod Looking
@@ -17,4 +20,5 @@ pub mod Points
 pub mod Running
 pub mod Slices
 pub mod Stages
+pub mod Stopping
 pub mod Telling

@@ -1,19 +1,15 @@
 -- How a run of a graph is stopped: by a missing source, by a load that is refused, or by a fault; and what is taken in behind that.
-use Rattle.std.proofs.Common.{◌≡◌, ◌⊎◌, inl, inr, ℕ, suc, not, is_some, Bool, true, false, IsTrue, List, [], ◌∷◌, ◌++◌, Option, Some, None, Ok, Err, refl, sym, ◌∙◌, ap, subst}
-use Rattle.std.proofs.lemmas.List.{append-nil}
+use Rattle.std.proofs.Common.{◌≡◌, inl, inr, ℕ, suc, Bool, List, [], ◌<◌, length, Vec, Global, Option, Some, None, refl, sym, ◌∙◌, ap, subst}
 use Rattle.model.specs.declared.event.Moment.{Moment}
 use Rattle.model.specs.declared.fault.SiteFault.{SiteFault}
 use Rattle.model.specs.declared.graph.Edge.{Edge}
-use Rattle.model.specs.World.{World, View}
+use Rattle.model.specs.World.{World}
 use Rattle.model.specs.Calls.{OnlyLooks}
 use Rattle.model.specs.Graph.{maker, later_number}
-use Rattle.model.specs.Phases.{Phase, steps_of, IsDueLoad, IsNextLoad, GoesBefore, BySource, ByNamer, IsPointAfter, AreAskedApart, AreTakenIn}
-use Rattle.model.specs.Premises.{FilesAreKept}
-use Rattle.model.specs.Records.{Store}
-use Rattle.model.specs.Schedule.{Task, Step as Done, started_in}
+use Rattle.model.specs.Phases.{Phase, IsNextLoad, GoesBefore, BySource, ByNamer, IsPointAfter}
+use Rattle.model.specs.Schedule.{Task, Step as Done}
 use Rattle.model.specs.SingleBuild.{asked_with}
-use Rattle.build_theory.proofs.Runs.{rest_begins}
-use Rattle.log_theory.specs.Ledger.{IsPhased, IsRefused, IsCutOff}
+use Rattle.log_theory.specs.Ledger.{IsCutOff}
 use Rattle.log_theory.proofs.Phased.{phased_on}
 use Rattle.links.specs.declared.cone.Cone.{Cone}
 use Rattle.links.specs.declared.graph.Graph.{Graph}
@@ -26,28 +22,22 @@ use Rattle.plan.specs.declared.plan.Plan.{Plan}
 use Rattle.plan.specs.declared.step.Step.TheVariants.{Load}
 use Rattle.plan.specs.Planned.{IsOffered, IsDueNext}
 use Rattle.records.specs.Laws.{LogStays}
-use Rattle.display.specs.declared.display.Display.{Display as Showing}
+use Rattle.display.specs.Shown.{Showing}
 use Rattle.runner.specs.declared.cut.Cut.{Cut}
 use Rattle.runner.specs.declared.state.State.{State}
-use Rattle.runner.specs.After.{ComesAfter, LooksUnlessMore}
-use Rattle.runner.specs.Course.{Course, goes_on, IsSince, Suits, IsOn}
+use Rattle.runner.specs.After.{ComesAfter}
+use Rattle.runner.specs.Course.{Course}
 use Rattle.runner.specs.Cut.{fault_of}
-use Rattle.runner.specs.Going.{IsGoing, IsCut, IsFinished}
-use Rattle.runner.specs.Ran.{HasRun, HasFinished}
 use Rattle.runner.proofs.After.{after_looks}
 use Rattle.runner.proofs.Noticed.{with_looks}
-use Rattle.runner.proofs.Onward.{since_goes}
-use Rattle.runner.proofs.Refused.{HasPhases, on_refused, phased_finished}
-use Rattle.builder.specs.declared.report.Missing.{Missing as Lacking}
 use Rattle.builder.specs.declared.report.Refusal.{Refusal}
-use Rattle.builder.specs.declared.report.Refusal.TheVariants.{File, MadeTwice, NoDyndepInput, NoDyndep, BadVersion, BadStatement, Unfit, UnknownTarget, Cycle, Missing}
 use Rattle.builder.specs.declared.stop.Stop.{Stop}
 use Rattle.builder.specs.declared.stop.Stop.TheVariants as stop
-use Rattle.builder.specs.Going.{grown_course, ended_course, task_over, IsUnstarted, StandsAt, HasAsked, HadAsked, BeginsAt, IsLoadNext, IsAtNextLoad, HasSourcesAt, IsLacking, IsMissingAfter, IsRefusedBy, IsStopped, IsRefusedAt, IsCutThere, HasStopped, WasCut, StoppedThere, NoSourceIsDue, IfRefused, IfFault}
+use Rattle.builder.specs.Going.{grown_course, task_over, StandsAt, HadAsked, BeginsAt, IsAtNextLoad, HasSourcesAt, IsLacking, IsMissingAfter, IsStopped, IsRefusedAt, IsCutThere, WasCut, StoppedThere, NoSourceIsDue, IfRefused, IfFault}
 use Rattle.builder.specs.Reports.{IsMissingFor}
 use Rattle.builder.specs.Sources.{HasSources, LacksSource}
-use Rattle.builder.proofs.Asking.{fresh_steps, asked_on, had_asked_on, asked_in, asked_also, whole, under, same_edges, run_new, found_at, nothing_missing_now}
-use Rattle.builder.proofs.Halting.{still_unstarted, with_sources, stands_looked, cut_looked}
+use Rattle.builder.proofs.Asking.{fresh_steps, asked_on, had_asked_on, asked_in, asked_also, under, same_edges, run_new, found_at, nothing_missing_now}
+use Rattle.builder.proofs.Halting.{with_sources, stands_looked, cut_looked}
 use Rattle.builder.proofs.Points.{point_now}
 
 -- ---- files that no edge makes
@@ -131,14 +121,13 @@ module _ (tells : Bool) (tick : List ℕ) (course : Course) (edges : List Edge) 
 
     -- one is missing, or a fault was met
     pub lacking_there : NoSourceIsDue graph state.plan → (stopped : Stop) → LacksSource tells graph state.records cone state.plan now new state.looks stopped
-        → StoppedThere tells tick course graph cone (with_looks tells here graph state after) new stopped
+        → StoppedThere tells tick course edges graph cone (with_looks tells here graph state after) new stopped
     lacking_there made stopped (inl fault) =
-        subst (λ (s : Stop). StoppedThere tells tick course graph cone (with_looks tells here graph state after) new s) (sym {A = Stop} fault.says)
+        subst (λ (s : Stop). StoppedThere tells tick course edges graph cone (with_looks tells here graph state after) new s) (sym {A = Stop} fault.says)
         (cut_looked tells tick course edges phases graph cone state now stands stays new after looked (with_looks tells here graph state after) refl had_last)
     lacking_there made stopped (inr lack) =
-        subst (λ (s : Stop). StoppedThere tells tick course graph cone (with_looks tells here graph state after) new s) (sym {A = Stop} lack.says)
+        subst (λ (s : Stop). StoppedThere tells tick course edges graph cone (with_looks tells here graph state after) new s) (sym {A = Stop} lack.says)
         (record {
-          edges = edges;
           phases = phases;
           stopped = record { stands = stands_looked tells tick course edges phases graph cone state now stands stays new after looked state.display state.due; cause = cause };
           asked = had_last;
@@ -162,10 +151,10 @@ module _ (tells : Bool) (tick : List ℕ) (course : Course) (edges : List Edge) 
 -- ---- a load that is not made
 
 -- where it is stopped, by what is so of a refusal and of a fault
-pub stopped_there : (tells : Bool) (tick : List ℕ) (course : Course) (graph : Graph) (cone : Cone) (state : State) (now : World) (stopped : Stop) → IfRefused stopped (λ refusal. IsRefusedAt tells tick course graph cone state now refusal)
-    → IfFault stopped (λ fault. IsCutThere tells course state now) → StoppedThere tells tick course graph cone state now stopped
-stopped_there tells tick course graph cone state now (stop.Refused refusal) refused faulted = refused
-stopped_there tells tick course graph cone state now (stop.Fault fault) refused faulted = faulted
+pub stopped_there : (tells : Bool) (tick : List ℕ) (course : Course) (grown : List Edge) (graph : Graph) (cone : Cone) (state : State) (now : World) (stopped : Stop) → IfRefused stopped (λ refusal. IsRefusedAt tells tick course grown graph cone state now refusal)
+    → IfFault stopped (λ fault. IsCutThere tells course grown state now) → StoppedThere tells tick course grown graph cone state now stopped
+stopped_there tells tick course grown graph cone state now (stop.Refused refusal) refused faulted = refused
+stopped_there tells tick course grown graph cone state now (stop.Fault fault) refused faulted = faulted
 
 pub if_refused_then : (stopped : Stop) (P Q : Refusal → Type 0) → ((refusal : Refusal) → P refusal → Q refusal) → IfRefused stopped P → IfRefused stopped Q
 if_refused_then (stop.Refused refusal) P Q f p = f refusal p
@@ -177,9 +166,8 @@ if_fault_then (stop.Fault fault) P Q f p = f fault p
 
 -- the load is refused where the build stands
 pub load_refused : (tells : Bool) (tick : List ℕ) (course : Course) (edges : List Edge) (phases : List Phase) (graph grown : Graph) (cone next : Cone) (state after : State) (file : ℕ) (now new : World) (refusal : Refusal)
-    → IsAtNextLoad tells tick course edges phases graph cone state file now → OnlyLooks tells now new → IsStopped tells tick course edges phases grown next after new refusal → IsRefusedAt tells tick course grown next after new refusal
+    → IsAtNextLoad tells tick course edges phases graph cone state file now → OnlyLooks tells now new → IsStopped tells tick course edges phases grown next after new refusal → IsRefusedAt tells tick course edges grown next after new refusal
 load_refused tells tick course edges phases graph grown cone next state after file now new refusal at looks stopped = record {
-  edges = edges;
   phases = phases;
   stopped = stopped;
   asked = asked_in tells course edges phases at.stands.on.steps now at.stands.on.carried.run at.stands.on.carried.phased stopped.stands.on.carried.phased.build.last new
@@ -189,11 +177,10 @@ load_refused tells tick course edges phases graph grown cone next state after fi
 -- ---- behind a fault
 
 -- what runs was taken in
-pub given_up_cut : (tells : Bool) (course : Course) (state : State) (plan : Plan) (now new : World) (cut : Cut) → state.plan ≡ plan → IsCutThere tells course state now → ComesAfter tells now new
+pub given_up_cut : (tells : Bool) (course : Course) (grown : List Edge) (state : State) (now new : World) (cut : Cut) → IsCutThere tells course grown state now → ComesAfter tells now new
     → ((of : Course) (steps : List Done) (met : Option ℕ) → IsCutOff tells of.behaviour of.format of.own of.asked of.store of.phases steps met of.entry now → IsCutOff tells of.behaviour of.format of.own of.asked of.store of.phases steps met of.entry new)
-    → WasCut tells course new (fault_of cut)
-given_up_cut tells course state plan now new cut same there after rest = record {
-  edges = there.edges;
+    → WasCut tells course grown new (fault_of cut)
+given_up_cut tells course grown state now new cut there after rest = record {
   phases = there.phases;
   cut = cut;
   is = refl;
@@ -201,7 +188,7 @@ given_up_cut tells course state plan now new cut same there after rest = record 
     steps = there.cut.steps;
     met = there.cut.met;
     cut = record {
-      phased = phased_on tells here.behaviour here.own here.asked here.store here.entry there.phases there.cut.steps now new (λ tell. (after.history tell).0) (λ tell. (after.history tell).1) there.cut.cut.phased;
+      phased = phased_on tells course.behaviour course.own (asked_with course.asked grown) course.store course.entry there.phases there.cut.steps now new (λ tell. (after.history tell).0) (λ tell. (after.history tell).1) there.cut.cut.phased;
       run = off.run;
       beside = off.beside;
     };
@@ -213,139 +200,8 @@ given_up_cut tells course state plan now new cut same there after rest = record 
   };
   once = there.once;
   acyclic = there.acyclic;
-  asked = had_asked_on tells course there.edges there.phases there.cut.steps now there.cut.run there.cut.cut.phased new after there.cut.cut.phased.build.last there.asked;
+  asked = had_asked_on tells course grown there.phases there.cut.steps now there.cut.run there.cut.cut.phased new after there.cut.cut.phased.build.last there.asked;
 }
   where
-    abbrev here : Course
-    here = grown_course course there.edges there.phases
-
-    off : IsCutOff tells here.behaviour here.format here.own here.asked here.store there.phases there.cut.steps there.cut.met here.entry new
-    off = rest here there.cut.steps there.cut.met there.cut.cut
-
--- ---- behind a refusal
-
-module _ (tells : Bool) (tick : List ℕ) (course : Course) (graph : Graph) (cone : Cone) (state : State) (now : World) (refusal : Refusal) (refused : IsRefusedAt tells tick course graph cone state now refusal) where
-  abbrev edges : List Edge
-  edges = refused.edges
-
-  abbrev phases : List Phase
-  phases = refused.phases
-
-  abbrev stands : StandsAt tells tick course edges phases graph cone state now
-  stands = refused.stopped.stands
-
-  abbrev task : Task
-  task = task_over course edges
-
-  abbrev here : Course
-  here = grown_course course edges phases
-
-  abbrev done : List Done
-  done = stands.on.steps
-
-  abbrev last : List Done
-  last = stands.on.carried.phased.build.last
-
-  -- the course that ends there
-  abbrev pub ends : Course
-  ends = ended_course here done
-
-  none_taken_in : stands.on.carried.phased.build.taken_in ≡ []
-  none_taken_in = stands.on.carried.goes stands.goes
-
-  up_to : steps_of phases ++ last ≡ done
-  up_to =
-      sym (whole tells course edges phases done now stands.on.carried.run stands.on.carried.phased ∙ (ap (λ (l : List Done). steps_of phases ++ (last ++ l)) none_taken_in ∙ ap (λ (l : List Done). steps_of phases ++ l) (append-nil last)))
-
-  -- a load is due; or one was made just before, and a source is missing
-  cause_of : (of : Refusal) → IsRefusedBy tells course edges phases done now of → IsRefused stands.on.carried.phased
-  cause_of (File fault) cause = absurd cause
-  cause_of (NoDyndepInput path) cause = absurd cause
-  cause_of (UnknownTarget target) cause = absurd cause
-  cause_of (MadeTwice path) cause = inr (cause.1.file, due cause.1.file cause.1.is_next.due)
-  cause_of (Cycle paths) cause = inr (cause.1.file, due cause.1.file cause.1.is_next.due)
-  cause_of (NoDyndep path) cause = inr (path, due path cause.next.due)
-  cause_of (BadVersion path) cause = inr (path, due path cause.next.due)
-  cause_of (BadStatement path) cause = inr (path, due path cause.next.due)
-  cause_of (Unfit unfit) cause = inr (unfit.file, due unfit.file cause.next.due)
-  cause_of (Missing missing) cause = inl (no_last last (same_rest (steps_of phases) last [] (up_to ∙ (cause.asked.at_once ∙ sym (append-nil (steps_of phases))))))
-    where
-      no_last : (l : List Done) → l ≡ [] → l ≡ []
-      no_last l is = is
-
-  due : (file : List ℕ) → IsDueLoad task done file → IsDueLoad task (steps_of stands.on.carried.phased.build.earlier ++ last) file
-  due file is = subst (λ (l : List Done). IsDueLoad task l file) (sym (ap (λ (earlier : List Phase). steps_of earlier ++ last) stands.on.carried.phased.so ∙ up_to)) is
-
-  cause : IsRefused stands.on.carried.phased
-  cause = cause_of refusal refused.stopped.cause
-
-  pub ends_suits : Suits ends tick graph
-  ends_suits = record {
-    same = stands.suits.same;
-    recorded = stands.suits.recorded;
-    once = stands.suits.once;
-    some = stands.suits.some;
-    depfiles = stands.suits.depfiles;
-    log_owned = stands.suits.log_owned;
-    deps_owned = stands.suits.deps_owned;
-    owned = stands.suits.owned;
-    no_build_log = stands.suits.no_build_log;
-    no_deps_log = stands.suits.no_deps_log;
-    idle = stands.suits.idle;
-  }
-
-  pub ends_on : IsOn tells ends graph None state now
-  ends_on = on_refused tells here graph state now stands.on cause
-
-  pub ends_going : (going : IsGoing tells tick graph state now) × (goes_on going.course ≡ false)
-  ends_going = (record { course = ends; suits = ends_suits; on = ends_on }, refl)
-
-  module _ (new : World) (grows : ComesAfter tells now new) where
-    had_new : HadAsked tells course edges phases last new
-    had_new = had_asked_on tells course edges phases done now stands.on.carried.run stands.on.carried.phased new grows last refused.asked
-
-    -- the phases are those of the refusal, whatever was taken in since then
-    phases_since : (steps : List Done) → IsSince (Some done) steps → HasPhases tells course.behaviour course.own (asked_with course.asked edges) course.store phases course.entry stands.on.carried.phased.texts last steps new
-    phases_since steps since =
-        subst (λ (l : List Done). HasPhases tells course.behaviour course.own (asked_with course.asked edges) course.store phases course.entry stands.on.carried.phased.texts last l new) (sym since.1)
-        (phased_finished tells course.behaviour course.own (asked_with course.asked edges) course.store phases course.entry since.0 done now stands.on.carried.phased cause since.2 new (λ tell. (grows.history tell).0) (λ tell. (grows.history tell).1))
-
-    -- all that ran was taken in
-    pub stopped_finished : (after : State) → LooksUnlessMore tells graph now new state.looks after.looks → IsFinished tells ends graph after new → HasStopped tells course new refusal
-    stopped_finished after looked finished = record {
-      edges = edges;
-      phases = phases;
-      done = done;
-      graph = graph;
-      state = after;
-      finished = finished;
-      phased = since.phased;
-      up_to = ap (λ (l : List Done). steps_of phases ++ l) since.last_is ∙ up_to;
-      untouched = λ none. (still_unstarted tells course task graph state after done finished.on.steps now new stands.on.carried.run finished.on.carried.run grows looked stands.unstarted (ap started_in none)).looks;
-      then = now;
-      run = stands.on.carried.run;
-      after = grows;
-      cause = refused.stopped.cause;
-      once = stands.suits.once;
-      acyclic = stands.acyclic;
-      asked = subst (λ (l : List Done). HadAsked tells course edges phases l new) (sym since.last_is) had_new;
-    }
-      where
-        since : HasPhases tells course.behaviour course.own (asked_with course.asked edges) course.store phases course.entry stands.on.carried.phased.texts last finished.on.steps new
-        since = phases_since finished.on.steps finished.on.since
-
-    -- a fault was met
-    pub stopped_cut : (cut : Cut) → HasRun tells ends new (Err cut) → WasCut tells course new (fault_of cut)
-    stopped_cut cut ran = record {
-      edges = edges;
-      phases = phases;
-      cut = cut;
-      is = refl;
-      ran = record { steps = ran.steps; met = ran.met; cut = record { phased = since.phased; run = ran.cut.run; beside = ran.cut.beside }; in_hand = ran.in_hand; since = since_goes course.refused stands.goes ran.steps; ends = tt; goes = tt; removed = tt };
-      once = stands.suits.once;
-      acyclic = stands.acyclic;
-      asked = subst (λ (l : List Done). HadAsked tells course edges phases l new) (sym since.last_is) had_new;
-    }
-      where
-        since : HasPhases tells course.behaviour course.own (asked_with course.asked edges) course.store phases course.entry stands.on.carried.phased.texts last ran.steps new
-        since = phases_since ran.steps ran.since
+    off : IsCutOff tells course.behaviour course.format course.own (asked_with course.asked grown) course.store there.phases there.cut.steps there.cut.met course.entry new
+    off = rest (grown_course course grown there.phases) there.cut.steps there.cut.met there.cut.cut

@@ -6,7 +6,7 @@ use Rattle.model.specs.declared.fault.SiteFault.{SiteFault}
 use Rattle.model.specs.declared.graph.Edge.{Edge}
 use Rattle.model.specs.World.{World, view_of}
 use Rattle.model.specs.Calls.{OnlyLooks}
-use Rattle.model.specs.Graph.{Addition, first_output, edge_at, has_number, maker, targets_of, IsMadeOnce, IsMadeTwice}
+use Rattle.model.specs.Graph.{Addition, first_output, edge_at, has_number, maker, IsMadeOnce, IsMadeTwice}
 use Rattle.model.specs.OutOfDate.{IsFirstMissing, IsMissingInput}
 use Rattle.model.specs.Phases.{Phase, steps_of, IsGrownBy, IsDueLoad, IsNextLoad, IsPointAfter, AreAskedApart, WasNothingMissing, WasNothingMissingIn}
 use Rattle.model.specs.Premises.{FilesAreKept}
@@ -34,7 +34,7 @@ use Rattle.runner.specs.After.{ComesAfter}
 use Rattle.runner.specs.Course.{Course, goes_on, Suits, IsOn}
 use Rattle.runner.specs.Cut.{fault_of}
 use Rattle.runner.specs.Going.{IsCut, IsFinished}
-use Rattle.runner.specs.Ran.{HasRun, AreEdgesOf}
+use Rattle.runner.specs.Ran.{HasRun}
 use Rattle.builder.specs.declared.report.Missing.{Missing as Lacking}
 use Rattle.builder.specs.declared.report.Refusal.{Refusal}
 use Rattle.builder.specs.declared.report.Refusal.TheVariants.{File, MadeTwice, NoDyndepInput, NoDyndep, BadVersion, BadStatement, Unfit, UnknownTarget, Cycle, Missing}
@@ -207,11 +207,10 @@ pub record HasSourcesAt (tells : Bool) (tick : List ℕ) (course : Course) (edge
   pub asked : HasAsked tells course edges phases now
 
 -- The build is refused where it stands; nothing was missing when the phases began that have steps.
-pub record IsRefusedAt (tells : Bool) (tick : List ℕ) (course : Course) (graph : Graph) (cone : Cone) (state : State) (now : World) (refusal : Refusal) : Type 0 where
-  pub edges : List Edge
+pub record IsRefusedAt (tells : Bool) (tick : List ℕ) (course : Course) (grown : List Edge) (graph : Graph) (cone : Cone) (state : State) (now : World) (refusal : Refusal) : Type 0 where
   pub phases : List Phase
-  pub stopped : IsStopped tells tick course edges phases graph cone state now refusal
-  pub asked : HadAsked tells course edges phases stopped.stands.on.carried.phased.build.last now
+  pub stopped : IsStopped tells tick course grown phases graph cone state now refusal
+  pub asked : HadAsked tells course grown phases stopped.stands.on.carried.phased.build.last now
 
 -- whatever steps were done by a plan, no file that no edge makes is to be loaded
 abbrev pub NoSourceIsDue : Graph → Plan → Type 0
@@ -255,10 +254,10 @@ pub record HasStopped (tells : Bool) (course : Course) (grown : List Edge) (now 
   pub phased : IsPhased tells course.behaviour course.own (asked_with course.asked grown) course.store phases finished.on.steps course.entry now
   pub up_to : steps_of phases ++ phased.build.last ≡ done
   pub untouched : finished.on.steps ≡ [] → OnlyLooks tells course.entry now
-  pub then : World
-  pub run : IsRun tells course.own (task_over course grown) done course.entry then
-  pub after : ComesAfter tells then now
-  pub cause : IsRefusedBy tells course grown phases done then refusal
+  pub there : World
+  pub run : IsRun tells course.own (task_over course grown) done course.entry there
+  pub after : ComesAfter tells there now
+  pub cause : IsRefusedBy tells course grown phases done there refusal
   pub once : IsMadeOnce grown
   pub acyclic : HasNoCycle (asked_with course.asked grown) course.store
   pub asked : HadAsked tells course grown phases phased.build.last now
@@ -280,19 +279,19 @@ HasEndedSo tells course grown graph cone now (Err (stop.Refused refusal)) = HasS
 HasEndedSo tells course grown graph cone now (Err (stop.Fault fault)) = WasCut tells course grown now fault
 
 -- Where a stop comes about: it is refused where it stands, or a fault cuts it off, before what runs is taken in,
-abbrev pub StoppedThere : Bool → List ℕ → Course → Graph → Cone → State → World → Stop → Type 0
-StoppedThere tells tick course graph cone state now (stop.Refused refusal) = IsRefusedAt tells tick course graph cone state now refusal
-StoppedThere tells tick course graph cone state now (stop.Fault fault) = IsCutThere tells course state now
+abbrev pub StoppedThere : Bool → List ℕ → Course → List Edge → Graph → Cone → State → World → Stop → Type 0
+StoppedThere tells tick course grown graph cone state now (stop.Refused refusal) = IsRefusedAt tells tick course grown graph cone state now refusal
+StoppedThere tells tick course grown graph cone state now (stop.Fault fault) = IsCutThere tells course grown state now
 
 -- and behind that.
-abbrev pub HasHalted : Bool → List ℕ → Course → Graph → Cone → State → World → Stop → Type 0
-HasHalted tells tick course graph cone state now (stop.Refused refusal) = IsRefusedAt tells tick course graph cone state now refusal
-HasHalted tells tick course graph cone state now (stop.Fault fault) = WasCut tells course now fault
+abbrev pub HasHalted : Bool → List ℕ → Course → List Edge → Graph → Cone → State → World → Stop → Type 0
+HasHalted tells tick course grown graph cone state now (stop.Refused refusal) = IsRefusedAt tells tick course grown graph cone state now refusal
+HasHalted tells tick course grown graph cone state now (stop.Fault fault) = WasCut tells course grown now fault
 
 -- a run waits for a load, or has ended
 abbrev pub HasPausedSo : Bool → List ℕ → Course → List Edge → List Phase → Graph → Cone → State → World → Pause → Type 0
 HasPausedSo tells tick course edges phases graph cone state now (pause.Load file) = IsAtNextLoad tells tick course edges phases graph cone state file now
-HasPausedSo tells tick course edges phases graph cone state now (pause.Ended summary) = HasDone tells course graph cone now summary
+HasPausedSo tells tick course edges phases graph cone state now (pause.Ended summary) = HasDone tells course edges graph cone now summary
 
 -- what it answers, as far as faults go
 abbrev pub stop_answer : Result Summary Stop → Answer

@@ -44,7 +44,7 @@ pub fn run_graph<S: Site>(
     requires running { (S.world site.old).stopped ≡ false }
     requires begins { (course : Course) × (edges : List Edge) × (phases : List Phase) × BeginsAt S.tells tick.now course edges phases graph.old cone.old state.old (S.world site.old) }
     requires enough { AreSet graph.old state.old.set.items }
-    ensures ended { (course : Course) (edges : List Edge) (phases : List Phase) → BeginsAt S.tells tick.now course edges phases graph.old cone.old state.old (S.world site.old) → HasEndedSo S.tells course graph.new cone.new (S.world site.new) result }
+    ensures ended { (grown : List Edge) × ((course : Course) (edges : List Edge) (phases : List Phase) → BeginsAt S.tells tick.now course edges phases graph.old cone.old state.old (S.world site.old) → HasEndedSo S.tells course grown graph.new cone.new (S.world site.new) result) }
     ensures edges { IfOk result (AreEdgesOf graph.new) }
     ensures seen { IfErr result (λ stop. IfFault stop (IsSeen (S.world site.old) (S.world site.new))) }
     ensures faults { PassesNoFault (S.world site.old) (S.world site.new) (stop_answer result) }
@@ -67,12 +67,12 @@ fn run_and_load<S: Site>(
     requires running { (S.world site.old).stopped ≡ false }
     requires begins { (course : Course) × (edges : List Edge) × (phases : List Phase) × BeginsAt S.tells tick.now course edges phases graph.old cone.old state.old (S.world site.old) }
     requires enough { AreSet graph.old state.old.set.items }
-    ensures done { IfOk result (λ summary. (course : Course) (edges : List Edge) (phases : List Phase) → BeginsAt S.tells tick.now course edges phases graph.old cone.old state.old (S.world site.old) → HasDone S.tells course graph.new cone.new (S.world site.new) summary) }
+    ensures done { IfOk result (λ summary. (course : Course) (edges : List Edge) (phases : List Phase) → BeginsAt S.tells tick.now course edges phases graph.old cone.old state.old (S.world site.old) → HasDone S.tells course (declared_by graph.new).edges graph.new cone.new (S.world site.new) summary) }
     ensures edges { IfOk result (AreEdgesOf graph.new) }
     ensures well { OnOk result (GoesWell (S.world site.old) (S.world site.new)) }
     ensures stop { IfErr result (IsStopOf (S.world site.old) (S.world site.new)) }
     ensures enough { IfErr result (λ stop. IfRefused stop (λ refusal. AreSet graph.new state.new.set.items)) }
-    ensures halted { IfErr result (λ stop. (course : Course) (edges : List Edge) (phases : List Phase) → BeginsAt S.tells tick.now course edges phases graph.old cone.old state.old (S.world site.old) → HasHalted S.tells tick.now course graph.new cone.new state.new (S.world site.new) stop) }
+    ensures halted { IfErr result (λ stop. (grown : List Edge) × ((course : Course) (edges : List Edge) (phases : List Phase) → BeginsAt S.tells tick.now course edges phases graph.old cone.old state.old (S.world site.old) → HasHalted S.tells tick.now course grown graph.new cone.new state.new (S.world site.new) stop)) }
 {
     'run: loop {
         match run_to_load(alloc, site, graph, cone, tick, state)? {
@@ -99,7 +99,7 @@ fn run_to_load<S: Site>(
     ensures well { OnOk result (GoesWell (S.world site.old) (S.world site.new)) }
     ensures paused { IfOk result (λ pause. (course : Course) (edges : List Edge) (phases : List Phase) → BeginsAt S.tells tick.now course edges phases graph.now cone.now state.old (S.world site.old) → HasPausedSo S.tells tick.now course edges phases graph.now cone.now state.new (S.world site.new) pause) }
     ensures stop { IfErr result (IsStopOf (S.world site.old) (S.world site.new)) }
-    ensures halted { IfErr result (λ stop. (course : Course) (edges : List Edge) (phases : List Phase) → BeginsAt S.tells tick.now course edges phases graph.now cone.now state.old (S.world site.old) → HasHalted S.tells tick.now course graph.now cone.now state.new (S.world site.new) stop) }
+    ensures halted { IfErr result (λ stop. (course : Course) (edges : List Edge) (phases : List Phase) → BeginsAt S.tells tick.now course edges phases graph.now cone.now state.old (S.world site.old) → HasHalted S.tells tick.now course edges graph.now cone.now state.new (S.world site.new) stop) }
 {
     match source_to_load(graph, &state.plan) {
         Some(file) => Ok(Pause::Load(file)),
@@ -145,7 +145,7 @@ fn ask_for_sources<S: Site>(
     ensures well { OnOk result (GoesWell (S.world site.old) (S.world site.new)) }
     ensures asked { OnOk result ((tick : List ℕ) (course : Course) (edges : List Edge) (phases : List Phase) → BeginsAt S.tells tick course edges phases graph.now cone.now state.old (S.world site.old) → HasSourcesAt S.tells tick course edges phases graph.now cone.now state.new (S.world site.new)) }
     ensures stop { IfErr result (IsStopOf (S.world site.old) (S.world site.new)) }
-    ensures halted { IfErr result (λ stop. (tick : List ℕ) (course : Course) (edges : List Edge) (phases : List Phase) → BeginsAt S.tells tick course edges phases graph.now cone.now state.old (S.world site.old) → HasHalted S.tells tick course graph.now cone.now state.new (S.world site.new) stop) }
+    ensures halted { IfErr result (λ stop. (tick : List ℕ) (course : Course) (edges : List Edge) (phases : List Phase) → BeginsAt S.tells tick course edges phases graph.now cone.now state.old (S.world site.old) → HasHalted S.tells tick course edges graph.now cone.now state.new (S.world site.new) stop) }
 {
     log_stays();
     match check_sources(
@@ -184,7 +184,7 @@ fn load_file<S: Site>(
     ensures begun { OnOk result ((tick : List ℕ) (course : Course) (edges : List Edge) (phases : List Phase) → IsAtNextLoad S.tells tick course edges phases graph.old cone.old state.old file (S.world site.old) → HasBegun S.tells tick course phases graph.new cone.new state.new (S.world site.new)) }
     ensures same { IfErr result (λ stop. IfRefused stop (λ refusal. (graph.new ≡ graph.old) × (state.new.set ≡ state.old.set))) }
     ensures stop { IfErr result (IsStopOf (S.world site.old) (S.world site.new)) }
-    ensures halted { IfErr result (λ stop. (tick : List ℕ) (course : Course) (edges : List Edge) (phases : List Phase) → IsAtNextLoad S.tells tick course edges phases graph.old cone.old state.old file (S.world site.old) → HasHalted S.tells tick course graph.new cone.new state.new (S.world site.new) stop) }
+    ensures halted { IfErr result (λ stop. (grown : List Edge) × ((tick : List ℕ) (course : Course) (edges : List Edge) (phases : List Phase) → IsAtNextLoad S.tells tick course edges phases graph.old cone.old state.old file (S.world site.old) → HasHalted S.tells tick course grown graph.new cone.new state.new (S.world site.new) stop)) }
 {
     match load(alloc, site, graph, cone, state, file) {
         Ok(()) => Ok(()),
@@ -198,7 +198,7 @@ fn given_up<S: Site>(site: &mut S, plan: &Plan, stop: Stop) -> Stop
     requires stop { (entry : World) × IsStopOf entry (S.world site.old) stop }
     ensures stop { (entry : World) → IsStopOf entry (S.world site.old) stop → IsStopOf entry (S.world site.new) result }
     ensures same { IfRefused stop (λ refusal. result ≡ stop) }
-    ensures halted { (tick : List ℕ) (course : Course) (graph : GraphOf) (cone : ConeOf) (state : StateOf) → state.plan ≡ plan.now → StoppedThere S.tells tick course graph cone state (S.world site.old) stop → HasHalted S.tells tick course graph cone state (S.world site.new) result }
+    ensures halted { (tick : List ℕ) (course : Course) (grown : List Edge) (graph : GraphOf) (cone : ConeOf) (state : StateOf) → state.plan ≡ plan.now → StoppedThere S.tells tick course grown graph cone state (S.world site.old) stop → HasHalted S.tells tick course grown graph cone state (S.world site.new) result }
 {
     match stop {
         Stop::Fault(fault) => Stop::Fault(give_up(site, plan, fault).fault()),
@@ -213,11 +213,11 @@ fn finished<S: Site>(
     state: &mut State<'_>,
     stop: Stop,
 ) -> Stop
-    requires refused { IfRefused stop (λ refusal. (course : Course) × (cone : ConeOf) × IsRefusedAt S.tells setting.tick.now course setting.graph.now cone state.old (S.world site.old) refusal) }
+    requires refused { IfRefused stop (λ refusal. (course : Course) × (grown : List Edge) × (cone : ConeOf) × IsRefusedAt S.tells setting.tick.now course grown setting.graph.now cone state.old (S.world site.old) refusal) }
     requires enough { IfRefused stop (λ refusal. AreSet setting.graph.now state.old.set.items) }
     requires stop { (entry : World) × IsStopOf entry (S.world site.old) stop }
     ensures stop { (entry : World) → IsStopOf entry (S.world site.old) stop → IsStopOf entry (S.world site.new) result }
-    ensures ended { (course : Course) (cone : ConeOf) → HasHalted S.tells setting.entry.tick.now course setting.entry.graph.now cone state.old (S.world site.old) stop → HasEndedSo S.tells course setting.entry.graph.now cone (S.world site.new) (Err result) }
+    ensures ended { (course : Course) (grown : List Edge) (cone : ConeOf) → HasHalted S.tells setting.entry.tick.now course grown setting.entry.graph.now cone state.old (S.world site.old) stop → HasEndedSo S.tells course grown setting.entry.graph.now cone (S.world site.new) (Err result) }
 {
     match stop {
         Stop::Fault(fault) => Stop::Fault(fault),
