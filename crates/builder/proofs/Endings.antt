@@ -17,7 +17,7 @@ use Rattle.model.specs.Phases.{IsPointAfter, Phase, steps_of, next_edges, IsNext
 use Rattle.model.specs.SingleBuild as answer
 use Rattle.model.specs.SingleBuild.{Asked, Answer, IsSuccess, IsAnswer, IsAsked, IsShownCycle, WentOn, WasInOrder, PassesNoFault, NamesOther, asked_with, task_of}
 use Rattle.build_theory.specs.Seen.{IsSeen}
-use Rattle.build_theory.proofs.Lists.{same_bytes}
+use Rattle.build_theory.proofs.Lists.{same_bytes, same_some}
 use Rattle.links.specs.declared.cone.Cone.{Cone}
 use Rattle.links.specs.declared.graph.Graph.{Graph}
 use Rattle.records.specs.declared.records.Records.{Records}
@@ -37,7 +37,7 @@ use Rattle.builder.specs.declared.stop.Stop.{Stop}
 use Rattle.builder.specs.declared.stop.Stop.TheVariants as stop
 use Rattle.builder.specs.Build.{Says, Builds, missing_answer, asked_of}
 use Rattle.builder.specs.Going.{task_over, IsHeldLoad, IsLacking, IsMissingAfter, IfFault, HasDone, HasStopped, WasCut, HasEndedSo, stop_answer}
-use Rattle.builder.specs.Loads.{RefusesFile}
+use Rattle.builder.specs.Loads.{IsRefusedFile, RefusesFile}
 use Rattle.builder.specs.declared.asked.Asked.{Asked as Request}
 use Rattle.builder.specs.Reports.{first_output_of, HasRead, IsConeRecorded, SaysEnd, report_of}
 use Rattle.builder.proofs.Beginning.{found_later}
@@ -50,7 +50,7 @@ use Rattle.builder.proofs.Slices.{map_suc}
 -- ---- other files that are held
 
 module _ (reading : List ℕ → Option (List Addition)) (texts more : View) (holds : HoldsAll texts more) (task : Task) (store : Store) where
-  load_with : (task : Task) (before : List Done) (next : List Edge) → IsLoad reading texts task before next → IsLoad reading more task before next
+  pub load_with : (task : Task) (before : List Done) (next : List Edge) → IsLoad reading texts task before next → IsLoad reading more task before next
   load_with task before next load = record {
     file = load.file;
     is_next = load.is_next;
@@ -61,7 +61,7 @@ module _ (reading : List ℕ → Option (List Addition)) (texts more : View) (ho
     grown = load.grown;
   }
 
-  phases_with : (before : List Done) (phases : List Phase) → ArePhasesFrom reading texts task store before phases → ArePhasesFrom reading more task store before phases
+  pub phases_with : (before : List Done) (phases : List Phase) → ArePhasesFrom reading texts task store before phases → ArePhasesFrom reading more task store before phases
   phases_with before [] lawful = tt
   phases_with before (phase ∷ phases) lawful = (
     lawful.0,
@@ -123,15 +123,15 @@ module _ (tells : Bool) (course : Course) (grown : List Edge) (now : World) (fou
       sources tell kept =
           subst (λ (ps : List Phase). WasNothingMissing course.own (task_of asked_then course.store) course.store course.entry.history now.history [] ps) (sym {A = List Phase} done.ran.cut.phased.so) (done.asked tell kept)
 
-      ordered : WasInOrder tells course.own asked_then course.store done.ran.cut.phased.build.earlier done.ran.cut.phased.build.last course.entry now
-      ordered = was_in_order tells course.behaviour course.format course.own asked_then course.store course.entry now found idle done.phases done.ran.steps done.ran.met done.ran.cut done.once others named done.acyclic sources
+      in_order : WasInOrder tells course.own asked_then course.store done.ran.cut.phased.build.earlier done.ran.cut.phased.build.last course.entry now
+      in_order = was_in_order tells course.behaviour course.format course.own asked_then course.store course.entry now found idle done.phases done.ran.steps done.ran.met done.ran.cut done.once others named done.acyclic sources
 
       -- but there was no memory to tell it
       done_untold : EndsAs (Fault Memory)
       done_untold = record {
         said = answer.Fault Memory;
         says = λ edges given targets. refl;
-        built = built_cut tells course.behaviour course.format course.own asked_then course.store course.entry now found idle done.phases done.ran.steps done.ran.met done.ran.cut done.once others done.ran.in_hand (inr ordered)
+        built = built_cut tells course.behaviour course.format course.own asked_then course.store course.entry now found idle done.phases done.ran.steps done.ran.met done.ran.cut done.once others done.ran.in_hand (inr in_order)
             Memory tt (passes_any course.entry now passes (answer.Fault Memory));
       }
 
