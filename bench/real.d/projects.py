@@ -17,6 +17,8 @@ class Project:
     deleted: tuple = ()
     targets: tuple = ()
     rests: bool = True
+    # Whether commands get the terminal: of those that end meanwhile ninja shows the last alone.
+    terminal: bool = False
     regenerates: tuple = ()
     runs: tuple = ()
     tells: str = ""
@@ -110,11 +112,11 @@ WHOLE = CMAKE_MADE + CMAKE_LIBRARIES + CMAKE_MAIN
 CMAKES = [
     cmake("cmake", WHOLE + CMAKE_TESTS, files={
         **SOURCES, "make_header": MAKE_HEADER, "version.h.in": "#define VERSION @CMAKE_VERSION@\n", "CMakeLists.txt": CMAKE_HEAD + WHOLE + CMAKE_TESTS},
-          targets=("test", "help", "clean", "module", "app")),
+          targets=("test", "help", "clean", "module", "app"), terminal=True),
     cmake("cmake-unity", WHOLE, "-DCMAKE_UNITY_BUILD=ON"),
     cmake("cmake-responses", WHOLE, "-DCMAKE_NINJA_FORCE_RESPONSE_FILE=ON"),
     cmake("cmake-precompiled", WHOLE + "target_precompile_headers(some PRIVATE <vector> parts.h)\n"),
-    cmake("cmake-terminal", WHOLE + CMAKE_TERMINAL, rests=False),
+    cmake("cmake-terminal", WHOLE + CMAKE_TERMINAL, rests=False, terminal=True),
     cmake("cmake-configurations", WHOLE, prepares=[["cmake", "-G", "Ninja Multi-Config", "-S", ".", "-B", "build"]],
           words=("-f", "build-Release.ninja"), deleted=("build/Release/app",), runs=("build/Release/app",)),
     cmake("cmake-folders", "", files=CMAKE_MANY, edits=[("a source", "lib3/lib3.cc"), ("the lowest header", "lib1/include/lib1.h")], tells="sum 12"),
@@ -168,7 +170,7 @@ def meson(name, text, *flags, **how):
 
 
 MESONS = [
-    meson("meson", MESON_MADE + MESON_REST + MESON_TESTS, targets=("test", "clean", "app", "listed.txt")),
+    meson("meson", MESON_MADE + MESON_REST + MESON_TESTS, targets=("test", "clean", "app", "listed.txt"), terminal=True),
     meson("meson-unity", MESON_MADE + MESON_REST, "--unity", "on"),
     meson("meson-again", MESON_MADE + MESON_REST, regenerates=("meson.build", "some = static", "add_project_arguments('-DAGAIN', language: 'cpp')\nsome = static")),
     meson("meson-optimized", MESON_MADE + MESON_REST, "--buildtype", "release", "-Db_lto=true", "-Dcpp_args=-frandom-seed=1"),

@@ -25,3 +25,4 @@ pub mod Onward
 pub mod Refused
 pub mod Loaded
 pub mod After
+pub mod Nothing

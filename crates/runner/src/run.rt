@@ -1,6 +1,6 @@
 //! Running commands until a plan has ended, or a dyndep file is to be loaded.
 
-ghost use Rattle.std.specs.Prelude.{◌≡◌, Bool, true, false, None, IfOk, IfErr, OnErr, Ok};
+ghost use Rattle.std.specs.Prelude.{◌≡◌, Bool, true, false, None, IfOk, IfErr, OnOk, OnErr, Ok};
 ghost use Rattle.model.specs.World.{World};
 ghost use Rattle.model.specs.SingleBuild.{PassesNoFault};
 ghost use Rattle.model.specs.SingleBuild as answer;
@@ -61,7 +61,6 @@ pub fn run_plan<S: Site>(
 }
 
 /// Does what the plan says until it says no step.
-#[tactic(auto, using(crate::proofs::After::after_then, crate::proofs::After::looks_then_looks, crate::proofs::After::after_same))]
 fn run<S: Site>(site: &mut S, setting: Setting<'_>, state: &mut State<'_>) -> Result<Halt, Cut>
     requires running { (S.world site.old).stopped ≡ false }
     requires going { (going : IsGoing S.tells setting.tick.now setting.graph.now state.old (S.world site.old)) × (goes_on going.course ≡ true) }
