@@ -1,5 +1,5 @@
 -- What is found of sources where a phase begins is so right behind the last start or finish of the steps so far.
-use Rattle.std.proofs.Common.{◌≡◌, inl, inr, ℕ, Bool, true, false, IsTrue, List, [], ◌∷◌, ◌++◌, None, bytes_eq, refl, sym, ◌∙◌, ap, subst, append_assoc}
+use Rattle.std.proofs.Common.{◌≡◌, inl, inr, ℕ, zero, suc, ◌<◌, Bool, true, false, IsTrue, List, [], ◌∷◌, ◌++◌, length, slice_index_or, All, arith, None, bytes_eq, refl, sym, ◌∙◌, ap, subst, append_assoc}
 use Rattle.std.specs.List.{AllByRecursion}
 use Rattle.std.proofs.lemmas.List.{append-nil}
 use Rattle.std.proofs.lemmas.Bool.{false≢true, false_from_ne_true}
@@ -30,7 +30,11 @@ use Rattle.log_theory.specs.Ledger.{IsPhased}
 use Rattle.log_theory.proofs.Ledger.{others_run}
 use Rattle.links.specs.declared.cone.Cone.{Cone}
 use Rattle.links.specs.declared.graph.Graph.{Graph}
+use Rattle.links.specs.Cone.{mark_at, is_listed}
 use Rattle.links.specs.Linked.{IsConeOf}
+use Rattle.links.proofs.Texts.{length-edges}
+use Rattle.links.specs.declared.cone.Mark.{Mark}
+use Rattle.looks.proofs.Slices.{item_has}
 use Rattle.links.specs.Told.{declared_by, recorded_by}
 use Rattle.looks.specs.Seen.{AreKept, AreSeenOf}
 use Rattle.records.specs.Known.{AreKnown}
@@ -232,3 +236,21 @@ module _ (tells : Bool) (tick : List ℕ) (course : Course) (edges : List Edge) 
     nothing_missing_now found loaded apart at point =
         subst (λ (es : List Edge). NothingIsMissing es course.store steps at (task_over course edges).targets) (sym same_edges)
         (found_at (λ at. NothingIsMissing (declared_by graph).edges course.store steps at (task_over course edges).targets) found apart at point)
+
+-- ---- the edges of a cone
+
+listed_below : (marks : List Mark) (e : ℕ) → is_listed (mark_at marks e) ≡ true → e < length marks
+listed_below [] e listed = absurd (false≢true listed)
+listed_below (mark ∷ marks) zero listed = omega arith
+listed_below (mark ∷ marks) (suc e) listed = let less = listed_below marks e listed in omega (arith, less)
+
+-- they are edges of the graph
+pub order_within : (graph : Graph) (cone : Cone) (edges : List Edge) (recorded : ℕ → List (List ℕ)) (targets : List (List ℕ)) → edges ≡ (declared_by graph).edges → IsConeOf edges recorded targets cone.order.items cone.marks.items
+    → All (λ e. e < length graph.manifest.lines) cone.order.items
+order_within graph cone edges recorded targets same listed k d lt =
+    let e = slice_index_or cone.order.items k d in
+    let less = listed_below cone.marks.items e (listed.marked e ∙ item_has cone.order.items k d lt) in
+    let many = ap (λ (es : List Edge). length es) same in
+    let fits = listed.fits in
+    let size = length-edges graph.manifest.paths graph.manifest.lines graph.manifest.actions graph.manifest.fits in
+    omega (arith, less, many, fits, size)

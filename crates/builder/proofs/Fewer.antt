@@ -1,5 +1,5 @@
 -- Each load leaves fewer edges that name a dyndep file.
-use Rattle.std.proofs.Common.{◌≡◌, ◌⊎◌, inl, inr, ℕ, zero, suc, ◌<◌, ◌≤◌, ◌+◌, cond, Bool, true, false, List, [], ◌∷◌, length, get_or, Option, Some, None, is_some, refl, sym, ◌∙◌, ap, subst, arith}
+use Rattle.std.proofs.Common.{◌≡◌, inl, inr, ℕ, zero, suc, ◌<◌, ◌≤◌, cond, List, [], ◌∷◌, length, get_or, Option, Some, None, is_some, ap, arith}
 use Rattle.std.proofs.lemmas.List.Sums.{sum_by-cons}
 use Rattle.model.specs.declared.graph.Edge.{Edge}
 use Rattle.model.specs.Graph.{edge_at, no_edge, Addition}
@@ -44,7 +44,7 @@ fewer_left file additions edges next grown zero names = absurd (none_some names)
     none_some : None ≡ Some file → ⊥
     none_some is = cc
 fewer_left file additions edges next grown (suc k) names =
-    fewer_at edges next k grown.as_many (let now = none_now (suc k) names in let then = ap (λ (d : Option (List ℕ)). cond (is_some d) 1 0) names in omega (arith, now, then)) each
+    fewer_at edges next k grown.as_many (let now = none_now (suc k) names in let then = ap {B = ℕ} (λ (d : Option (List ℕ)). cond (is_some d) 1 0) names in omega (arith, now, then)) each
   where
     none_now : (i : ℕ) → (edge_at edges i).dyndep ≡ Some file → left_of (edge_at next i) ≡ 0
     none_now i is = ap left_of (grown.named i is).2

@@ -1,5 +1,5 @@
 -- What a dyndep file says joins a graph: what follows for recorded inputs, targets, records and the plan, and how it is taken back.
-use Rattle.std.proofs.Common.{◌≡◌, ◌⊎◌, inl, inr, ℕ, zero, suc, ◌<◌, ◌≤◌, ◌+◌, ◌==◌, cond, bytes_eq, Bool, true, false, List, [], ◌∷◌, ◌++◌, map, length, get_or, slice_get, Option, Some, None, is_some, refl, sym, ◌∙◌, ap, subst, append_assoc, arith}
+use Rattle.std.proofs.Common.{◌≡◌, ◌⊎◌, inl, inr, ℕ, zero, suc, ◌<◌, ◌≤◌, cond, bytes_eq, Bool, true, false, List, [], ◌∷◌, ◌++◌, length, get_or, Option, Some, None, is_some, refl, sym, ◌∙◌, ap, subst, append_assoc, arith}
 use Rattle.std.specs.List.{All}
 use Rattle.std.specs.Option.{option_map}
 use Rattle.std.proofs.lemmas.Bool.{cases_Bool, false≢true, eqb-true, eq-eqb, or_left}
@@ -29,7 +29,6 @@ use Rattle.links.specs.Held.{list_at, dyndep_of}
 use Rattle.links.specs.LoadedEdges.{numbers_in}
 use Rattle.links.specs.Statements.{is_place}
 use Rattle.links.specs.Told.{declared_by, recorded_by, AreSameInputs}
-use Rattle.plan.specs.declared.plan.Plan.{Plan}
 use Rattle.plan.specs.Extended.{MayGoOn}
 use Rattle.plan.proofs.Loaded.{file_within, namer_within}
 use Rattle.records.specs.declared.records.Records.{Records}

@@ -1,5 +1,5 @@
 -- The recorded inputs in use join the graph, edge by edge.
-use Rattle.std.proofs.Common.{◌≡◌, ◌≢◌, ◌⊎◌, inl, inr, ◌<◌, ◌≤◌, ◌+◌, ◌==◌, ◌&&◌, ◌||◌, cond, bytes_eq, Bool, true, false, ℕ, zero, suc, List, [], ◌∷◌, ◌++◌, length, map, take, get_or, slice_get, Option, Some, None, is_some, refl, sym, ◌∙◌, ap, subst, append_assoc, append-nil, arith}
+use Rattle.std.proofs.Common.{◌≡◌, ◌⊎◌, inl, inr, ◌<◌, ◌≤◌, ◌+◌, ◌==◌, ◌&&◌, cond, Bool, true, false, ℕ, zero, suc, List, [], ◌∷◌, ◌++◌, length, take, get_or, slice_get, Option, Some, None, is_some, refl, sym, ◌∙◌, ap, subst, append_assoc, append-nil, arith}
 use Rattle.std.specs.List.{list_all, All}
 use Rattle.std.proofs.lemmas.Option.{slice_get-get_or}
 use Rattle.std.specs.Option.{option_map, option_and_then}
@@ -337,6 +337,9 @@ joined_nothing graph rs ds = record { grown = more_none graph; joined = λ e the
 pub numbers_next : (edges : List LoadedEdge) (k : ℕ) (d : LoadedEdge) → k < length edges → numbers_in (take (k + 1) edges) ≡ numbers_in (take k edges) ++ (get_or edges k d).edge ∷ []
 numbers_next edges k d lt = ap numbers_in (take_more edges k d lt) ∙ map-append (λ (l : LoadedEdge). l.edge) (take k edges) (get_or edges k d ∷ [])
 
+pub numbers_whole : (edges : List LoadedEdge) (k : ℕ) → length edges ≤ k → numbers_in (take k edges) ≡ numbers_in edges
+numbers_whole edges k past = ap numbers_in (take_all k edges past)
+
 pub numbers_at : (edges : List LoadedEdge) (k : ℕ) (d : LoadedEdge) → k < length edges → has_number (numbers_in edges) (get_or edges k d).edge ≡ true
 numbers_at [] k d lt = absurd (omega (arith, lt))
 numbers_at (l ∷ edges) zero d lt = or_left (l.edge == l.edge) (has_number (numbers_in edges) l.edge) (eq-eqb l.edge l.edge refl)
@@ -348,7 +351,7 @@ module _ (xs : List ℕ) (n : ℕ) (first now new : Graph) (rs : List Record) (d
     where
       by_test : (has_number xs n ≡ true) ⊎ (has_number xs n ≡ false) → MayBeJoined now rs ds n
       by_test (inl before) p there = sym (so_far.joined n before p) ∙ there
-      by_test (inr not_before) = may_be_more first now so_far.grown n (so_far.others n not_before) rs ds may
+      by_test (inr not_before) p there = may_be_more first now so_far.grown n (so_far.others n not_before) rs ds may p there
 
   -- one more of them
   pub joined_push : HasMorePaths now new → ((e : ℕ) → (e ≡ n → ⊥) → list_at new.recorded e ≡ list_at now.recorded e) → IsJoined new rs ds n → HasJoinedOf (xs ++ n ∷ []) first new rs ds

@@ -5,9 +5,9 @@ pub mod Builds
 pub mod Counting
 pub mod Endings
 pub mod Entry
+pub mod Faults
 pub mod Fewer
 pub mod FileJoins
-pub mod Faults
 pub mod Folders
 pub mod Formed
 pub mod Halting
@@ -20,5 +20,6 @@ pub mod Points
 pub mod Running
 pub mod Slices
 pub mod Stages
+pub mod StopCases
 pub mod Stopping
 pub mod Telling

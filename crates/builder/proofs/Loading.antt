@@ -1,6 +1,6 @@
 -- A build stands before the load of a dyndep file: what the file that was read held, and how the build goes on behind the load, is
 -- refused, or is cut off.
-use Rattle.std.proofs.Common.{◌≡◌, ◌⊎◌, inl, inr, ℕ, zero, suc, ◌<◌, ◌≤◌, cond, Bool, true, false, IsTrue, List, [], ◌∷◌, ◌++◌, map, length, get_or, bytes_eq, Option, Some, None, is_some, Result, Ok, Err, refl, sym, ◌∙◌, ap, subst, append_assoc, arith}
+use Rattle.std.proofs.Common.{◌≡◌, ◌⊎◌, inl, inr, ℕ, zero, suc, ◌<◌, cond, Bool, true, false, IsTrue, List, [], ◌∷◌, ◌++◌, map, length, get_or, bytes_eq, Option, Some, None, is_some, Result, Ok, Err, refl, sym, ◌∙◌, ap, subst, append_assoc, arith}
 use Rattle.std.specs.List.{All}
 use Rattle.std.specs.Option.{option_map}
 use Rattle.std.proofs.lemmas.Bool.{false≢true, true≢false, false_from_ne_true}
@@ -10,16 +10,16 @@ use Rattle.model.specs.declared.graph.BuildGraph.{BuildGraph}
 use Rattle.model.specs.declared.graph.Edge.{Edge}
 use Rattle.model.specs.declared.record.Record.{Record}
 use Rattle.model.specs.declared.record.DepsRecord.{DepsRecord}
-use Rattle.model.specs.World.{World, File, file_at, content_of, stamp_of, view_of}
-use Rattle.model.specs.Calls.{OnlyLooks, OthersWrote, Sees}
-use Rattle.model.specs.Graph.{has, has_number, edge_at, maker, inputs, outputs, Addition, IsCommand, IsMadeOnce}
+use Rattle.model.specs.World.{World, file_at, content_of, stamp_of, view_of}
+use Rattle.model.specs.Calls.{OnlyLooks, Sees}
+use Rattle.model.specs.Graph.{has, has_number, edge_at, outputs, Addition, IsCommand, IsMadeOnce}
 use Rattle.model.specs.Kept.{StartedUnder}
-use Rattle.model.specs.Phases.{Phase, steps_of, IsNextLoad, IsPointAfter, IsInOrderAt, WasNothingMissing, WasNothingMissingIn}
+use Rattle.model.specs.Phases.{Phase, steps_of, IsGrownBy, IsPointAfter, IsInOrderAt, WasNothingMissing, WasNothingMissingIn}
 use Rattle.model.specs.Premises.{FilesAreKept}
 use Rattle.model.specs.Reading.{IsInCone, IsCycle}
 use Rattle.model.specs.Records.{OwnFiles, Store, recorded_of, recorded_inputs}
-use Rattle.model.specs.Schedule.{Task, Step as Done, out_of_date_in, started_in, running_in, done_in}
-use Rattle.model.specs.SingleBuild.{Asked, HasNoCycle, asked_with, task_of}
+use Rattle.model.specs.Schedule.{Task, Step as Done, started_in, running_in}
+use Rattle.model.specs.SingleBuild.{HasNoCycle, asked_with, task_of}
 use Rattle.build_theory.specs.Run.{IsRunOrRest}
 use Rattle.build_theory.proofs.Calls.{looks_then}
 use Rattle.build_theory.proofs.Growth.{HasGrown, grown_by}
@@ -42,33 +42,32 @@ use Rattle.lowest.specs.Flags as flags
 use Rattle.paths.specs.Told.{text_at, texts_at}
 use Rattle.links.specs.declared.cone.Cone.{Cone}
 use Rattle.links.specs.declared.graph.Graph.{Graph}
-use Rattle.links.specs.Extended.{addition_of, IsUnfit}
+use Rattle.links.specs.Extended.{addition_of}
 use Rattle.links.specs.Linked.{StandFor, IsConeOf}
 use Rattle.links.specs.Links.{links_of}
-use Rattle.links.specs.Targets.{IsConeOfNumbers}
-use Rattle.links.specs.Told.{declared_by, recorded_by, AreSameInputs}
+use Rattle.links.specs.Told.{declared_by}
 use Rattle.looks.specs.declared.table.Look.{Look}
 use Rattle.looks.specs.declared.table.Looks.{Looks}
 use Rattle.looks.specs.Seen.{look_at, look_of, is_asked, AreKept, AreSeen}
 use Rattle.plan.specs.declared.plan.Plan.{Plan}
-use Rattle.plan.specs.Extended.{GoesOn}
 use Rattle.plan.specs.Planned.{IsDeclaredTask, IsTaskOf, IsPlanned, AreTaken}
 use Rattle.records.specs.declared.logs.Logs.{Logs}
 use Rattle.records.specs.Known.{AreKnown}
 use Rattle.records.specs.Laws.{LogStays}
 use Rattle.records.specs.Logging.{IsLogging}
 use Rattle.runner.specs.declared.state.State.{State}
-use Rattle.runner.specs.Course.{Course, edges_of, goes_on, Suits, IsSince, IsOn, is_quiet}
-use Rattle.runner.specs.Going.{IsCut, IsInHand}
+use Rattle.runner.specs.Course.{Course, edges_of, goes_on, IsOn, is_quiet}
+use Rattle.runner.specs.Going.{IsInHand}
 use Rattle.runner.proofs.Keeping.{looks_quiet, on_looks}
 use Rattle.runner.proofs.Loaded.{HasMore, HasRoomFor, loaded_course, on_loaded, suits_loaded}
-use Rattle.runner.proofs.Quiet.{IsQuiet, quiet_from}
+use Rattle.runner.proofs.Quiet.{quiet_from}
 use Rattle.runner.proofs.Settled.{settled_rests}
 use Rattle.builder.specs.declared.report.Refusal.{Refusal}
 use Rattle.builder.specs.declared.report.Refusal.TheVariants.{File as BuildFile, MadeTwice, NoDyndepInput, NoDyndep, BadVersion, BadStatement, Unfit, UnknownTarget, Cycle, Missing}
-use Rattle.builder.specs.Going.{grown_course, task_over, IsUnstarted, StandsAt, HasAsked, HadAsked, BeginsAt, IsLoadNext, IsHeldLoad, IsRefusedBy, HasBegun, IsStopped, IsCutThere, files_left}
-use Rattle.builder.specs.Joined.{WasHeld, IsUnread, IsUnfitBy, IsCircleBy, IsUnjoined, MayJoin, HasJoinedFile, GoesOnWith, IsLeftWith, HasRoomIn, StayKnown, IsAsBefore}
-use Rattle.builder.specs.Loads.{ReadsDyndeps, HeldThen, IsRefusedFile, IsSaying, IsUnfitFor}
+use Rattle.builder.specs.Going.{grown_course, task_over, IsUnstarted, StandsAt, HasAsked, BeginsAt, IsLoadNext, IsHeldLoad, IsRefusedBy, HasBegun, IsStopped, IsCutThere, files_left}
+use Rattle.builder.specs.Joined.{WasHeld, IsUnread, IsUnfitBy, IsCircleBy, IsUnjoined, MayJoin, HasJoinedFile, GoesOnWith, HasRoomIn, StayKnown, IsAsBefore}
+use Rattle.builder.specs.Loads.{HeldThen, IsRefusedFile, IsSaying, IsUnfitFor}
+use Rattle.builder.proofs.Fewer.{fewer_left}
 use Rattle.builder.proofs.FileJoins.{none_unloaded, text_front, texts_front, same_graph}
 use Rattle.builder.proofs.Points.{point_now, asked_later, asked_load}
 use Rattle.builder.proofs.Telling.{none_of_phony}
@@ -118,6 +117,12 @@ asked_below (look ∷ seen) (suc p) asked = let lt = asked_below seen p asked in
 
 -- ---- a build that stands before a load
 
+-- whatever the course of the build that stood before the load of this file, it is refused where it stood
+abbrev pub StopsThere : Bool → Graph → Cone → State → World → ℕ → World → Refusal → Type 0
+StopsThere tells graph cone state old file new refusal =
+    (tick : List ℕ) (course : Course) (edges : List Edge) (phases : List Phase) → (stands : StandsAt tells tick course edges phases graph cone state old) → IsLoadNext course edges graph state stands.on.steps file
+    → IsStopped tells tick course edges phases graph cone state new refusal
+
 module _ (tells : Bool) (tick : List ℕ) (course : Course) (edges : List Edge) (phases : List Phase) (graph : Graph) (cone : Cone) (state : State) (now : World) (stands : StandsAt tells tick course edges phases graph cone state now) (file : ℕ)
     (next_load : IsLoadNext course edges graph state stands.on.steps file) where
   abbrev here : Course
@@ -155,7 +160,7 @@ module _ (tells : Bool) (tick : List ℕ) (course : Course) (edges : List Edge) 
     rest : IsRunOrRest tells course.own (task_over course edges) steps course.entry new
     rest = rest_begins tells course.own (task_over course edges) course.entry steps new on_new.carried.run
 
-    unstarted_new : started_in steps ≡ [] → IsUnstarted tells course graph state new
+    pub unstarted_new : started_in steps ≡ [] → IsUnstarted tells course graph state new
     unstarted_new none = record {
       looks = looks_then tells course.entry now new was.looks looks;
       seen = λ tell same.
@@ -189,7 +194,7 @@ module _ (tells : Bool) (tick : List ℕ) (course : Course) (edges : List Edge) 
         noted = ap (map suc) same.failed ∙ on_new.noted;
       }
 
-      pub stands_after : StandsAt tells tick course edges phases graph cone after new
+      abbrev pub stands_after : StandsAt tells tick course edges phases graph cone after new
       stands_after = record {
         goes = stands.goes;
         dyndeps = stands.dyndeps;
@@ -204,6 +209,14 @@ module _ (tells : Bool) (tick : List ℕ) (course : Course) (edges : List Edge) 
             let was = unstarted_new none in
             record { looks = was.looks; seen = λ tell is. subst (λ (l : Looks). AreSeen graph.manifest.paths new.history l.seen.items) (sym {A = Looks} same.looks) (was.seen tell is) };
       }
+
+      -- the load is refused there
+      pub stopped_there : (refusal : Refusal) → IsRefusedBy tells course edges phases steps new refusal → IsStopped tells tick course edges phases graph cone after new refusal
+      stopped_there refusal cause = record { stands = stands_after; cause = cause }
+
+    -- the state is as it was
+    pub stopped_here : (refusal : Refusal) → IsRefusedBy tells course edges phases steps new refusal → IsStopped tells tick course edges phases graph cone state new refusal
+    stopped_here refusal cause = stopped_there state (record { plan = refl; looks = refl; logs = refl; starts = refl; failed = refl; set = refl }) (λ rs ds known. known) refusal cause
 
     -- ---- what the file held
 
@@ -502,6 +515,10 @@ module _ (tells : Bool) (tick : List ℕ) (course : Course) (edges : List Edge) 
                     let sum = ap length gains.paths ∙ length-append graph.manifest.paths gains.added in
                     omega (arith, low, sum)
 
+            -- the file was loaded
+            pub has_begun : HasBegun tells tick course phases grown grown_cone after new
+            has_begun = (next, ended, begun)
+
     -- ---- a fault
 
     -- a fault before that
@@ -537,3 +554,9 @@ module _ (tells : Bool) (tick : List ℕ) (course : Course) (edges : List Edge) 
         split_here : steps ≡ steps_of phases ++ on_new.carried.phased.build.last
         split_here = so_far tells course.behaviour course.own here.asked course.store course.entry phases steps new on_new.carried.phased (on_new.carried.goes stands.goes)
             ∙ ap (λ (l : List Phase). steps_of l ++ on_new.carried.phased.build.last) on_new.carried.phased.so
+
+  -- fewer edges name a file behind the load
+  pub fewer_by : (grown : Graph) (additions : List Addition) → HasJoinedFile course.store graph grown path additions → files_left (declared_by grown).edges < files_left (declared_by graph).edges
+  fewer_by grown additions joined =
+      fewer_left path additions (declared_by graph).edges (declared_by grown).edges (subst (λ (b : BuildGraph). IsGrownBy path additions (declared_by graph).edges b.edges) (sym {A = BuildGraph} joined.more.declared) joined.has.grown)
+      next_load.next.due.edge (subst (λ (b : BuildGraph). (edge_at b.edges next_load.next.due.edge).dyndep ≡ Some path) stands.suits.same next_load.next.due.names)

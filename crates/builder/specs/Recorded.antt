@@ -5,7 +5,7 @@ use Rattle.model.specs.declared.act.Act.{Act}
 use Rattle.model.specs.declared.graph.Edge.{Edge}
 use Rattle.model.specs.declared.record.Record.{Record}
 use Rattle.model.specs.declared.record.DepsRecord.{DepsRecord}
-use Rattle.model.specs.Graph.{has, has_number, edge_at, outputs}
+use Rattle.model.specs.Graph.{has, has_number, outputs}
 use Rattle.model.specs.Records.{Store, in_force, deps_in_force, is_known, all_paths_in, recorded_inputs}
 use Rattle.paths.specs.Told.{text_at, texts_at}
 use Rattle.links.specs.declared.graph.Graph.{Graph}
