@@ -17,7 +17,7 @@ use Rattle.model.specs.Phases.{IsPointAfter, Phase, steps_of, next_edges, IsNext
 use Rattle.model.specs.SingleBuild as answer
 use Rattle.model.specs.SingleBuild.{Asked, Answer, IsSuccess, IsAnswer, IsAsked, IsShownCycle, WentOn, WasInOrder, PassesNoFault, NamesOther, asked_with, task_of}
 use Rattle.build_theory.specs.Seen.{IsSeen}
-use Rattle.build_theory.proofs.Lists.{same_bytes}
+use Rattle.build_theory.proofs.Lists.{same_bytes, same_some}
 use Rattle.links.specs.declared.cone.Cone.{Cone}
 use Rattle.links.specs.declared.graph.Graph.{Graph}
 use Rattle.records.specs.declared.records.Records.{Records}
@@ -37,7 +37,7 @@ use Rattle.builder.specs.declared.stop.Stop.{Stop}
 use Rattle.builder.specs.declared.stop.Stop.TheVariants as stop
 use Rattle.builder.specs.Build.{Says, Builds, missing_answer, asked_of}
 use Rattle.builder.specs.Going.{task_over, IsHeldLoad, IsLacking, IsMissingAfter, IfFault, HasDone, HasStopped, WasCut, HasEndedSo, stop_answer}
-use Rattle.builder.specs.Loads.{RefusesFile}
+use Rattle.builder.specs.Loads.{IsRefusedFile, RefusesFile}
 use Rattle.builder.specs.declared.asked.Asked.{Asked as Request}
 use Rattle.builder.specs.Reports.{first_output_of, HasRead, IsConeRecorded, SaysEnd, report_of}
 use Rattle.builder.proofs.Beginning.{found_later}
@@ -50,7 +50,7 @@ use Rattle.builder.proofs.Slices.{map_suc}
 -- ---- other files that are held
 
 module _ (reading : List ℕ → Option (List Addition)) (texts more : View) (holds : HoldsAll texts more) (task : Task) (store : Store) where
-  load_with : (task : Task) (before : List Done) (next : List Edge) → IsLoad reading texts task before next → IsLoad reading more task before next
+  pub load_with : (task : Task) (before : List Done) (next : List Edge) → IsLoad reading texts task before next → IsLoad reading more task before next
   load_with task before next load = record {
     file = load.file;
     is_next = load.is_next;
@@ -61,7 +61,7 @@ module _ (reading : List ℕ → Option (List Addition)) (texts more : View) (ho
     grown = load.grown;
   }
 
-  phases_with : (before : List Done) (phases : List Phase) → ArePhasesFrom reading texts task store before phases → ArePhasesFrom reading more task store before phases
+  pub phases_with : (before : List Done) (phases : List Phase) → ArePhasesFrom reading texts task store before phases → ArePhasesFrom reading more task store before phases
   phases_with before [] lawful = tt
   phases_with before (phase ∷ phases) lawful = (
     lawful.0,
@@ -87,8 +87,8 @@ module _ (reading : List ℕ → Option (List Addition)) (texts more : View) (ho
 -- ---- since a refusal
 
 -- a point of then is one of now
-point_later : (before : List Done) (old then now at : List Moment) → (later : List Moment) × (now ≡ then ++ later) → IsPointAfter before old then at → IsPointAfter before old now at
-point_later before old then now at more point = record {
+point_later : (before : List Done) (old there now at : List Moment) → (later : List Moment) × (now ≡ there ++ later) → IsPointAfter before old there at → IsPointAfter before old now at
+point_later before old there now at more point = record {
   so_far = point.so_far;
   later = point.later ++ more.0;
   is = point.is;
@@ -123,15 +123,15 @@ module _ (tells : Bool) (course : Course) (grown : List Edge) (now : World) (fou
       sources tell kept =
           subst (λ (ps : List Phase). WasNothingMissing course.own (task_of asked_then course.store) course.store course.entry.history now.history [] ps) (sym {A = List Phase} done.ran.cut.phased.so) (done.asked tell kept)
 
-      ordered : WasInOrder tells course.own asked_then course.store done.ran.cut.phased.build.earlier done.ran.cut.phased.build.last course.entry now
-      ordered = was_in_order tells course.behaviour course.format course.own asked_then course.store course.entry now found idle done.phases done.ran.steps done.ran.met done.ran.cut done.once others named done.acyclic sources
+      in_order : WasInOrder tells course.own asked_then course.store done.ran.cut.phased.build.earlier done.ran.cut.phased.build.last course.entry now
+      in_order = was_in_order tells course.behaviour course.format course.own asked_then course.store course.entry now found idle done.phases done.ran.steps done.ran.met done.ran.cut done.once others named done.acyclic sources
 
       -- but there was no memory to tell it
       done_untold : EndsAs (Fault Memory)
       done_untold = record {
         said = answer.Fault Memory;
         says = λ edges given targets. refl;
-        built = built_cut tells course.behaviour course.format course.own asked_then course.store course.entry now found idle done.phases done.ran.steps done.ran.met done.ran.cut done.once others done.ran.in_hand (inr ordered)
+        built = built_cut tells course.behaviour course.format course.own asked_then course.store course.entry now found idle done.phases done.ran.steps done.ran.met done.ran.cut done.once others done.ran.in_hand (inr in_order)
             Memory tt (passes_any course.entry now passes (answer.Fault Memory));
       }
 
@@ -210,10 +210,10 @@ module _ (tells : Bool) (course : Course) (grown : List Edge) (now : World) (fou
         record { phased = stopped.phased; run = off.run; beside = off.beside }
 
     -- files that are kept were so then
-    kept_then : IsTrue tells → FilesAreKept course.own grown course.entry.history now.history → FilesAreKept course.own grown course.entry.history stopped.then.history
-    kept_then tell kept = let more = stopped.after.history tell in kept_before course.own grown course.entry.history stopped.then.history now.history more.0 more.1 kept
+    kept_then : IsTrue tells → FilesAreKept course.own grown course.entry.history now.history → FilesAreKept course.own grown course.entry.history stopped.there.history
+    kept_then tell kept = let more = stopped.after.history tell in kept_before course.own grown course.entry.history stopped.there.history now.history more.0 more.1 kept
 
-    refused_now : (file : List ℕ) (Faulty : Option (List ℕ) → Type 0) → IsRefusedFile tells course.own asked_now course.store stopped.done course.entry stopped.then file Faulty
+    refused_now : (file : List ℕ) (Faulty : Option (List ℕ) → Type 0) → IsRefusedFile tells course.own asked_now course.store stopped.done course.entry stopped.there file Faulty
         → IsRefusedFile tells course.own asked_now course.store stopped.done course.entry now file Faulty
     refused_now file Faulty refused = record {
       next = refused.next;
@@ -221,7 +221,7 @@ module _ (tells : Bool) (course : Course) (grown : List Edge) (now : World) (fou
       faulty = refused.faulty;
       is = λ tell kept.
           let was = refused.is tell (kept_then tell kept) in
-          record { at = was.at; point = point_later stopped.done course.entry.history stopped.then.history now.history was.at (stopped.after.history tell) was.point; is = was.is };
+          record { at = was.at; point = point_later stopped.done course.entry.history stopped.there.history now.history was.at (stopped.after.history tell) was.point; is = was.is };
     }
 
     -- the steps up to the refusal
@@ -265,8 +265,12 @@ module _ (tells : Bool) (course : Course) (grown : List Edge) (now : World) (fou
         (subst (λ (l : List Done). RefusesFile tells course.own asked_now course.store l course.entry now (Refused refusal)) (sym done_is) refused) (λ h. h) (λ h. h)
         (stopped.untouched, inr (file, subst (λ (l : List Done). IsNextLoad task l file) (sym done_is) next))
 
+    abbrev Lacks : List ℕ → Option (List ℕ) → List Done → Type 0
+    Lacks path needed done =
+        IsTrue tells → FilesAreKept course.own grown course.entry.history now.history → AreAskedApart course.own task done → IsMissingAfter course grown done now path needed
+
     -- a source is missing where a phase begins
-    stopped_lacking : RefusesFile tells course.own asked_now course.store (steps_of build.earlier ++ build.last) course.entry now (Refused refusal) → (missing : Lacking) → IsLacking tells course grown stopped.phases stopped.done stopped.then missing
+    stopped_lacking : RefusesFile tells course.own asked_now course.store (steps_of build.earlier ++ build.last) course.entry now (Refused refusal) → (missing : Lacking) → IsLacking tells course grown stopped.phases stopped.done stopped.there missing
         → Built tells course.behaviour course.format course.own asked_now course.entry now (missing_answer missing.path missing.needed_by) (Refused refusal)
     stopped_lacking refused missing lacks = by_needed missing.needed_by (lacks_now missing.needed_by (λ tell kept apart. lacks.is tell (kept_then tell kept) apart))
       where
@@ -275,24 +279,20 @@ module _ (tells : Bool) (course : Course) (grown : List Edge) (now : World) (fou
             subst (λ (l : List Done). IsAsked task build.earlier l) (sym done_is)
             (subst (λ (ps : List Phase). IsAsked task ps stopped.done) (sym {A = List Phase} stopped.phased.so) lacks.asked)
 
-        abbrev Lacks : Option (List ℕ) → List Done → Type 0
-        Lacks needed done =
-            IsTrue tells → FilesAreKept course.own grown course.entry.history now.history → AreAskedApart course.own task done → IsMissingAfter course grown done now missing.path needed
-
         lacks_now : (needed : Option (List ℕ))
-            → (IsTrue tells → FilesAreKept course.own grown course.entry.history now.history → AreAskedApart course.own task stopped.done → IsMissingAfter course grown stopped.done stopped.then missing.path needed) → Lacks needed stopped.done
+            → (IsTrue tells → FilesAreKept course.own grown course.entry.history now.history → AreAskedApart course.own task stopped.done → IsMissingAfter course grown stopped.done stopped.there missing.path needed) → Lacks missing.path needed stopped.done
         lacks_now None is tell kept apart =
             let was = is tell kept apart in
-            (was.0, point_later stopped.done course.entry.history stopped.then.history now.history was.0 (stopped.after.history tell) was.1, was.2)
+            (was.0, point_later stopped.done course.entry.history stopped.there.history now.history was.0 (stopped.after.history tell) was.1, was.2)
         lacks_now (Some output) is tell kept apart =
             let was = is tell kept apart in
             let at = was.2 in
-            (was.0, was.1, (at.0, point_later stopped.done course.entry.history stopped.then.history now.history at.0 (stopped.after.history tell) at.1, at.2))
+            (was.0, was.1, (at.0, point_later stopped.done course.entry.history stopped.there.history now.history at.0 (stopped.after.history tell) at.1, at.2))
 
-        lacks_then : (needed : Option (List ℕ)) → Lacks needed stopped.done → Lacks needed (steps_of build.earlier ++ build.last)
-        lacks_then needed is = subst (λ (l : List Done). Lacks needed l) (sym done_is) is
+        lacks_then : (needed : Option (List ℕ)) → Lacks missing.path needed stopped.done → Lacks missing.path needed (steps_of build.earlier ++ build.last)
+        lacks_then needed is = subst (λ (l : List Done). Lacks missing.path needed l) (sym done_is) is
 
-        by_needed : (needed : Option (List ℕ)) → Lacks needed stopped.done → Built tells course.behaviour course.format course.own asked_now course.entry now (missing_answer missing.path needed) (Refused refusal)
+        by_needed : (needed : Option (List ℕ)) → Lacks missing.path needed stopped.done → Built tells course.behaviour course.format course.own asked_now course.entry now (missing_answer missing.path needed) (Refused refusal)
         by_needed None is =
             stopped_with stopped.phased.texts build held_still ordered (answer.MissingTarget missing.path) refused (λ h. h) (λ h. h)
             (stopped.untouched, named, stopped.acyclic, asked_at, λ tell kept apart. lacks_then None is tell kept apart)
@@ -301,7 +301,7 @@ module _ (tells : Bool) (course : Course) (grown : List Edge) (now : World) (fou
             (stopped.untouched, named, stopped.acyclic, asked_at, λ tell kept apart. lacks_then (Some output) is tell kept apart)
 
     -- a dyndep file was read, and what it adds makes no build
-    module _ (next : List Edge) (load : IsHeldLoad tells course grown stopped.done stopped.then next) where
+    module _ (next : List Edge) (load : IsHeldLoad tells course grown stopped.done stopped.there next) where
       abbrev texts : View
       texts = with_text load.file load.content stopped.phased.texts
 
@@ -321,8 +321,8 @@ module _ (tells : Bool) (course : Course) (grown : List Edge) (now : World) (fou
             before = stopped.done;
             later = since.0;
             splits = since.1;
-            mid = stopped.then;
-            run = rest_begins tells course.own task course.entry stopped.done stopped.then stopped.run;
+            mid = stopped.there;
+            run = rest_begins tells course.own task course.entry stopped.done stopped.there stopped.run;
             more = more.0;
             grows = more.1;
             holds = load.holds tell;

@@ -1,5 +1,5 @@
 -- A build, with all that is promised of one; and one that has only looked.
-use Rattle.std.proofs.Common.{◌≡◌, inl, inr, ℕ, Bool, false, true, IsTrue, List, [], ◌∷◌, ◌++◌, Some, None, Err, refl, sym, ◌∙◌, ap, subst}
+use Rattle.std.proofs.Common.{◌≡◌, inl, inr, ℕ, Bool, true, IsTrue, List, [], ◌∷◌, ◌++◌, Some, None, Err, refl, sym, ◌∙◌, ap, subst}
 use Rattle.std.proofs.lemmas.Bool.{false≢true}
 use Rattle.std.proofs.lemmas.List.{append-nil}
 use Rattle.model.specs.declared.event.Event.{Event}

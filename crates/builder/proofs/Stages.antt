@@ -13,7 +13,7 @@ use Rattle.build_theory.specs.Seen.{Looked}
 use Rattle.build_theory.proofs.Calls.{unrefused_call}
 use Rattle.deps_log.specs.Format.{HasFormat}
 use Rattle.depfile.specs.Depfile.{HasReading}
-use Rattle.dyndep.specs.Dyndep.{HasReading as HasDyndeps}
+use Rattle.dyndep_law.specs.Readings.{HasReading as HasDyndeps}
 use Rattle.links.specs.Extended.{addition_of}
 use Rattle.model.specs.Graph.{Addition}
 use Rattle.std.specs.Option.{option_map}

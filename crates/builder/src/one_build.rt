@@ -29,7 +29,7 @@ use crate::report::{Options, Refusal, Report};
 use depfile::has_reading;
 use deps_log::has_format;
 use display::Display;
-use dyndep::has_reading as has_dyndeps;
+use dyndep_law::has_reading as has_dyndeps;
 use links::{Cone, ConeFault, Graph, lists_stand};
 use looks::Looks;
 use manifest::reads_longer;
