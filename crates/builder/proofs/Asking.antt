@@ -73,41 +73,41 @@ module _ (own : OwnFiles) (task : Task) (store : Store) (old now : List Moment) 
 module _ (tells : Bool) (course : Course) (edges : List Edge) (phases : List Phase) (steps : List Done) (now : World) (run : IsRun tells course.own (task_over course edges) steps course.entry now)
     (phased : IsPhased tells course.behaviour course.own (asked_with course.asked edges) course.store phases steps course.entry now)
   where
-  abbrev task : Task
-  task = task_over course edges
+    abbrev task : Task
+    task = task_over course edges
 
-  pub whole : steps ≡ steps_of phases ++ (phased.build.last ++ phased.build.taken_in)
-  whole = subst (λ (earlier : List Phase). steps ≡ steps_of earlier ++ (phased.build.last ++ phased.build.taken_in)) phased.so phased.build.whole
+    pub whole : steps ≡ steps_of phases ++ (phased.build.last ++ phased.build.taken_in)
+    whole = subst (λ (earlier : List Phase). steps ≡ steps_of earlier ++ (phased.build.last ++ phased.build.taken_in)) phased.so phased.build.whole
 
-  -- where no step of the last phase was taken, the steps are those of the phases before
-  pub fresh_steps : phased.build.last ≡ [] → phased.build.taken_in ≡ [] → steps ≡ steps_of phases
-  fresh_steps fresh none =
-      whole ∙ (ap (λ (l : List Done). steps_of phases ++ (l ++ phased.build.taken_in)) fresh ∙ (ap (λ (l : List Done). steps_of phases ++ l) none ∙ append-nil (steps_of phases)))
+    -- where no step of the last phase was taken, the steps are those of the phases before
+    pub fresh_steps : phased.build.last ≡ [] → phased.build.taken_in ≡ [] → steps ≡ steps_of phases
+    fresh_steps fresh none =
+        whole ∙ (ap (λ (l : List Done). steps_of phases ++ (l ++ phased.build.taken_in)) fresh ∙ (ap (λ (l : List Done). steps_of phases ++ l) none ∙ append-nil (steps_of phases)))
 
-  module _ (new : World) (after : ComesAfter tells now new) where
-    files_then : (tell : IsTrue tells) → FilesAreKept course.own edges course.entry.history new.history → FilesAreKept course.own edges course.entry.history now.history
-    files_then tell files = kept_before course.own edges course.entry.history now.history new.history (after.history tell).0 (after.history tell).1 files
+    module _ (new : World) (after : ComesAfter tells now new) where
+      files_then : (tell : IsTrue tells) → FilesAreKept course.own edges course.entry.history new.history → FilesAreKept course.own edges course.entry.history now.history
+      files_then tell files = kept_before course.own edges course.entry.history now.history new.history (after.history tell).0 (after.history tell).1 files
 
-    pub asked_on : HasAsked tells course edges phases now → HasAsked tells course edges phases new
-    asked_on asked tell files =
-        asked_later tells course.own task steps course.entry now run tell (after.history tell).0 new.history (after.history tell).1 phases (phased.build.last ++ phased.build.taken_in) whole task course.store
-        (asked tell (files_then tell files))
+      pub asked_on : HasAsked tells course edges phases now → HasAsked tells course edges phases new
+      asked_on asked tell files =
+          asked_later tells course.own task steps course.entry now run tell (after.history tell).0 new.history (after.history tell).1 phases (phased.build.last ++ phased.build.taken_in) whole task course.store
+          (asked tell (files_then tell files))
 
-    pub had_asked_on : (last : List Done) → HadAsked tells course edges phases last now → HadAsked tells course edges phases last new
-    had_asked_on last asked tell files =
-        had_asked_later tells course.own task steps course.entry now run tell (after.history tell).0 new.history (after.history tell).1 phases (phased.build.last ++ phased.build.taken_in) whole task course.store last
-        (asked tell (files_then tell files))
+      pub had_asked_on : (last : List Done) → HadAsked tells course edges phases last now → HadAsked tells course edges phases last new
+      had_asked_on last asked tell files =
+          had_asked_later tells course.own task steps course.entry now run tell (after.history tell).0 new.history (after.history tell).1 phases (phased.build.last ++ phased.build.taken_in) whole task course.store last
+          (asked tell (files_then tell files))
 
-  -- whatever steps the last phase has
-  pub asked_in : (last : List Done) (at : World) → HasAsked tells course edges phases at → HadAsked tells course edges phases last at
-  asked_in last at asked tell files = missing_in course.own task course.store course.entry.history at.history [] phases last (asked tell files)
+    -- whatever steps the last phase has
+    pub asked_in : (last : List Done) (at : World) → HasAsked tells course edges phases at → HadAsked tells course edges phases last at
+    asked_in last at asked tell files = missing_in course.own task course.store course.entry.history at.history [] phases last (asked tell files)
 
-  -- where a phase begins, and nothing is missing
-  pub asked_also : (at : World) → phased.build.last ≡ [] → phased.build.taken_in ≡ [] → HadAsked tells course edges phases [] at
-      → (IsTrue tells → FilesAreKept course.own edges course.entry.history at.history → IsNothingMissing course.own task course.store steps course.entry.history at.history) → HasAsked tells course edges phases at
-  asked_also at fresh none had nothing tell files =
-      missing_also course.own task course.store course.entry.history at.history [] phases (had tell files)
-      (subst (λ (l : List Done). IsNothingMissing course.own task course.store l course.entry.history at.history) (fresh_steps fresh none) (nothing tell files))
+    -- where a phase begins, and nothing is missing
+    pub asked_also : (at : World) → phased.build.last ≡ [] → phased.build.taken_in ≡ [] → HadAsked tells course edges phases [] at
+        → (IsTrue tells → FilesAreKept course.own edges course.entry.history at.history → IsNothingMissing course.own task course.store steps course.entry.history at.history) → HasAsked tells course edges phases at
+    asked_also at fresh none had nothing tell files =
+        missing_also course.own task course.store course.entry.history at.history [] phases (had tell files)
+        (subst (λ (l : List Done). IsNothingMissing course.own task course.store l course.entry.history at.history) (fresh_steps fresh none) (nothing tell files))
 
 -- ---- what is found where the build stands
 

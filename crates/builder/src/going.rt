@@ -211,12 +211,7 @@ fn given_up<S: Site>(site: &mut S, plan: &Plan, stop: Stop) -> Stop
 }
 
 /// After a refusal what runs is taken in, recorded and shown, which may meet a fault; a fault stays as it is.
-fn finished<S: Site>(
-    site: &mut S,
-    setting: Setting<'_>,
-    state: &mut State<'_>,
-    stop: Stop,
-) -> Stop
+fn finished<S: Site>(site: &mut S, setting: Setting<'_>, state: &mut State<'_>, stop: Stop) -> Stop
     requires refused { IfRefused stop (λ refusal. (course : Course) × (grown : List Edge) × (cone : ConeOf) × IsRefusedAt S.tells setting.tick.now course grown setting.graph.now cone state.old (S.world site.old) refusal) }
     requires enough { IfRefused stop (λ refusal. AreSet setting.graph.now state.old.set.items) }
     requires stop { (entry : World) × IsStopOf entry (S.world site.old) stop }
