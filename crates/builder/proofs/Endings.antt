@@ -140,7 +140,7 @@ module _ (tells : Bool) (course : Course) (grown : List Edge) (now : World) (fou
         let run = done.ran.ends.1 in
         let over = done.ran.ends.2 in
         record {
-            said = answer.Success started;
+          said = answer.Success started;
           says = λ edges given targets. refl;
           built = built_well tells course.behaviour course.format course.own (asked_with course.asked grown) course.store course.entry now found idle done.phases done.ran.steps done.ran.met done.ran.cut done.once others named done.acyclic
               (sources (Well started) done) done.ran.ends.0 run over.0 over.1 over.2 done.ran.ends.3 done.ran.goes done.ran.removed cone.order.items cone.marks.items done.listed started over.3 done.ran.ends.4
@@ -156,7 +156,7 @@ module _ (tells : Bool) (course : Course) (grown : List Edge) (now : World) (fou
         ap (λ (l : List ℕ). map (λ i. first_output (edge_at grown i)) l) (sym done.ran.ends.4)
         ∙ (ap (λ (es : List Edge). map (λ i. first_output (edge_at es i)) (map suc failed.items)) (sym done.same) ∙ sym (map_suc (λ i. first_output (edge_at (declared_by graph).edges i)) failed.items)) in
         record {
-            said = answer.Failed outputs;
+          said = answer.Failed outputs;
           says = λ edges given targets. refl;
           built = built_failed tells course.behaviour course.format course.own (asked_with course.asked grown) course.store course.entry now found idle done.phases done.ran.steps done.ran.met done.ran.cut done.once others named
               done.acyclic (sources (SomeFailed failed) done) done.ran.ends.0 run over.0 over.1 over.2 done.ran.ends.3 done.ran.goes done.ran.removed outputs told over.3
