@@ -60,7 +60,7 @@ returns-in_err-records g c =
     let says = c.in_err-records.ensures.fault in
     built_later tells g.S.Site.outcome c.args.options.now.file (limits_of c.args.options.now) c.args.targets.now old mid c.requires c.read.ensures.looks c.in_ok-manifest.ensures.cause graph c.in_ok-manifest.ensures.graph
     (λ tell. subst (λ (n : List ℕ). ReadsFile n old.history mid.history (Ok graph)) c.as_str.ensures (c.in_ok-manifest.ensures.file tell))
-    asked c.in_ok-asked.ensures.given c.in_ok-asked.ensures.targets c.in_ok-asked.ensures.folder c.in_ok-asked.ensures.limits c.has_format.ensures c.has_reading.ensures c.has_dyndeps.ensures c.reads_longer.ensures read report graph.edges
+    asked c.in_ok-asked.ensures.given c.in_ok-asked.ensures.targets c.in_ok-asked.ensures.folder c.in_ok-asked.ensures.limits c.has_format.ensures c.has_reading.ensures c.has_reading-2.ensures c.reads_longer.ensures read report graph.edges
     (λ B format own entry depfiles dyndeps reads owned idle looked.
     subst (λ (r : Report). Builds tells B format own graph asked.folder asked.limits asked.given.now asked.targets graph.edges entry read r)
     (sym {A = Report} (told_by _ c.from_residual-in_err-records.result c.from_residual-in_err-records.ensures.1 ∙ says.says))
@@ -80,7 +80,7 @@ returns-in_err-join_recorded g c =
     let report = report_in c.from_residual-in_err-join_recorded.result in
     built_later tells g.S.Site.outcome c.args.options.now.file (limits_of c.args.options.now) c.args.targets.now old mid c.requires c.read.ensures.looks c.in_ok-manifest.ensures.cause graph c.in_ok-manifest.ensures.graph
     (λ tell. subst (λ (n : List ℕ). ReadsFile n old.history mid.history (Ok graph)) c.as_str.ensures (c.in_ok-manifest.ensures.file tell))
-    asked c.in_ok-asked.ensures.given c.in_ok-asked.ensures.targets c.in_ok-asked.ensures.folder c.in_ok-asked.ensures.limits c.has_format.ensures c.has_reading.ensures c.has_dyndeps.ensures c.reads_longer.ensures read report graph.edges
+    asked c.in_ok-asked.ensures.given c.in_ok-asked.ensures.targets c.in_ok-asked.ensures.folder c.in_ok-asked.ensures.limits c.has_format.ensures c.has_reading.ensures c.has_reading-2.ensures c.reads_longer.ensures read report graph.edges
     (λ B format own entry depfiles dyndeps reads owned idle looked.
     subst (λ (r : Report). Builds tells B format own graph asked.folder asked.limits asked.given.now asked.targets graph.edges entry read r)
     (sym {A = Report} (told_by _ c.from_residual-in_err-join_recorded.result c.from_residual-in_err-join_recorded.ensures.1))
@@ -117,7 +117,7 @@ build_graph-requires-clause-read g c =
     let after = g.S.Texts.world c.read_records.new.site in
     let read = c.in_ok-records.ensures.read in
     let joined = c.in_ok-join_recorded.ensures read.0 read.1 read.2 c.in_ok-graph.ensures.recorded in
-    let dyndeps = reads_dyndeps c.has_dyndeps.ensures in
+    let dyndeps = reads_dyndeps c.has_reading-2.ensures in
     let B : Behaviour = record { outcome = g.S.Site.outcome; depfile = c.has_reading.ensures.0; dyndep = dyndeps.0 } in (
       course_of B c.has_format.ensures.0 (any_own asked.folder) (asked_of (declared_by new) asked.folder asked.limits asked.targets) (record { records = read.0; deps = read.1 }) mid,
       has_read c.log_begins.ensures tells graph new asked records read.0 read.1 mid after c.read_records.ensures.looks c.in_ok-records.ensures.unrefused c.in_ok-records.ensures.build_log c.in_ok-records.ensures.deps_log read.3 joined
@@ -143,7 +143,7 @@ returns g c =
     let joined = c.in_ok-join_recorded.ensures read.0 read.1 read.2 c.in_ok-graph.ensures.recorded in
     built_later tells g.S.Site.outcome c.args.options.now.file (limits_of c.args.options.now) c.args.targets.now old mid c.requires c.read.ensures.looks c.in_ok-manifest.ensures.cause declared c.in_ok-manifest.ensures.graph
     (λ tell. subst (λ (n : List ℕ). ReadsFile n old.history mid.history (Ok declared)) c.as_str.ensures (c.in_ok-manifest.ensures.file tell))
-    asked c.in_ok-asked.ensures.given c.in_ok-asked.ensures.targets c.in_ok-asked.ensures.folder c.in_ok-asked.ensures.limits c.has_format.ensures c.has_reading.ensures c.has_dyndeps.ensures c.reads_longer.ensures new report c.build_graph.ensures.0
+    asked c.in_ok-asked.ensures.given c.in_ok-asked.ensures.targets c.in_ok-asked.ensures.folder c.in_ok-asked.ensures.limits c.has_format.ensures c.has_reading.ensures c.has_reading-2.ensures c.reads_longer.ensures new report c.build_graph.ensures.0
     (λ B format own entry depfiles dyndeps reads owned idle looked.
     subst (λ (b : BuildGraph). Builds tells B format own b asked.folder asked.limits asked.given.now asked.targets c.build_graph.ensures.0 entry new report) (joined.grown.declared ∙ ap graph_of c.in_ok-graph.ensures.manifest)
     (c.build_graph.ensures.1 (course_of B format own (asked_of (declared_by joined_graph) asked.folder asked.limits asked.targets) (record { records = read.0; deps = read.1 }) entry)
