@@ -1,5 +1,5 @@
 -- What is found of sources where a phase begins is so right behind the last start or finish of the steps so far.
-use Rattle.std.proofs.Common.{◌≡◌, ◌≢◌, ◌⊎◌, inl, inr, ℕ, ◌≤◌, Bool, true, IsTrue, List, [], ◌∷◌, ◌++◌, Option, Some, None, bytes_eq, refl, sym, ◌∙◌, ap, subst, arith}
+use Rattle.std.proofs.Common.{◌≡◌, inl, inr, ℕ, zero, suc, ◌<◌, Bool, true, false, IsTrue, List, [], ◌∷◌, ◌++◌, length, slice_index_or, All, arith, None, bytes_eq, refl, sym, ◌∙◌, ap, subst, append_assoc}
 use Rattle.std.specs.List.{AllByRecursion}
 use Rattle.std.proofs.lemmas.List.{append-nil}
 use Rattle.std.proofs.lemmas.Bool.{false≢true, false_from_ne_true}
@@ -10,12 +10,13 @@ use Rattle.model.specs.declared.record.Record.{Record}
 use Rattle.model.specs.declared.record.DepsRecord.{DepsRecord}
 use Rattle.model.specs.World.{World, file_at, IsRunning}
 use Rattle.model.specs.Calls.{OnlyLooks}
-use Rattle.model.specs.Graph.{has, has_number, edge_at, maker, IsCommand}
+use Rattle.model.specs.Graph.{has, has_number, edge_at, IsCommand}
 use Rattle.model.specs.OutOfDate.{NothingIsMissing}
-use Rattle.model.specs.Phases.{Phase, steps_of, happened_in, IsPointAfter, AreAskedApart, IsNothingMissing, WasNothingMissing, WasNothingMissingIn}
-use Rattle.model.specs.Premises.{FilesAreKept, RecordedApart, IsWithinEdge, IsNoEdit}
-use Rattle.model.specs.Records.{Store, recorded_inputs}
-use Rattle.model.specs.Schedule.{Task, Step as Done, judged_in, out_of_date_in, started_in, running_in}
+use Rattle.model.specs.Phases.{Phase, steps_of, IsPointAfter, AreAskedApart, IsNothingMissing, WasNothingMissing, WasNothingMissingIn}
+use Rattle.model.specs.Premises.{FilesAreKept, IsWithinEdge, IsNoEdit}
+use Rattle.model.specs.Records.{OwnFiles, Store, recorded_inputs}
+use Rattle.model.specs.SingleBuild.{asked_with}
+use Rattle.model.specs.Schedule.{Task, Step as Done, judged_in, started_in}
 use Rattle.build_theory.specs.Run.{IsRun}
 use Rattle.build_theory.proofs.Calls.{looks_then}
 use Rattle.build_theory.proofs.Files.{IsElsewhere}
@@ -25,13 +26,16 @@ use Rattle.build_theory.proofs.Makers.{maker_is}
 use Rattle.build_theory.proofs.Orderly.{IsKept, kept_orderly}
 use Rattle.build_theory.proofs.Runs.{rest_begins}
 use Rattle.build_theory.proofs.Starting.{OthersRun, since, private_elsewhere}
+use Rattle.log_theory.specs.Ledger.{IsPhased}
 use Rattle.log_theory.proofs.Ledger.{others_run}
 use Rattle.links.specs.declared.cone.Cone.{Cone}
 use Rattle.links.specs.declared.graph.Graph.{Graph}
+use Rattle.links.specs.Cone.{mark_at, is_listed}
 use Rattle.links.specs.Linked.{IsConeOf}
+use Rattle.links.proofs.Texts.{length-edges}
+use Rattle.links.specs.declared.cone.Mark.{Mark}
+use Rattle.looks.proofs.Slices.{item_has}
 use Rattle.links.specs.Told.{declared_by, recorded_by}
-use Rattle.looks.specs.declared.table.Looks.{Looks}
-use Rattle.looks.specs.Looking.{HasLooked}
 use Rattle.looks.specs.Seen.{AreKept, AreSeenOf}
 use Rattle.records.specs.Known.{AreKnown}
 use Rattle.records.specs.Laws.{LogStays}
@@ -43,54 +47,67 @@ use Rattle.dues.proofs.Callers.{under_way}
 use Rattle.dues.proofs.Points.{HasQuiet, IsSpared, paths_for, points_alike}
 use Rattle.runner.specs.declared.state.State.{State}
 use Rattle.runner.specs.After.{ComesAfter}
-use Rattle.runner.specs.Course.{Course, is_quiet, IsOn}
+use Rattle.runner.specs.Course.{Course, is_quiet}
 use Rattle.runner.proofs.Keeping.{looks_carried, looks_quiet}
 use Rattle.runner.proofs.Quiet.{all_kept, quiet_parts, quiet_from}
 use Rattle.builder.specs.Going.{grown_course, task_over, StandsAt, IsUnstarted, HasAsked, HadAsked}
-use Rattle.builder.proofs.Behind.{count_of, first_count, told_count, missing_on, missing_on_before, missing_in, missing_also}
+use Rattle.builder.proofs.Points.{asked_later, had_asked_later}
+
+module _ (own : OwnFiles) (task : Task) (store : Store) (old now : List Moment) where
+  -- whatever steps the last phase has
+  missing_in : (before : List Done) (phases : List Phase) (last : List Done) → WasNothingMissing own task store old now before phases → WasNothingMissingIn own task store old now before phases last
+  missing_in before [] [] nothing = tt
+  missing_in before [] (step ∷ last) nothing = nothing
+  missing_in before (phase ∷ phases) last nothing = (nothing.0, missing_in (before ++ phase.steps) phases last nothing.1)
+
+  -- where the last phase was asked for, too
+  missing_also : (before : List Done) (phases : List Phase) → WasNothingMissingIn own task store old now before phases [] → IsNothingMissing own task store (before ++ steps_of phases) old now → WasNothingMissing own task store old now before phases
+  missing_also before [] nothing also = subst (λ (l : List Done). IsNothingMissing own task store l old now) (append-nil before) also
+  missing_also before (phase ∷ phases) nothing also = (
+    nothing.0,
+    missing_also (before ++ phase.steps) phases nothing.1 (subst (λ (l : List Done). IsNothingMissing own task store l old now) (sym (append_assoc before phase.steps (steps_of phases))) also),
+  )
 
 -- ---- where the history has grown
 
-module _ (tells : Bool) (course : Course) (edges : List Edge) (phases : List Phase) (graph : Graph) (state : State) (now : World) (on : IsOn tells (grown_course course edges phases) graph None state now) where
-  abbrev task : Task
-  task = task_over course edges
+module _ (tells : Bool) (course : Course) (edges : List Edge) (phases : List Phase) (steps : List Done) (now : World) (run : IsRun tells course.own (task_over course edges) steps course.entry now)
+    (phased : IsPhased tells course.behaviour course.own (asked_with course.asked edges) course.store phases steps course.entry now)
+  where
+    abbrev task : Task
+    task = task_over course edges
 
-  whole : on.steps ≡ steps_of phases ++ (on.carried.phased.build.last ++ on.carried.phased.build.taken_in)
-  whole =
-      subst (λ (earlier : List Phase). on.steps ≡ steps_of earlier ++ (on.carried.phased.build.last ++ on.carried.phased.build.taken_in)) on.carried.phased.so
-      on.carried.phased.build.whole
+    pub whole : steps ≡ steps_of phases ++ (phased.build.last ++ phased.build.taken_in)
+    whole = subst (λ (earlier : List Phase). steps ≡ steps_of earlier ++ (phased.build.last ++ phased.build.taken_in)) phased.so phased.build.whole
 
-  -- where no step of the last phase was taken, the steps are those of the phases before
-  pub fresh_steps : on.carried.phased.build.last ≡ [] → on.carried.phased.build.taken_in ≡ [] → on.steps ≡ steps_of phases
-  fresh_steps fresh none =
-      whole ∙ (ap (λ (l : List Done). steps_of phases ++ (l ++ on.carried.phased.build.taken_in)) fresh ∙ (ap (λ (l : List Done). steps_of phases ++ l) none ∙ append-nil (steps_of phases)))
+    -- where no step of the last phase was taken, the steps are those of the phases before
+    pub fresh_steps : phased.build.last ≡ [] → phased.build.taken_in ≡ [] → steps ≡ steps_of phases
+    fresh_steps fresh none =
+        whole ∙ (ap (λ (l : List Done). steps_of phases ++ (l ++ phased.build.taken_in)) fresh ∙ (ap (λ (l : List Done). steps_of phases ++ l) none ∙ append-nil (steps_of phases)))
 
-  counts : (tell : IsTrue tells) → count_of (steps_of phases) ≤ happened_in (on.carried.run.history tell).more
-  counts tell =
-      first_count (steps_of phases) (on.carried.phased.build.last ++ on.carried.phased.build.taken_in) (happened_in (on.carried.run.history tell).more)
-      (as_many (count_of on.steps) (count_of (steps_of phases ++ (on.carried.phased.build.last ++ on.carried.phased.build.taken_in))) (happened_in (on.carried.run.history tell).more) (ap count_of whole)
-      (told_count tells course.own task on.steps course.entry now on.carried.run tell))
-    where
-      as_many : (n m k : ℕ) → n ≡ m → k ≡ n → m ≤ k
-      as_many n m k same is = omega (arith, same, is)
+    module _ (new : World) (after : ComesAfter tells now new) where
+      files_then : (tell : IsTrue tells) → FilesAreKept course.own edges course.entry.history new.history → FilesAreKept course.own edges course.entry.history now.history
+      files_then tell files = kept_before course.own edges course.entry.history now.history new.history (after.history tell).0 (after.history tell).1 files
 
-  module _ (new : World) (after : ComesAfter tells now new) where
-    files_then : (tell : IsTrue tells) → FilesAreKept course.own edges course.entry.history new.history → FilesAreKept course.own edges course.entry.history now.history
-    files_then tell files = kept_before course.own edges course.entry.history now.history new.history (after.history tell).0 (after.history tell).1 files
+      pub asked_on : HasAsked tells course edges phases now → HasAsked tells course edges phases new
+      asked_on asked tell files =
+          asked_later tells course.own task steps course.entry now run tell (after.history tell).0 new.history (after.history tell).1 phases (phased.build.last ++ phased.build.taken_in) whole task course.store
+          (asked tell (files_then tell files))
 
-    pub asked_on : HasAsked tells course edges phases now → HasAsked tells course edges phases new
-    asked_on asked tell files =
-        missing_on course.own task course.store course.entry.history (on.carried.run.history tell).more now.history (after.history tell).0 new.history (on.carried.run.history tell).grows (after.history tell).1 [] phases (counts tell)
-        (asked tell (files_then tell files))
+      pub had_asked_on : (last : List Done) → HadAsked tells course edges phases last now → HadAsked tells course edges phases last new
+      had_asked_on last asked tell files =
+          had_asked_later tells course.own task steps course.entry now run tell (after.history tell).0 new.history (after.history tell).1 phases (phased.build.last ++ phased.build.taken_in) whole task course.store last
+          (asked tell (files_then tell files))
 
-    pub had_asked_on : HadAsked tells course edges phases [] now → HadAsked tells course edges phases [] new
-    had_asked_on asked tell files =
-        missing_on_before course.own task course.store course.entry.history (on.carried.run.history tell).more now.history (after.history tell).0 new.history (on.carried.run.history tell).grows (after.history tell).1 [] phases (counts tell)
-        (asked tell (files_then tell files))
+    -- whatever steps the last phase has
+    pub asked_in : (last : List Done) (at : World) → HasAsked tells course edges phases at → HadAsked tells course edges phases last at
+    asked_in last at asked tell files = missing_in course.own task course.store course.entry.history at.history [] phases last (asked tell files)
 
-  -- whatever steps the last phase has
-  pub asked_in : (last : List Done) (at : World) → HasAsked tells course edges phases at → HadAsked tells course edges phases last at
-  asked_in last at asked tell files = missing_in course.own task course.store course.entry.history at.history [] phases last (asked tell files)
+    -- where a phase begins, and nothing is missing
+    pub asked_also : (at : World) → phased.build.last ≡ [] → phased.build.taken_in ≡ [] → HadAsked tells course edges phases [] at
+        → (IsTrue tells → FilesAreKept course.own edges course.entry.history at.history → IsNothingMissing course.own task course.store steps course.entry.history at.history) → HasAsked tells course edges phases at
+    asked_also at fresh none had nothing tell files =
+        missing_also course.own task course.store course.entry.history at.history [] phases (had tell files)
+        (subst (λ (l : List Done). IsNothingMissing course.own task course.store l course.entry.history at.history) (fresh_steps fresh none) (nothing tell files))
 
 -- ---- what is found where the build stands
 
@@ -101,7 +118,7 @@ module _ (tells : Bool) (tick : List ℕ) (course : Course) (edges : List Edge) 
   abbrev steps : List Done
   steps = stands.on.steps
 
-  same_edges : edges ≡ (declared_by graph).edges
+  pub same_edges : edges ≡ (declared_by graph).edges
   same_edges = ap (λ (b : BuildGraph). b.edges) stands.suits.same
 
   known : IsStoreOf graph state.records course.store
@@ -124,26 +141,21 @@ module _ (tells : Bool) (tick : List ℕ) (course : Course) (edges : List Edge) 
     quietly : FilesAreKept course.own edges course.entry.history now.history × AreKept (is_quiet course.own edges steps) now.history new.history × ((more : List Moment) × (new.history ≡ now.history ++ more))
     quietly = looks_quiet tells here graph stays None state now new stands.on looks tell files
 
-    run_new : IsRun tells course.own (task_over course edges) steps course.entry new
+    pub run_new : IsRun tells course.own (task_over course edges) steps course.entry new
     run_new = (looks_carried tells here graph stays None state now new stands.on looks).run
 
     -- ---- the depfiles of commands that were not judged
 
     keeps_depfile : (i : ℕ) → IsCommand edges i → has_number (judged_in steps) i ≡ false → KeepsDepfile tells edges now new i
     keeps_depfile i command fresh told named =
-        all_kept (bytes_eq depfile) now.history call.more new.history call.grows (λ p is.
-        subst (λ (q : List ℕ). AllByRecursion (IsElsewhere q) call.more) (same_bytes depfile p is)
-        (private_elsewhere course.own edges files.own_files i command depfile (record { named = named; is = inl refl }) (IsRunning now.events) others call.more call.all
+        let call = looks.history told in
+        let so_far = stands.on.carried.run.history told in
+        all_kept (bytes_eq (edge_at edges i).act.depfile) now.history call.more new.history call.grows (λ p is.
+        subst (λ (q : List ℕ). AllByRecursion (IsElsewhere q) call.more) (same_bytes (edge_at edges i).act.depfile p is)
+        (private_elsewhere course.own edges files.own_files i command (edge_at edges i).act.depfile (record { named = named; is = inl refl }) (IsRunning now.events) others call.more call.all
         (since (IsWithinEdge edges) course.entry.history so_far.more now.history call.more new.history so_far.grows call.grows files.commands)
         (since IsNoEdit course.entry.history so_far.more now.history call.more new.history so_far.grows call.grows files.edits)))
       where
-        abbrev depfile : List ℕ
-        depfile = (edge_at edges i).act.depfile
-
-        abbrev call = looks.history told
-
-        abbrev so_far = stands.on.carried.run.history told
-
         others : OthersRun edges i (IsRunning now.events)
         others = others_run tells here.behaviour here.format here.own here.asked here.store here.entry steps now stands.on.carried.beside.idle
             (rest_begins tells here.own (task_over course edges) here.entry steps now stands.on.carried.run) i
@@ -169,7 +181,7 @@ module _ (tells : Bool) (tick : List ℕ) (course : Course) (edges : List Edge) 
     -- ---- where nothing was started
 
     module _ (none : started_in steps ≡ []) where
-      untouched : IsUnstarted tells here graph state now
+      untouched : IsUnstarted tells course graph state now
       untouched = stands.unstarted none
 
       -- the history is that of the entry
@@ -224,3 +236,21 @@ module _ (tells : Bool) (tick : List ℕ) (course : Course) (edges : List Edge) 
     nothing_missing_now found loaded apart at point =
         subst (λ (es : List Edge). NothingIsMissing es course.store steps at (task_over course edges).targets) (sym same_edges)
         (found_at (λ at. NothingIsMissing (declared_by graph).edges course.store steps at (task_over course edges).targets) found apart at point)
+
+-- ---- the edges of a cone
+
+listed_below : (marks : List Mark) (e : ℕ) → is_listed (mark_at marks e) ≡ true → e < length marks
+listed_below [] e listed = absurd (false≢true listed)
+listed_below (mark ∷ marks) zero listed = omega arith
+listed_below (mark ∷ marks) (suc e) listed = let less = listed_below marks e listed in omega (arith, less)
+
+-- they are edges of the graph
+pub order_within : (graph : Graph) (cone : Cone) (edges : List Edge) (recorded : ℕ → List (List ℕ)) (targets : List (List ℕ)) → edges ≡ (declared_by graph).edges → IsConeOf edges recorded targets cone.order.items cone.marks.items
+    → All (λ e. e < length graph.manifest.lines) cone.order.items
+order_within graph cone edges recorded targets same listed k d lt =
+    let e = slice_index_or cone.order.items k d in
+    let less = listed_below cone.marks.items e (listed.marked e ∙ item_has cone.order.items k d lt) in
+    let many = ap (λ (es : List Edge). length es) same in
+    let fits = listed.fits in
+    let size = length-edges graph.manifest.paths graph.manifest.lines graph.manifest.actions graph.manifest.fits in
+    omega (arith, less, many, fits, size)

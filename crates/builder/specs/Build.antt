@@ -81,12 +81,10 @@ RemovesFiles {tells} {B} {format} {own} {asked} {old} {new} {said} build = is_fa
 abbrev pub LeavesAlone : Bool → OwnFiles → Asked → World → World → Type 0
 LeavesAlone tells own asked old new = IsTrue tells → FilesAreKept own asked.graph.edges old.history new.history → AreLeftAlone asked.graph.edges old.history new.history
 
--- The graph was built, with what the loaded dyndep files add to its edges, and the report says how; a dyndep file that has ended the
+-- The graph was built, whose edges are `grown` at the end, with what the loaded dyndep files add, and the report says how; a dyndep file that has ended the
 -- build is refused with its cause; the build is as the headline says, keeps its logs, leaves the files of running commands alone, and
 -- removes those of commands that ended well.
-pub record Builds (tells : Bool) (B : Behaviour) (format : LogFormat) (own : OwnFiles) (graph : BuildGraph) (folder : List ℕ) (limits : Limits) (given targets : List (List ℕ)) (old new : World) (report : Report) : Type 0 where
-  -- the edges at the end
-  pub grown : List Edge
+pub record Builds (tells : Bool) (B : Behaviour) (format : LogFormat) (own : OwnFiles) (graph : BuildGraph) (folder : List ℕ) (limits : Limits) (given targets : List (List ℕ)) (grown : List Edge) (old new : World) (report : Report) : Type 0 where
   pub answer : Answer
   pub said : Says graph.edges given targets report answer
   pub build : SingleBuild tells B format own (asked_with (asked_of graph folder limits targets) grown) old new answer
@@ -99,10 +97,10 @@ pub record Builds (tells : Bool) (B : Behaviour) (format : LogFormat) (own : Own
 -- what was asked for was built from an entry on, since which there was only looked: for any own files of the program that lie in
 -- this folder, and for each format and each reading of depfiles and of dyndep files by which logs and such files are read as they are
 -- defined
-abbrev pub BuildsFor : Bool → BuildGraph → Request → World → World → Report → Type 0
-BuildsFor tells graph asked old new report =
+abbrev pub BuildsFor : Bool → BuildGraph → Request → List Edge → World → World → Report → Type 0
+BuildsFor tells graph asked grown old new report =
     (B : Behaviour) (format : LogFormat) (own : OwnFiles) (entry : World) → IsReading B.depfile → ReadsDyndeps B.dyndep → ReadsLogs format → IsOwnIn own asked.folder → IsIdle entry.events → Looked tells entry old
-    → Builds tells B format own graph asked.folder asked.limits asked.given.now asked.targets entry new report
+    → Builds tells B format own graph asked.folder asked.limits asked.given.now asked.targets grown entry new report
 
 -- the report of a build whose files were not read
 abbrev pub unread : ReadError → Report
@@ -131,8 +129,10 @@ pub record IsBuilt (tells : Bool) (outcome : Act → View → Outcome) (name : L
   pub canonical : AreTargets given targets
   pub folder : List ℕ
   pub in_folder : IsFolder graph.builddir folder
+  -- the edges at the end
+  pub grown : List Edge
   pub builds : (own : OwnFiles) (format : LogFormat) (depfile : List ℕ → Option (List (List ℕ))) (dyndep : List ℕ → Option (List Addition)) → IsReading depfile → ReadsDyndeps dyndep → ReadsLogs format → IsOwnIn own folder
-      → Builds tells (record { outcome = outcome; depfile = depfile; dyndep = dyndep }) format own graph folder limits given targets old new report
+      → Builds tells (record { outcome = outcome; depfile = depfile; dyndep = dyndep }) format own graph folder limits given targets grown old new report
 
 abbrev pub IsBuild : Bool → (Act → View → Outcome) → List ℕ → Limits → List (List ℕ) → World → World → Report → Type 0
 IsBuild tells outcome name limits given old new report = IsUnread tells name old new report ⊎ IsBuilt tells outcome name limits given old new report

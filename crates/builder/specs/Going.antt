@@ -6,28 +6,35 @@ use Rattle.model.specs.declared.fault.SiteFault.{SiteFault}
 use Rattle.model.specs.declared.graph.Edge.{Edge}
 use Rattle.model.specs.World.{World, view_of}
 use Rattle.model.specs.Calls.{OnlyLooks}
-use Rattle.model.specs.Graph.{Addition, first_output, edge_at, has_number, targets_of, IsMadeOnce, IsMadeTwice}
+use Rattle.model.specs.Graph.{Addition, first_output, edge_at, has_number, maker, IsMadeOnce, IsMadeTwice}
 use Rattle.model.specs.OutOfDate.{IsFirstMissing, IsMissingInput}
-use Rattle.model.specs.Phases.{Phase, steps_of, IsGrownBy, IsNextLoad, IsPointAfter, AreAskedApart, WasNothingMissing, WasNothingMissingIn}
+use Rattle.model.specs.Phases.{Phase, steps_of, IsGrownBy, IsDueLoad, IsNextLoad, IsPointAfter, AreAskedApart, WasNothingMissing, WasNothingMissingIn}
 use Rattle.model.specs.Premises.{FilesAreKept}
 use Rattle.model.specs.Records.{recorded_inputs}
 use Rattle.model.specs.Schedule.{Task, Step as Done, started_in}
 use Rattle.model.specs.SingleBuild as answer
-use Rattle.model.specs.SingleBuild.{Answer, IsAsked, IsShownCycle, HasNoCycle, NamesOther, asked_with, declared_graph, task_of}
+use Rattle.model.specs.SingleBuild.{Answer, IsAsked, IsShownCycle, HasNoCycle, NamesOther, PassesNoFault, asked_with, declared_graph, task_of}
+use Rattle.build_theory.specs.Run.{IsRun}
+use Rattle.build_theory.specs.Seen.{IsSeen, Unrefused, StartsUnrefused}
 use Rattle.paths.specs.Told.{text_at, texts_at}
 use Rattle.links.specs.declared.cone.Cone.{Cone}
 use Rattle.links.specs.declared.graph.Graph.{Graph}
 use Rattle.links.specs.Linked.{IsConeOf}
 use Rattle.links.specs.Told.{declared_by}
 use Rattle.log_theory.specs.Ledger.{IsPhased}
+use Rattle.plan.specs.declared.plan.Plan.{Plan}
+use Rattle.plan.specs.Planned.{IsPlanned, AreTaken}
 use Rattle.looks.specs.Seen.{AreSeen}
 use Rattle.runner.specs.declared.cut.Cut.{Cut}
 use Rattle.runner.specs.declared.state.State.{State}
+use Rattle.runner.specs.declared.summary.Pause.{Pause}
+use Rattle.runner.specs.declared.summary.Pause.TheVariants as pause
 use Rattle.runner.specs.declared.summary.Summary.{Summary}
+use Rattle.runner.specs.After.{ComesAfter}
 use Rattle.runner.specs.Course.{Course, goes_on, Suits, IsOn}
 use Rattle.runner.specs.Cut.{fault_of}
 use Rattle.runner.specs.Going.{IsCut, IsFinished}
-use Rattle.runner.specs.Ran.{HasRun, AreEdgesOf}
+use Rattle.runner.specs.Ran.{HasRun}
 use Rattle.builder.specs.declared.report.Missing.{Missing as Lacking}
 use Rattle.builder.specs.declared.report.Refusal.{Refusal}
 use Rattle.builder.specs.declared.report.Refusal.TheVariants.{File, MadeTwice, NoDyndepInput, NoDyndep, BadVersion, BadStatement, Unfit, UnknownTarget, Cycle, Missing}
@@ -177,62 +184,114 @@ pub record IsStopped (tells : Bool) (tick : List ℕ) (course : Course) (edges :
   pub stands : StandsAt tells tick course edges phases graph cone state now
   pub cause : IsRefusedBy tells course edges phases stands.on.steps now refusal
 
--- A fault has cut it off, before the load or behind it.
-pub record IsCutThere (tells : Bool) (course : Course) (state : State) (now : World) : Type 0 where
-  pub edges : List Edge
+-- A fault has cut it off, before the load or behind it, over these edges.
+pub record IsCutThere (tells : Bool) (course : Course) (grown : List Edge) (state : State) (now : World) : Type 0 where
   pub phases : List Phase
   pub graph : Graph
-  pub cut : IsCut tells (grown_course course edges phases) graph state.plan now
-  pub once : IsMadeOnce edges
-  pub acyclic : HasNoCycle (asked_with course.asked edges) course.store
-  pub asked : HadAsked tells course edges phases cut.cut.phased.build.last now
+  pub cut : IsCut tells (grown_course course grown phases) graph state.plan now
+  pub once : IsMadeOnce grown
+  pub acyclic : HasNoCycle (asked_with course.asked grown) course.store
+  pub asked : HadAsked tells course grown phases cut.cut.phased.build.last now
+
+-- ---- where a run halts
+
+-- This file is loaded next, and nothing was missing when each phase began.
+pub record IsAtNextLoad (tells : Bool) (tick : List ℕ) (course : Course) (edges : List Edge) (phases : List Phase) (graph : Graph) (cone : Cone) (state : State) (file : ℕ) (now : World) : Type 0 where
+  pub stands : StandsAt tells tick course edges phases graph cone state now
+  pub next : IsLoadNext course edges graph state stands.on.steps file
+  pub asked : HasAsked tells course edges phases now
+
+-- The sources were asked for, and none is missing.
+pub record HasSourcesAt (tells : Bool) (tick : List ℕ) (course : Course) (edges : List Edge) (phases : List Phase) (graph : Graph) (cone : Cone) (state : State) (now : World) : Type 0 where
+  pub stands : StandsAt tells tick course edges phases graph cone state now
+  pub asked : HasAsked tells course edges phases now
+
+-- The build is refused where it stands; nothing was missing when the phases began that have steps.
+pub record IsRefusedAt (tells : Bool) (tick : List ℕ) (course : Course) (grown : List Edge) (graph : Graph) (cone : Cone) (state : State) (now : World) (refusal : Refusal) : Type 0 where
+  pub phases : List Phase
+  pub stopped : IsStopped tells tick course grown phases graph cone state now refusal
+  pub asked : HadAsked tells course grown phases stopped.stands.on.carried.phased.build.last now
+
+-- whatever steps were done by a plan, no file that no edge makes is to be loaded
+abbrev pub NoSourceIsDue : Graph → Plan → Type 0
+NoSourceIsDue graph plan = (task : Task) (steps : List Done) → IsPlanned task graph plan steps → AreTaken task steps → (file : List ℕ) → IsDueLoad task steps file → maker task.graph.edges file ≡ None → ⊥
+
+-- what the site shows of a run that goes on: no call was refused
+pub record GoesWell (old new : World) : Type 0 where
+  pub unrefused : Unrefused old new
+  pub starts : StartsUnrefused old new
+
+-- what it shows of a fault
+pub record IsFaulted (old new : World) (fault : SiteFault) : Type 0 where
+  pub seen : IsSeen old new fault
+  pub passes : PassesNoFault old new (answer.Fault fault)
+
+-- what it shows of a stop
+abbrev pub IsStopOf : World → World → Stop → Type 0
+IsStopOf old new (stop.Refused refusal) = GoesWell old new
+IsStopOf old new (stop.Fault fault) = IsFaulted old new fault
 
 -- ---- how a run ends
 
 -- Nothing is left to do, over these edges.
-pub record HasDone (tells : Bool) (course : Course) (graph : Graph) (cone : Cone) (now : World) (summary : Summary) : Type 0 where
-  pub edges : List Edge
+pub record HasDone (tells : Bool) (course : Course) (grown : List Edge) (graph : Graph) (cone : Cone) (now : World) (summary : Summary) : Type 0 where
   pub phases : List Phase
-  pub ran : HasRun tells (grown_course course edges phases) now (Ok summary)
-  pub asked : HasAsked tells course edges phases now
-  pub same : (declared_by graph).edges ≡ edges
-  pub once : IsMadeOnce edges
-  pub acyclic : HasNoCycle (asked_with course.asked edges) course.store
-  pub listed : IsConeOf edges (recorded_inputs course.store edges) (task_over course edges).targets cone.order.items cone.marks.items
+  pub ran : HasRun tells (grown_course course grown phases) now (Ok summary)
+  pub asked : HasAsked tells course grown phases now
+  pub same : (declared_by graph).edges ≡ grown
+  pub once : IsMadeOnce grown
+  pub acyclic : HasNoCycle (asked_with course.asked grown) course.store
+  pub listed : IsConeOf grown (recorded_inputs course.store grown) (task_over course grown).targets cone.order.items cone.marks.items
 
--- A refusal has ended it after these steps, with which its last phase ended, and what ran was taken in; before the first step it has
--- only looked.
-pub record HasStopped (tells : Bool) (course : Course) (now : World) (refusal : Refusal) : Type 0 where
-  pub edges : List Edge
+-- A refusal has ended it after these steps, with which its last phase ended; since then, where the site was so, what ran was taken in.
+-- Before the first step it has only looked.
+pub record HasStopped (tells : Bool) (course : Course) (grown : List Edge) (now : World) (refusal : Refusal) : Type 0 where
   pub phases : List Phase
   pub done : List Done
   pub graph : Graph
   pub state : State
-  pub finished : IsFinished tells (ended_course (grown_course course edges phases) done) graph state now
-  pub phased : IsPhased tells course.behaviour course.own (asked_with course.asked edges) course.store phases finished.on.steps course.entry now
+  pub finished : IsFinished tells (ended_course (grown_course course grown phases) done) graph state now
+  pub phased : IsPhased tells course.behaviour course.own (asked_with course.asked grown) course.store phases finished.on.steps course.entry now
   pub up_to : steps_of phases ++ phased.build.last ≡ done
   pub untouched : finished.on.steps ≡ [] → OnlyLooks tells course.entry now
-  pub cause : IsRefusedBy tells course edges phases done now refusal
-  pub once : IsMadeOnce edges
-  pub acyclic : HasNoCycle (asked_with course.asked edges) course.store
-  pub asked : HadAsked tells course edges phases phased.build.last now
+  pub there : World
+  pub run : IsRun tells course.own (task_over course grown) done course.entry there
+  pub after : ComesAfter tells there now
+  pub cause : IsRefusedBy tells course grown phases done there refusal
+  pub once : IsMadeOnce grown
+  pub acyclic : HasNoCycle (asked_with course.asked grown) course.store
+  pub asked : HadAsked tells course grown phases phased.build.last now
 
 -- A fault has cut it off.
-pub record WasCut (tells : Bool) (course : Course) (now : World) (fault : SiteFault) : Type 0 where
-  pub edges : List Edge
+pub record WasCut (tells : Bool) (course : Course) (grown : List Edge) (now : World) (fault : SiteFault) : Type 0 where
   pub phases : List Phase
   pub cut : Cut
   pub is : fault_of cut ≡ fault
-  pub ran : HasRun tells (grown_course course edges phases) now (Err cut)
-  pub once : IsMadeOnce edges
-  pub acyclic : HasNoCycle (asked_with course.asked edges) course.store
-  pub asked : HadAsked tells course edges phases ran.cut.phased.build.last now
+  pub ran : HasRun tells (grown_course course grown phases) now (Err cut)
+  pub once : IsMadeOnce grown
+  pub acyclic : HasNoCycle (asked_with course.asked grown) course.store
+  pub asked : HadAsked tells course grown phases ran.cut.phased.build.last now
 
 -- a run ends so that goes on from where a phase begins
-abbrev pub HasEndedSo : Bool → Course → Graph → Cone → World → Result Summary Stop → Type 0
-HasEndedSo tells course graph cone now (Ok summary) = HasDone tells course graph cone now summary
-HasEndedSo tells course graph cone now (Err (stop.Refused refusal)) = HasStopped tells course now refusal
-HasEndedSo tells course graph cone now (Err (stop.Fault fault)) = WasCut tells course now fault
+abbrev pub HasEndedSo : Bool → Course → List Edge → Graph → Cone → World → Result Summary Stop → Type 0
+HasEndedSo tells course grown graph cone now (Ok summary) = HasDone tells course grown graph cone now summary
+HasEndedSo tells course grown graph cone now (Err (stop.Refused refusal)) = HasStopped tells course grown now refusal
+HasEndedSo tells course grown graph cone now (Err (stop.Fault fault)) = WasCut tells course grown now fault
+
+-- Where a stop comes about: it is refused where it stands, or a fault cuts it off, before what runs is taken in,
+abbrev pub StoppedThere : Bool → List ℕ → Course → List Edge → Graph → Cone → State → World → Stop → Type 0
+StoppedThere tells tick course grown graph cone state now (stop.Refused refusal) = IsRefusedAt tells tick course grown graph cone state now refusal
+StoppedThere tells tick course grown graph cone state now (stop.Fault fault) = IsCutThere tells course grown state now
+
+-- and behind that.
+abbrev pub HasHalted : Bool → List ℕ → Course → List Edge → Graph → Cone → State → World → Stop → Type 0
+HasHalted tells tick course grown graph cone state now (stop.Refused refusal) = IsRefusedAt tells tick course grown graph cone state now refusal
+HasHalted tells tick course grown graph cone state now (stop.Fault fault) = WasCut tells course grown now fault
+
+-- a run waits for a load, or has ended
+abbrev pub HasPausedSo : Bool → List ℕ → Course → List Edge → List Phase → Graph → Cone → State → World → Pause → Type 0
+HasPausedSo tells tick course edges phases graph cone state now (pause.Load file) = IsAtNextLoad tells tick course edges phases graph cone state file now
+HasPausedSo tells tick course edges phases graph cone state now (pause.Ended summary) = HasDone tells course edges graph cone now summary
 
 -- what it answers, as far as faults go
 abbrev pub stop_answer : Result Summary Stop → Answer

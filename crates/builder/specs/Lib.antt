@@ -2,6 +2,7 @@ pub mod Asked
 pub mod Build
 pub mod Commands
 pub mod Loads
+pub mod Joined
 pub mod Going
 pub mod Recorded
 pub mod Reports

@@ -16,7 +16,6 @@ use Rattle.dyndep.specs.Dyndep.{IsRead, accepted}
 use Rattle.links.specs.Extended.{addition_of, IsUnfit}
 use Rattle.builder.specs.declared.report.Report.{Report}
 use Rattle.builder.specs.declared.report.Report.TheVariants.{Success, Failed, Refused, Fault}
-use Rattle.builder.specs.declared.report.Refusal.{Refusal}
 use Rattle.builder.specs.declared.report.Refusal.TheVariants.{File, MadeTwice, NoDyndepInput, NoDyndep, BadVersion, BadStatement, Unfit, UnknownTarget, Cycle, Missing}
 
 -- a function that reads each dyndep file by its grammar, and gives None where it is refused

@@ -1,8 +1,9 @@
 //! One build.
 
-ghost use Rattle.std.specs.Prelude.{◌≡◌, ◌<◌, All, List, IfOk, IfErr, OnOk, false, vec_len, length};
+ghost use Rattle.std.specs.Prelude.{◌≡◌, ◌<◌, ℕ, All, List, IfOk, IfErr, OnOk, false, vec_len, length};
 ghost use Rattle.model.specs.declared.record.Record.{Record};
 ghost use Rattle.model.specs.declared.record.DepsRecord.{DepsRecord};
+ghost use Rattle.model.specs.declared.graph.Edge.{Edge};
 ghost use Rattle.model.specs.World.{IsIdle};
 ghost use Rattle.model.specs.Calls.{OnlyLooks};
 ghost use Rattle.model.specs.Records.{file_in, build_log_name, deps_log_name};
@@ -28,6 +29,7 @@ use crate::report::{Options, Refusal, Report};
 use depfile::has_reading;
 use deps_log::has_format;
 use display::Display;
+use dyndep_law::has_reading as has_dyndeps;
 use links::{Cone, ConeFault, Graph, lists_stand};
 use looks::Looks;
 use manifest::reads_longer;
@@ -76,6 +78,7 @@ fn try_build<S: Site>(
     reads_longer();
     has_format();
     has_reading();
+    has_dyndeps();
     log_begins();
     let records = read_records(alloc, site, &graph, &asked)?;
     join_recorded(alloc, &mut graph, &records)?;
@@ -118,7 +121,7 @@ fn build_graph<S: Site>(
     requires once { IsMadeOnce (declared_by graph.old).edges }
     requires inputs { (file : List ℕ) → NamesOther (declared_by graph.old).edges file → ⊥ }
     requires read { (course : Course) × HasRead S.tells graph.old asked.now records course (S.world site.old) }
-    ensures { (course : Course) → HasRead S.tells graph.old asked.now records course (S.world site.old) → Builds S.tells course.behaviour course.format course.own (declared_by graph.old) asked.now.folder asked.now.limits asked.now.given.now asked.now.targets course.entry (S.world site.new) (report_in result) }
+    ensures { (grown : List Edge) × ((course : Course) → HasRead S.tells graph.old asked.now records course (S.world site.old) → Builds S.tells course.behaviour course.format course.own (declared_by graph.old) asked.now.folder asked.now.limits asked.now.given.now asked.now.targets grown course.entry (S.world site.new) (report_in result)) }
 {
     let mut cone = cone_of(alloc, graph, asked)?;
     let plan = plan_of(alloc, graph, &cone, asked.limits)?;

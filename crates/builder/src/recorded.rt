@@ -3,16 +3,18 @@
 ghost use Rattle.std.specs.Prelude.{◌≡◌, ◌<◌, ◌+◌, ◌++◌, ℕ, suc, true, List, None, Some, IfOk, OnOk, OnErr, length, get_or, slice_get};
 ghost use Rattle.model.specs.declared.record.Record.{Record};
 ghost use Rattle.model.specs.declared.record.DepsRecord.{DepsRecord};
-ghost use Rattle.model.specs.Graph.{edge_at, outputs};
+ghost use Rattle.model.specs.Graph.{has_number, edge_at, outputs};
 ghost use Rattle.model.specs.Records.{in_force, deps_in_force, is_known, all_paths_in};
 ghost use Rattle.paths.specs.Told.{text_at, texts_at};
+ghost use Rattle.links.specs.Held.{list_at};
 ghost use Rattle.links.specs.Links.{links_of};
+ghost use Rattle.links.specs.LoadedEdges.{numbers_in};
 ghost use Rattle.links.specs.Told.{declared_by};
 ghost use Rattle.build_log.specs.Kept.{if_some, texts_at as logged_at};
 ghost use Rattle.records.specs.Known.{IsOf, IsOfDeps, AreKnown};
 ghost use Rattle.verdict.specs.Facts.{AreKnownOf};
 ghost use Rattle.builder.specs.Reports.{IsUnrecorded};
-ghost use Rattle.builder.specs.Recorded.{are_known, is_in_use, HasMorePaths, HasOnlyMorePaths, AreJoined, AreNumbered, IsNumberedToo, HaveJust, IsShared, HasJoined, deps_place, named_by, texts_of};
+ghost use Rattle.builder.specs.Recorded.{are_known, is_in_use, HasMorePaths, HasOnlyMorePaths, IsJoined, MayBeJoined, AreToJoin, HasJoinedOf, AreNumbered, IsNumberedToo, HaveJust, IsShared, HasJoined, deps_place, named_by, texts_of};
 
 use deps_log::Deps;
 use links::{Graph, LoadedEdge};
@@ -40,7 +42,11 @@ pub fn join_loaded(
     graph: &mut Graph,
     records: &Records,
     edges: &[LoadedEdge],
-) -> Result<(), AllocError> {
+) -> Result<(), AllocError>
+    requires edges { (e : ℕ) → has_number (numbers_in edges.now) e ≡ true → e < length graph.old.manifest.lines }
+    requires known { (rs : List Record) × (ds : List DepsRecord) × AreKnown graph.old rs ds records.now }
+    ensures { OnOk result ((rs : List Record) (ds : List DepsRecord) → AreKnown graph.old rs ds records.now → AreToJoin (numbers_in edges.now) graph.old rs ds → HasJoinedOf (numbers_in edges.now) graph.old graph.new rs ds) }
+{
     let mut numbers = Vec::new(alloc);
     for loaded in edges {
         join_edge(alloc, graph, records, &mut numbers, loaded.edge)?;
@@ -62,7 +68,8 @@ fn join_edge(
     requires numbered { AreNumbered graph.old (texts_of records.now) numbers.old.items }
     ensures grown { OnOk result (HasMorePaths graph.old graph.new) }
     ensures numbered { OnOk result (AreNumbered graph.new (texts_of records.now) numbers.new.items) }
-    ensures joined { OnOk result ((rs : List Record) (ds : List DepsRecord) → AreKnown graph.old rs ds records.now → AreJoined graph.old rs ds edge → AreJoined graph.new rs ds (edge + 1)) }
+    ensures joined { OnOk result ((rs : List Record) (ds : List DepsRecord) → AreKnown graph.old rs ds records.now → MayBeJoined graph.old rs ds edge → IsJoined graph.new rs ds edge) }
+    ensures others { OnOk result ((e : ℕ) → (e ≡ edge → ⊥) → list_at graph.new.recorded e ≡ list_at graph.old.recorded e) }
 {
     if !is_in_use(graph, records, edge) {
         return Ok(());

@@ -3,7 +3,6 @@
 use links::GraphFault;
 use manifest::{FileFault, ReadError};
 use model::SiteFault;
-use runner::Cut;
 use status::Pattern;
 use std::alloc::AllocError;
 use std::error::Error;
@@ -170,18 +169,6 @@ impl From<SiteFault> for Report {
 
     fn from(fault: SiteFault) -> Report {
         Report::Fault(fault)
-    }
-}
-
-impl From<Cut> for Report {
-    ghost use Rattle.std.specs.Prelude.{◌≡◌};
-    ghost use Rattle.builder.specs.declared.report.Report.TheVariants.{Fault};
-    ghost use Rattle.runner.specs.Cut.{fault_of};
-
-    ghost from_gives = { λ cut report. report ≡ Fault (fault_of cut) };
-
-    fn from(cut: Cut) -> Report {
-        Report::Fault(cut.fault())
     }
 }
 

@@ -62,6 +62,11 @@ impl<T: Drop> From<AllocFailed<T>> for Stop {
 }
 
 impl From<Stop> for Report {
+    ghost use Rattle.std.specs.Prelude.{◌≡◌};
+    ghost use Rattle.builder.specs.Reports.{report_of};
+
+    ghost from_gives = { λ stop report. report ≡ report_of stop };
+
     fn from(stop: Stop) -> Report {
         match stop {
             Stop::Refused(refusal) => Report::Refused(refusal),
