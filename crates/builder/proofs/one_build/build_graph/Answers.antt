@@ -113,14 +113,14 @@ returns-in_err-summary g c = (
       let asked = c.args.asked.now in
       let old = g.S.Texts.world c.args.site.now in
       let is_tick = c.as_str-2.ensures.value ∙ (c.in_ok-tick.ensures ∙ ap (λ folder. file_in folder tick_name) c.as_str.ensures) in
-      builds_stopped tells graph asked c.args.records course old has c.requires.inputs c.in_ok-cone.cone c.in_ok-cone.ensures.cone c.in_err-summary.ensures.ended.0 _ _ (g.S.Texts.world c.run_graph.new.site) c.in_err-summary.field-0.0
+      builds_stopped tells graph asked c.args.records course old has c.requires.inputs c.in_ok-cone.cone c.in_ok-cone.ensures.cone c.in_err-summary.ensures.ended.0 c.run_graph.new.graph c.run_graph.new.cone (g.S.Texts.world c.run_graph.new.site) c.in_err-summary.field-0.0
       (c.in_err-summary.ensures.ended.1 (course_of course.behaviour course.format course.own (asked_of (declared_by graph) asked.folder asked.limits asked.targets) course.store course.entry) (declared_by graph).edges []
       (begins_this tells graph asked c.args.records course old has c.requires.formed c.requires.once c.requires.inputs c.in_ok-cone.cone c.in_ok-cone.ensures.cone c.in_ok-plan.plan c.in_ok-plan.ensures c.in_ok-looks.looks
       c.in_ok-looks.ensures c.in_ok-state.state c.in_ok-state.ensures.plan c.in_ok-state.ensures.looks c.in_ok-state.ensures.records c.in_ok-state.ensures.failed c.in_ok-state.ensures.starts _ is_tick))
       (c.in_err-summary.ensures.ended.1 (course_of course.behaviour course.format (any_own asked.folder) (asked_of (declared_by graph) asked.folder asked.limits asked.targets) course.store old) (declared_by graph).edges []
       (begins_here tells graph asked c.args.records course old has c.requires.formed c.requires.once c.requires.inputs c.in_ok-cone.cone c.in_ok-cone.ensures.cone c.in_ok-plan.plan c.in_ok-plan.ensures c.in_ok-looks.looks
       c.in_ok-looks.ensures c.in_ok-state.state c.in_ok-state.ensures.plan c.in_ok-state.ensures.looks c.in_ok-state.ensures.records c.in_ok-state.ensures.failed c.in_ok-state.ensures.starts _ is_tick))
-      c.in_err-summary.ensures.faults c.in_err-summary.ensures.seen _ (told_by _ c.from_residual-in_err-summary.result c.from_residual-in_err-summary.ensures.1),
+      c.in_err-summary.ensures.faults c.in_err-summary.ensures.seen (report_in c.from_residual-in_err-summary.result) (told_by _ c.from_residual-in_err-summary.result c.from_residual-in_err-summary.ensures.1),
 )
 
 -- there was no memory to tell it
@@ -133,14 +133,14 @@ returns-in_err-report g c = (
       let asked = c.args.asked.now in
       let old = g.S.Texts.world c.args.site.now in
       let is_tick = c.as_str-2.ensures.value ∙ (c.in_ok-tick.ensures ∙ ap (λ folder. file_in folder tick_name) c.as_str.ensures) in
-      builds_done tells graph asked c.args.records course old has c.requires.inputs c.in_ok-cone.cone c.in_ok-cone.ensures.cone c.in_ok-summary.ensures.ended.0 _ _ (g.S.Texts.world c.run_graph.new.site) c.in_ok-summary.summary
+      builds_done tells graph asked c.args.records course old has c.requires.inputs c.in_ok-cone.cone c.in_ok-cone.ensures.cone c.in_ok-summary.ensures.ended.0 c.run_graph.new.graph c.run_graph.new.cone (g.S.Texts.world c.run_graph.new.site) c.in_ok-summary.summary
       (c.in_ok-summary.ensures.ended.1 (course_of course.behaviour course.format course.own (asked_of (declared_by graph) asked.folder asked.limits asked.targets) course.store course.entry) (declared_by graph).edges []
       (begins_this tells graph asked c.args.records course old has c.requires.formed c.requires.once c.requires.inputs c.in_ok-cone.cone c.in_ok-cone.ensures.cone c.in_ok-plan.plan c.in_ok-plan.ensures c.in_ok-looks.looks
       c.in_ok-looks.ensures c.in_ok-state.state c.in_ok-state.ensures.plan c.in_ok-state.ensures.looks c.in_ok-state.ensures.records c.in_ok-state.ensures.failed c.in_ok-state.ensures.starts _ is_tick))
       (c.in_ok-summary.ensures.ended.1 (course_of course.behaviour course.format (any_own asked.folder) (asked_of (declared_by graph) asked.folder asked.limits asked.targets) course.store old) (declared_by graph).edges []
       (begins_here tells graph asked c.args.records course old has c.requires.formed c.requires.once c.requires.inputs c.in_ok-cone.cone c.in_ok-cone.ensures.cone c.in_ok-plan.plan c.in_ok-plan.ensures c.in_ok-looks.looks
       c.in_ok-looks.ensures c.in_ok-state.state c.in_ok-state.ensures.plan c.in_ok-state.ensures.looks c.in_ok-state.ensures.records c.in_ok-state.ensures.failed c.in_ok-state.ensures.starts _ is_tick))
-      c.in_ok-summary.ensures.faults _ (inl (told_by _ c.from_residual-in_err-report.result c.from_residual-in_err-report.ensures.1)),
+      c.in_ok-summary.ensures.faults (report_in c.from_residual-in_err-report.result) (inl (told_by _ c.from_residual-in_err-report.result c.from_residual-in_err-report.ensures.1)),
 )
 
 pub returns : goal.returns
@@ -152,7 +152,7 @@ returns g c = (
       let asked = c.args.asked.now in
       let old = g.S.Texts.world c.args.site.now in
       let is_tick = c.as_str-2.ensures.value ∙ (c.in_ok-tick.ensures ∙ ap (λ folder. file_in folder tick_name) c.as_str.ensures) in
-      builds_done tells graph asked c.args.records course old has c.requires.inputs c.in_ok-cone.cone c.in_ok-cone.ensures.cone c.in_ok-summary.ensures.ended.0 _ _ (g.S.Texts.world c.run_graph.new.site) c.in_ok-summary.summary
+      builds_done tells graph asked c.args.records course old has c.requires.inputs c.in_ok-cone.cone c.in_ok-cone.ensures.cone c.in_ok-summary.ensures.ended.0 c.run_graph.new.graph c.run_graph.new.cone (g.S.Texts.world c.run_graph.new.site) c.in_ok-summary.summary
       (c.in_ok-summary.ensures.ended.1 (course_of course.behaviour course.format course.own (asked_of (declared_by graph) asked.folder asked.limits asked.targets) course.store course.entry) (declared_by graph).edges []
       (begins_this tells graph asked c.args.records course old has c.requires.formed c.requires.once c.requires.inputs c.in_ok-cone.cone c.in_ok-cone.ensures.cone c.in_ok-plan.plan c.in_ok-plan.ensures c.in_ok-looks.looks
       c.in_ok-looks.ensures c.in_ok-state.state c.in_ok-state.ensures.plan c.in_ok-state.ensures.looks c.in_ok-state.ensures.records c.in_ok-state.ensures.failed c.in_ok-state.ensures.starts _ is_tick))
@@ -161,3 +161,9 @@ returns g c = (
       c.in_ok-looks.ensures c.in_ok-state.state c.in_ok-state.ensures.plan c.in_ok-state.ensures.looks c.in_ok-state.ensures.records c.in_ok-state.ensures.failed c.in_ok-state.ensures.starts _ is_tick))
       c.in_ok-summary.ensures.faults _ (inr c.in_ok-report.ensures),
 )
+
+pub run_graph-requires-clause-enough : goal.run_graph-requires-clause-enough
+run_graph-requires-clause-enough g c = c.in_ok-state.ensures.enough
+
+pub report-requires : goal.report-requires
+report-requires g c = c.in_ok-summary.ensures.edges
