@@ -1,5 +1,4 @@
 use Rattle.std.proofs.lemmas.Result.{err_from_is_err_and}
-use Rattle.builder.proofs.Faults.{well_then}
 use Rattle.builder.proofs.Pausing.{well_none, going_at, paused_at, cut_from}
 use Rattle.builder.proofs.Stopping.{source_next}
 use Rattle.builder.proofs.going.run_to_load.Goals as goal
