@@ -20,6 +20,7 @@ pub mod Numbering
 pub mod Opening
 pub mod Pausing
 pub mod Points
+pub mod Rounds
 pub mod Running
 pub mod Slices
 pub mod Stages

@@ -1,5 +1,4 @@
 use Rattle.std.proofs.lemmas.Result.{err_from_is_err_and}
-use Rattle.builder.proofs.Faults.{well_then}
 use Rattle.builder.proofs.Pausing.{well_none, going_at, paused_at, cut_from}
 use Rattle.builder.proofs.Stopping.{source_next}
 use Rattle.builder.proofs.going.run_to_load.Goals as goal
@@ -35,3 +34,10 @@ pub returns-in_ok-run_plan-in-None-clause-paused : goal.returns-in_ok-run_plan-i
 returns-in_ok-run_plan-in-None-clause-paused g c course edges phases begins =
     paused_at g.S.Texts.tells c.args.tick.now course edges phases c.args.graph.now c.args.cone.now c.ask_for_sources.new.state (g.S.Texts.world c.ask_for_sources.new.site) (c.in_ok-ask_for_sources-in-None.ensures.asked c.args.tick.now course edges phases begins) c.run_plan.new.state (g.S.Texts.world c.run_plan.new.site) c.run_plan.ensures.grows c.in_ok-run_plan-in-None.field-0
     c.in_ok-run_plan-in-None.ensures.looked c.in_ok-run_plan-in-None.ensures.ran
+
+pub returns-in_err-run_plan-in-None-clause-halted : goal.returns-in_err-run_plan-in-None-clause-halted
+returns-in_err-run_plan-in-None-clause-halted g c =
+    let failed = err_from_is_err_and c.from_residual-in_err-run_plan-in-None.result c.from_residual-in_err-run_plan-in-None.ensures.1 in
+    rw (failed.1, failed.2) (λ course edges phases begins.
+    cut_from g.S.Texts.tells c.args.tick.now course edges phases c.args.graph.now c.args.cone.now c.ask_for_sources.new.state (g.S.Texts.world c.ask_for_sources.new.site) (c.in_ok-ask_for_sources-in-None.ensures.asked c.args.tick.now course edges phases begins) c.run_plan.new.state
+    (g.S.Texts.world c.run_plan.new.site) c.run_plan.ensures.grows c.in_err-run_plan-in-None.field-0.0 c.in_err-run_plan-in-None.ensures.ran)
