@@ -1,13 +1,11 @@
 -- What a run leaves that pauses.
-use Rattle.std.proofs.Common.{◌≡◌, inl, ℕ, Bool, true, false, List, None, Ok, Err, Result, refl, ap, subst}
-use Rattle.model.specs.declared.graph.BuildGraph.{BuildGraph}
+use Rattle.std.proofs.Common.{◌≡◌, inl, ℕ, Bool, true, false, List, None, Ok, Err, refl}
 use Rattle.model.specs.declared.graph.Edge.{Edge}
 use Rattle.model.specs.World.{World}
 use Rattle.model.specs.Phases.{Phase}
 use Rattle.build_theory.proofs.Calls.{unrefused_none}
 use Rattle.links.specs.declared.cone.Cone.{Cone}
 use Rattle.links.specs.declared.graph.Graph.{Graph}
-use Rattle.links.specs.Told.{declared_by}
 use Rattle.runner.specs.declared.cut.Cut.{Cut}
 use Rattle.runner.specs.declared.state.State.{State}
 use Rattle.runner.specs.declared.summary.Pause.{Pause}
@@ -17,7 +15,7 @@ use Rattle.runner.specs.Course.{Course, goes_on, Suits, IsOn}
 use Rattle.runner.specs.Cut.{fault_of}
 use Rattle.runner.specs.Going.{IsGoing}
 use Rattle.runner.specs.Ran.{HasPaused}
-use Rattle.builder.specs.Going.{grown_course, StandsAt, HasAsked, HasSourcesAt, GoesWell, HasPausedSo, WasCut}
+use Rattle.builder.specs.Going.{grown_course, HasSourcesAt, GoesWell, HasPausedSo, WasCut}
 use Rattle.builder.proofs.Halting.{load_at, done_at, cut_at}
 
 pub well_none : (w : World) → w.stopped ≡ false → GoesWell w w
