@@ -1,4 +1,5 @@
 -- How a build ends that ran what was asked for, in the words of its contract.
+use Rattle.std.specs.Prelude.{IfErr}
 use Rattle.std.proofs.Common.{◌≡◌, ◌⊎◌, inl, inr, ℕ, suc, Bool, false, cond, IsTrue, List, [], ◌∷◌, ◌++◌, map, Option, Some, None, bytes_eq, Vec, Global, Result, Ok, Err, refl, sym, ◌∙◌, ap, subst, append_assoc}
 use Rattle.std.proofs.lemmas.Bool.{cases_Bool}
 use Rattle.build_theory.proofs.Looks.{kept_before}
@@ -36,7 +37,9 @@ use Rattle.builder.specs.declared.report.Report.TheVariants.{Success, Failed, Re
 use Rattle.builder.specs.declared.stop.Stop.{Stop}
 use Rattle.builder.specs.declared.stop.Stop.TheVariants as stop
 use Rattle.builder.specs.Build.{Says, Builds, missing_answer, asked_of}
-use Rattle.builder.specs.Going.{task_over, IsHeldLoad, IsLacking, IsMissingAfter, IfFault, HasDone, HasStopped, WasCut, HasEndedSo, stop_answer}
+use Rattle.runner.specs.declared.state.State.{State}
+use Rattle.builder.specs.Reported.{IsReportOf, IsReported}
+use Rattle.builder.specs.Going.{BeginsAt, task_over, IsHeldLoad, IsLacking, IsMissingAfter, IfFault, HasDone, HasStopped, WasCut, HasEndedSo, stop_answer}
 use Rattle.builder.specs.Loads.{IsRefusedFile, RefusesFile}
 use Rattle.builder.specs.declared.asked.Asked.{Asked as Request}
 use Rattle.builder.specs.Reports.{first_output_of, HasRead, IsConeRecorded, SaysEnd, report_of}
@@ -461,3 +464,22 @@ module _ (tells : Bool) (graph : Graph) (request : Request) (records : Records) 
       (builds_so (Err stop) anew passes (report_of stop)
       (ends_stopped tells this grown exit (found (Err stop) anew passes) has.idle others (named (Err stop) anew passes) after last stop ended
       (cause_since course.entry old exit stop has.looked.unrefused.failures seen) (passes_all (Err stop) anew passes)))
+
+  -- however it ended
+  builds_said : (result : Result Summary Stop) → HasEndedSo tells this grown after last exit result → HasEndedSo tells here grown after last exit result → PassesNoFault old exit (stop_answer result)
+      → IfErr result (λ stopped. IfFault stopped (IsSeen old exit)) → (report : Report) → IsReportOf after result report → BuildsAs report
+  builds_said (Ok summary) ended anew passes seen report is = builds_done summary ended anew passes report is
+  builds_said (Err stopped) ended anew passes seen report is = builds_stopped stopped ended anew passes seen report is
+
+-- a run that began so was reported
+pub builds_reported : (tells : Bool) (graph : Graph) (request : Request) (records : Records) (course : Course) (old : World) → HasRead tells graph request records course old
+    → ((file : List ℕ) → NamesOther (declared_by graph).edges file → ⊥) → (cone : Cone) → IsConeRecorded graph request.targets cone → (tick : List ℕ) (state : State) (after : Graph) (last : Cone) (exit : World) (report : Report)
+    → (told : IsReported tells tick graph cone state old after last exit report)
+    → BeginsAt tells tick (course_of course.behaviour course.format course.own (asked_of (declared_by graph) request.folder request.limits request.targets) course.store course.entry) (declared_by graph).edges [] graph cone state old
+    → BeginsAt tells tick (course_of course.behaviour course.format (any_own request.folder) (asked_of (declared_by graph) request.folder request.limits request.targets) course.store old) (declared_by graph).edges [] graph cone state old
+    → Builds tells course.behaviour course.format course.own (declared_by graph) request.folder request.limits request.given.now request.targets told.grown course.entry exit report
+builds_reported tells graph request records course old has others cone coned tick state after last exit report told this here =
+    builds_said tells graph request records course old has others cone coned told.grown after last exit told.said
+    (told.ended (course_of course.behaviour course.format course.own (asked_of (declared_by graph) request.folder request.limits request.targets) course.store course.entry) (declared_by graph).edges [] this)
+    (told.ended (course_of course.behaviour course.format (any_own request.folder) (asked_of (declared_by graph) request.folder request.limits request.targets) course.store old) (declared_by graph).edges [] here)
+    told.faults told.seen report told.is

@@ -7,3 +7,4 @@ pub mod Going
 pub mod Recorded
 pub mod Reports
 pub mod Sources
+pub mod Reported

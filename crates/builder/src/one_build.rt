@@ -18,6 +18,10 @@ ghost use Rattle.paths.specs.Told.{text_at};
 ghost use Rattle.runner.specs.Course.{Course};
 ghost use Rattle.runner.specs.Ran.{AreEdgesOf};
 ghost use Rattle.builder.specs.Build.{limits_of, Builds, IsBuild};
+ghost use Rattle.model.specs.Phases.{Phase};
+ghost use Rattle.runner.specs.Going.{AreSet};
+ghost use Rattle.builder.specs.Going.{BeginsAt};
+ghost use Rattle.builder.specs.Reported.{IsFresh, IsReported};
 ghost use Rattle.builder.specs.Reports.{report_in, HasRead, IsConeRecorded, SaysNoCone, SaysFault, ShowsFault, IsPlanFor, SaysEnd};
 
 use crate::asked::{Asked, Limits};
@@ -124,13 +128,47 @@ fn build_graph<S: Site>(
     ensures { (grown : List Edge) × ((course : Course) → HasRead S.tells graph.old asked.now records course (S.world site.old) → Builds S.tells course.behaviour course.format course.own (declared_by graph.old) asked.now.folder asked.now.limits asked.now.given.now asked.now.targets grown course.entry (S.world site.new) (report_in result)) }
 {
     let mut cone = cone_of(alloc, graph, asked)?;
-    let plan = plan_of(alloc, graph, &cone, asked.limits)?;
-    let looks = Looks::new(alloc, graph)?;
     let tick = own_path(alloc, asked.folder.as_str(), TICK)?;
+    let mut state = state_of(alloc, graph, &cone, asked, options, records)?;
+    run_state(alloc, site, graph, &mut cone, tick.as_str(), &mut state)
+}
+
+/// A run of the cone in which nothing is judged yet.
+fn state_of<'a>(
+    alloc: Global,
+    graph: &Graph,
+    cone: &Cone,
+    asked: &Asked<'_>,
+    options: &'a Options,
+    records: Records,
+) -> Result<State<'a>, AllocError>
+    requires marks { vec_len cone.now.marks ≡ length graph.now.manifest.lines }
+    ensures fresh { IfOk result (IsFresh graph.now cone.now asked.now.limits records) }
+    ensures enough { IfOk result (λ state. AreSet graph.now state.set.items) }
+{
+    let plan = plan_of(alloc, graph, cone, asked.limits)?;
+    let looks = Looks::new(alloc, graph)?;
     let display = Display::new(alloc, &options.pattern, options.verbose, 0);
     let due = vec![in alloc; false; graph.edges()]?;
-    let mut state = State::new(alloc, graph, plan, looks, records, display, due)?;
-    let summary = run_graph(alloc, site, graph, &mut cone, tick.as_str(), &mut state)?;
+    let state = State::new(alloc, graph, plan, looks, records, display, due)?;
+    Ok(state)
+}
+
+/// Runs what is to be done, and reports how that ended.
+fn run_state<S: Site>(
+    alloc: Global,
+    site: &mut S,
+    graph: &mut Graph,
+    cone: &mut Cone,
+    tick: &str,
+    state: &mut State<'_>,
+) -> Result<Report, Report>
+    requires running { (S.world site.old).stopped ≡ false }
+    requires begins { (course : Course) × (edges : List Edge) × (phases : List Phase) × BeginsAt S.tells tick.now course edges phases graph.old cone.old state.old (S.world site.old) }
+    requires enough { AreSet graph.old state.old.set.items }
+    ensures { IsReported S.tells tick.now graph.old cone.old state.old (S.world site.old) graph.new cone.new (S.world site.new) (report_in result) }
+{
+    let summary = run_graph(alloc, site, graph, cone, tick, state)?;
     Ok(report(alloc, graph, summary)?)
 }
 
