@@ -25,7 +25,7 @@ use Rattle.builder.specs.Reports.{IsPlanFor, SaysEnd, report_of}
 pub record IsFresh (graph : Graph) (cone : Cone) (limits : Limits) (records : Records) (state : State) : Type 0 where
   pub plan : IsPlanFor graph cone limits state.plan
   pub looks : state.looks.seen.items ≡ replicate (length graph.manifest.paths) Unasked
-  pub records : state.records ≡ records
+  pub kept : state.records ≡ records
   pub failed : state.failed.items ≡ []
   pub starts : vec_len state.starts ≡ length graph.manifest.lines
 

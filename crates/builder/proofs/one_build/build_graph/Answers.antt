@@ -63,7 +63,7 @@ run_state-requires-clause-begins g c =
       (declared_by graph).edges,
       [],
       begins_this tells graph asked c.args.records course old c.requires.read.1 c.requires.formed c.requires.once c.requires.inputs c.in_ok-cone.cone c.in_ok-cone.ensures.cone state.plan fresh.plan state.looks
-          fresh.looks state refl refl fresh.records fresh.failed fresh.starts _ is_tick,
+          fresh.looks state refl refl fresh.kept fresh.failed fresh.starts _ is_tick,
     )
 
 pub run_state-requires-clause-enough : goal.run_state-requires-clause-enough
@@ -83,7 +83,7 @@ returns g c = (
       builds_reported tells graph asked c.args.records course old has c.requires.inputs c.in_ok-cone.cone c.in_ok-cone.ensures.cone _ state c.run_state.new.graph c.run_state.new.cone (g.S.Texts.world c.run_state.new.site)
       (report_in c.run_state.result) c.run_state.ensures
       (begins_this tells graph asked c.args.records course old has c.requires.formed c.requires.once c.requires.inputs c.in_ok-cone.cone c.in_ok-cone.ensures.cone state.plan fresh.plan state.looks
-      fresh.looks state refl refl fresh.records fresh.failed fresh.starts _ is_tick)
+      fresh.looks state refl refl fresh.kept fresh.failed fresh.starts _ is_tick)
       (begins_here tells graph asked c.args.records course old has c.requires.formed c.requires.once c.requires.inputs c.in_ok-cone.cone c.in_ok-cone.ensures.cone state.plan fresh.plan state.looks
-      fresh.looks state refl refl fresh.records fresh.failed fresh.starts _ is_tick),
+      fresh.looks state refl refl fresh.kept fresh.failed fresh.starts _ is_tick),
 )
