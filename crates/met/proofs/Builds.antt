@@ -186,7 +186,7 @@ module _ (reading : List ℕ → Option (List (List ℕ))) (dyndep : List ℕ �
               tt,
               (
                 untouched_at named.history (take 6 failing) (drop 6 failing) (Judged 1 true ∷ Started 1 ∷ Ended 1 true ∷ []) refl (not_none 1)
-                (some_moment _ _, (some_moment _ _, (some_moment _ _, (some_moment _ _, tt)))) refl refl,
+                    (some_moment _ _, (some_moment _ _, (some_moment _ _, (some_moment _ _, tt)))) refl refl,
                 (tt, (tt, tt)),
               ),
             ),
@@ -365,7 +365,7 @@ module _ (reading : List ℕ → Option (List (List ℕ))) (dyndep : List ℕ �
               tt,
               (
                 untouched_at edited_again.history (take 5 again) (drop 5 again) (Judged 1 true ∷ Started 1 ∷ Ended 1 true ∷ []) refl (not_none 1)
-                (some_moment _ _, (some_moment _ _, (some_moment _ _, tt))) refl refl,
+                    (some_moment _ _, (some_moment _ _, (some_moment _ _, tt))) refl refl,
                 (tt, (tt, tt)),
               ),
             ),
