@@ -87,6 +87,13 @@ returns-in_err-join_recorded g c =
     (builds_memory tells B format own graph asked.folder asked.limits asked.given.now asked.targets (store_in format own (view_of entry.history)) entry read (λ tell edits. refl) idle
     (looked_more tells entry mid read looked c.read_records.ensures.looks c.in_ok-records.ensures.unrefused)))
 
+-- no command runs when the logs were read
+pub build_graph-requires-clause-idle : goal.build_graph-requires-clause-idle
+build_graph-requires-clause-idle g c =
+    let tells = g.S.Texts.tells in
+    let mid = g.S.Texts.world c.read.new.texts in
+    idle_after tells mid (g.S.Texts.world c.read_records.new.site) c.read_records.ensures.looks (idle_after tells (g.S.Texts.world c.args.site.now) mid c.read.ensures.looks c.requires)
+
 pub build_graph-requires-clause-formed : goal.build_graph-requires-clause-formed
 build_graph-requires-clause-formed g c =
     let read = c.in_ok-records.ensures.read in
