@@ -121,7 +121,7 @@ untouched_at old front later before happened started behind b_same told_same = (
 pub untouched_still : (old more : List Moment) (before : List Step) (i : ℕ) (b : Bool) → length (started_in before ++ ended_in before) ≡ 0 → JudgedUntouched old (old ++ more) before (Judged i b)
 untouched_still old more before i b none = (
   old,
-  record { so_far = []; later = more; is = sym (append-nil old); grows = refl; happened = sym none; entry = λ nothing. refl },
+  record { so_far = []; later = more; is = sym (append-nil old); grows = refl; happened = sym none; entry = λ nothing. refl; behind = tt },
   λ p made. refl,
 )
 
