@@ -4,7 +4,7 @@ import os
 import re
 
 import projects
-from ground import Pair, in_short, is_idle, must_run, only_in, replace, touch, write, differences
+from ground import Pair, differences, in_short, is_idle, must_run, replace, touch, write
 
 # What a generator notes of its own runs, and precompiled headers, which differ each time.
 NOTES = re.compile(r"(^|/)(CMakeFiles/CMake(Output|Error|Configure)[^/]*|Testing/.*|meson-logs/.*|meson-private/.*\.(dat|pickle)(\.prev)?|\.cmake/.*|.*\.gch)$")
@@ -37,25 +37,22 @@ def fill_of(project):
 def one(place, project):
     pair = Pair(place, project.name, fill_of(project), project.build)
     ran = pair.build("nj", *project.words)
-    if "N70: " in ran.text:
-        place.leave_out(project.name, ran.text.strip())
-        return
     first(pair, project, ran)
     rest(pair, project)
-    for what, path in project.edits:
-        pair.edit(lambda it, path=path: touch(it, path))
-        ran = pair.step(what, *project.words, passed_over=NOTES)
+    for what, path, *texts in project.edits:
+        pair.edit(lambda it, path=path, texts=texts: replace(it, path, *texts) if texts else touch(it, path))
+        ran = pair.step(what, *project.words, passed_over=NOTES, terminal=project.terminal)
         place.expect(ran.commands, f"{project.name}, {what}", "nothing was run")
         rest(pair, project)
     for path in project.deleted:
         pair.edit(lambda it, path=path: os.remove(os.path.join(it, path)))
-        pair.step(f"{path} is deleted", *project.words, passed_over=NOTES)
+        pair.step(f"{path} is deleted", *project.words, passed_over=NOTES, terminal=project.terminal)
         rest(pair, project)
     for target in project.targets:
-        pair.step(f"target {target}", *project.words, target, passed_over=NOTES)
+        pair.step(f"target {target}", *project.words, target, passed_over=NOTES, terminal=project.terminal)
         place.expect(target != "clean" or not os.path.exists(os.path.join(pair.copy_of("nj"), "build/app")), project.name, "clean deletes nothing")
     if project.targets:
-        pair.step("what is left", *project.words, passed_over=NOTES)
+        pair.step("what is left", *project.words, passed_over=NOTES, terminal=project.terminal)
         rest(pair, project)
     if project.regenerates:
         regenerated(pair, project)
@@ -70,7 +67,7 @@ def rest(pair, project):
     if project.rests:
         pair.rests("again", *project.words)
     else:
-        pair.step("again", *project.words, passed_over=NOTES)
+        pair.step("again", *project.words, passed_over=NOTES, terminal=project.terminal)
 
 
 def first(pair, project, nj):
@@ -79,9 +76,7 @@ def first(pair, project, nj):
     pair.ground.step(where)
     ninja = pair.build("ninja", *project.words)
     pair.ground.expect(nj.status == 0 == ninja.status, where, f"status {nj.status}, by ninja {ninja.status}: {nj.text[-900:]}")
-    more, less = only_in(nj.commands, ninja.commands), only_in(ninja.commands, nj.commands)
-    pair.ground.expect(not more, where, f"nj ran what ninja did not: {in_short(more)}")
-    pair.ground.expect(not less, where, f"ninja ran what nj did not: {in_short(less)}")
+    pair.compare_commands(where, nj, ninja, project.terminal)
     told = differences(pair.files("nj", NOTES), pair.files("ninja", NOTES), Pair.TOOLS)
     pair.ground.expect(not told, where, f"files: {in_short(told)}")
 
@@ -101,5 +96,5 @@ def regenerated(pair, project):
     # Meson's generator writes one of its own inputs.
     once = is_idle(ran) or "meson" in project.wants
     place.expect(once, where, f"the generator is to run once: {ran.text[-900:]}")
-    pair.step("and is built", same_commands=False, passed_over=NOTES)
+    pair.step("and is built", same_commands=False, passed_over=NOTES, terminal=project.terminal)
     rest(pair, project)

@@ -219,8 +219,9 @@ class Pair:
     def files(self, tool, passed_over=None):
         return files_of(self.copy_of(tool), passed_over)
 
-    def step(self, what, *words, status=0, passed_over=None, same_commands=True):
-        """A build of each copy: both end alike, run the same commands and leave the same files."""
+    def step(self, what, *words, status=0, passed_over=None, same_commands=True, terminal=False):
+        """A build of each copy: both end alike, run the same commands and leave the same files. Where commands get the
+        terminal, ninja does not show each that it ran."""
         where = f"{self.name}, {what}"
         self.ground.step(where)
         nj, ninja = self.build("nj", *words), self.build("ninja", *words)
@@ -228,12 +229,15 @@ class Pair:
         if not self.ground.expect(ended, where, f"status {nj.status}, by ninja {ninja.status}, and not {status}: {nj.text[-900:]}"):
             print(ninja.text[-900:], file=sys.stderr)
         if same_commands:
-            more, less = only_in(nj.commands, ninja.commands), only_in(ninja.commands, nj.commands)
-            self.ground.expect(not more, where, f"nj ran what ninja did not: {in_short(more)}")
-            self.ground.expect(not less, where, f"ninja ran what nj did not: {in_short(less)}")
+            self.compare_commands(where, nj, ninja, terminal)
         told = differences(self.files("nj", passed_over), self.files("ninja", passed_over), self.TOOLS)
         self.ground.expect(not told, where, f"files: {in_short(told)}")
         return nj
+
+    def compare_commands(self, where, nj, ninja, terminal=False):
+        more, less = only_in(nj.commands, ninja.commands), only_in(ninja.commands, nj.commands)
+        self.ground.expect(terminal or not more, where, f"nj ran what ninja did not: {in_short(more)}")
+        self.ground.expect(not less, where, f"ninja ran what nj did not: {in_short(less)}")
 
     def rests(self, what="nothing to do", *words):
         """A build in which neither tool has anything to do."""

@@ -387,6 +387,16 @@ def clocks(place):
         touch(case.folder, f"in/s{n}")
     case.is_right(case.build(), "sources of today")
     case.rests()
+    case = Case(place, "an edit with a stamp of before the last build, as behind a clock that was set back")
+    case.fan(3)
+    case.is_right(case.build(), "first")
+    case.put(1, "edited\n")
+    past = time.time() - 3600
+    os.utime(os.path.join(case.folder, "in/s1"), (past, past))
+    case.rests("the premise is broken: the edit is not seen, and the build")
+    touch(case.folder, "in/s1")
+    case.is_right(case.build(), "it is touched")
+    case.rests()
 
 
 def output_closed(place):

@@ -11,12 +11,15 @@ class Project:
     wants: tuple
     files: dict
     prepares: list
+    # What is edited and where: it is touched, or the first text in it becomes the second.
     edits: list
     build: str = "build"
     words: tuple = ()
     deleted: tuple = ()
     targets: tuple = ()
     rests: bool = True
+    # Whether commands get the terminal: of those that end meanwhile ninja shows the last alone.
+    terminal: bool = False
     regenerates: tuple = ()
     runs: tuple = ()
     tells: str = ""
@@ -106,20 +109,37 @@ FORTRAN = {
     "main.f90": "program main\n  use units\n  print '(a,i0)', 'sum ', twice(21)\nend program\n",
 }
 
+# Modules of three libraries: `plans` uses one of `units` and later one of its own more.
+FORTRAN_MANY = {
+    "CMakeLists.txt": "cmake_minimum_required(VERSION 3.20)\nproject(tried LANGUAGES Fortran)\nadd_library(units length.f90 weight.f90)\n"
+    "add_library(plans early.f90 late.f90)\ntarget_link_libraries(plans units)\nadd_executable(app main.f90)\n"
+    "target_link_libraries(app plans)\n",
+    "length.f90": "module length\n  integer, parameter :: metre = 2\nend module\n",
+    "weight.f90": "module weight\n  use length\n  integer, parameter :: gram = 3 * metre\nend module\n",
+    "early.f90": "module early\n  use weight\n  integer, parameter :: first = gram\nend module\n",
+    "late.f90": "module late\n  integer, parameter :: second = 1\nend module\n",
+    "main.f90": "program main\n  use early\n  use late\n  print '(a,i0)', 'sum ', first + second + 35\nend program\n",
+}
+
 WHOLE = CMAKE_MADE + CMAKE_LIBRARIES + CMAKE_MAIN
 CMAKES = [
     cmake("cmake", WHOLE + CMAKE_TESTS, files={
         **SOURCES, "make_header": MAKE_HEADER, "version.h.in": "#define VERSION @CMAKE_VERSION@\n", "CMakeLists.txt": CMAKE_HEAD + WHOLE + CMAKE_TESTS},
-          targets=("test", "help", "clean", "module", "app")),
+          targets=("test", "help", "clean", "module", "app"), terminal=True),
     cmake("cmake-unity", WHOLE, "-DCMAKE_UNITY_BUILD=ON"),
     cmake("cmake-responses", WHOLE, "-DCMAKE_NINJA_FORCE_RESPONSE_FILE=ON"),
     cmake("cmake-precompiled", WHOLE + "target_precompile_headers(some PRIVATE <vector> parts.h)\n"),
-    cmake("cmake-terminal", WHOLE + CMAKE_TERMINAL, rests=False),
+    cmake("cmake-terminal", WHOLE + CMAKE_TERMINAL, rests=False, terminal=True),
     cmake("cmake-configurations", WHOLE, prepares=[["cmake", "-G", "Ninja Multi-Config", "-S", ".", "-B", "build"]],
           words=("-f", "build-Release.ninja"), deleted=("build/Release/app",), runs=("build/Release/app",)),
     cmake("cmake-folders", "", files=CMAKE_MANY, edits=[("a source", "lib3/lib3.cc"), ("the lowest header", "lib1/include/lib1.h")], tells="sum 12"),
     cmake("cmake-again", WHOLE, regenerates=("CMakeLists.txt", "add_executable(app", "add_compile_definitions(AGAIN)\nadd_executable(app")),
     cmake("cmake-fortran", "", wants=("cmake", "gfortran"), files=FORTRAN, edits=[("a module", "units.f90"), ("a program", "main.f90")]),
+    cmake("cmake-fortran-modules", "", wants=("cmake", "gfortran"), files=FORTRAN_MANY, edits=[
+        ("a module is used more", "late.f90", "module late\n", "module late\n  use early, only: first\n"), ("the lowest module", "length.f90"),
+        ("a module is used no more", "late.f90", "  use early, only: first\n", ""),
+        ("a module is another", "weight.f90", "end module\n", "end module\nmodule kilos\n  integer, parameter :: kilo = 1000\nend module\n"),
+        ("it is used", "early.f90", "  use weight\n", "  use weight\n  use kilos\n"), ("a program", "main.f90")]),
 ]
 
 MESON_HEAD = "project('tried', 'c', 'cpp', version: '1.2', default_options: ['buildtype=debug'])\n"
@@ -168,7 +188,7 @@ def meson(name, text, *flags, **how):
 
 
 MESONS = [
-    meson("meson", MESON_MADE + MESON_REST + MESON_TESTS, targets=("test", "clean", "app", "listed.txt")),
+    meson("meson", MESON_MADE + MESON_REST + MESON_TESTS, targets=("test", "clean", "app", "listed.txt"), terminal=True),
     meson("meson-unity", MESON_MADE + MESON_REST, "--unity", "on"),
     meson("meson-again", MESON_MADE + MESON_REST, regenerates=("meson.build", "some = static", "add_project_arguments('-DAGAIN', language: 'cpp')\nsome = static")),
     meson("meson-optimized", MESON_MADE + MESON_REST, "--buildtype", "release", "-Db_lto=true", "-Dcpp_args=-frandom-seed=1"),

@@ -19,7 +19,7 @@ use Rattle.model.specs.Records.{OwnFiles}
 use Rattle.model.specs.Schedule.{Task, Step, Judged, Started, Ended, judged_in, clean_in, started_in, ended_in, out_of_date_in, well_in, done_in, IsSettled, AreEventsOf}
 use Rattle.model.specs.Premises.{FilesAreKept, OwnFilesApart, LiesIn, Premises, EndedAt, LeftOutcome, Matters, IsWithinEdge, IsNoEdit}
 use Rattle.model.specs.SingleBuild.{IsOwnWrite, IsOfBuild, MayChange, IsMadeBy, IsFrame}
-use Rattle.model.specs.Phases.{happened_in, IsPointAfter}
+use Rattle.model.specs.Phases.{happened_in, EndsInEvent, IsPointAfter}
 use Rattle.build_theory.specs.Order.{settled_in, IsExplained, IsOrderlyFrom, IsOrderly, AreReadFirst}
 use Rattle.build_theory.specs.Run.{events_in, starts_in, AreOfRun, IsToldBy, IsRunOrRest, AreStartsReady, EndOf}
 use Rattle.build_theory.proofs.Lists.{same_rest, all_has, all_from_has, all_parts, has_number-cases, has_number-right, has_number-one}
@@ -79,6 +79,18 @@ taken_events (e ∷ es) fs (Happened event ∷ ms) is =
     let head : event ≡ e = cc in
     let tail : events_in ms ≡ es ++ fs = cc in
     ap (λ (x : Event). x ∷ events_in (take_events (length es) ms)) head ∙ ap (λ (l : List Event). e ∷ l) (taken_events es fs ms tail)
+
+-- nothing is taken behind the last of these events
+pub taken_behind : (es fs : List Event) (ms : List Moment) → events_in ms ≡ es ++ fs → EndsInEvent (take_events (length es) ms)
+taken_behind [] fs ms is = tt
+taken_behind (e ∷ es) fs [] is = cc
+taken_behind (e ∷ es) fs (Wrote by path content stamp ∷ ms) is = (some_taken ms is, taken_behind (e ∷ es) fs ms is)
+  where
+    some_taken : (ms : List Moment) → events_in ms ≡ e ∷ (es ++ fs) → take_events (suc (length es)) ms ≡ [] → ⊥
+    some_taken [] is none = cc
+    some_taken (Wrote by path content stamp ∷ ms) is none = cc
+    some_taken (Happened event ∷ ms) is none = cc
+taken_behind (e ∷ es) fs (Happened event ∷ ms) is = let tail : events_in ms ≡ es ++ fs = cc in taken_behind es fs ms tail
 
 happened_are : (ms : List Moment) → happened_in ms ≡ length (events_in ms)
 happened_are [] = refl
@@ -269,7 +281,7 @@ module _ (tells : Bool) (own : OwnFiles) (task : Task) (steps : List Step) (old 
       → (at : List Moment) × IsPointAfter before old.history now.history at × ((p : List ℕ) → IsMadeBy (edge_at task.graph.edges i) p → file_at at p ≡ file_at old.history p)
   until_judged once files before after i out_of_date splits = (
     old.history ++ so_far,
-    record { so_far = so_far; later = drop_events (length cut.before) told.more; is = refl; grows = grows; happened = happened; entry = entry },
+    record { so_far = so_far; later = drop_events (length cut.before) told.more; is = refl; grows = grows; happened = happened; entry = entry; behind = behind },
     (λ p made. file_stays p old.history so_far (elsewhere p made)),
   )
     where
@@ -291,9 +303,14 @@ module _ (tells : Bool) (own : OwnFiles) (task : Task) (steps : List Step) (old 
       so_far : List Moment
       so_far = take_events (length cut.before) told.more
 
+      events_split : events_in told.more ≡ cut.before ++ (cut.after ++ rest.later)
+      events_split = told.happened ∙ (ap (λ (l : List Event). l ++ rest.later) cut.splits ∙ append_assoc cut.before cut.after rest.later)
+
       events_are : events_in so_far ≡ cut.before
-      events_are = taken_events cut.before (cut.after ++ rest.later) told.more
-          (told.happened ∙ (ap (λ (l : List Event). l ++ rest.later) cut.splits ∙ append_assoc cut.before cut.after rest.later))
+      events_are = taken_events cut.before (cut.after ++ rest.later) told.more events_split
+
+      behind : EndsInEvent so_far
+      behind = taken_behind cut.before (cut.after ++ rest.later) told.more events_split
 
       grows : now.history ≡ (old.history ++ so_far) ++ drop_events (length cut.before) told.more
       grows =

@@ -35,7 +35,7 @@ pub orderly_starts_are_stale : OrderlyStartsAreStale
 orderly_starts_are_stale B asked store steps met old new lawful judged = ready.stale_starts asked.graph.edges store steps old new lawful judged.verdicts
 
 pub one_phase_asks_at_entry : OnePhaseAsksAtEntry
-one_phase_asks_at_entry task store old new nothing unloaded at point = subst (λ (l : List Moment). NothingIsMissing task.graph.edges store [] l task.targets) (sym (point.entry refl)) nothing
+one_phase_asks_at_entry own task store old new nothing unloaded apart at point = subst (λ (l : List Moment). NothingIsMissing task.graph.edges store [] l task.targets) (sym (point.entry refl)) nothing
 
 pub nothing_is_up_to_date : NothingIsUpToDate
 nothing_is_up_to_date tells B own asked steps old now tell idle rest lawful none some no_depfiles =

@@ -70,8 +70,8 @@ OrderlyStartsAreStale =
 -- What was missing is asked once where there is one phase: at the entry.
 abbrev pub OnePhaseAsksAtEntry : Type 0
 OnePhaseAsksAtEntry =
-    (task : Task) (store : Store) (old new : List Moment)
-    → NothingIsMissing task.graph.edges store [] old task.targets → WasNothingMissing task store old new [] []
+    (own : OwnFiles) (task : Task) (store : Store) (old new : List Moment)
+    → NothingIsMissing task.graph.edges store [] old task.targets → WasNothingMissing own task store old new [] []
 
 -- Without records each command with an output is out of date, so verdicts that all say so are right.
 abbrev pub NothingIsUpToDate : Type 0

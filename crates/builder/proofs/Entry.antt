@@ -1,5 +1,5 @@
 -- What is found of sources before anything was judged.
-use Rattle.std.proofs.Common.{◌≡◌, ℕ, zero, suc, Bool, true, false, IsTrue, bytes_eq, List, [], refl, sym, ◌∙◌, ap, replicate}
+use Rattle.std.proofs.Common.{◌≡◌, ℕ, zero, suc, Bool, true, false, IsTrue, bytes_eq, List, [], length, refl, sym, ◌∙◌, ap, replicate}
 use Rattle.std.proofs.lemmas.Bool.{false≢true}
 use Rattle.model.specs.declared.event.Moment.{Moment}
 use Rattle.model.specs.World.{World, file_at}
@@ -35,6 +35,13 @@ none_asked n looks is p = ap (λ (l : List Look). is_asked (look_at l p)) is ∙
     unasked zero p = refl
     unasked (suc n) zero = refl
     unasked (suc n) (suc p) = unasked n p
+
+pub all_there : (n : ℕ) (looks : Looks) → looks.seen.items ≡ replicate n Unasked → length looks.seen.items ≡ n
+all_there n looks is = ap length is ∙ as_many n
+  where
+    as_many : (n : ℕ) → length (replicate n Unasked) ≡ n
+    as_many zero = refl
+    as_many (suc n) = ap suc (as_many n)
 
 -- so is what was seen of the paths of a set
 pub seen_where_all_stay : (tells : Bool) (graph : Graph) (old new : World) (before after : Looks) → HasLooked tells graph old new before after → AreUnasked before → (set : List ℕ → Bool)

@@ -1,9 +1,9 @@
 -- The recorded inputs in use join the graph, edge by edge.
-use Rattle.std.proofs.Common.{◌≡◌, ◌≢◌, ◌⊎◌, inl, inr, ◌<◌, ◌≤◌, ◌+◌, ◌==◌, ◌&&◌, ◌||◌, cond, bytes_eq, Bool, true, false, ℕ, zero, suc, List, [], ◌∷◌, ◌++◌, length, map, take, get_or, slice_get, Option, Some, None, is_some, refl, sym, ◌∙◌, ap, subst, append_assoc, append-nil, arith}
+use Rattle.std.proofs.Common.{◌≡◌, ◌⊎◌, inl, inr, ◌<◌, ◌≤◌, ◌+◌, ◌==◌, ◌&&◌, cond, Bool, true, false, ℕ, zero, suc, List, [], ◌∷◌, ◌++◌, length, take, get_or, slice_get, Option, Some, None, is_some, refl, sym, ◌∙◌, ap, subst, append_assoc, append-nil, arith}
 use Rattle.std.specs.List.{list_all, All}
 use Rattle.std.proofs.lemmas.Option.{slice_get-get_or}
 use Rattle.std.specs.Option.{option_map, option_and_then}
-use Rattle.std.proofs.lemmas.Bool.{cases_Bool, eq-eqb, false≢true, false_from_ne_true, or_left, or_right}
+use Rattle.std.proofs.lemmas.Bool.{cases_Bool, cases_eq, eq-eqb, false≢true, false_from_ne_true, or_left, or_right}
 use Rattle.std.proofs.lemmas.List.{map-append, take_more, take_all, get_or_past, get_or_default}
 use Rattle.std.proofs.lemmas.List.Folds.{list_all-map, list_all_more, list_all_at}
 use Rattle.model.specs.declared.act.Act.{Act}
@@ -13,6 +13,7 @@ use Rattle.model.specs.declared.record.Record.{Record}
 use Rattle.model.specs.declared.record.DepsRecord.{DepsRecord}
 use Rattle.model.specs.Graph.{has, has_number, edge_at, no_edge, outputs}
 use Rattle.model.specs.Records.{Store, Told, in_force, deps_in_force, is_known, paths_in, all_paths_in, recorded_inputs}
+use Rattle.build_theory.proofs.Lists.{has_number-append, has_number-push, has_number-push_other}
 use Rattle.build_log.specs.Kept.{if_some, texts_at as logged_at}
 use Rattle.deps_log.specs.Log.{tolds}
 use Rattle.paths.specs.declared.line.Line.{Line}
@@ -27,14 +28,16 @@ use Rattle.links.specs.declared.graph.Graph.{Graph}
 use Rattle.links.specs.Grown.{HasGained}
 use Rattle.links.specs.Held.{list_at}
 use Rattle.links.specs.Linked.{StandFor}
+use Rattle.links.specs.LoadedEdges.{numbers_in}
+use Rattle.links.specs.declared.back.LoadedEdge.{LoadedEdge}
 use Rattle.links.specs.Links.{links_of}
 use Rattle.links.specs.Told.{declared_by, recorded_by}
 use Rattle.links.proofs.Texts.{has_text, number_of}
 use Rattle.records.specs.declared.records.Records.{Records}
 use Rattle.records.specs.Known.{IsOf, IsOfDeps, AreKnown}
 use Rattle.verdict.specs.Facts.{AreKnownOf}
-use Rattle.builder.specs.Recorded.{are_known, is_in_use, HasMorePaths, HasOnlyMorePaths, AreNumbered, HaveJust, IsShared, AreJoined, HasJoined, deps_place, named_by}
-use Rattle.builder.proofs.Numbering.{text_before, texts_more, has_both}
+use Rattle.builder.specs.Recorded.{are_known, is_in_use, HasMorePaths, HasOnlyMorePaths, AreNumbered, HaveJust, IsShared, IsJoined, MayBeJoined, HasJoinedOf, AreJoined, HasJoined, deps_place, named_by}
+use Rattle.builder.proofs.Numbering.{text_before, texts_more, more_none, more_then, has_both}
 use Rattle.builder.proofs.Telling.{edge_is, outputs_are, length_edges}
 
 -- ---- places
@@ -222,7 +225,7 @@ same_texts paths ms ns same p = by_test (cases_Bool (has (texts_at paths ms) p))
     by_test (inl there) = there ∙ sym (one_way ms ns same there)
     by_test (inr absent) = absent ∙ sym (false_from_ne_true _ (λ h. false≢true (sym absent ∙ one_way ns ms (λ n. sym (same n)) h)))
 
-nothing_of : (paths : List (List ℕ)) (numbers : List ℕ) → texts_at paths numbers ≡ [] → numbers ≡ []
+pub nothing_of : (paths : List (List ℕ)) (numbers : List ℕ) → texts_at paths numbers ≡ [] → numbers ≡ []
 nothing_of paths [] is = refl
 nothing_of paths (n ∷ numbers) is = absurd (differ is)
   where
@@ -251,51 +254,117 @@ module _ (graph : Graph) (rs : List Record) (ds : List DepsRecord) where
       by_tests false true known paths = refl
       by_tests false false known paths = refl
 
-  module _ (place : ℕ) (so_far : AreJoined graph rs ds place) where
-    pub joined_without : is_in_use rs ds (edge place) ≡ false → AreJoined graph rs ds (place + 1)
-    joined_without none = record {
-      joined = λ e lt p. elim (below_next e place lt) [
-        | inl before ↦ so_far.joined e before p
-        | inr here ↦ subst (λ (d : ℕ). has (recorded_by graph (suc d)) p ≡ has (recorded_inputs (record { records = rs; deps = ds }) (declared_by graph).edges (suc d)) p) (sym {A = ℕ} here)
-            (ap (λ (l : List (List ℕ)). has l p) (so_far.others place (λ h. omega (arith, h)) ∙ sym (in_use_are place false none)))
-      ];
-      others = λ e other. so_far.others e (λ h. other (omega (arith, h)));
-    }
+  -- where they are not in use the edge has none
+  pub joined_unused : (e : ℕ) → is_in_use rs ds (edge e) ≡ false → MayBeJoined graph rs ds e → IsJoined graph rs ds e
+  joined_unused e none may p = by_test (cases_Bool (has (recorded_by graph (suc e)) p))
+    where
+      nothing : has (recorded_inputs (record { records = rs; deps = ds }) (declared_by graph).edges (suc e)) p ≡ false
+      nothing = ap (λ (l : List (List ℕ)). has l p) (in_use_are e false none)
 
-    module _ (numbered new : Graph) (more : HasOnlyMorePaths graph numbered) (inputs : List ℕ) (edge_number : ℕ) (is : edge_number ≡ place) (gained : HasGained numbered new edge_number inputs) where
-      declared : declared_by new ≡ declared_by graph
-      declared = ap graph_of gained.manifest ∙ more.grown.declared
+      by_test : (has (recorded_by graph (suc e)) p ≡ true) ⊎ (has (recorded_by graph (suc e)) p ≡ false)
+          → has (recorded_by graph (suc e)) p ≡ has (recorded_inputs (record { records = rs; deps = ds }) (declared_by graph).edges (suc e)) p
+      by_test (inl there) = absurd (false≢true (sym nothing ∙ may p there))
+      by_test (inr absent) = absent ∙ sym nothing
 
-      others_keep : (e : ℕ) → (e ≡ place → ⊥) → recorded_by new (suc e) ≡ recorded_by graph (suc e)
-      others_keep e other =
-          ap (λ (m : Manifest). texts_at m.paths (list_at new.recorded e)) gained.manifest
-          ∙ (ap (texts_at numbered.manifest.paths) (gained.others e (λ same. other (same ∙ is))) ∙ recorded_more graph numbered more (suc e))
+  module _ (numbered new : Graph) (more : HasOnlyMorePaths graph numbered) (e : ℕ) (inputs : List ℕ) (gained : HasGained numbered new e inputs) where
+    declared : declared_by new ≡ declared_by graph
+    declared = ap graph_of gained.manifest ∙ more.grown.declared
 
-      gained_just : HaveJust numbered inputs (all_paths_in ds (outputs (edge place))) → (p : List ℕ) → has (recorded_by new (suc place)) p ≡ has (all_paths_in ds (outputs (edge place))) p
-      gained_just just p =
-          ap (λ (m : Manifest). has (texts_at m.paths (list_at new.recorded place)) p) gained.manifest
-          ∙ (same_texts numbered.manifest.paths (list_at new.recorded place) inputs same p ∙ just.same p)
-        where
-          none : list_at numbered.recorded place ≡ []
-          none = nothing_of numbered.manifest.paths (list_at numbered.recorded place) (recorded_more graph numbered more (suc place) ∙ so_far.others place (λ h. omega (arith, h)))
+    pub others_kept : (d : ℕ) → (d ≡ e → ⊥) → list_at new.recorded d ≡ list_at graph.recorded d
+    others_kept d other = gained.others d other ∙ ap (λ (l : List (List ℕ)). list_at l d) more.recorded
 
-          same : (n : ℕ) → has_number (list_at new.recorded place) n ≡ has_number inputs n
-          same n =
-              ap (λ (e : ℕ). has_number (list_at new.recorded e) n) (sym {A = ℕ} is)
-              ∙ (gained.gained n ∙ ap (λ (l : List ℕ). has_number l n || has_number inputs n) (ap (λ (e : ℕ). list_at numbered.recorded e) is ∙ none))
+    -- the edge gets them beside what it has, which is among them
+    pub joined_used : is_in_use rs ds (edge e) ≡ true → HaveJust numbered inputs (all_paths_in ds (outputs (edge e))) → MayBeJoined graph rs ds e → IsJoined new rs ds e
+    joined_used used just may p =
+        subst (λ (g : BuildGraph). has (recorded_by new (suc e)) p ≡ has (recorded_inputs (record { records = rs; deps = ds }) g.edges (suc e)) p) (sym {A = BuildGraph} declared)
+        (ap (λ (m : Manifest). has (texts_at m.paths (list_at new.recorded e)) p) gained.manifest
+        ∙ (same_texts numbered.manifest.paths (list_at new.recorded e) (list_at numbered.recorded e ++ inputs) either p
+        ∙ (ap (λ (l : List (List ℕ)). has l p) (map-append (text_at numbered.manifest.paths) (list_at numbered.recorded e) inputs)
+        ∙ (has_both (texts_at numbered.manifest.paths (list_at numbered.recorded e)) (texts_at numbered.manifest.paths inputs) p
+        ∙ (ap (λ (b : Bool). cond (has (texts_at numbered.manifest.paths (list_at numbered.recorded e)) p) true b) (just.same p)
+        ∙ (absorbed (has (texts_at numbered.manifest.paths (list_at numbered.recorded e)) p) (has (all_paths_in ds (outputs (edge e))) p) among
+        ∙ sym named))))))
+      where
+        named : has (recorded_inputs (record { records = rs; deps = ds }) (declared_by graph).edges (suc e)) p ≡ has (all_paths_in ds (outputs (edge e))) p
+        named = ap (λ (l : List (List ℕ)). has l p) (in_use_are e true used)
 
-      pub joined_with : is_in_use rs ds (edge place) ≡ true → HaveJust numbered inputs (all_paths_in ds (outputs (edge place))) → AreJoined new rs ds (place + 1)
-      joined_with used just = record {
-        joined = λ e lt p.
-            subst (λ (g : BuildGraph). has (recorded_by new (suc e)) p ≡ has (recorded_inputs (record { records = rs; deps = ds }) g.edges (suc e)) p) (sym {A = BuildGraph} declared) (
-            elim (below_next e place lt) [
-              | inl before ↦ ap (λ (l : List (List ℕ)). has l p) (others_keep e (λ same. omega (arith, before, same))) ∙ so_far.joined e before p
-              | inr here ↦ subst (λ (d : ℕ). has (recorded_by new (suc d)) p ≡ has (recorded_inputs (record { records = rs; deps = ds }) (declared_by graph).edges (suc d)) p) (sym {A = ℕ} here)
-                  (gained_just just p ∙ sym (ap (λ (l : List (List ℕ)). has l p) (in_use_are place true used)))
-            ]
-            );
-        others = λ e other. others_keep e (λ same. other (omega (arith, same))) ∙ so_far.others e (λ h. other (omega (arith, h)));
-      }
+        either : (n : ℕ) → has_number (list_at new.recorded e) n ≡ has_number (list_at numbered.recorded e ++ inputs) n
+        either n = gained.gained n ∙ sym (has_number-append (list_at numbered.recorded e) inputs n)
+
+        absorbed : (a b : Bool) → (a ≡ true → b ≡ true) → cond a true b ≡ b
+        absorbed true b among = sym (among refl)
+        absorbed false b among = refl
+
+        among : has (texts_at numbered.manifest.paths (list_at numbered.recorded e)) p ≡ true → has (all_paths_in ds (outputs (edge e))) p ≡ true
+        among there = sym named ∙ may p (ap (λ (l : List (List ℕ)). has l p) (sym (recorded_more graph numbered more (suc e))) ∙ there)
+
+-- ---- from one graph to the next
+
+module _ (old new : Graph) (more : HasMorePaths old new) (e : ℕ) (same : list_at new.recorded e ≡ list_at old.recorded e) where
+  pub recorded_kept : recorded_by new (suc e) ≡ recorded_by old (suc e)
+  recorded_kept = ap (texts_at new.manifest.paths) same ∙ texts_more old new more (list_at old.recorded e) (λ n h. old.recording.within e n h)
+
+  module _ (rs : List Record) (ds : List DepsRecord) where
+    inputs_kept : (p : List ℕ) → has (recorded_inputs (record { records = rs; deps = ds }) (declared_by new).edges (suc e)) p ≡ has (recorded_inputs (record { records = rs; deps = ds }) (declared_by old).edges (suc e)) p
+    inputs_kept p = ap (λ (g : BuildGraph). has (recorded_inputs (record { records = rs; deps = ds }) g.edges (suc e)) p) more.declared
+
+    pub joined_more : IsJoined old rs ds e → IsJoined new rs ds e
+    joined_more joined p = ap (λ (l : List (List ℕ)). has l p) recorded_kept ∙ (joined p ∙ sym (inputs_kept p))
+
+    pub may_be_more : MayBeJoined old rs ds e → MayBeJoined new rs ds e
+    may_be_more may p there = inputs_kept p ∙ may p (ap (λ (l : List (List ℕ)). has l p) (sym recorded_kept) ∙ there)
+
+-- nothing is recorded yet of the next edge
+pub may_be_first : (graph : Graph) (rs : List Record) (ds : List DepsRecord) (place : ℕ) → AreJoined graph rs ds place → MayBeJoined graph rs ds place
+may_be_first graph rs ds place so_far p there = absurd (false≢true (ap (λ (l : List (List ℕ)). has l p) (sym (so_far.others place (λ h. omega (arith, h)))) ∙ there))
+
+pub joined_next : (old new : Graph) (rs : List Record) (ds : List DepsRecord) (place : ℕ) → AreJoined old rs ds place → HasMorePaths old new → ((e : ℕ) → (e ≡ place → ⊥) → list_at new.recorded e ≡ list_at old.recorded e)
+    → IsJoined new rs ds place → AreJoined new rs ds (place + 1)
+joined_next old new rs ds place so_far more others here = record {
+  joined = λ e lt p. elim (below_next e place lt) [
+    | inl before ↦ joined_more old new more e (others e (λ same. omega (arith, before, same))) rs ds (so_far.joined e before) p
+    | inr is ↦ subst (λ (d : ℕ). has (recorded_by new (suc d)) p ≡ has (recorded_inputs (record { records = rs; deps = ds }) (declared_by new).edges (suc d)) p) (sym {A = ℕ} is) (here p)
+  ];
+  others = λ e other. recorded_kept old new more e (others e (λ same. other (omega (arith, same)))) ∙ so_far.others e (λ h. other (omega (arith, h)));
+}
+
+-- ---- the edges of a file that was loaded
+
+pub joined_nothing : (graph : Graph) (rs : List Record) (ds : List DepsRecord) → HasJoinedOf [] graph graph rs ds
+joined_nothing graph rs ds = record { grown = more_none graph; joined = λ e there. absurd (false≢true there); others = λ e absent. refl }
+
+-- the numbers of the first edges, and one more
+pub numbers_next : (edges : List LoadedEdge) (k : ℕ) (d : LoadedEdge) → k < length edges → numbers_in (take (k + 1) edges) ≡ numbers_in (take k edges) ++ (get_or edges k d).edge ∷ []
+numbers_next edges k d lt = ap numbers_in (take_more edges k d lt) ∙ map-append (λ (l : LoadedEdge). l.edge) (take k edges) (get_or edges k d ∷ [])
+
+pub numbers_whole : (edges : List LoadedEdge) (k : ℕ) → length edges ≤ k → numbers_in (take k edges) ≡ numbers_in edges
+numbers_whole edges k past = ap numbers_in (take_all k edges past)
+
+pub numbers_at : (edges : List LoadedEdge) (k : ℕ) (d : LoadedEdge) → k < length edges → has_number (numbers_in edges) (get_or edges k d).edge ≡ true
+numbers_at [] k d lt = absurd (omega (arith, lt))
+numbers_at (l ∷ edges) zero d lt = or_left (l.edge == l.edge) (has_number (numbers_in edges) l.edge) (eq-eqb l.edge l.edge refl)
+numbers_at (l ∷ edges) (suc k) d lt = or_right (l.edge == (get_or edges k d).edge) (has_number (numbers_in edges) (get_or edges k d).edge) (numbers_at edges k d (omega (arith, lt)))
+
+module _ (xs : List ℕ) (n : ℕ) (first now new : Graph) (rs : List Record) (ds : List DepsRecord) (so_far : HasJoinedOf xs first now rs ds) (may : MayBeJoined first rs ds n) where
+  pub may_be_now : MayBeJoined now rs ds n
+  may_be_now = by_test (cases_Bool (has_number xs n))
+    where
+      by_test : (has_number xs n ≡ true) ⊎ (has_number xs n ≡ false) → MayBeJoined now rs ds n
+      by_test (inl before) p there = sym (so_far.joined n before p) ∙ there
+      by_test (inr not_before) p there = may_be_more first now so_far.grown n (so_far.others n not_before) rs ds may p there
+
+  -- one more of them
+  pub joined_push : HasMorePaths now new → ((e : ℕ) → (e ≡ n → ⊥) → list_at new.recorded e ≡ list_at now.recorded e) → IsJoined new rs ds n → HasJoinedOf (xs ++ n ∷ []) first new rs ds
+  joined_push more others here = record {
+    grown = more_then first now new so_far.grown more;
+    joined = λ e there. elim (cases_eq e n) [
+      | inl same ↦ subst (λ (d : ℕ). IsJoined new rs ds d) (sym {A = ℕ} same) here
+      | inr other ↦ joined_more now new more e (others e other) rs ds (so_far.joined e (sym (has_number-push_other xs n e (λ same. other (sym same))) ∙ there))
+    ];
+    others = λ e absent.
+        let other : e ≡ n → ⊥ = (λ same. false≢true (sym absent ∙ (ap (has_number (xs ++ n ∷ [])) same ∙ has_number-push xs n))) in
+        others e other ∙ so_far.others e (sym (has_number-push_other xs n e (λ same. other (sym same))) ∙ absent);
+  }
 
 pub numbered_gained : (numbered new : Graph) (e : ℕ) (inputs : List ℕ) → HasGained numbered new e inputs → (texts : List (List ℕ)) (numbers : List (Option ℕ)) → AreNumbered numbered texts numbers → AreNumbered new texts numbers
 numbered_gained numbered new e inputs gained texts numbers are k n is =

@@ -1,5 +1,5 @@
 -- A build, with all that is promised of one; and one that has only looked.
-use Rattle.std.proofs.Common.{◌≡◌, inl, inr, ℕ, Bool, false, true, IsTrue, List, [], ◌∷◌, ◌++◌, Option, Some, None, Err, refl, sym, ◌∙◌, subst}
+use Rattle.std.proofs.Common.{◌≡◌, inl, inr, ℕ, Bool, true, IsTrue, List, [], ◌∷◌, ◌++◌, Some, None, Err, refl, sym, ◌∙◌, ap, subst}
 use Rattle.std.proofs.lemmas.Bool.{false≢true}
 use Rattle.std.proofs.lemmas.List.{append-nil}
 use Rattle.model.specs.declared.event.Event.{Event}
@@ -12,9 +12,10 @@ use Rattle.model.specs.Premises.{NothingIsEdited}
 use Rattle.model.specs.Records.{OwnFiles, Store, LogFormat, store_in}
 use Rattle.model.specs.History.{IsHeadline}
 use Rattle.model.specs.Kept.{KeepsLogs}
+use Rattle.model.specs.Phases.{steps_of}
 use Rattle.model.specs.Schedule.{Step as Done, Judged}
 use Rattle.model.specs.SingleBuild as answer
-use Rattle.model.specs.SingleBuild.{Asked, Answer, IsSuccess, IsScheduled, IsAnswer, PassesNoFault, SingleBuild, task_of}
+use Rattle.model.specs.SingleBuild.{Asked, Answer, is_fault, IsSuccess, IsScheduled, IsAnswer, PassesNoFault, SingleBuild, task_of}
 use Rattle.build_theory.specs.Run.{IsRunOrRest}
 use Rattle.build_theory.specs.Seen.{Looked}
 use Rattle.build_theory.proofs.Calls.{seen_of}
@@ -32,7 +33,10 @@ use Rattle.log_theory.proofs.Ledger.{beside_looks}
 use Rattle.log_theory.proofs.Ticking.{ticked_nothing}
 use Rattle.runner.specs.Course.{Course}
 use Rattle.runner.specs.Removing.{AreRemoved}
+use Rattle.builder.specs.declared.report.Report.{Report}
+use Rattle.builder.specs.declared.report.Report.TheVariants.{Fault}
 use Rattle.builder.specs.Build.{RemovesFiles, LeavesAlone}
+use Rattle.builder.specs.Loads.{RefusesFile}
 
 none_before : (before after : List Done) (step : Done) → [] ≡ before ++ step ∷ after → ⊥
 none_before [] after step is = cc
@@ -81,21 +85,36 @@ passes_after tells entry old new answer looked passes = record {
   earlier = passes.earlier ∙ looked.unrefused.earlier;
 }
 
+-- where no fault is passed over by a refusal, none is by any other answer
+pub passes_any : (old new : World) → PassesNoFault old new answer.Refused → (said : Answer) → PassesNoFault old new said
+passes_any old new passes said = record {
+  refused = λ fine. passes.refused refl;
+  starts = passes.starts;
+  stopped = λ stopped. absurd (no_fault (passes.stopped stopped));
+  earlier = passes.earlier;
+}
+  where
+    no_fault : answer.Refused ≡ answer.Fault Stopped → ⊥
+    no_fault is = false≢true (ap is_fault is)
+
 -- ---- a build
 
--- a build, of which the headline holds, and which keeps its logs, leaves files of running commands alone and removes those of
--- commands that ended well
-pub record Built (tells : Bool) (B : Behaviour) (format : LogFormat) (own : OwnFiles) (asked : Asked) (entry now : World) (answer : Answer) : Type 0 where
+-- a build that is reported so: a dyndep file is refused with its cause, the headline holds, and the build keeps its logs, leaves files
+-- of running commands alone and removes those of commands that ended well
+pub record Built (tells : Bool) (B : Behaviour) (format : LogFormat) (own : OwnFiles) (asked : Asked) (entry now : World) (answer : Answer) (report : Report) : Type 0 where
   pub build : SingleBuild tells B format own asked entry now answer
+  pub refused : RefusesFile tells own asked build.store (steps_of build.schedule.lawful.earlier ++ build.schedule.lawful.last) entry now report
   pub headline : IsHeadline tells B format own asked entry now answer build
   pub logs : KeepsLogs tells B format own asked entry now answer build
   pub alone : LeavesAlone tells own asked entry now
   pub removed : RemovesFiles build
 
-pub built_by : (tells : Bool) (B : Behaviour) (format : LogFormat) (own : OwnFiles) (asked : Asked) (entry now : World) (answer : Answer) (build : SingleBuild tells B format own asked entry now answer)
-    → IsRunOf tells B format own asked build.store build.steps build.met entry now → LeavesAlone tells own asked entry now → RemovesFiles build → Built tells B format own asked entry now answer
-built_by tells B format own asked entry now answer build of_run alone removed = record {
+pub built_by : (tells : Bool) (B : Behaviour) (format : LogFormat) (own : OwnFiles) (asked : Asked) (entry now : World) (answer : Answer) (report : Report) (build : SingleBuild tells B format own asked entry now answer)
+    → RefusesFile tells own asked build.store (steps_of build.schedule.lawful.earlier ++ build.schedule.lawful.last) entry now report
+    → IsRunOf tells B format own asked build.store build.steps build.met entry now → LeavesAlone tells own asked entry now → RemovesFiles build → Built tells B format own asked entry now answer report
+built_by tells B format own asked entry now answer report build refused of_run alone removed = record {
   build = build;
+  refused = refused;
   headline = headline_of_run tells B format own asked entry now answer build build.met of_run;
   logs = logs_of_run tells B format own asked entry now answer build of_run;
   alone = alone;
@@ -159,7 +178,8 @@ module _ (tells : Bool) (B : Behaviour) (format : LogFormat) (own : OwnFiles) (a
     went_on = λ on. refl;
   }
 
-  module _ (said : Answer) (failed : IsSuccess said → ⊥) (passes : PassesNoFault entry now said) (is : IsAnswer tells B own none_loaded asked store [] [] [] entry now said) where
+  module _ (said : Answer) (report : Report) (refused : RefusesFile tells own asked store [] entry now report) (failed : IsSuccess said → ⊥) (passes : PassesNoFault entry now said)
+      (is : IsAnswer tells B own none_loaded asked store [] [] [] entry now said) where
     abbrev looking : SingleBuild tells B format own asked entry now said
     looking = record {
       store = store;
@@ -187,10 +207,10 @@ module _ (tells : Bool) (B : Behaviour) (format : LogFormat) (own : OwnFiles) (a
     nothing_left : AreRemoved tells own asked.graph.edges [] None entry now
     nothing_left = record { responses = λ i well. absurd (false≢true well); depfiles = λ i well. absurd (false≢true well); stay = λ i well. absurd (false≢true well) }
 
-    pub built_looking : Built tells B format own asked entry now said
-    built_looking = built_by tells B format own asked entry now said looking looked_run beside_now.alone (λ fine. nothing_left)
+    pub built_looking : Built tells B format own asked entry now said report
+    built_looking = built_by tells B format own asked entry now said report looking refused looked_run beside_now.alone (λ fine. nothing_left)
 
-  pub built_fault : {T : Type 0} (fault : SiteFault) → HasCause {T = T} entry now (Err fault) → Built tells B format own asked entry now (answer.Fault fault)
-  built_fault Device cause = built_looking (answer.Fault Device) (λ h. h) (passes_fault tells entry now looks Device cause) (seen_of entry now (Err Device) cause)
-  built_fault Stopped cause = built_looking (answer.Fault Stopped) (λ h. h) (passes_fault tells entry now looks Stopped cause) (seen_of entry now (Err Stopped) cause)
-  built_fault Memory cause = built_looking (answer.Fault Memory) (λ h. h) (passes_fault tells entry now looks Memory cause) tt
+  pub built_fault : {T : Type 0} (fault : SiteFault) → HasCause {T = T} entry now (Err fault) → Built tells B format own asked entry now (answer.Fault fault) (Fault fault)
+  built_fault Device cause = built_looking (answer.Fault Device) (Fault Device) tt (λ h. h) (passes_fault tells entry now looks Device cause) (seen_of entry now (Err Device) cause)
+  built_fault Stopped cause = built_looking (answer.Fault Stopped) (Fault Stopped) tt (λ h. h) (passes_fault tells entry now looks Stopped cause) (seen_of entry now (Err Stopped) cause)
+  built_fault Memory cause = built_looking (answer.Fault Memory) (Fault Memory) tt (λ h. h) (passes_fault tells entry now looks Memory cause) tt

@@ -1,5 +1,5 @@
 -- A graph that gets more paths keeps the numbers of those that it has.
-use Rattle.std.proofs.Common.{◌≡◌, ◌<◌, ◌==◌, ◌||◌, bytes_eq, cond, Bool, true, false, ℕ, zero, suc, List, [], ◌∷◌, ◌++◌, length, map, get_or, slice_get, Option, Some, None, refl, sym, ◌∙◌, ap, subst, append_assoc, append-nil, arith}
+use Rattle.std.proofs.Common.{◌≡◌, ◌<◌, ◌==◌, ◌||◌, bytes_eq, cond, Bool, true, false, ℕ, zero, suc, List, [], ◌∷◌, ◌++◌, length, get_or, slice_get, Option, Some, None, refl, sym, ◌∙◌, ap, subst, append_assoc, append-nil, arith}
 use Rattle.std.proofs.lemmas.Bool.{eqb-true, eq-eqb, or_left, or_right}
 use Rattle.std.proofs.lemmas.List.{map-append, length-append, get_or_append_left}
 use Rattle.std.proofs.lemmas.Option.{slice_get_within, get_or_from_slice_get}
@@ -19,7 +19,7 @@ pub text_before : (paths more : List (List ℕ)) (p : ℕ) → p < length paths 
 text_before paths more p lt = get_or_append_left paths more [] p lt
 
 pub more_none : (graph : Graph) → HasMorePaths graph graph
-more_none graph = record { more = []; paths = sym (append-nil graph.manifest.paths); declared = refl; named = refl; lines = refl; actions = refl; makers = refl }
+more_none graph = record { more = []; paths = sym (append-nil graph.manifest.paths); declared = refl; named = refl; defaults = refl; lines = refl; actions = refl; makers = refl }
 
 pub more_then : (a b c : Graph) → HasMorePaths a b → HasMorePaths b c → HasMorePaths a c
 more_then a b c one two = record {
@@ -27,6 +27,7 @@ more_then a b c one two = record {
   paths = two.paths ∙ (ap (λ (l : List (List ℕ)). l ++ two.more) one.paths ∙ append_assoc a.manifest.paths one.more two.more);
   declared = two.declared ∙ one.declared;
   named = two.named ∙ one.named;
+  defaults = two.defaults ∙ one.defaults;
   lines = two.lines ∙ one.lines;
   actions = two.actions ∙ one.actions;
   makers = two.makers ∙ one.makers;
@@ -81,6 +82,7 @@ only_numbered old new path number has_numbered = record {
     paths = by_test.1;
     declared = has_numbered.declared;
     named = has_numbered.named;
+    defaults = has_numbered.defaults;
     lines = has_numbered.lines;
     actions = has_numbered.actions;
     makers = has_numbered.makers;

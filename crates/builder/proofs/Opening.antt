@@ -9,7 +9,7 @@ use Rattle.model.specs.Calls.{OnlyLooks, Sees}
 use Rattle.model.specs.Outcome.{Behaviour}
 use Rattle.model.specs.Premises.{NothingIsEdited}
 use Rattle.model.specs.Records.{LogFormat, OwnFiles, Store, read_log, store_in, IsOwnIn, file_in, build_log_name, deps_log_name}
-use Rattle.build_theory.specs.Seen.{Looked, Unrefused}
+use Rattle.build_theory.specs.Seen.{IsSeen, Looked, Unrefused}
 use Rattle.build_theory.proofs.Calls.{seen_since}
 use Rattle.build_theory.proofs.Looks.{looks_then, looks_keep, edits_before, sees_so}
 use Rattle.build_log.specs.declared.form.Version.{Version}
@@ -30,21 +30,21 @@ use Rattle.records.specs.Laws.{LogBegins, WereRead}
 use Rattle.records.specs.Logging.{IsLogging}
 use Rattle.records.proofs.Told.{records_told}
 use Rattle.builder.specs.declared.asked.Asked.{Asked as Request}
-use Rattle.builder.specs.declared.report.Report.{Report}
-use Rattle.builder.specs.declared.report.Report.TheVariants.{Success, Failed, Refused, Fault}
+use Rattle.builder.specs.declared.stop.Stop.{Stop}
+use Rattle.builder.specs.declared.stop.Stop.TheVariants as stop
 use Rattle.builder.specs.Build.{asked_of}
+use Rattle.builder.specs.Going.{IfFault}
+use Rattle.builder.specs.Loads.{ReadsDyndeps}
 use Rattle.builder.specs.Recorded.{HasJoined}
-use Rattle.builder.specs.Reports.{HasRead, ShowsCause}
+use Rattle.builder.specs.Reports.{HasRead}
 use Rattle.builder.proofs.Builds.{looked_more}
 use Rattle.builder.proofs.Looking.{IsFoundAt, course_of}
 use Rattle.builder.proofs.Folders.{logs_apart}
 
--- a fault that is told has its cause, since no call was refused before
-pub cause_since : (entry old new : World) (report : Report) → old.failures ≡ entry.failures → ShowsCause old new report → ShowsCause entry new report
-cause_since entry old new (Success started) same cause = tt
-cause_since entry old new (Failed outputs) same cause = tt
-cause_since entry old new (Refused refusal) same cause = tt
-cause_since entry old new (Fault fault) same cause = seen_since entry old new fault same cause
+-- a fault has its cause since the entry, as no call was refused before
+pub cause_since : (entry old new : World) (stop : Stop) → old.failures ≡ entry.failures → IfFault stop (IsSeen old new) → IfFault stop (IsSeen entry new)
+cause_since entry old new (stop.Refused refusal) same cause = tt
+cause_since entry old new (stop.Fault fault) same cause = seen_since entry old new fault same cause
 
 -- ---- what was read is what the logs told at the entry
 
@@ -75,16 +75,16 @@ module _ (law : LogBegins) (tells : Bool) (graph new : Graph) (request : Request
   abbrev store_read : Store
   store_read = record { records = rs; deps = ds }
 
-  pub has_read : (B : Behaviour) (format : LogFormat) (own : OwnFiles) (entry : World) → IsReading B.depfile → ReadsLogs format → IsOwnIn own request.folder → IsIdle entry.events → Looked tells entry old
+  pub has_read : (B : Behaviour) (format : LogFormat) (own : OwnFiles) (entry : World) → IsReading B.depfile → ReadsDyndeps B.dyndep → ReadsLogs format → IsOwnIn own request.folder → IsIdle entry.events → Looked tells entry old
       → HasRead tells new request records (course_of B format own (asked_of (declared_by new) request.folder request.limits request.targets) store_read entry) read
-  has_read B format own entry depfiles reads owned idle looked = record {
+  has_read B format own entry depfiles dyndeps reads owned idle looked = record {
     asked = refl;
     reads = depfiles;
+    dyndeps = dyndeps;
     owned = owned;
     found = found;
     idle = idle;
     looked = looked_more tells entry old read looked looks passed;
-    unloaded = (refl, refl);
     in_use = joined.in_use store_read refl refl;
     logging = logging;
     known = rs;

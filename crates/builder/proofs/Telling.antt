@@ -1,7 +1,7 @@
 -- How a manifest in numbers is told in texts.
-use Rattle.std.proofs.Common.{◌≡◌, ℕ, zero, suc, ◌<◌, ◌≤◌, ◌+◌, cond, bytes_eq, Bool, true, false, is_some, List, [], ◌∷◌, ◌++◌, map, length, take, drop, get_or, slice_get, Option, Some, None, refl, sym, ◌∙◌, ap, subst, arith}
+use Rattle.std.proofs.Common.{◌≡◌, ℕ, zero, suc, ◌<◌, ◌+◌, cond, bytes_eq, Bool, true, false, is_some, List, [], ◌∷◌, ◌++◌, map, length, take, get_or, slice_get, Option, Some, None, refl, sym, ◌∙◌, ap, subst, arith}
 use Rattle.std.specs.Option.{option_map}
-use Rattle.std.proofs.lemmas.List.{map-append, take_more, take_all}
+use Rattle.std.proofs.lemmas.List.{map-append, take_more}
 use Rattle.model.specs.declared.event.Moment.{Moment}
 use Rattle.model.specs.declared.graph.Edge.{Edge}
 use Rattle.model.specs.Graph.{edge_at, first_output, no_edge, outputs, has}
@@ -19,10 +19,8 @@ use Rattle.paths.specs.Commands.{no_action}
 use Rattle.paths.specs.Lists.{line_at, line_outputs}
 use Rattle.paths.specs.Told.{text_at, texts_at, edge_of, edges_of, graph_of}
 use Rattle.dues.specs.Lacks.{IsLackedBy}
-use Rattle.builder.specs.Reports.{IsMissingFor, IsNotTakenAt, first_output_of}
+use Rattle.builder.specs.Reports.{IsMissingFor, first_output_of}
 use Rattle.builder.specs.Recorded.{IsRecordedBy}
-use Rattle.builder.specs.Taken.{IsTakenEdge, IsTaken}
-use Rattle.builder.proofs.Slices.{split_at, all_one_more}
 
 -- ---- texts of numbers
 
@@ -81,35 +79,6 @@ module _ (manifest : Manifest) where
   pub first_none : (e : ℕ) (numbers : List ℕ) → numbers ≡ line_outputs (line_at manifest.lines e) → None ≡ slice_get numbers 0 → [] ≡ first_output_of manifest e
   first_none e numbers are is =
       none_of manifest.paths numbers is ∙ ap (λ (l : List (List ℕ)). get_or l 0 []) (ap (texts_at manifest.paths) are ∙ sym (outputs_are e))
-
-  -- ---- what is taken
-
-  module _ (place e : ℕ) (action : Action) (low : place < length manifest.lines) (is : e ≡ place) (does : action ≡ get_or manifest.actions e no_action) where
-    within : place < length told
-    within = omega (arith, low, length_edges manifest.paths manifest.lines manifest.actions manifest.fits)
-
-    here : edge_of manifest.paths (line_at manifest.lines place) action ≡ get_or told place no_edge
-    here = ap (edge_of manifest.paths (line_at manifest.lines place)) (does ∙ ap (λ (k : ℕ). get_or manifest.actions k no_action) is) ∙ sym (edge_is place)
-
-    pub taken_next : IsTaken (take place told) → IsTakenEdge (edge_of manifest.paths (line_at manifest.lines place) action) → IsTaken (take (place + 1) told)
-    taken_next earlier one = all_one_more IsTakenEdge told place no_edge within earlier (subst IsTakenEdge here one)
-
-    pub taken_first : IsTaken (take place told) → (IsTakenEdge (edge_of manifest.paths (line_at manifest.lines place) action) → ⊥) → IsNotTakenAt manifest e
-    taken_first earlier none = record {
-      within = omega (arith, low, is);
-      first = record {
-        before = take place told;
-        edge = get_or told place no_edge;
-        after = drop (place + 1) told;
-        splits = split_at told place no_edge within;
-        earlier = earlier;
-        not_taken = λ taken. none (subst IsTakenEdge (sym {A = Edge} here) taken);
-        is = ap (first_output_of manifest) is;
-      };
-    }
-
-  pub taken_all : (place count : ℕ) → count ≡ length manifest.lines → count ≤ place → IsTaken (take place told) → IsTaken told
-  taken_all place count all past taken = subst IsTaken (take_all place told (omega (arith, all, past, length_edges manifest.paths manifest.lines manifest.actions manifest.fits))) taken
 
 -- ---- what is recorded
 

@@ -1,5 +1,5 @@
 -- What `build` promises: what it read, and the build of the graph that it read.
-use Rattle.std.specs.Prelude.{◌≡◌, ◌⊎◌, ℕ, Bool, false, IsTrue, List, Option, Some, None, Ok, Err, OnOk}
+use Rattle.std.specs.Prelude.{◌≡◌, ◌⊎◌, ℕ, Bool, false, IsTrue, List, ◌++◌, Option, Some, None, Ok, Err, OnOk}
 use Rattle.model.specs.declared.act.Act.{Act}
 use Rattle.model.specs.declared.fault.SiteFault.TheVariants.{Memory}
 use Rattle.model.specs.declared.graph.BuildGraph.{BuildGraph}
@@ -15,12 +15,13 @@ use Rattle.model.specs.History.{IsHeadline}
 use Rattle.model.specs.Kept.{KeepsLogs}
 use Rattle.deps_log.specs.Format.{ReadsLogs}
 use Rattle.depfile.specs.Depfile.{IsReading}
-use Rattle.model.specs.SingleBuild.{Asked, Answer, is_fault, SingleBuild}
+use Rattle.model.specs.Phases.{steps_of}
+use Rattle.model.specs.SingleBuild.{Asked, Answer, is_fault, SingleBuild, asked_with}
 use Rattle.model.specs.SingleBuild as answer
 use Rattle.manifest.specs.Answer.{ReadsFile, site_part}
 use Rattle.manifest.specs.declared.fault.ReadError.{ReadError}
 use Rattle.manifest.specs.declared.fault.ReadError.TheVariants as read
-use Rattle.builder.specs.declared.report.Refusal.TheVariants.{File, MadeTwice, NoDyndepInput, NotTaken, UnknownTarget, Cycle, Missing}
+use Rattle.builder.specs.declared.report.Refusal.TheVariants.{File, MadeTwice, NoDyndepInput, NoDyndep, BadVersion, BadStatement, Unfit, UnknownTarget, Cycle, Missing}
 use Rattle.builder.specs.declared.report.Report.{Report}
 use Rattle.builder.specs.declared.report.Options.{Options}
 use Rattle.builder.specs.declared.asked.Asked.{Asked as Request}
@@ -29,7 +30,7 @@ use Rattle.builder.specs.declared.report.Report.TheVariants.{Success, Failed, Re
 use Rattle.build_theory.specs.Seen.{Looked}
 use Rattle.builder.specs.Asked.{AreTargets, IsFolder}
 use Rattle.paths.specs.Told.{text_at}
-use Rattle.builder.specs.Taken.{IsTaken, IsFirstNotTaken}
+use Rattle.builder.specs.Loads.{ReadsDyndeps, RefusesFile}
 use Rattle.links.specs.Targets.{IsFirstUnknown}
 use Rattle.log_theory.specs.Alone.{AreLeftAlone}
 use Rattle.runner.specs.Removing.{AreRemoved}
@@ -62,18 +63,14 @@ Says edges given targets (Failed outputs) said = said ≡ answer.Failed outputs
 Says edges given targets (Refused (File fault)) said = ⊥
 Says edges given targets (Refused (MadeTwice path)) said = said ≡ answer.MadeTwice path
 Says edges given targets (Refused (NoDyndepInput path)) said = said ≡ answer.NoDyndepInput path
-Says edges given targets (Refused (NotTaken path)) said = (said ≡ answer.Refused) × IsFirstNotTaken edges path
+Says edges given targets (Refused (NoDyndep path)) said = said ≡ answer.Refused
+Says edges given targets (Refused (BadVersion path)) said = said ≡ answer.Refused
+Says edges given targets (Refused (BadStatement path)) said = said ≡ answer.Refused
+Says edges given targets (Refused (Unfit unfit)) said = said ≡ answer.Refused
 Says edges given targets (Refused (UnknownTarget target)) said = (path : List ℕ) × (said ≡ answer.Unknown path) × IsUnknown edges given targets target path
 Says edges given targets (Refused (Cycle paths)) said = said ≡ answer.Cyclic paths
 Says edges given targets (Refused (Missing missing)) said = said ≡ missing_answer missing.path missing.needed_by
 Says edges given targets (Fault fault) said = said ≡ answer.Fault fault
-
--- something in the graph is not taken yet: the site was only looked at, and the report is that, or want of memory
-pub record IsNotTaken (tells : Bool) (edges : List Edge) (old new : World) (report : Report) : Type 0 where
-  pub path : List ℕ
-  pub first : IsFirstNotTaken edges path
-  pub says : (report ≡ Refused (NotTaken path)) ⊎ (report ≡ Fault Memory)
-  pub looks : OnlyLooks tells old new
 
 -- A build that no fault has cut off has removed the response files of commands that ended well, and of their depfiles just those
 -- that are not to stay, where files are kept.
@@ -84,24 +81,26 @@ RemovesFiles {tells} {B} {format} {own} {asked} {old} {new} {said} build = is_fa
 abbrev pub LeavesAlone : Bool → OwnFiles → Asked → World → World → Type 0
 LeavesAlone tells own asked old new = IsTrue tells → FilesAreKept own asked.graph.edges old.history new.history → AreLeftAlone asked.graph.edges old.history new.history
 
--- The graph was built, and the report says how; the build is as the headline says, keeps its logs, leaves the files of running
--- commands alone, and removes those of commands that ended well.
-pub record Builds (tells : Bool) (B : Behaviour) (format : LogFormat) (own : OwnFiles) (graph : BuildGraph) (folder : List ℕ) (limits : Limits) (given targets : List (List ℕ)) (old new : World) (report : Report) : Type 0 where
-  pub taken : IsTaken graph.edges ⊎ IsNotTaken tells graph.edges old new report
+-- The graph was built, whose edges are `grown` at the end, with what the loaded dyndep files add, and the report says how; a dyndep file that has ended the
+-- build is refused with its cause; the build is as the headline says, keeps its logs, leaves the files of running commands alone, and
+-- removes those of commands that ended well.
+pub record Builds (tells : Bool) (B : Behaviour) (format : LogFormat) (own : OwnFiles) (graph : BuildGraph) (folder : List ℕ) (limits : Limits) (given targets : List (List ℕ)) (grown : List Edge) (old new : World) (report : Report) : Type 0 where
   pub answer : Answer
   pub said : Says graph.edges given targets report answer
-  pub build : SingleBuild tells B format own (asked_of graph folder limits targets) old new answer
-  pub headline : IsHeadline tells B format own (asked_of graph folder limits targets) old new answer build
-  pub logs : KeepsLogs tells B format own (asked_of graph folder limits targets) old new answer build
-  pub alone : LeavesAlone tells own (asked_of graph folder limits targets) old new
+  pub build : SingleBuild tells B format own (asked_with (asked_of graph folder limits targets) grown) old new answer
+  pub refused : RefusesFile tells own (asked_with (asked_of graph folder limits targets) grown) build.store (steps_of build.schedule.lawful.earlier ++ build.schedule.lawful.last) old new report
+  pub headline : IsHeadline tells B format own (asked_with (asked_of graph folder limits targets) grown) old new answer build
+  pub logs : KeepsLogs tells B format own (asked_with (asked_of graph folder limits targets) grown) old new answer build
+  pub alone : LeavesAlone tells own (asked_with (asked_of graph folder limits targets) grown) old new
   pub removed : RemovesFiles build
 
 -- what was asked for was built from an entry on, since which there was only looked: for any own files of the program that lie in
--- this folder, and for each format and each reading of depfiles by which logs and depfiles are read as they are defined
-abbrev pub BuildsFor : Bool → BuildGraph → Request → World → World → Report → Type 0
-BuildsFor tells graph asked old new report =
-    (B : Behaviour) (format : LogFormat) (own : OwnFiles) (entry : World) → IsReading B.depfile → ReadsLogs format → IsOwnIn own asked.folder → IsIdle entry.events → Looked tells entry old
-    → Builds tells B format own graph asked.folder asked.limits asked.given.now asked.targets entry new report
+-- this folder, and for each format and each reading of depfiles and of dyndep files by which logs and such files are read as they are
+-- defined
+abbrev pub BuildsFor : Bool → BuildGraph → Request → List Edge → World → World → Report → Type 0
+BuildsFor tells graph asked grown old new report =
+    (B : Behaviour) (format : LogFormat) (own : OwnFiles) (entry : World) → IsReading B.depfile → ReadsDyndeps B.dyndep → ReadsLogs format → IsOwnIn own asked.folder → IsIdle entry.events → Looked tells entry old
+    → Builds tells B format own graph asked.folder asked.limits asked.given.now asked.targets grown entry new report
 
 -- the report of a build whose files were not read
 abbrev pub unread : ReadError → Report
@@ -119,8 +118,8 @@ pub record IsUnread (tells : Bool) (name : List ℕ) (old new : World) (report :
   pub file : IsTrue tells → OnOk (site_part {T = BuildGraph} (Err error)) (ReadsFile name old.history new.history (Err error))
 
 -- The file of this name was read, and the graph that it declares was built: for any own files of the program that lie in the
--- folder which `builddir` names, for each format and each reading of depfiles by which logs and depfiles are read as they are
--- defined, and whatever dyndep files say, as no edge has one.
+-- folder which `builddir` names, and for each format and each reading of depfiles and of dyndep files by which logs and such files are
+-- read as they are defined.
 pub record IsBuilt (tells : Bool) (outcome : Act → View → Outcome) (name : List ℕ) (limits : Limits) (given : List (List ℕ)) (old new : World) (report : Report) : Type 0 where
   pub graph : BuildGraph
   pub formed : IsGraph graph
@@ -130,8 +129,10 @@ pub record IsBuilt (tells : Bool) (outcome : Act → View → Outcome) (name : L
   pub canonical : AreTargets given targets
   pub folder : List ℕ
   pub in_folder : IsFolder graph.builddir folder
-  pub builds : (own : OwnFiles) (format : LogFormat) (depfile : List ℕ → Option (List (List ℕ))) (dyndep : List ℕ → Option (List Addition)) → IsReading depfile → ReadsLogs format → IsOwnIn own folder
-      → Builds tells (record { outcome = outcome; depfile = depfile; dyndep = dyndep }) format own graph folder limits given targets old new report
+  -- the edges at the end
+  pub grown : List Edge
+  pub builds : (own : OwnFiles) (format : LogFormat) (depfile : List ℕ → Option (List (List ℕ))) (dyndep : List ℕ → Option (List Addition)) → IsReading depfile → ReadsDyndeps dyndep → ReadsLogs format → IsOwnIn own folder
+      → Builds tells (record { outcome = outcome; depfile = depfile; dyndep = dyndep }) format own graph folder limits given targets grown old new report
 
 abbrev pub IsBuild : Bool → (Act → View → Outcome) → List ℕ → Limits → List (List ℕ) → World → World → Report → Type 0
 IsBuild tells outcome name limits given old new report = IsUnread tells name old new report ⊎ IsBuilt tells outcome name limits given old new report

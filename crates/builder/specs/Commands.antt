@@ -1,12 +1,26 @@
--- How many commands there are.
-use Rattle.std.specs.Prelude.{ℕ, zero, suc, Bool, List, [], ◌∷◌, ◌&&◌, not, if◌then◌else◌}
-use Rattle.links.specs.Links.{Links}
+-- How many commands are still to be started.
+use Rattle.std.specs.Prelude.{ℕ, zero, suc, Bool, true, false, List, [], ◌∷◌, ◌&&◌, if◌then◌else◌}
+use Rattle.plan.specs.declared.step.Standing.{Standing}
+use Rattle.plan.specs.declared.step.Standing.TheVariants.{Outside, Unjudged, Clean, OutOfDate, Running, Well, Failed, Alias, Known}
+use Rattle.plan.specs.Standing.{standing_at}
 
--- how many of the edges from this one on have a flag that is set, and a command
-abbrev pub count_from : Links → ℕ → List Bool → ℕ
-count_from links e [] = zero
-count_from links e (due ∷ flags) = if due && not (links.phony e) then suc (count_from links (suc e) flags) else count_from links (suc e) flags
+-- an edge that stands so has a command, which may still be started
+abbrev pub is_unstarted : Standing → Bool
+is_unstarted Outside = false
+is_unstarted Unjudged = true
+is_unstarted Clean = false
+is_unstarted OutOfDate = true
+is_unstarted Running = false
+is_unstarted Well = false
+is_unstarted Failed = false
+is_unstarted Alias = false
+is_unstarted Known = false
 
--- how many edges that are due have a command
-abbrev pub count_due_commands : Links → List Bool → ℕ
-count_due_commands links due = count_from links 0 due
+-- how many of the edges from this one on have a flag that is set, and a command that may still be started
+abbrev pub count_from : List Standing → ℕ → List Bool → ℕ
+count_from standings e [] = zero
+count_from standings e (due ∷ flags) = if due && is_unstarted (standing_at standings e) then suc (count_from standings (suc e) flags) else count_from standings (suc e) flags
+
+-- how many edges that are due have a command that may still be started
+abbrev pub count_unstarted : List Standing → List Bool → ℕ
+count_unstarted standings due = count_from standings 0 due

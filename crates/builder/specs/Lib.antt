@@ -1,6 +1,10 @@
 pub mod Asked
 pub mod Build
 pub mod Commands
+pub mod Loads
+pub mod Joined
+pub mod Going
 pub mod Recorded
 pub mod Reports
-pub mod Taken
+pub mod Sources
+pub mod Reported

@@ -5,10 +5,11 @@ use Rattle.model.specs.declared.act.Act.{Act}
 use Rattle.model.specs.declared.graph.Edge.{Edge}
 use Rattle.model.specs.declared.record.Record.{Record}
 use Rattle.model.specs.declared.record.DepsRecord.{DepsRecord}
-use Rattle.model.specs.Graph.{has, edge_at, outputs}
+use Rattle.model.specs.Graph.{has, has_number, outputs}
 use Rattle.model.specs.Records.{Store, in_force, deps_in_force, is_known, all_paths_in, recorded_inputs}
 use Rattle.paths.specs.Told.{text_at, texts_at}
 use Rattle.links.specs.declared.graph.Graph.{Graph}
+use Rattle.links.specs.Held.{list_at}
 use Rattle.links.specs.Told.{declared_by, recorded_by, AreSameInputs}
 use Rattle.build_log.specs.Kept.{joined}
 use Rattle.records.specs.declared.records.Records.{Records}
@@ -32,6 +33,7 @@ pub record HasMorePaths (old new : Graph) : Type 0 where
   pub paths : new.manifest.paths ≡ old.manifest.paths ++ more
   pub declared : declared_by new ≡ declared_by old
   pub named : new.manifest.named ≡ old.manifest.named
+  pub defaults : new.manifest.defaults ≡ old.manifest.defaults
   pub lines : new.manifest.lines ≡ old.manifest.lines
   pub actions : new.manifest.actions ≡ old.manifest.actions
   pub makers : new.makers ≡ old.makers
@@ -72,6 +74,24 @@ pub record IsShared (records : Records) (outputs : List ℕ) (place : ℕ) : Typ
 pub record HaveJust (graph : Graph) (numbers : List ℕ) (paths : List (List ℕ)) : Type 0 where
   pub within : (k n : ℕ) → slice_get numbers k ≡ Some n → n < length graph.manifest.paths
   pub same : (p : List ℕ) → has (texts_at graph.manifest.paths numbers) p ≡ has paths p
+
+-- the recorded inputs of the edge are those in use by these records
+abbrev pub IsJoined : Graph → List Record → List DepsRecord → ℕ → Type 0
+IsJoined graph rs ds e = (p : List ℕ) → has (recorded_by graph (suc e)) p ≡ has (recorded_inputs (record { records = rs; deps = ds }) (declared_by graph).edges (suc e)) p
+
+-- what the edge has recorded is among those
+abbrev pub MayBeJoined : Graph → List Record → List DepsRecord → ℕ → Type 0
+MayBeJoined graph rs ds e = (p : List ℕ) → has (recorded_by graph (suc e)) p ≡ true → has (recorded_inputs (record { records = rs; deps = ds }) (declared_by graph).edges (suc e)) p ≡ true
+
+-- so it is of each of these edges
+abbrev pub AreToJoin : List ℕ → Graph → List Record → List DepsRecord → Type 0
+AreToJoin edges graph rs ds = (e : ℕ) → has_number edges e ≡ true → MayBeJoined graph rs ds e
+
+-- just these edges got the recorded inputs that are in use by these records, and nothing else is changed but that there are more paths
+pub record HasJoinedOf (edges : List ℕ) (old new : Graph) (rs : List Record) (ds : List DepsRecord) : Type 0 where
+  pub grown : HasMorePaths old new
+  pub joined : (e : ℕ) → has_number edges e ≡ true → IsJoined new rs ds e
+  pub others : (e : ℕ) → has_number edges e ≡ false → list_at new.recorded e ≡ list_at old.recorded e
 
 -- Of each of these edges the recorded inputs of the graph are those in use by these records; the others have none.
 pub record AreJoined (graph : Graph) (rs : List Record) (ds : List DepsRecord) (count : ℕ) : Type 0 where

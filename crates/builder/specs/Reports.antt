@@ -1,5 +1,5 @@
 -- What the stages of a build report.
-use Rattle.std.specs.Prelude.{◌≡◌, ◌⊎◌, ◌<◌, ℕ, suc, Bool, false, IsTrue, List, [], length, map, Option, Some, None, Result, Ok, Err}
+use Rattle.std.specs.Prelude.{◌≡◌, ◌⊎◌, ℕ, suc, Bool, false, IsTrue, List, [], map, Option, Some, None, Result, Ok, Err}
 use Rattle.model.specs.declared.event.Moment.{Moment}
 use Rattle.model.specs.declared.fault.SiteFault.{SiteFault}
 use Rattle.model.specs.declared.fault.SiteFault.TheVariants.{Memory}
@@ -7,13 +7,12 @@ use Rattle.model.specs.declared.graph.Edge.{Edge}
 use Rattle.model.specs.World.{World, view_of, IsIdle}
 use Rattle.model.specs.Calls.{HasCause, OnlyLooks}
 use Rattle.model.specs.Graph.{edge_at, first_output}
-use Rattle.model.specs.OutOfDate.{IsFirstMissing, IsMissingInput, NothingIsMissing}
-use Rattle.model.specs.Premises.{FilesAreKept, NothingIsEdited}
+use Rattle.model.specs.OutOfDate.{IsFirstMissing, IsMissingInput}
+use Rattle.model.specs.Premises.{NothingIsEdited}
 use Rattle.model.specs.Schedule.{Step}
 use Rattle.model.specs.Records.{Store, IsOwnIn, store_in}
-use Rattle.model.specs.SingleBuild as answer
-use Rattle.model.specs.SingleBuild.{Asked, Answer, task_of}
-use Rattle.build_theory.specs.Seen.{IsSeen, Looked, Unrefused}
+use Rattle.model.specs.SingleBuild.{Asked, task_of}
+use Rattle.build_theory.specs.Seen.{Looked}
 use Rattle.paths.specs.declared.manifest.Manifest.{Manifest}
 use Rattle.paths.specs.Told.{text_at, texts_at, graph_of}
 use Rattle.links.specs.declared.cone.Cone.{Cone}
@@ -25,10 +24,6 @@ use Rattle.links.specs.declared.fault.GraphFault.TheVariants as graph
 use Rattle.links.specs.Targets.{IsNoCone}
 use Rattle.links.specs.Told.{declared_by, recorded_by}
 use Rattle.dues.specs.Stores.{IsConeIn}
-use Rattle.dues.specs.UnderWay.{IsUnderWay}
-use Rattle.dues.specs.Quiet.{IfQuiet}
-use Rattle.looks.specs.declared.table.Looks.{Looks}
-use Rattle.looks.specs.Seen.{AreSeenOf}
 use Rattle.records.specs.declared.records.Records.{Records}
 use Rattle.records.specs.Known.{AreKnown}
 use Rattle.records.specs.Logging.{IsLogging}
@@ -37,25 +32,26 @@ use Rattle.model.specs.declared.record.DepsRecord.{DepsRecord}
 use Rattle.plan.specs.declared.plan.Plan.{Plan}
 use Rattle.plan.specs.Planned.{IsPlanned}
 use Rattle.lowest.specs.Flags.{has}
-use Rattle.runner.specs.declared.cut.Cut.{Cut}
-use Rattle.runner.specs.declared.summary.Pause.{Pause}
-use Rattle.runner.specs.declared.summary.Pause.TheVariants.{Load, Ended}
 use Rattle.runner.specs.declared.summary.Summary.{Summary}
 use Rattle.runner.specs.declared.summary.Summary.TheVariants.{Well, Failed as SomeFailed}
-use Rattle.runner.specs.Course.{Course, edges_of, is_quiet}
-use Rattle.runner.specs.Cut.{fault_of}
-use Rattle.runner.specs.Ran.{HasRun}
+use Rattle.runner.specs.Course.{Course, edges_of}
 use Rattle.builder.specs.declared.asked.Asked.{Asked as Request}
 use Rattle.builder.specs.declared.asked.Limits.{Limits}
-use Rattle.builder.specs.declared.report.Missing.{Missing as Lacking}
 use Rattle.builder.specs.declared.report.Refusal.{Refusal}
-use Rattle.builder.specs.declared.report.Refusal.TheVariants.{MadeTwice, NoDyndepInput, NotTaken, UnknownTarget, Cycle, Missing}
+use Rattle.builder.specs.declared.report.Refusal.TheVariants.{MadeTwice, NoDyndepInput, UnknownTarget, Cycle}
+use Rattle.builder.specs.declared.stop.Stop.{Stop}
+use Rattle.builder.specs.declared.stop.Stop.TheVariants as stop
 use Rattle.builder.specs.declared.report.Report.{Report}
 use Rattle.builder.specs.declared.report.Report.TheVariants.{Success, Failed, Refused, Fault}
 use Rattle.builder.specs.Build.{asked_of}
 use Rattle.depfile.specs.Depfile.{IsReading}
 use Rattle.builder.specs.Recorded.{IsRecordedBy}
-use Rattle.builder.specs.Taken.{IsFirstNotTaken}
+use Rattle.builder.specs.Loads.{ReadsDyndeps}
+
+-- the report of what has stopped a build
+abbrev pub report_of : Stop → Report
+report_of (stop.Refused refusal) = Refused refusal
+report_of (stop.Fault fault) = Fault fault
 
 -- a stage that ends the build gives its report as an error
 abbrev pub report_in : Result Report Report → Report
@@ -67,17 +63,6 @@ report_in (Err report) = report
 -- the first output of this edge
 abbrev pub first_output_of : Manifest → ℕ → List ℕ
 first_output_of manifest e = first_output (edge_at (graph_of manifest).edges (suc e))
-
--- this edge is the lowest that has something which is not taken yet
-pub record IsNotTakenAt (manifest : Manifest) (edge : ℕ) : Type 0 where
-  pub within : edge < length manifest.lines
-  pub first : IsFirstNotTaken (graph_of manifest).edges (first_output_of manifest edge)
-
--- something is not taken yet, or there was no memory to say so
-pub record SaysNotTaken (edges : List Edge) (report : Report) : Type 0 where
-  pub path : List ℕ
-  pub first : IsFirstNotTaken edges path
-  pub says : (report ≡ Refused (NotTaken path)) ⊎ (report ≡ Fault Memory)
 
 -- the report of edges that are no graph
 abbrev pub ungraphed : GraphFault → Report
@@ -127,37 +112,19 @@ pub record SaysFault (old new : World) (report : Report) : Type 0 where
   pub says : report ≡ Fault fault
   pub cause : HasCause {T = Unit {0}} old new (Err fault)
 
--- a source of this cone is missing, of each build under way, and no call was refused
-pub record SaysMissing (tells : Bool) (graph : Graph) (records : Records) (cone : Cone) (plan : Plan) (old new : World) (seen : Looks) (report : Report) : Type 0 where
-  pub missing : Lacking
-  pub says : report ≡ Refused (Missing missing)
-  pub unrefused : Unrefused old new
-  pub is : (store : Store) (targets : List (List ℕ)) (before : List Step) → IsUnderWay graph records cone plan store targets before
-      → IfQuiet tells graph store targets before old new seen (λ files. IsMissingFor (declared_by graph).edges store before targets files missing.path missing.needed_by)
-
--- no source of this cone is missing, of each build under way
-abbrev pub HasSources : Bool → Graph → Records → Cone → Plan → World → World → Looks → Type 0
-HasSources tells graph records cone plan old new seen =
-    (store : Store) (targets : List (List ℕ)) (before : List Step) → IsUnderWay graph records cone plan store targets before
-    → IfQuiet tells graph store targets before old new seen (λ files. NothingIsMissing (declared_by graph).edges store before files targets)
-
--- a source of this cone is missing, or that was not to be seen
-abbrev pub LacksSource : Bool → Graph → Records → Cone → Plan → World → World → Looks → Report → Type 0
-LacksSource tells graph records cone plan old new seen report = SaysFault old new report ⊎ SaysMissing tells graph records cone plan old new seen report
-
 -- ---- what was read
 
 -- The logs were read by a build of what was asked for, on this course: no command ran at its entry, since which there was only looked
 -- and no call was refused; what they told is the store of the course, which is that of the entry unless somebody wrote since; its
--- recorded inputs in use are those of the graph; nothing was loaded yet. From here on, as long as there is only looked, the logs go on.
+-- recorded inputs in use are those of the graph. From here on, as long as there is only looked, the logs go on.
 pub record HasRead (tells : Bool) (graph : Graph) (request : Request) (records : Records) (course : Course) (now : World) : Type 0 where
   pub asked : course.asked ≡ asked_of (declared_by graph) request.folder request.limits request.targets
   pub reads : IsReading course.behaviour.depfile
+  pub dyndeps : ReadsDyndeps course.behaviour.dyndep
   pub owned : IsOwnIn course.own request.folder
   pub found : IsTrue tells → NothingIsEdited course.entry.history now.history → course.store ≡ store_in course.format course.own (view_of course.entry.history)
   pub idle : IsIdle course.entry.events
   pub looked : Looked tells course.entry now
-  pub unloaded : (course.phases ≡ []) × (course.refused ≡ None)
   pub in_use : IsRecordedBy graph course.store
   pub logging : (later : World) → OnlyLooks tells now later → IsLogging tells course.behaviour course.format course.own (edges_of course) [] None course.store course.entry later records.logs
   pub known : List Record
@@ -173,58 +140,7 @@ pub record IsPlanFor (graph : Graph) (cone : Cone) (limits : Limits) (plan : Pla
   pub planned : (folder : List ℕ) (targets : List (List ℕ)) (store : Store) → IsRecordedBy graph store → IsConeIn graph store targets cone
       → IsPlanned (task_of (asked_of (declared_by graph) folder limits targets) store) graph plan []
 
--- A run of what was asked for may begin on this course, by this plan: no command ran at its entry, since which there was only looked,
--- and nothing was loaded yet; where files are kept, the records that were read are those of the entry, and what was seen of files is so.
-pub record MayRun (tells : Bool) (graph : Graph) (request : Request) (plan : Plan) (records : Records) (looks : Looks) (course : Course) (now : World) : Type 0 where
-  pub asked : course.asked ≡ asked_of (declared_by graph) request.folder request.limits request.targets
-  pub owned : IsOwnIn course.own request.folder
-  pub found : IsTrue tells → FilesAreKept course.own (edges_of course) course.entry.history now.history → course.store ≡ store_in course.format course.own (view_of course.entry.history)
-  pub in_use : IsRecordedBy graph course.store
-  pub reads : IsReading course.behaviour.depfile
-  pub idle : IsIdle course.entry.events
-  pub looked : Looked tells course.entry now
-  pub unloaded : (course.phases ≡ []) × (course.refused ≡ None)
-  pub flags : (p : ℕ) → has plan.changed.items p ≡ false
-  pub planned : IsPlanned (task_of course.asked course.store) graph plan []
-  pub logging : IsLogging tells course.behaviour course.format course.own (edges_of course) [] None course.store course.entry now records.logs
-  pub known : List Record
-  pub deps : List DepsRecord
-  pub told : AreKnown graph known deps records
-  pub store : course.store ≡ record { records = known; deps = deps }
-  pub seen : IsTrue tells → FilesAreKept course.own (edges_of course) course.entry.history now.history
-      → AreSeenOf (is_quiet course.own (edges_of course) []) graph.manifest.paths now.history looks.seen.items
-
--- nothing is left to do
-abbrev pub IsEnd : Pause → Type 0
-IsEnd (Load file) = ⊥
-IsEnd (Ended summary) = Unit {0}
-
 -- the report of a run that was not cut off
 abbrev pub SaysEnd : Graph → Summary → Report → Type 0
 SaysEnd graph (Well started) report = report ≡ Success started
 SaysEnd graph (SomeFailed edges) report = report ≡ Failed (map (first_output_of graph.manifest) edges.items)
-
--- the report of a run
-abbrev pub SaysResult : Graph → Result Summary Cut → Report → Type 0
-SaysResult graph (Ok summary) report = SaysEnd graph summary report
-SaysResult graph (Err cut) report = report ≡ Fault (fault_of cut)
-
--- a fault that is told has its cause
-abbrev pub ShowsCause : World → World → Report → Type 0
-ShowsCause old new (Success started) = Unit {0}
-ShowsCause old new (Failed outputs) = Unit {0}
-ShowsCause old new (Refused refusal) = Unit {0}
-ShowsCause old new (Fault fault) = IsSeen old new fault
-
--- commands were run, and so it is told, or there was no memory to tell it
-pub record SaysRun (tells : Bool) (course : Course) (graph : Graph) (new : World) (report : Report) : Type 0 where
-  pub result : Result Summary Cut
-  pub ran : HasRun tells course new result
-  pub says : (report ≡ Fault Memory) ⊎ SaysResult graph result report
-
--- what a run answers
-abbrev pub run_answer : Report → Answer
-run_answer (Success started) = answer.Success started
-run_answer (Failed outputs) = answer.Failed outputs
-run_answer (Refused refusal) = answer.Refused
-run_answer (Fault fault) = answer.Fault fault

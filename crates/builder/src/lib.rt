@@ -3,13 +3,15 @@
 
 mod asked;
 mod commands;
+mod going;
+mod loads;
 mod names;
 mod one_build;
 mod own_files;
 mod recorded;
 mod report;
 mod sources;
-mod taken;
+mod stop;
 
 pub use one_build::build;
-pub use report::{Missing, Options, Refusal, Report};
+pub use report::{Missing, Options, Refusal, Report, Unfit};

@@ -1,8 +1,9 @@
 //! One build.
 
-ghost use Rattle.std.specs.Prelude.{◌≡◌, ◌<◌, All, List, IfOk, IfErr, OnOk, false, vec_len, length};
+ghost use Rattle.std.specs.Prelude.{◌≡◌, ◌<◌, ℕ, All, List, IfOk, IfErr, OnOk, false, vec_len, length};
 ghost use Rattle.model.specs.declared.record.Record.{Record};
 ghost use Rattle.model.specs.declared.record.DepsRecord.{DepsRecord};
+ghost use Rattle.model.specs.declared.graph.Edge.{Edge};
 ghost use Rattle.model.specs.World.{IsIdle};
 ghost use Rattle.model.specs.Calls.{OnlyLooks};
 ghost use Rattle.model.specs.Records.{file_in, build_log_name, deps_log_name};
@@ -10,34 +11,35 @@ ghost use Rattle.build_theory.specs.Seen.{Unrefused};
 ghost use Rattle.records.specs.Known.{AreKnown};
 ghost use Rattle.records.specs.Laws.{WereRead};
 ghost use Rattle.model.specs.Graph.{IsMadeOnce};
-ghost use Rattle.model.specs.SingleBuild.{PassesNoFault};
+ghost use Rattle.model.specs.SingleBuild.{NamesOther};
 ghost use Rattle.links.specs.Told.{declared_by};
 ghost use Rattle.manifest.specs.Answer.{IsGraph};
 ghost use Rattle.paths.specs.Told.{text_at};
 ghost use Rattle.runner.specs.Course.{Course};
 ghost use Rattle.runner.specs.Ran.{AreEdgesOf};
-ghost use Rattle.runner.specs.declared.summary.Pause.TheVariants.{Ended};
 ghost use Rattle.builder.specs.Build.{limits_of, Builds, IsBuild};
-ghost use Rattle.builder.specs.Reports.{report_in, HasRead, IsConeRecorded, SaysNoCone, SaysFault, ShowsFault, IsPlanFor, MayRun, IsEnd, SaysEnd, SaysRun, ShowsCause, run_answer};
-ghost use Rattle.builder.specs.Taken.{IsTaken};
+ghost use Rattle.model.specs.Phases.{Phase};
+ghost use Rattle.runner.specs.Going.{AreSet};
+ghost use Rattle.builder.specs.Going.{BeginsAt};
+ghost use Rattle.builder.specs.Reported.{IsFresh, IsReported};
+ghost use Rattle.builder.specs.Reports.{report_in, HasRead, IsConeRecorded, SaysNoCone, SaysFault, ShowsFault, IsPlanFor, SaysEnd};
 
 use crate::asked::{Asked, Limits};
-use crate::commands::due_commands;
+use crate::going::run_graph;
 use crate::names::{first_outputs, path_texts};
 use crate::own_files::{DEPS_LOG, LOG, TICK, own_path};
 use crate::recorded::join_recorded;
 use crate::report::{Options, Refusal, Report};
-use crate::sources::check_sources;
-use crate::taken::check_taken;
 use depfile::has_reading;
 use deps_log::has_format;
 use display::Display;
+use dyndep_law::has_reading as has_dyndeps;
 use links::{Cone, ConeFault, Graph, lists_stand};
 use looks::Looks;
 use manifest::reads_longer;
 use plan::{Plan, task_of};
 use records::{Records, log_begins};
-use runner::{Pause, Setting, State, Summary, run_plan};
+use runner::{State, Summary};
 use site::Site;
 use std::alloc::{AllocError, Global};
 use text::Text;
@@ -48,9 +50,12 @@ use text::Text;
 /// order by their records is not started, and the inputs that it told in its depfile count as its inputs. Each start and each good
 /// end is put behind the build log, and what a command told behind the deps log; one that is damaged tells nothing.
 ///
-/// A refusal has started and written nothing. `NotTaken` goes before every other refusal of the graph. Where a call was
-/// refused, a fault is answered, and nothing was started after it; where the site has stopped, that is the fault. The file
-/// that gets new stamps lies beside the logs.
+/// A dyndep file (manual: "Dynamic Dependencies") is loaded when the command that makes it is settled, and one that no command makes
+/// before anything is started. One that is refused ends the build, and so does a source that is missing once one was loaded: nothing
+/// more is started, and what runs by then is taken in and recorded. Every other refusal has started and written nothing.
+///
+/// Where a call was refused, a fault is answered, and nothing was started after it; where the site has stopped, that is the fault. The
+/// file that gets new stamps lies beside the logs.
 pub fn build<S: Site>(alloc: Global, site: &mut S, options: &Options, targets: &[Text]) -> Report
     requires { IsIdle (S.world site.old).events }
     ensures { IsBuild S.tells S.outcome options.now.file (limits_of options.now) targets.now (S.world site.old) (S.world site.new) result }
@@ -73,15 +78,15 @@ fn try_build<S: Site>(
 {
     let manifest = manifest::read(alloc, site, options.file.as_str())?;
     let asked = Asked::new(alloc, options, targets, &manifest.builddir)?;
-    check_taken(alloc, &manifest)?;
     let mut graph = Graph::build(alloc, manifest)?;
     reads_longer();
     has_format();
     has_reading();
+    has_dyndeps();
     log_begins();
     let records = read_records(alloc, site, &graph, &asked)?;
     join_recorded(alloc, &mut graph, &records)?;
-    build_graph(alloc, site, &graph, &asked, options, records)
+    build_graph(alloc, site, &mut graph, &asked, options, records)
 }
 
 /// Reads the logs, which lie in the folder of the program's own files.
@@ -109,26 +114,62 @@ fn read_records<S: Site>(
 fn build_graph<S: Site>(
     alloc: Global,
     site: &mut S,
-    graph: &Graph,
+    graph: &mut Graph,
     asked: &Asked<'_>,
     options: &Options,
     records: Records,
 ) -> Result<Report, Report>
     requires idle { IsIdle (S.world site.old).events }
     requires running { (S.world site.old).stopped ≡ false }
-    requires formed { IsGraph (declared_by graph.now) }
-    requires taken { IsTaken (declared_by graph.now).edges }
-    requires once { IsMadeOnce (declared_by graph.now).edges }
-    requires read { (course : Course) × HasRead S.tells graph.now asked.now records course (S.world site.old) }
-    ensures { (course : Course) → HasRead S.tells graph.now asked.now records course (S.world site.old) → Builds S.tells course.behaviour course.format course.own (declared_by graph.now) asked.now.folder asked.now.limits asked.now.given.now asked.now.targets course.entry (S.world site.new) (report_in result) }
+    requires formed { IsGraph (declared_by graph.old) }
+    requires once { IsMadeOnce (declared_by graph.old).edges }
+    requires inputs { (file : List ℕ) → NamesOther (declared_by graph.old).edges file → ⊥ }
+    requires read { (course : Course) × HasRead S.tells graph.old asked.now records course (S.world site.old) }
+    ensures { (grown : List Edge) × ((course : Course) → HasRead S.tells graph.old asked.now records course (S.world site.old) → Builds S.tells course.behaviour course.format course.own (declared_by graph.old) asked.now.folder asked.now.limits asked.now.given.now asked.now.targets grown course.entry (S.world site.new) (report_in result)) }
 {
-    let cone = cone_of(alloc, graph, asked)?;
-    let plan = plan_of(alloc, graph, &cone, asked.limits)?;
-    let mut looks = Looks::new(alloc, graph)?;
-    let due = check_sources(alloc, site, graph, &cone, &plan, &mut looks, &records)?;
-    run_cone(
-        alloc, site, graph, asked, options, plan, looks, records, due,
-    )
+    let mut cone = cone_of(alloc, graph, asked)?;
+    let tick = own_path(alloc, asked.folder.as_str(), TICK)?;
+    let mut state = state_of(alloc, graph, &cone, asked, options, records)?;
+    run_state(alloc, site, graph, &mut cone, tick.as_str(), &mut state)
+}
+
+/// A run of the cone in which nothing is judged yet.
+fn state_of<'a>(
+    alloc: Global,
+    graph: &Graph,
+    cone: &Cone,
+    asked: &Asked<'_>,
+    options: &'a Options,
+    records: Records,
+) -> Result<State<'a>, AllocError>
+    requires marks { vec_len cone.now.marks ≡ length graph.now.manifest.lines }
+    ensures fresh { IfOk result (IsFresh graph.now cone.now asked.now.limits records) }
+    ensures enough { IfOk result (λ state. AreSet graph.now state.set.items) }
+{
+    let plan = plan_of(alloc, graph, cone, asked.limits)?;
+    let looks = Looks::new(alloc, graph)?;
+    let display = Display::new(alloc, &options.pattern, options.verbose, 0);
+    let due = vec![in alloc; false; graph.edges()]?;
+    let state = State::new(alloc, graph, plan, looks, records, display, due)?;
+    Ok(state)
+}
+
+/// Runs what is to be done, and reports how that ended.
+fn run_state<S: Site>(
+    alloc: Global,
+    site: &mut S,
+    graph: &mut Graph,
+    cone: &mut Cone,
+    tick: &str,
+    state: &mut State<'_>,
+) -> Result<Report, Report>
+    requires running { (S.world site.old).stopped ≡ false }
+    requires begins { (course : Course) × (edges : List Edge) × (phases : List Phase) × BeginsAt S.tells tick.now course edges phases graph.old cone.old state.old (S.world site.old) }
+    requires enough { AreSet graph.old state.old.set.items }
+    ensures { IsReported S.tells tick.now graph.old cone.old state.old (S.world site.old) graph.new cone.new (S.world site.new) (report_in result) }
+{
+    let summary = run_graph(alloc, site, graph, cone, tick, state)?;
+    Ok(report(alloc, graph, summary)?)
 }
 
 /// The cone of what was asked for.
@@ -170,55 +211,6 @@ fn target_at(alloc: Global, given: &[Text], place: usize) -> Result<Text, AllocE
     match given.get(place) {
         Some(target) => target.clone(),
         None => Ok(Text::new(alloc)),
-    }
-}
-
-/// Runs the commands of a cone by its plan, shows them as the options say, and reports how that ended.
-fn run_cone<S: Site>(
-    alloc: Global,
-    site: &mut S,
-    graph: &Graph,
-    asked: &Asked<'_>,
-    options: &Options,
-    plan: Plan,
-    looks: Looks,
-    records: Records,
-    due: Vec<bool>,
-) -> Result<Report, Report>
-    requires idle { IsIdle (S.world site.old).events }
-    requires running { (S.world site.old).stopped ≡ false }
-    requires formed { IsGraph (declared_by graph.now) }
-    requires taken { IsTaken (declared_by graph.now).edges }
-    requires once { IsMadeOnce (declared_by graph.now).edges }
-    requires due { vec_len due ≡ length graph.now.manifest.lines }
-    requires fits { length looks.seen.items ≡ length graph.now.manifest.paths }
-    requires ready { (course : Course) × MayRun S.tells graph.now asked.now plan records looks course (S.world site.old) }
-    ensures ran { (course : Course) → MayRun S.tells graph.now asked.now plan records looks course (S.world site.old) → SaysRun S.tells course graph.now (S.world site.new) (report_in result) }
-    ensures cause { ShowsCause (S.world site.old) (S.world site.new) (report_in result) }
-    ensures faults { PassesNoFault (S.world site.old) (S.world site.new) (run_answer (report_in result)) }
-{
-    let tick = own_path(alloc, asked.folder.as_str(), TICK)?;
-    let unstarted = due_commands(graph, &due);
-    let display = Display::new(alloc, &options.pattern, options.verbose, unstarted);
-    let mut state = State::new(alloc, graph, plan, looks, records, display, due)?;
-    let setting = Setting {
-        alloc,
-        graph,
-        tick: tick.as_str(),
-    };
-    let pause = run_plan(site, setting, &mut state)?;
-    let summary = ended(pause);
-    Ok(report(alloc, graph, summary)?)
-}
-
-/// What a run came to that is not to load a dyndep file: no edge names one.
-fn ended(pause: Pause) -> Summary
-    requires { IsEnd pause }
-    ensures { pause ≡ Ended result }
-{
-    match pause {
-        Pause::Ended(summary) => summary,
-        Pause::Load(_) => unreachable!(),
     }
 }
 

@@ -3,19 +3,21 @@
 ghost use Rattle.std.specs.Prelude.{◌≡◌, ◌<◌, ◌+◌, ◌++◌, ℕ, suc, true, List, None, Some, IfOk, OnOk, OnErr, length, get_or, slice_get};
 ghost use Rattle.model.specs.declared.record.Record.{Record};
 ghost use Rattle.model.specs.declared.record.DepsRecord.{DepsRecord};
-ghost use Rattle.model.specs.Graph.{edge_at, outputs};
+ghost use Rattle.model.specs.Graph.{has_number, edge_at, outputs};
 ghost use Rattle.model.specs.Records.{in_force, deps_in_force, is_known, all_paths_in};
 ghost use Rattle.paths.specs.Told.{text_at, texts_at};
+ghost use Rattle.links.specs.Held.{list_at};
 ghost use Rattle.links.specs.Links.{links_of};
+ghost use Rattle.links.specs.LoadedEdges.{numbers_in};
 ghost use Rattle.links.specs.Told.{declared_by};
 ghost use Rattle.build_log.specs.Kept.{if_some, texts_at as logged_at};
 ghost use Rattle.records.specs.Known.{IsOf, IsOfDeps, AreKnown};
 ghost use Rattle.verdict.specs.Facts.{AreKnownOf};
 ghost use Rattle.builder.specs.Reports.{IsUnrecorded};
-ghost use Rattle.builder.specs.Recorded.{are_known, is_in_use, HasMorePaths, HasOnlyMorePaths, AreJoined, AreNumbered, IsNumberedToo, HaveJust, IsShared, HasJoined, deps_place, named_by, texts_of};
+ghost use Rattle.builder.specs.Recorded.{are_known, is_in_use, HasMorePaths, HasOnlyMorePaths, IsJoined, MayBeJoined, AreToJoin, HasJoinedOf, AreNumbered, IsNumberedToo, HaveJust, IsShared, HasJoined, deps_place, named_by, texts_of};
 
 use deps_log::Deps;
-use links::Graph;
+use links::{Graph, LoadedEdge};
 use model::Act;
 use paths::{Action, EdgeId, PathId};
 use records::Records;
@@ -34,6 +36,24 @@ pub fn join_recorded(alloc: Global, graph: &mut Graph, records: &Records) -> Res
     Ok(())
 }
 
+/// The same of these edges alone, whose dyndep file was loaded.
+pub fn join_loaded(
+    alloc: Global,
+    graph: &mut Graph,
+    records: &Records,
+    edges: &[LoadedEdge],
+) -> Result<(), AllocError>
+    requires edges { (e : ℕ) → has_number (numbers_in edges.now) e ≡ true → e < length graph.old.manifest.lines }
+    requires known { (rs : List Record) × (ds : List DepsRecord) × AreKnown graph.old rs ds records.now }
+    ensures { OnOk result ((rs : List Record) (ds : List DepsRecord) → AreKnown graph.old rs ds records.now → AreToJoin (numbers_in edges.now) graph.old rs ds → HasJoinedOf (numbers_in edges.now) graph.old graph.new rs ds) }
+{
+    let mut numbers = Vec::new(alloc);
+    for loaded in edges {
+        join_edge(alloc, graph, records, &mut numbers, loaded.edge)?;
+    }
+    Ok(())
+}
+
 /// Records in the graph the recorded inputs of the edge, where they are in use. `numbers` are those that paths of the deps log are
 /// known to have in the graph.
 fn join_edge(
@@ -48,7 +68,8 @@ fn join_edge(
     requires numbered { AreNumbered graph.old (texts_of records.now) numbers.old.items }
     ensures grown { OnOk result (HasMorePaths graph.old graph.new) }
     ensures numbered { OnOk result (AreNumbered graph.new (texts_of records.now) numbers.new.items) }
-    ensures joined { OnOk result ((rs : List Record) (ds : List DepsRecord) → AreKnown graph.old rs ds records.now → AreJoined graph.old rs ds edge → AreJoined graph.new rs ds (edge + 1)) }
+    ensures joined { OnOk result ((rs : List Record) (ds : List DepsRecord) → AreKnown graph.old rs ds records.now → MayBeJoined graph.old rs ds edge → IsJoined graph.new rs ds edge) }
+    ensures others { OnOk result ((e : ℕ) → (e ≡ edge → ⊥) → list_at graph.new.recorded e ≡ list_at graph.old.recorded e) }
 {
     if !is_in_use(graph, records, edge) {
         return Ok(());

@@ -3,7 +3,6 @@
 use links::GraphFault;
 use manifest::{FileFault, ReadError};
 use model::SiteFault;
-use runner::Cut;
 use status::Pattern;
 use std::alloc::AllocError;
 use std::error::Error;
@@ -34,8 +33,14 @@ pub enum Refusal {
     MadeTwice(Path),
     /// A dyndep file is none of the inputs of an edge that names it.
     NoDyndepInput(Path),
-    /// The edge with this first output has something that is not taken yet: a dyndep file.
-    NotTaken(Path),
+    /// A dyndep file that is to be loaded is absent.
+    NoDyndep(Path),
+    /// A dyndep file begins with no known version.
+    BadVersion(Path),
+    /// A dyndep file says something that is no statement of one.
+    BadStatement(Path),
+    /// What a dyndep file says is not of the edges that name it.
+    Unfit(Unfit),
     /// No build statement names the target; it stands here as it was given.
     UnknownTarget(Text),
     /// Edges need one another in a circle. The paths lead round it.
@@ -53,7 +58,10 @@ impl fmt::Display for Refusal {
             }
             Refusal::MadeTwice(path) => write!(f, "N17: '{path}' is made twice"),
             Refusal::NoDyndepInput(path) => write!(f, "N53: dyndep '{path}' is not an input"),
-            Refusal::NotTaken(path) => write!(f, "N70: '{path}' is not taken yet"),
+            Refusal::NoDyndep(path) => write!(f, "N14: cannot find '{path}'"),
+            Refusal::BadVersion(path) => write!(f, "N50: bad version of dyndep '{path}'"),
+            Refusal::BadStatement(path) => write!(f, "N51: bad statement in dyndep '{path}'"),
+            Refusal::Unfit(unfit) => write!(f, "N52: {unfit}"),
             Refusal::UnknownTarget(target) => write!(f, "N30: unknown target '{target}'"),
             Refusal::Cycle(paths) => write_cycle(f, paths.as_slice()),
             Refusal::Missing(missing) => write!(f, "N32: {missing}"),
@@ -92,6 +100,21 @@ impl fmt::Display for Missing {
             ),
             None => write!(f, "'{path}' is missing and no rule makes it"),
         }
+    }
+}
+
+/// A dyndep file whose statements do not fit the edges that name it.
+#[derive(Debug, Drop)]
+pub struct Unfit {
+    pub file: Path,
+    /// The first output of an edge that names the file and has no statement in it; or the output of a statement that is of no
+    /// such edge, or of one that has a statement before.
+    pub output: Path,
+}
+
+impl fmt::Display for Unfit {
+    fn fmt<W: fmt::Write>(&self, f: &mut fmt::Formatter<W>) -> fmt::Result {
+        write!(f, "dyndep '{}' does not fit '{}'", self.file, self.output)
     }
 }
 
@@ -146,18 +169,6 @@ impl From<SiteFault> for Report {
 
     fn from(fault: SiteFault) -> Report {
         Report::Fault(fault)
-    }
-}
-
-impl From<Cut> for Report {
-    ghost use Rattle.std.specs.Prelude.{◌≡◌};
-    ghost use Rattle.builder.specs.declared.report.Report.TheVariants.{Fault};
-    ghost use Rattle.runner.specs.Cut.{fault_of};
-
-    ghost from_gives = { λ cut report. report ≡ Fault (fault_of cut) };
-
-    fn from(cut: Cut) -> Report {
-        Report::Fault(cut.fault())
     }
 }
 

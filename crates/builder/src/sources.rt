@@ -6,10 +6,12 @@ ghost use Rattle.build_theory.specs.Seen.{Unrefused};
 ghost use Rattle.looks.specs.Looking.{HasLooked};
 ghost use Rattle.paths.specs.Told.{text_at};
 ghost use Rattle.dues.specs.Lacks.{HasDue, IsEdgeBelow, IsLackOf};
-ghost use Rattle.builder.specs.Reports.{first_output_of, HasSources, LacksSource};
+ghost use Rattle.builder.specs.Reports.{first_output_of};
+ghost use Rattle.builder.specs.Sources.{HasSources, LacksSource};
 
 use crate::names::{first_output, path_text};
-use crate::report::{Missing, Refusal, Report};
+use crate::report::{Missing, Refusal};
+use crate::stop::Stop;
 use dues::{Found, Lack, sources};
 use links::{Cone, Graph};
 use looks::Looks;
@@ -30,7 +32,7 @@ pub fn check_sources<S: Site>(
     plan: &Plan,
     looks: &mut Looks,
     records: &Records,
-) -> Result<Vec<bool>, Report>
+) -> Result<Vec<bool>, Stop>
     requires running { (S.world site.old).stopped ≡ false }
     requires fits { length looks.old.seen.items ≡ length graph.now.manifest.paths }
     requires order { All (λ e. e < length graph.now.manifest.lines) cone.now.order.items }
@@ -43,9 +45,7 @@ pub fn check_sources<S: Site>(
     ensures lacking { IfErr result (LacksSource S.tells graph.now records.now cone.now plan.now (S.world site.old) (S.world site.new) looks.old) }
 {
     match sources(alloc, site, graph, cone, plan, looks, records)? {
-        Found::Missing(lack) => Err(Report::Refused(Refusal::Missing(missing(
-            alloc, graph, lack,
-        )?))),
+        Found::Missing(lack) => Err(Stop::Refused(Refusal::Missing(missing(alloc, graph, lack)?))),
         Found::Present(due) => Ok(due),
     }
 }

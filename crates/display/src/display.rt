@@ -92,6 +92,13 @@ impl<'a> Display<'a> {
         }
     }
 
+    /// So many commands are still to be started now, since a dyndep file was loaded.
+    pub fn recount(&mut self, unstarted: usize)
+        ensures { self.new ≡ with_unstarted self.old unstarted }
+    {
+        self.unstarted = unstarted;
+    }
+
     /// Counts a command as one that is still to be started, by the verdict over it, and by whether it was due before anything
     /// ran.
     pub fn judged(&mut self, was_due: bool, is_stale: bool)

@@ -21,7 +21,7 @@ module _ (tells : Bool) (outcome : Act → View → Outcome) (name : List ℕ) (
   pub done_at_first : (first : World) → IsIdle first.events → AreDone tells outcome name limits [] false [] first first
   done_at_first first idle = record {
     ended = λ is. idle;
-    gone = λ format depfile dyndep depfiles reads. gone_at_first tells (behaving outcome depfile dyndep) format name limits first idle;
+    gone = λ format depfile dyndep depfiles dyndeps reads. gone_at_first tells (behaving outcome depfile dyndep) format name limits first idle;
   }
 
   -- THE LOOP'S STEP
@@ -31,9 +31,9 @@ module _ (tells : Bool) (outcome : Act → View → Outcome) (name : List ℕ) (
   carried_on moves asked before after first now mid new move again are starts carried =
       subst (λ (reports : List Report). AreDone tells outcome name limits (moves ++ move ∷ []) again reports first new) (sym carried.grows) (record {
         ended = carried.done.ended;
-        gone = λ format depfile dyndep depfiles reads.
-            goes_on tells (behaving outcome depfile dyndep) format name limits moves asked before first now mid new move again carried.told (are.gone format depfile dyndep depfiles reads) starts
-            (carried.done.visited format depfile dyndep depfiles reads);
+        gone = λ format depfile dyndep depfiles dyndeps reads.
+            goes_on tells (behaving outcome depfile dyndep) format name limits moves asked before first now mid new move again carried.told (are.gone format depfile dyndep depfiles dyndeps reads) starts
+            (carried.done.visited format depfile dyndep depfiles dyndeps reads);
       })
 
   -- where a move begins no command runs
@@ -43,14 +43,14 @@ module _ (tells : Bool) (outcome : Act → View → Outcome) (name : List ℕ) (
 
   -- THE END OF THE LIST
   pub all_done : (moves : List Move) (asked : Bool) (reports : List Report) (first now : World) → AreDone tells outcome name limits moves asked reports first now → Drives tells outcome name limits moves reports first now
-  all_done moves asked reports first now are = λ format depfile dyndep depfiles reads.
-      was_driven tells (behaving outcome depfile dyndep) format name limits moves asked reports first now (are.gone format depfile dyndep depfiles reads)
+  all_done moves asked reports first now are = λ format depfile dyndep depfiles dyndeps reads.
+      was_driven tells (behaving outcome depfile dyndep) format name limits moves asked reports first now (are.gone format depfile dyndep depfiles dyndeps reads)
 
   -- an edit behind these moves found no memory
   pub short_at : (done rest : List Move) (asked : Bool) (reports : List Report) (first now mid new : World) (move : Move) → AreDone tells outcome name limits done asked reports first now
       → StartsAgain tells asked now mid → IsCutNext tells (move ∷ []) mid new → IsUnrefused mid new → StopsShort tells outcome name limits (done ++ move ∷ rest) first new
-  short_at done rest asked reports first now mid new move are starts cut unrefused = inr (λ format depfile dyndep depfiles reads.
-      cut_in_edit tells (behaving outcome depfile dyndep) format name limits done asked reports first now (are.gone format depfile dyndep depfiles reads) (move ∷ rest) mid new are.ended starts
+  short_at done rest asked reports first now mid new move are starts cut unrefused = inr (λ format depfile dyndep depfiles dyndeps reads.
+      cut_in_edit tells (behaving outcome depfile dyndep) format name limits done asked reports first now (are.gone format depfile dyndep depfiles dyndeps reads) (move ∷ rest) mid new are.ended starts
       (cut_before tells mid new move rest cut) unrefused)
 
 -- ---- lists

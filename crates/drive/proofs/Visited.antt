@@ -1,11 +1,13 @@
 -- One move as a visit.
-use Rattle.std.proofs.Common.{◌≡◌, inl, inr, ℕ, Bool, true, false, List, [], ◌∷◌, Option, Some, None, Result, Ok, Err, IfOk, OnErr, refl, sym, ◌∙◌, ap, subst}
+use Rattle.std.proofs.Common.{◌≡◌, inl, inr, ℕ, Bool, true, false, List, [], ◌∷◌, Option, Some, None, map, Result, Ok, Err, IfOk, OnErr, refl, sym, ◌∙◌, ap, subst}
+use Rattle.std.specs.Prelude.{option_map}
 use Rattle.std.proofs.lemmas.List.{append-nil}
 use Rattle.std.proofs.lemmas.Bool.{false≢true}
 use Rattle.model.specs.declared.act.Act.{Act}
 use Rattle.model.specs.declared.event.Event.{Event}
 use Rattle.model.specs.declared.fault.SiteFault.TheVariants.{Device, Stopped, Memory}
 use Rattle.model.specs.declared.graph.BuildGraph.{BuildGraph}
+use Rattle.model.specs.declared.graph.Edge.{Edge}
 use Rattle.model.specs.declared.moves.Move.{Move}
 use Rattle.model.specs.declared.moves.Move.TheVariants.{Write, Delete, Build}
 use Rattle.model.specs.declared.outcome.Outcome.{Outcome}
@@ -17,17 +19,20 @@ use Rattle.model.specs.Kept.{KeepsLogs}
 use Rattle.model.specs.Outcome.{Behaviour}
 use Rattle.model.specs.Premises.{HaveEnded}
 use Rattle.model.specs.Records.{LogFormat, OwnFiles, IsOwnIn, file_in, build_log_name, deps_log_name}
-use Rattle.model.specs.SingleBuild.{Asked, Answer, SingleBuild, is_fault}
+use Rattle.model.specs.SingleBuild.{Asked, Answer, SingleBuild, is_fault, asked_with}
 use Rattle.model.specs.World.{World, View, IsIdle}
 use Rattle.deps_log.specs.Format.{ReadsLogs, HasFormat}
 use Rattle.depfile.specs.Depfile.{IsReading, HasReading}
+use Rattle.dyndep_law.specs.Readings.{HasReading as HasDyndeps}
+use Rattle.links.specs.Extended.{addition_of}
 use Rattle.manifest.specs.Answer.{site_part}
 use Rattle.manifest.specs.declared.fault.ReadError.{ReadError}
 use Rattle.manifest.specs.declared.fault.ReadError.TheVariants as read
 use Rattle.builder.specs.Build.{Says, Builds, IsUnread, IsBuilt, IsBuild, RemovesFiles, LeavesAlone, asked_of, unread}
+use Rattle.builder.specs.Loads.{ReadsDyndeps}
 use Rattle.builder.specs.declared.asked.Limits.{Limits}
 use Rattle.builder.specs.declared.report.Report.{Report}
-use Rattle.drive.specs.Driven.{unread_answer, behaving}
+use Rattle.drive.specs.Driven.{unread_answer, behaving, HasCauseOf}
 use Rattle.drive.specs.Moves.{reports_fault, IsEdited, IsReported, IsVisited, IsDone, IsCarried}
 use Rattle.drive.proofs.Saying.{said_once, fault_same}
 
@@ -41,7 +46,7 @@ pub write_done : (tells : Bool) (outcome : Act → View → Outcome) (name : Lis
 write_done tells outcome name limits path content again old new idle edited = record {
   counted = refl;
   ended = λ is. idle_over old new edited.edit.events idle;
-  visited = λ format depfile dyndep depfiles reads. record { visit = Edited path (Some content) old new edited.edit; entry = refl; exit = refl; does = (refl, refl); headline = tt; logs = tt; files = tt; asks = edited.stopped; reported = tt };
+  visited = λ format depfile dyndep depfiles dyndeps reads. record { visit = Edited path (Some content) old new edited.edit; entry = refl; exit = refl; does = (refl, refl); headline = tt; logs = tt; files = tt; asks = edited.stopped; reported = tt };
 }
 
 pub delete_done : (tells : Bool) (outcome : Act → View → Outcome) (name : List ℕ) (limits : Limits) (path : List ℕ) (again : Bool) (old new : World) → IsIdle old.events
@@ -49,7 +54,7 @@ pub delete_done : (tells : Bool) (outcome : Act → View → Outcome) (name : Li
 delete_done tells outcome name limits path again old new idle edited = record {
   counted = refl;
   ended = λ is. idle_over old new edited.edit.events idle;
-  visited = λ format depfile dyndep depfiles reads. record { visit = Edited path None old new edited.edit; entry = refl; exit = refl; does = (refl, refl); headline = tt; logs = tt; files = tt; asks = edited.stopped; reported = tt };
+  visited = λ format depfile dyndep depfiles dyndeps reads. record { visit = Edited path None old new edited.edit; entry = refl; exit = refl; does = (refl, refl); headline = tt; logs = tt; files = tt; asks = edited.stopped; reported = tt };
 }
 
 -- ---- a build that read nothing
@@ -101,7 +106,7 @@ pub unread_done : (tells : Bool) (outcome : Act → View → Outcome) (name : Li
 unread_done tells outcome name limits words old new report idle un = record {
   counted = refl;
   ended = λ is. idle_over old new un.looks.events idle;
-  visited = λ format depfile dyndep depfiles reads. record {
+  visited = λ format depfile dyndep depfiles dyndeps reads. record {
     visit = Unread old new (unread_answer un.error) (not_read tells old new un.error un.looks un.cause);
     entry = refl;
     exit = refl;
@@ -123,36 +128,48 @@ some_own folder = record { build_log = file_in folder build_log_name; deps_log =
 some_in : (folder : List ℕ) → IsOwnIn (some_own folder) folder
 some_in folder = record { build_log = refl; deps_log = refl; is_log = refl; is_deps = refl; tick = refl; new_log = refl; new_deps = refl; outputs = λ digits are. refl }
 
--- a build with this answer, as the headline says, with its logs kept, and its files left alone and removed as they should
-record IsSound (tells : Bool) (B : Behaviour) (format : LogFormat) (own : OwnFiles) (asked : Asked) (old new : World) (said : Answer) : Type 0 where
+-- a reading of dyndep files, in the words of builds
+readings : HasDyndeps → (dyndep : List ℕ → Option (List Addition)) × ReadsDyndeps dyndep
+readings dyndeps = (
+  λ bytes. option_map (map addition_of) (dyndeps.0 bytes),
+  λ bytes. let read = dyndeps.1 bytes in (read.0, read.1, ap (λ statements. option_map (map addition_of) statements) read.2),
+)
+
+-- a build with this answer and this report, which has its cause, as the headline says, with its logs kept, and its files left alone and
+-- removed as they should
+record IsSound (tells : Bool) (B : Behaviour) (format : LogFormat) (own : OwnFiles) (asked : Asked) (old new : World) (report : Report) (said : Answer) : Type 0 where
   build : SingleBuild tells B format own asked old new said
+  refused : HasCauseOf report build
   headline : IsHeadline tells B format own asked old new said build
   logs : KeepsLogs tells B format own asked old new said build
   alone : LeavesAlone tells own asked old new
   removed : RemovesFiles build
 
-module _ (tells : Bool) (B : Behaviour) (format : LogFormat) (graph : BuildGraph) (folder : List ℕ) (limits : Limits) (given targets : List (List ℕ)) (old new : World) (report : Report) where
+module _ (tells : Bool) (B : Behaviour) (format : LogFormat) (graph : BuildGraph) (folder : List ℕ) (limits : Limits) (given targets : List (List ℕ)) (grown : List Edge) (old new : World) (report : Report) where
+  abbrev asked_so : Asked
+  asked_so = asked_with (asked_of graph folder limits targets) grown
+
   -- FOR ALL OWN FILES ONE ANSWER: that of some own files
-  sound_by : (own : OwnFiles) (said : Answer) → Builds tells B format own graph folder limits given targets old new report
-      → ((a : Answer) → Says graph.edges given targets report a → a ≡ said) → IsSound tells B format own (asked_of graph folder limits targets) old new said
+  sound_by : (own : OwnFiles) (said : Answer) → Builds tells B format own graph folder limits given targets grown old new report
+      → ((a : Answer) → Says graph.edges given targets report a → a ≡ said) → IsSound tells B format own asked_so old new report said
   sound_by own said builds once =
-      subst (λ (a : Answer). IsSound tells B format own (asked_of graph folder limits targets) old new a) (once builds.answer builds.said)
-      (record { build = builds.build; headline = builds.headline; logs = builds.logs; alone = builds.alone; removed = builds.removed })
+      subst (λ (a : Answer). IsSound tells B format own asked_so old new report a) (once builds.answer builds.said)
+      (record { build = builds.build; refused = builds.refused; headline = builds.headline; logs = builds.logs; alone = builds.alone; removed = builds.removed })
 
 module _ (tells : Bool) (outcome : Act → View → Outcome) (name : List ℕ) (limits : Limits) (words : List (List ℕ)) (old new : World) (report : Report) (built : IsBuilt tells outcome name limits words old new report) where
-  module _ (format : LogFormat) (depfile : List ℕ → Option (List (List ℕ))) (dyndep : List ℕ → Option (List Addition)) (depfiles : IsReading depfile) (reads : ReadsLogs format) where
+  module _ (format : LogFormat) (depfile : List ℕ → Option (List (List ℕ))) (dyndep : List ℕ → Option (List Addition)) (depfiles : IsReading depfile) (dyndeps : ReadsDyndeps dyndep) (reads : ReadsLogs format) where
     abbrev asked : Asked
-    asked = asked_of built.graph built.folder limits built.targets
+    asked = asked_with (asked_of built.graph built.folder limits built.targets) built.grown
 
     builds_for : (own : OwnFiles) → IsOwnIn own built.folder
-        → Builds tells (behaving outcome depfile dyndep) format own built.graph built.folder limits words built.targets old new report
-    builds_for own fits = built.builds own format depfile dyndep depfiles reads fits
+        → Builds tells (behaving outcome depfile dyndep) format own built.graph built.folder limits words built.targets built.grown old new report
+    builds_for own fits = built.builds own format depfile dyndep depfiles dyndeps reads fits
 
-    first : Builds tells (behaving outcome depfile dyndep) format (some_own built.folder) built.graph built.folder limits words built.targets old new report
+    first : Builds tells (behaving outcome depfile dyndep) format (some_own built.folder) built.graph built.folder limits words built.targets built.grown old new report
     first = builds_for (some_own built.folder) (some_in built.folder)
 
-    sound : (own : OwnFiles) → IsOwnIn own built.folder → IsSound tells (behaving outcome depfile dyndep) format own asked old new first.answer
-    sound own fits = sound_by tells (behaving outcome depfile dyndep) format built.graph built.folder limits words built.targets old new report own first.answer (builds_for own fits)
+    sound : (own : OwnFiles) → IsOwnIn own built.folder → IsSound tells (behaving outcome depfile dyndep) format own asked old new report first.answer
+    sound own fits = sound_by tells (behaving outcome depfile dyndep) format built.graph built.folder limits words built.targets built.grown old new report own first.answer (builds_for own fits)
         (λ a says. said_once built.graph.edges words built.targets report a first.answer says first.said)
 
     ended_so : reports_fault report ≡ false → HaveEnded new
@@ -163,25 +180,25 @@ module _ (tells : Bool) (outcome : Act → View → Outcome) (name : List ℕ) (
       visit = Built asked old new first.answer (λ own fits. (sound own fits).build);
       entry = refl;
       exit = refl;
-      does = record { graph = built.graph; formed = built.formed; file = built.file; targets = built.targets; canonical = built.canonical; folder = built.folder; in_folder = built.in_folder; is = refl };
+      does = record { graph = built.graph; formed = built.formed; file = built.file; targets = built.targets; canonical = built.canonical; folder = built.folder; in_folder = built.in_folder; grown = built.grown; is = refl };
       headline = λ own fits. (sound own fits).headline;
       logs = λ own fits. (sound own fits).logs;
       files = λ own fits. let one = sound own fits in (one.alone, one.removed);
       asks = fault_same built.graph.edges words built.targets report first.answer first.said;
-      reported = ((first.said, first.taken), tt);
+      reported = ((first.said, λ own fits. (sound own fits).refused), tt);
     }
 
-  built_done : HasFormat → HasReading → IsDone tells outcome name limits (Build words) (reports_fault report) (report ∷ []) old new
-  built_done logs depfiles = record {
+  built_done : HasFormat → HasReading → HasDyndeps → IsDone tells outcome name limits (Build words) (reports_fault report) (report ∷ []) old new
+  built_done logs depfiles dyndeps = record {
     counted = refl;
-    ended = λ is. ended_so logs.0 depfiles.0 (λ text. None) depfiles.1 logs.1 is;
-    visited = λ format depfile dyndep depfiles reads. visited_so format depfile dyndep depfiles reads;
+    ended = λ is. let some = readings dyndeps in ended_so logs.0 depfiles.0 some.0 depfiles.1 some.1 logs.1 is;
+    visited = λ format depfile dyndep depfiles dyndeps reads. visited_so format depfile dyndep depfiles dyndeps reads;
   }
 
-pub build_done : (tells : Bool) (outcome : Act → View → Outcome) (name : List ℕ) (limits : Limits) (words : List (List ℕ)) (old new : World) (report : Report) → IsIdle old.events → HasFormat → HasReading
+pub build_done : (tells : Bool) (outcome : Act → View → Outcome) (name : List ℕ) (limits : Limits) (words : List (List ℕ)) (old new : World) (report : Report) → IsIdle old.events → HasFormat → HasReading → HasDyndeps
     → IsBuild tells outcome name limits words old new report → IsDone tells outcome name limits (Build words) (reports_fault report) (report ∷ []) old new
-build_done tells outcome name limits words old new report idle logs depfiles (inl un) = unread_done tells outcome name limits words old new report idle un
-build_done tells outcome name limits words old new report idle logs depfiles (inr built) = built_done tells outcome name limits words old new report built logs depfiles
+build_done tells outcome name limits words old new report idle logs depfiles dyndeps (inl un) = unread_done tells outcome name limits words old new report idle un
+build_done tells outcome name limits words old new report idle logs depfiles dyndeps (inr built) = built_done tells outcome name limits words old new report built logs depfiles dyndeps
 
 -- ---- what carrying out a move comes to
 
@@ -223,8 +240,8 @@ module _ (tells : Bool) (outcome : Act → View → Outcome) (name : List ℕ) (
   pub delete_cut : {E : Type 0} (m : Move) (path : List ℕ) → m ≡ Delete path → (r : Result Bool E) → OnErr r (IsCutEdit tells path None old new) → OnErr r (IsCutNext tells (m ∷ []) old new)
   delete_cut m path is r cut = on_err_then r cut (λ one. subst (λ (x : Move). IsCutNext tells (x ∷ []) old new) (sym is) one)
 
-  pub build_carried : (m : Move) (words : List (List ℕ)) → m ≡ Build words → IsIdle old.events → HasFormat → HasReading → (again : Bool) (after : List Report)
+  pub build_carried : (m : Move) (words : List (List ℕ)) → m ≡ Build words → IsIdle old.events → HasFormat → HasReading → HasDyndeps → (again : Bool) (after : List Report)
       → IsReported tells outcome name limits words again reports after old new → IsCarried tells outcome name limits m again reports after old new
-  build_carried m words is idle logs depfiles again after reported = subst (λ (x : Move). IsCarried tells outcome name limits x again reports after old new) (sym is)
+  build_carried m words is idle logs depfiles dyndeps again after reported = subst (λ (x : Move). IsCarried tells outcome name limits x again reports after old new) (sym is)
       (subst (λ (b : Bool). IsCarried tells outcome name limits (Build words) b reports after old new) (sym reported.asks)
-      (record { told = reported.report ∷ []; grows = reported.grows; done = build_done tells outcome name limits words old new reported.report idle logs depfiles reported.built }))
+      (record { told = reported.report ∷ []; grows = reported.grows; done = build_done tells outcome name limits words old new reported.report idle logs depfiles dyndeps reported.built }))

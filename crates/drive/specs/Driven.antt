@@ -1,8 +1,9 @@
 -- What `drive` promises, over the definition of a list of moves that was carried out (model's `Driven`).
-use Rattle.std.specs.Prelude.{◌≡◌, ◌⊎◌, ℕ, Bool, false, IsTrue, List, [], ◌∷◌, Option, Some, None, Ok}
+use Rattle.std.specs.Prelude.{◌≡◌, ◌⊎◌, ℕ, Bool, false, IsTrue, List, [], ◌∷◌, ◌++◌, Option, Some, None, Ok}
 use Rattle.std.specs.List.{AllByRecursion}
 use Rattle.model.specs.declared.act.Act.{Act}
 use Rattle.model.specs.declared.graph.BuildGraph.{BuildGraph}
+use Rattle.model.specs.declared.graph.Edge.{Edge}
 use Rattle.model.specs.declared.moves.Move.{Move}
 use Rattle.model.specs.declared.moves.Move.TheVariants.{Write, Delete, Build}
 use Rattle.model.specs.declared.fault.SiteFault.TheVariants.{Memory}
@@ -12,10 +13,11 @@ use Rattle.model.specs.Faithful.{IsFaithfulStore}
 use Rattle.model.specs.Graph.{Addition}
 use Rattle.model.specs.History.{Visit, Edited, Built, Unread, Restarted, LeavesOutputs, Keeps, last_edges}
 use Rattle.model.specs.Outcome.{Behaviour}
+use Rattle.model.specs.Phases.{steps_of}
 use Rattle.model.specs.Premises.{StampsGrow, KeepToOutputs, NothingIsEdited}
 use Rattle.model.specs.Records.{LogFormat, OwnFiles, IsOwnIn}
 use Rattle.model.specs.SingleBuild as answer
-use Rattle.model.specs.SingleBuild.{Asked, Answer}
+use Rattle.model.specs.SingleBuild.{Asked, Answer, SingleBuild, asked_with}
 use Rattle.model.specs.World.{World, View}
 use Rattle.deps_log.specs.Format.{ReadsLogs}
 use Rattle.depfile.specs.Depfile.{IsReading}
@@ -23,14 +25,15 @@ use Rattle.manifest.specs.Answer.{IsGraph, ReadsFile}
 use Rattle.manifest.specs.declared.fault.ReadError.{ReadError}
 use Rattle.manifest.specs.declared.fault.ReadError.TheVariants as read
 use Rattle.builder.specs.Asked.{AreTargets, IsFolder}
-use Rattle.builder.specs.Build.{Says, IsNotTaken, IsUnread, RemovesFiles, LeavesAlone, asked_of}
-use Rattle.builder.specs.Taken.{IsTaken}
+use Rattle.builder.specs.Build.{Says, IsUnread, RemovesFiles, LeavesAlone, asked_of}
+use Rattle.builder.specs.Loads.{ReadsDyndeps, RefusesFile}
 use Rattle.builder.specs.declared.asked.Limits.{Limits}
 use Rattle.builder.specs.declared.report.Report.{Report}
 
 -- ---- what a build reads
 
--- The file of this name was read as a graph, and this is what the words ask of it within these limits.
+-- The file of this name was read as a graph, and this is what the words ask of it within these limits: its edges are what the file
+-- declares, and the graph of the build is that of the file over the edges at its end.
 pub record IsRead (tells : Bool) (name : List ℕ) (limits : Limits) (words : List (List ℕ)) (old new : World) (asked : Asked) : Type 0 where
   pub graph : BuildGraph
   pub formed : IsGraph graph
@@ -40,7 +43,9 @@ pub record IsRead (tells : Bool) (name : List ℕ) (limits : Limits) (words : Li
   pub canonical : AreTargets words targets
   pub folder : List ℕ
   pub in_folder : IsFolder graph.builddir folder
-  pub is : asked ≡ asked_of graph folder limits targets
+  -- the edges at the end, with what the loaded dyndep files add
+  pub grown : List Edge
+  pub is : asked ≡ asked_with (asked_of graph folder limits targets) grown
 
 -- the answer of a build whose files were not read
 abbrev pub unread_answer : ReadError → Answer
@@ -76,11 +81,17 @@ builds_in (Built asked old new said build ∷ visits) = Built asked old new said
 builds_in (Unread old new said cause ∷ visits) = Unread old new said cause ∷ builds_in visits
 builds_in (Restarted edges old new restart ∷ visits) = builds_in visits
 
--- the visit is a build that was asked for with these words, and this is its report, as `build` promises it
+-- a dyndep file that has ended the build is refused with its cause, as `build` promises it
+abbrev pub HasCauseOf : {tells : Bool} → {B : Behaviour} → {format : LogFormat} → {own : OwnFiles} → {asked : Asked} → {old new : World} → {said : Answer} → Report → SingleBuild tells B format own asked old new said → Type 0
+HasCauseOf {tells} {B} {format} {own} {asked} {old} {new} {said} report build =
+    RefusesFile tells own asked build.store (steps_of build.schedule.lawful.earlier ++ build.schedule.lawful.last) old new report
+
+-- The visit is a build that was asked for with these words, and this is its report, as `build` promises it, for any own files that lie
+-- in the folder.
 abbrev pub Reports : {tells : Bool} {B : Behaviour} {format : LogFormat} → List ℕ → List (List ℕ) → Visit tells B format → Report → Type 0
 Reports name words (Edited path content old new edit) report = ⊥
 Reports {tells} {B} {format} name words (Built asked old new said build) report =
-    Says asked.graph.edges words asked.targets report said × (IsTaken asked.graph.edges ⊎ IsNotTaken tells asked.graph.edges old new report)
+    Says asked.declared words asked.targets report said × ((own : OwnFiles) (fits : IsOwnIn own asked.folder) → HasCauseOf report (build own fits))
 Reports {tells} {B} {format} name words (Unread old new said cause) report = IsRefused tells name old new report said
 Reports name words (Restarted edges old new restart) report = ⊥
 
@@ -116,11 +127,10 @@ pub record WasDriven (tells : Bool) (B : Behaviour) (format : LogFormat) (name :
   pub reported : ReportEach name (words_of moves) (builds_in driven.visits) reports
   pub files : AllByRecursion HasFiles driven.visits
 
--- so it is for each format and each reading of depfiles by which logs and depfiles are read as they are defined, and whatever dyndep
--- files say
+-- so it is for each format and each reading of depfiles and of dyndep files by which logs and such files are read as they are defined
 abbrev pub Drives : Bool → (Act → View → Outcome) → List ℕ → Limits → List Move → List Report → World → World → Type 0
 Drives tells outcome name limits moves reports first last =
-    (format : LogFormat) (depfile : List ℕ → Option (List (List ℕ))) (dyndep : List ℕ → Option (List Addition)) → IsReading depfile → ReadsLogs format
+    (format : LogFormat) (depfile : List ℕ → Option (List (List ℕ))) (dyndep : List ℕ → Option (List Addition)) → IsReading depfile → ReadsDyndeps dyndep → ReadsLogs format
     → WasDriven tells (behaving outcome depfile dyndep) format name limits moves reports first last
 
 -- ---- without memory
@@ -155,5 +165,5 @@ pub record IsCutInEdit (tells : Bool) (B : Behaviour) (format : LogFormat) (R : 
 abbrev pub StopsShort : Bool → (Act → View → Outcome) → List ℕ → Limits → List Move → World → World → Type 0
 StopsShort tells outcome name limits moves first last =
     (last ≡ first)
-    ⊎ ((format : LogFormat) (depfile : List ℕ → Option (List (List ℕ))) (dyndep : List ℕ → Option (List Addition)) → IsReading depfile → ReadsLogs format
+    ⊎ ((format : LogFormat) (depfile : List ℕ → Option (List (List ℕ))) (dyndep : List ℕ → Option (List Addition)) → IsReading depfile → ReadsDyndeps dyndep → ReadsLogs format
     → IsCutInEdit tells (behaving outcome depfile dyndep) format (words_in tells name limits) moves first last)

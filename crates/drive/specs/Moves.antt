@@ -18,6 +18,7 @@ use Rattle.deps_log.specs.Format.{ReadsLogs}
 use Rattle.depfile.specs.Depfile.{IsReading}
 use Rattle.log_theory.specs.Histories.{HasHeadline}
 use Rattle.builder.specs.Build.{IsBuild}
+use Rattle.builder.specs.Loads.{ReadsDyndeps}
 use Rattle.builder.specs.declared.asked.Limits.{Limits}
 use Rattle.builder.specs.declared.report.Report.{Report}
 use Rattle.builder.specs.declared.report.Report.TheVariants.{Success, Failed, Refused, Fault}
@@ -78,7 +79,7 @@ pub record IsVisited (tells : Bool) (B : Behaviour) (format : LogFormat) (name :
 pub record IsDone (tells : Bool) (outcome : Act → View → Outcome) (name : List ℕ) (limits : Limits) (move : Move) (again : Bool) (told : List Report) (old new : World) : Type 0 where
   pub counted : length told ≡ builds_among (move ∷ [])
   pub ended : again ≡ false → HaveEnded new
-  pub visited : (format : LogFormat) (depfile : List ℕ → Option (List (List ℕ))) (dyndep : List ℕ → Option (List Addition)) → IsReading depfile → ReadsLogs format
+  pub visited : (format : LogFormat) (depfile : List ℕ → Option (List (List ℕ))) (dyndep : List ℕ → Option (List Addition)) → IsReading depfile → ReadsDyndeps dyndep → ReadsLogs format
       → IsVisited tells (behaving outcome depfile dyndep) format name limits move again told old new
 
 -- one move was carried out, and what it told stands behind the reports before it
@@ -104,5 +105,5 @@ pub record IsGone (tells : Bool) (B : Behaviour) (format : LogFormat) (name : Li
 -- WHAT THE LOOP KEEPS: the moves so far were carried out, and where no restart is asked for, no command runs.
 pub record AreDone (tells : Bool) (outcome : Act → View → Outcome) (name : List ℕ) (limits : Limits) (moves : List Move) (again : Bool) (reports : List Report) (first now : World) : Type 0 where
   pub ended : again ≡ false → HaveEnded now
-  pub gone : (format : LogFormat) (depfile : List ℕ → Option (List (List ℕ))) (dyndep : List ℕ → Option (List Addition)) → IsReading depfile → ReadsLogs format
+  pub gone : (format : LogFormat) (depfile : List ℕ → Option (List (List ℕ))) (dyndep : List ℕ → Option (List Addition)) → IsReading depfile → ReadsDyndeps dyndep → ReadsLogs format
       → IsGone tells (behaving outcome depfile dyndep) format name limits moves again reports first now

@@ -11,6 +11,7 @@ use crate::edits::{delete, write};
 use builder::{Options, Report, build};
 use depfile::has_reading;
 use deps_log::has_format;
+use dyndep_law::has_reading as has_dyndeps;
 use model::Move;
 use site::Site;
 use std::alloc::{AllocError, Global};
@@ -38,6 +39,7 @@ pub fn carry_out<S: Site>(
         Move::Build { targets } => {
             has_format();
             has_reading();
+            has_dyndeps();
             Ok(build_next(alloc, site, options, targets, reports))
         }
     }

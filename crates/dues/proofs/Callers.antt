@@ -5,9 +5,9 @@ use Rattle.model.specs.declared.event.Moment.{Moment}
 use Rattle.model.specs.declared.graph.Edge.{Edge}
 use Rattle.model.specs.Graph.{has_number, targets_of, IsCommand}
 use Rattle.model.specs.OutOfDate.{NothingIsMissing}
-use Rattle.model.specs.Phases.{IsPointAfter, IsNothingMissing}
+use Rattle.model.specs.Phases.{IsPointAfter, AreAskedApart, IsNothingMissing}
 use Rattle.model.specs.Reading.{IsInCone}
-use Rattle.model.specs.Records.{Store, recorded_inputs}
+use Rattle.model.specs.Records.{OwnFiles, Store, recorded_inputs}
 use Rattle.model.specs.Schedule.{Task, Step}
 use Rattle.build_theory.specs.Order.{IsOrderly}
 use Rattle.paths.specs.Told.{texts_at}
@@ -53,7 +53,7 @@ under_way_first graph records cone plan store known given task same recorded wan
 
 -- Nothing was missing at each point after these steps, where that is so of all files that are those of now at the paths of a set, and
 -- those of each point are.
-pub nothing_missing : (task : Task) (store : Store) (before : List Step) (set : List ℕ → Bool) (old new now : List Moment)
+pub nothing_missing : (own : OwnFiles) (task : Task) (store : Store) (before : List Step) (set : List ℕ → Bool) (old new now : List Moment)
     → ((files : List Moment) → AreAlike task.graph.edges before set now files → NothingIsMissing task.graph.edges store before files task.targets)
-    → ((at : List Moment) → IsPointAfter before old new at → AreAlike task.graph.edges before set now at) → IsNothingMissing task store before old new
-nothing_missing task store before set old new now found alike loaded at point = found at (alike at point)
+    → (AreAskedApart own task before → (at : List Moment) → IsPointAfter before old new at → AreAlike task.graph.edges before set now at) → IsNothingMissing own task store before old new
+nothing_missing own task store before set old new now found alike loaded apart at point = found at (alike apart at point)

@@ -177,5 +177,5 @@ module _ (tells : Bool) (own : OwnFiles) (task : Task) (before : List Step) (old
 
     -- so nothing was missing at each point of these steps, where that was found now
     pub nothing_missing_so_far : (store : Store) (set : List ℕ → Bool) → ((p : List ℕ) → set p ≡ true → IsSpared own edges before p)
-        → ((at : List Moment) → AreAlike edges before set now.history at → NothingIsMissing edges store before at task.targets) → IsNothingMissing task store before old.history now.history
-    nothing_missing_so_far store set spared found = nothing_missing task store before set old.history now.history now.history found (points_alike set spared)
+        → ((at : List Moment) → AreAlike edges before set now.history at → NothingIsMissing edges store before at task.targets) → IsNothingMissing own task store before old.history now.history
+    nothing_missing_so_far store set spared found = nothing_missing own task store before set old.history now.history now.history found (λ apart. points_alike set spared)

@@ -18,7 +18,7 @@ use Rattle.met.specs.Worlds.{failing, stopping, succeeding, again, named, failed
 use Rattle.met.proofs.Lists.{none_some}
 use Rattle.met.proofs.Given.{ReadsNames}
 use Rattle.met.proofs.TwoEdges.{in_cone, counts_g, counts_all, no_load, judged_both, started_all, first_judged, first_started, first_ended, second_judged, second_started, second_ended, alone_started, alone_ended}
-use Rattle.met.proofs.TwoBuilt.{written_in, ready_cat, ready_scan, h_is, b_is, untouched_at, untouched_still, frame_of, judged_of, in_one_phase, in_order, was_in_order}
+use Rattle.met.proofs.TwoBuilt.{written_in, ready_cat, ready_scan, h_is, b_is, some_moment, untouched_at, untouched_still, frame_of, judged_of, in_one_phase, in_order, was_in_order}
 use Rattle.met.proofs.Between.{no_store, failed_store, stopped_store, built_store, at_named, at_edited, at_stopped, at_edited_again, failing_steps, stopping_steps, good_steps, all_steps, failing_ends, stopping_ends, succeeding_ends, again_ends}
 
 pub some_none : {A : Type 0} (x : A) → Some x ≡ None → ⊥
@@ -185,7 +185,8 @@ module _ (reading : List ℕ → Option (List (List ℕ))) (dyndep : List ℕ �
             (
               tt,
               (
-                untouched_at named.history (take 6 failing) (drop 6 failing) (Judged 1 true ∷ Started 1 ∷ Ended 1 true ∷ []) refl (not_none 1) refl refl,
+                untouched_at named.history (take 6 failing) (drop 6 failing) (Judged 1 true ∷ Started 1 ∷ Ended 1 true ∷ []) refl (not_none 1)
+                    (some_moment _ _, (some_moment _ _, (some_moment _ _, (some_moment _ _, tt)))) refl refl,
                 (tt, (tt, tt)),
               ),
             ),
@@ -363,7 +364,8 @@ module _ (reading : List ℕ → Option (List (List ℕ))) (dyndep : List ℕ �
             (
               tt,
               (
-                untouched_at edited_again.history (take 5 again) (drop 5 again) (Judged 1 true ∷ Started 1 ∷ Ended 1 true ∷ []) refl (not_none 1) refl refl,
+                untouched_at edited_again.history (take 5 again) (drop 5 again) (Judged 1 true ∷ Started 1 ∷ Ended 1 true ∷ []) refl (not_none 1)
+                    (some_moment _ _, (some_moment _ _, (some_moment _ _, tt))) refl refl,
                 (tt, (tt, tt)),
               ),
             ),

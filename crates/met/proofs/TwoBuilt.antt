@@ -14,7 +14,7 @@ use Rattle.model.specs.Reading.{IsAbove, Direct, needs}
 use Rattle.model.specs.Records.{Store, OwnFiles, IsOwnIn, output_name, recorded_inputs}
 use Rattle.model.specs.OutOfDate.{IsVerdict, IsMissing}
 use Rattle.model.specs.Schedule.{Step, Judged, Started, Ended, judged_in, started_in, ended_in, well_in, IsLawfulFrom}
-use Rattle.model.specs.Phases.{IsLawfulBuild, AreUnloadedFrom, IsPointAfter, WasNothingMissingIn, happened_in}
+use Rattle.model.specs.Phases.{IsLawfulBuild, AreUnloadedFrom, IsPointAfter, WasNothingMissingIn, EndsInEvent, happened_in}
 use Rattle.model.specs.Premises.{HasOneOutcome, LeftOutcome, EndedAt, Increases, IsWithinEdge, IsNoEdit, OwnFilesApart, LiesIn, SharesNone, FilesAreKept, IsKnownAbove, ByOne, Premises}
 use Rattle.model.specs.SingleBuild.{IsJudged, IsInOrder, WasInOrder, IsOfBuild, MayChange, IsReadyFor, IsMadeBy, IsFrame, task_of}
 use Rattle.met.specs.Scanning.{cat, scan, edges, asked, toys, own, own_paths, begins_with}
@@ -83,7 +83,7 @@ JudgedUntouched old new before (Ended i well) = Unit {0}
 pub untouched_first : (old more : List Moment) (i : ℕ) (b : Bool) → JudgedUntouched old (old ++ more) [] (Judged i b)
 untouched_first old more i b = (
   old,
-  record { so_far = []; later = more; is = sym (append-nil old); grows = refl; happened = refl; entry = λ none. refl },
+  record { so_far = []; later = more; is = sym (append-nil old); grows = refl; happened = refl; entry = λ none. refl; behind = tt },
   λ p made. refl,
 )
 
@@ -100,13 +100,16 @@ h_is old now same o h = all_has (λ p. file_at now p ≡ file_at old p) (codes "
 pub b_is : (old now : List Moment) → file_at now (codes "b") ≡ file_at old (codes "b") → (o : List ℕ) → has (outputs (edge_at edges 2)) o ≡ true → file_at now o ≡ file_at old o
 b_is old now same o h = all_has (λ p. file_at now p ≡ file_at old p) (codes "b" ∷ []) o (same, tt) h
 
+pub some_moment : (m : Moment) (ms : List Moment) → m ∷ ms ≡ [] → ⊥
+some_moment m ms is = cc
+
 -- what is judged later is untouched then
-pub untouched_at : (old front later : List Moment) (before : List Step) → happened_in front ≡ length (started_in before ++ ended_in before) → (started_in before ≡ [] → ⊥)
+pub untouched_at : (old front later : List Moment) (before : List Step) → happened_in front ≡ length (started_in before ++ ended_in before) → (started_in before ≡ [] → ⊥) → EndsInEvent front
     → file_at (old ++ front) (codes "b") ≡ file_at old (codes "b") → file_at (old ++ front) (codes "b.d") ≡ file_at old (codes "b.d")
     → JudgedUntouched old (old ++ (front ++ later)) before (Judged 2 true)
-untouched_at old front later before happened started b_same told_same = (
+untouched_at old front later before happened started behind b_same told_same = (
   old ++ front,
-  record { so_far = front; later = later; is = refl; grows = sym (append_assoc old front later); happened = happened; entry = λ none. absurd (started none) },
+  record { so_far = front; later = later; is = refl; grows = sym (append_assoc old front later); happened = happened; entry = λ none. absurd (started none); behind = behind },
   of_paths,
 )
   where
@@ -118,7 +121,7 @@ untouched_at old front later before happened started b_same told_same = (
 pub untouched_still : (old more : List Moment) (before : List Step) (i : ℕ) (b : Bool) → length (started_in before ++ ended_in before) ≡ 0 → JudgedUntouched old (old ++ more) before (Judged i b)
 untouched_still old more before i b none = (
   old,
-  record { so_far = []; later = more; is = sym (append-nil old); grows = refl; happened = sym none; entry = λ nothing. refl },
+  record { so_far = []; later = more; is = sym (append-nil old); grows = refl; happened = sym none; entry = λ nothing. refl; behind = tt },
   λ p made. refl,
 )
 
@@ -305,14 +308,14 @@ module _ (reading : List ℕ → Option (List (List ℕ))) (dyndep : List ℕ �
     dyndep = names_no_other;
     named = tt;
     no_cycle = no_cycle store extra first_none recorded_is all_h;
-    sources = λ told kept loads at point.
+    sources = λ told kept loads apart at point.
         let still : (p : List ℕ) → (file_at old.history p ≡ None → ⊥) → file_at at p ≡ None → ⊥ = λ p there. subst (λ (l : List Moment). file_at l p ≡ None → ⊥) (sym (point.entry refl)) there in
         record { of_targets = (λ missing. some_none 2 missing.source, tt); of_edges = λ i due. none_missing at i (still (codes "g") g_there) (still (codes "a") a_there) };
   }
 
   none_missing_in : (all : OwnFiles) (old new : World) → (file_at old.history (codes "g") ≡ None → ⊥) → (file_at old.history (codes "a") ≡ None → ⊥)
       → IsTrue true → FilesAreKept all edges old.history new.history
-      → (steps : List Step) → WasNothingMissingIn (task_of asked store) store old.history new.history [] [] steps
+      → (steps : List Step) → WasNothingMissingIn all (task_of asked store) store old.history new.history [] [] steps
   none_missing_in all old new g_there a_there tells kept [] = tt
   none_missing_in all old new g_there a_there tells kept (step ∷ steps) = (in_order all old new g_there a_there).sources tells kept
 

@@ -1,5 +1,5 @@
 -- Dyndep files: what they add to the edges, and builds that load them. Where an edge's dyndep file is loaded, it names none any more.
-use Rattle.std.specs.Prelude.{◌≡◌, ◌⊎◌, ℕ, suc, ◌<◌, true, false, List, [], ◌∷◌, ◌++◌, length, Option, Some, None}
+use Rattle.std.specs.Prelude.{◌≡◌, ◌≢◌, ◌⊎◌, ℕ, suc, ◌<◌, true, false, List, [], ◌∷◌, ◌++◌, length, Option, Some, None}
 use Rattle.std.specs.List.{AllByRecursion}
 use Rattle.model.specs.declared.graph.Edge.{Edge}
 use Rattle.model.specs.Graph.{has, has_number, edge_at, maker, outputs, IsMadeOnce, Addition, grown_edge}
@@ -8,7 +8,8 @@ use Rattle.model.specs.declared.event.Moment.TheVariants.{Wrote, Happened}
 use Rattle.model.specs.World.{View}
 use Rattle.model.specs.OutOfDate.{NothingIsMissing}
 use Rattle.model.specs.Reading.{IsInCone, IsCycle}
-use Rattle.model.specs.Records.{Store, recorded_inputs}
+use Rattle.model.specs.Records.{Store, OwnFiles, recorded_inputs}
+use Rattle.model.specs.Premises.{RecordedApart}
 use Rattle.model.specs.Schedule.{Task, Step, Judged, Started, Ended, started_in, ended_in, running_in, IsLawfulFrom, IsSettledPath}
 
 -- ---- what a file adds
@@ -146,7 +147,13 @@ happened_in [] = 0
 happened_in (Wrote by path content stamp ∷ moments) = happened_in moments
 happened_in (Happened event ∷ moments) = suc (happened_in moments)
 
--- the site at a point where just these steps were done; before the first start, at the entry
+-- none of these moments is a write behind the last start and the last finish
+abbrev pub EndsInEvent : List Moment → Type 0
+EndsInEvent [] = Unit {0}
+EndsInEvent (Wrote by path content stamp ∷ moments) = (moments ≢ []) × EndsInEvent moments
+EndsInEvent (Happened event ∷ moments) = EndsInEvent moments
+
+-- the site right behind the last start or finish of these steps; before the first start, at the entry
 pub record IsPointAfter (before : List Step) (old new at : List Moment) : Type 0 where
   pub so_far : List Moment
   pub later : List Moment
@@ -154,22 +161,29 @@ pub record IsPointAfter (before : List Step) (old new at : List Moment) : Type 0
   pub grows : new ≡ at ++ later
   pub happened : happened_in so_far ≡ length (started_in before ++ ended_in before)
   pub entry : started_in before ≡ [] → at ≡ old
+  pub behind : EndsInEvent so_far
+
+-- Where a command was started, the targets and the recorded inputs lie outside the set of the program's own files, depfiles and
+-- response files: the program removes an old depfile, and writes a response file, before a start.
+abbrev pub AreAskedApart : OwnFiles → Task → List Step → Type 0
+AreAskedApart own task before =
+    (started_in before ≡ []) ⊎ (RecordedApart own task.recorded × ((p : List ℕ) → has task.targets p ≡ true → own.set p ≡ false))
 
 -- nothing is missing at this point, where all files that no edge makes are loaded
-abbrev pub IsNothingMissing : Task → Store → List Step → List Moment → List Moment → Type 0
-IsNothingMissing task store before old new =
-    ((file : List ℕ) → IsDueLoad task before file → maker task.graph.edges file ≡ None → ⊥)
+abbrev pub IsNothingMissing : OwnFiles → Task → Store → List Step → List Moment → List Moment → Type 0
+IsNothingMissing own task store before old new =
+    ((file : List ℕ) → IsDueLoad task before file → maker task.graph.edges file ≡ None → ⊥) → AreAskedApart own task before
     → (at : List Moment) → IsPointAfter before old new at → NothingIsMissing task.graph.edges store before at task.targets
 
 -- nor was anything missing when these phases began
-abbrev pub WasNothingMissing : Task → Store → List Moment → List Moment → List Step → List Phase → Type 0
-WasNothingMissing task store old new before [] = IsNothingMissing task store before old new
-WasNothingMissing task store old new before (phase ∷ phases) =
-    IsNothingMissing (task_with task store phase.edges) store before old new × WasNothingMissing task store old new (before ++ phase.steps) phases
+abbrev pub WasNothingMissing : OwnFiles → Task → Store → List Moment → List Moment → List Step → List Phase → Type 0
+WasNothingMissing own task store old new before [] = IsNothingMissing own task store before old new
+WasNothingMissing own task store old new before (phase ∷ phases) =
+    IsNothingMissing own (task_with task store phase.edges) store before old new × WasNothingMissing own task store old new (before ++ phase.steps) phases
 
 -- nor was anything missing when these phases began, and a last one that has steps
-abbrev pub WasNothingMissingIn : Task → Store → List Moment → List Moment → List Step → List Phase → List Step → Type 0
-WasNothingMissingIn task store old new before [] [] = Unit {0}
-WasNothingMissingIn task store old new before [] (step ∷ last) = IsNothingMissing task store before old new
-WasNothingMissingIn task store old new before (phase ∷ phases) last =
-    IsNothingMissing (task_with task store phase.edges) store before old new × WasNothingMissingIn task store old new (before ++ phase.steps) phases last
+abbrev pub WasNothingMissingIn : OwnFiles → Task → Store → List Moment → List Moment → List Step → List Phase → List Step → Type 0
+WasNothingMissingIn own task store old new before [] [] = Unit {0}
+WasNothingMissingIn own task store old new before [] (step ∷ last) = IsNothingMissing own task store before old new
+WasNothingMissingIn own task store old new before (phase ∷ phases) last =
+    IsNothingMissing own (task_with task store phase.edges) store before old new × WasNothingMissingIn own task store old new (before ++ phase.steps) phases last

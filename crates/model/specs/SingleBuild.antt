@@ -20,7 +20,7 @@ use Rattle.model.specs.Reading.{IsInCone, IsCycle, needs}
 use Rattle.model.specs.Records.{Store, LogFormat, OwnFiles, store_in, recorded_inputs}
 use Rattle.model.specs.OutOfDate.{IsVerdict, IsOutOfDate, IsMissingInput, IsFirstMissing}
 use Rattle.model.specs.Schedule.{Task, Step, Judged, Started, IsSettled, AreEventsOf, AreFinishes, NoneMayBeJudged, NoneMayStart, done_in, started_in, ended_in, out_of_date_in, well_in, failed_in, Ended, MayStart}
-use Rattle.model.specs.Phases.{Phase, steps_of, IsLawfulBuild, IsLoad, IsDueLoad, IsNextLoad, NoLoadIsDue, IsPointAfter, WasNothingMissing, WasNothingMissingIn}
+use Rattle.model.specs.Phases.{Phase, steps_of, IsLawfulBuild, IsLoad, IsDueLoad, IsNextLoad, NoLoadIsDue, IsPointAfter, AreAskedApart, WasNothingMissing, WasNothingMissingIn}
 use Rattle.model.specs.Premises.{FilesAreKept, RecordedApart, Premises, NothingIsEdited, EndedAt, InputsAreKnown}
 
 -- ---- what a build was asked, and what it answers
@@ -213,7 +213,7 @@ pub record IsInOrder (tells : Bool) (own : OwnFiles) (asked : Asked) (store : St
   pub named : AllNamed asked
   pub no_cycle : HasNoCycle asked store
   pub sources : IsTrue tells → FilesAreKept own asked.graph.edges old.history new.history
-      → WasNothingMissing (task_of asked store) store old.history new.history [] phases
+      → WasNothingMissing own (task_of asked store) store old.history new.history [] phases
 
 -- Where a step was taken, all that is refused before it was in order, whatever the answer came to be.
 pub record WasInOrder (tells : Bool) (own : OwnFiles) (asked : Asked) (store : Store) (phases : List Phase) (last : List Step) (old new : World) : Type 0 where
@@ -222,7 +222,7 @@ pub record WasInOrder (tells : Bool) (own : OwnFiles) (asked : Asked) (store : S
   pub named : AllNamed asked
   pub no_cycle : HasNoCycle asked store
   pub sources : IsTrue tells → FilesAreKept own asked.graph.edges old.history new.history
-      → WasNothingMissingIn (task_of asked store) store old.history new.history [] phases last
+      → WasNothingMissingIn own (task_of asked store) store old.history new.history [] phases last
 
 -- a refusal before the first step has written nothing
 abbrev pub IsUntouched : Bool → List Step → World → World → Type 0
@@ -255,11 +255,11 @@ IsAnswer tells B own texts asked store phases done steps old new (Cyclic paths) 
     IsUntouched tells steps old new × AllNamed asked × ((wanted : Asked) × IsWanted B texts asked store done wanted × IsShownCycle wanted store paths)
 IsAnswer tells B own texts asked store phases done steps old new (MissingTarget path) =
     IsUntouched tells steps old new × AllNamed asked × HasNoCycle asked store × IsAsked (task_of asked store) phases done
-    × (IsTrue tells → FilesAreKept own asked.graph.edges old.history new.history
+    × (IsTrue tells → FilesAreKept own asked.graph.edges old.history new.history → AreAskedApart own (task_of asked store) done
     → (at : List Moment) × IsPointAfter done old.history new.history at × IsFirstMissing asked.graph.edges at (targets_of (declared_graph asked) asked.targets) path)
 IsAnswer tells B own texts asked store phases done steps old new (MissingInput path output) =
     IsUntouched tells steps old new × AllNamed asked × HasNoCycle asked store × IsAsked (task_of asked store) phases done
-    × (IsTrue tells → FilesAreKept own asked.graph.edges old.history new.history
+    × (IsTrue tells → FilesAreKept own asked.graph.edges old.history new.history → AreAskedApart own (task_of asked store) done
     → (i : ℕ) × (output ≡ first_output (edge_at asked.graph.edges i))
     × ((at : List Moment) × IsPointAfter done old.history new.history at × IsMissingInput asked.graph.edges store done at (targets_of (declared_graph asked) asked.targets) i path))
 IsAnswer tells B own texts asked store phases done steps old new (MadeTwice path) =

@@ -1,5 +1,5 @@
 -- Records of paths that a graph got.
-use Rattle.std.proofs.Common.{◌≡◌, ◌≤◌, ◌<◌, ℕ, true, List, [], ◌++◌, Option, length, sym, ◌∙◌, ap, append_assoc, arith}
+use Rattle.std.proofs.Common.{◌≡◌, ◌≤◌, ◌<◌, ℕ, true, List, [], ◌++◌, length, take, sym, ◌∙◌, ap, subst, append_assoc, arith}
 use Rattle.std.proofs.lemmas.List.{append-nil, length-append}
 use Rattle.model.specs.declared.record.Record.{Record}
 use Rattle.model.specs.declared.record.DepsRecord.{DepsRecord}
@@ -10,8 +10,10 @@ use Rattle.links.proofs.Makes.{output_below}
 use Rattle.build_log.specs.Log.{Keeps, makings}
 use Rattle.deps_log.specs.Log.{Keeps as KeepsDeps, tolds}
 use Rattle.records.specs.Held.{ArePlaces}
-use Rattle.records.specs.Known.{AreKnown}
+use Rattle.records.specs.Known.{IsOf, IsOfDeps, AreKnown}
+use Rattle.records.specs.declared.logs.Logs.{Logs}
 use Rattle.records.specs.declared.records.Records.{Records}
+use Rattle.records.proofs.Places.{fewer_fit, fewer_placed}
 
 -- the paths of which records were known stand in front of those of the grown graph, too
 pub known_front : (graph before : Graph) (more : List (List ℕ)) (rs : List Record) (ds : List DepsRecord) (records : Records) → graph.manifest.paths ≡ before.manifest.paths ++ more → (known : AreKnown before rs ds records)
@@ -26,15 +28,28 @@ known_fits graph before more rs ds records grows known =
     omega (arith, is, size)
 
 -- what is known of all paths of a graph is known
-pub known_all : (graph : Graph) (rs : List Record) (ds : List DepsRecord) (records : Records) → Keeps rs records.logs.build_log.log → KeepsDeps ds records.logs.deps_log.log
-    → length records.places.items ≤ length graph.manifest.paths → ArePlaces makings in_force rs graph.manifest.paths records.places.items
-    → length records.deps_places.items ≤ length graph.manifest.paths → ArePlaces tolds deps_in_force ds graph.manifest.paths records.deps_places.items
-    → AreKnown graph rs ds records
-known_all graph rs ds records keeps keeps_deps fits made deps_fits told = record {
+pub known_all : (graph : Graph) (rs : List Record) (ds : List DepsRecord) (records : Records) → IsOf rs graph.manifest.paths records → IsOfDeps ds graph.manifest.paths records → AreKnown graph rs ds records
+known_all graph rs ds records known told = record {
   paths = graph.manifest.paths;
   more = [];
   grown = sym (append-nil graph.manifest.paths);
   outputs = λ e p h. output_below graph.manifest e p h;
-  known = record { keeps = keeps; fits = fits; made = made };
-  told = record { keeps = keeps_deps; fits = deps_fits; told = told };
+  known = known;
+  told = told;
 }
+
+-- what was known of more paths than the graph has is known of the graph
+pub known_fewer : (graph : Graph) (more : List (List ℕ)) (rs : List Record) (ds : List DepsRecord) (old new : Records) → new.logs ≡ old.logs
+    → new.places.items ≡ take (length graph.manifest.paths) old.places.items → new.deps_places.items ≡ take (length graph.manifest.paths) old.deps_places.items
+    → IsOf rs (graph.manifest.paths ++ more) old → IsOfDeps ds (graph.manifest.paths ++ more) old → AreKnown graph rs ds new
+known_fewer graph more rs ds old new logs places deps_places known told = known_all graph rs ds new
+    (record {
+      keeps = subst (λ (l : Logs). Keeps rs l.build_log.log) (sym logs) known.keeps;
+      fits = rw places (fewer_fit (length graph.manifest.paths) old.places.items);
+      made = subst (ArePlaces makings in_force rs graph.manifest.paths) (sym places) (fewer_placed makings in_force rs graph.manifest.paths more old.places.items known.made);
+    })
+    (record {
+      keeps = subst (λ (l : Logs). KeepsDeps ds l.deps_log.log) (sym logs) told.keeps;
+      fits = rw deps_places (fewer_fit (length graph.manifest.paths) old.deps_places.items);
+      told = subst (ArePlaces tolds deps_in_force ds graph.manifest.paths) (sym deps_places) (fewer_placed tolds deps_in_force ds graph.manifest.paths more old.deps_places.items told.told);
+    })

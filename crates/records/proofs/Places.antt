@@ -1,5 +1,5 @@
 -- The numbers of the records in force, path by path.
-use Rattle.std.proofs.Common.{◌≡◌, inl, inr, ℕ, ◌+◌, ◌<◌, ◌≤◌, false, List, [], ◌∷◌, ◌++◌, Option, Some, None, take, length, map, get_or, slice_get, unwrap_or, subst, sym, ◌∙◌, ap, append_assoc, arith}
+use Rattle.std.proofs.Common.{◌≡◌, inl, inr, ℕ, zero, suc, ◌+◌, ◌<◌, ◌≤◌, false, List, [], ◌∷◌, ◌++◌, Option, Some, None, take, length, map, get_or, slice_get, unwrap_or, subst, sym, ◌∙◌, ap, append_assoc, arith, refl}
 use Rattle.std.specs.Option.{option_and_then}
 use Rattle.std.proofs.Math.Seq.{get_or-append_seam, take-append_seam}
 use Rattle.std.proofs.lemmas.Option.{slice_get-get_or, slice_get_past, unwrap_or-slice_get}
@@ -92,6 +92,27 @@ module _ {R X : Type 0} (told : List R → List X) (in_force : List R → List �
       empty : (rs : List R) → length rs ≡ 0 → (o : List ℕ) → in_force rs o ≡ None
       empty [] none o = nothing o
       empty (r ∷ rs) none o = absurd (omega (arith, none))
+
+-- ---- fewer numbers
+
+pub fewer_fit : (n : ℕ) (places : List (Option ℕ)) → length (take n places) ≤ n
+fewer_fit zero places = omega arith
+fewer_fit (suc n) [] = omega arith
+fewer_fit (suc n) (place ∷ places) = let more = fewer_fit n places in omega (arith, more)
+
+slice_front : (n p : ℕ) (places : List (Option ℕ)) → p < n → slice_get (take n places) p ≡ slice_get places p
+slice_front zero p places low = absurd (omega (arith, low))
+slice_front (suc n) p [] low = refl
+slice_front (suc n) zero (place ∷ places) low = refl
+slice_front (suc n) (suc p) (place ∷ places) low = slice_front n p places (omega (arith, low))
+
+-- those of the first paths alone
+pub fewer_placed : {R X : Type 0} (told : List R → List X) (in_force : List R → List ℕ → Option X) (rs : List R) (paths more : List (List ℕ)) (places : List (Option ℕ)) → ArePlaces told in_force rs (paths ++ more) places
+    → ArePlaces told in_force rs paths (take (length paths) places)
+fewer_placed told in_force rs paths more places are p low =
+    let sum = length-append paths more in
+    ap (λ (o : Option (Option ℕ)). option_and_then (slice_get (told rs)) (joined o)) (slice_front (length paths) p places low)
+    ∙ (are p (omega (arith, low, sum)) ∙ ap (in_force rs) (get_or_append_left paths more [] p low))
 
 -- of no paths all have their numbers
 pub placed_none : {R X : Type 0} (told : List R → List X) (in_force : List R → List ℕ → Option X) (rs : List R) (places : List (Option ℕ)) → ArePlaces told in_force rs [] places

@@ -1,6 +1,6 @@
 //! The records of a build.
 
-ghost use Rattle.std.specs.Prelude.{◌≡◌, ◌≢◌, ◌<◌, ◌≤◌, ◌++◌, [], ℕ, suc, List, Option, Some, None, IfOk, OnOk, OnErr, false, string_bytes, length, slice_get};
+ghost use Rattle.std.specs.Prelude.{◌≡◌, ◌≢◌, ◌<◌, ◌≤◌, ◌++◌, [], ℕ, suc, List, Option, Some, None, IfOk, OnOk, OnErr, false, string_bytes, length, slice_get, take};
 ghost use Rattle.std.specs.Option.{option_copied, option_map};
 ghost use Rattle.model.specs.declared.record.DepsRecord.{DepsRecord};
 ghost use Rattle.model.specs.World.{World};
@@ -77,6 +77,7 @@ impl Records {
     pub fn grow(&mut self, graph: &Graph) -> Result<(), AllocError>
         ensures logs { self.new.logs ≡ self.old.logs }
         ensures known { OnOk result ((before : Graph) (more : List (List ℕ)) (rs : List Record) (ds : List DepsRecord) → graph.now.manifest.paths ≡ before.manifest.paths ++ more → AreKnown before rs ds self.old → AreKnown graph.now rs ds self.new) }
+        ensures all { OnOk result ((before : Graph) (more : List (List ℕ)) (rs : List Record) (ds : List DepsRecord) → graph.now.manifest.paths ≡ before.manifest.paths ++ more → AreKnown before rs ds self.old → IsOf rs graph.now.manifest.paths self.new × IsOfDeps ds graph.now.manifest.paths self.new) }
         ensures places { OnErr result (self.new.places.items ≡ self.old.places.items) }
         ensures deps_places { OnErr result (self.new.deps_places.items ≡ self.old.deps_places.items) }
     {
@@ -90,10 +91,22 @@ impl Records {
         grown
     }
 
+    /// Forgets what was looked up for paths that the graph has no more, as a load was taken back. It takes no memory.
+    pub fn shrink(&mut self, graph: &Graph)
+        ensures logs { self.new.logs ≡ self.old.logs }
+        ensures places { self.new.places.items ≡ take (length graph.now.manifest.paths) self.old.places.items }
+        ensures deps_places { self.new.deps_places.items ≡ take (length graph.now.manifest.paths) self.old.deps_places.items }
+        ensures known { (more : List (List ℕ)) (rs : List Record) (ds : List DepsRecord) → IsOf rs (graph.now.manifest.paths ++ more) self.old → IsOfDeps ds (graph.now.manifest.paths ++ more) self.old → AreKnown graph.now rs ds self.new }
+    {
+        self.places.truncate(graph.paths());
+        self.deps_places.truncate(graph.paths());
+    }
+
     /// The same, but that some paths may be looked up where memory is refused.
     fn look_up(&mut self, graph: &Graph) -> Result<(), AllocError>
         ensures logs { self.new.logs ≡ self.old.logs }
         ensures known { OnOk result ((before : Graph) (more : List (List ℕ)) (rs : List Record) (ds : List DepsRecord) → graph.now.manifest.paths ≡ before.manifest.paths ++ more → AreKnown before rs ds self.old → AreKnown graph.now rs ds self.new) }
+        ensures all { OnOk result ((before : Graph) (more : List (List ℕ)) (rs : List Record) (ds : List DepsRecord) → graph.now.manifest.paths ≡ before.manifest.paths ++ more → AreKnown before rs ds self.old → IsOf rs graph.now.manifest.paths self.new × IsOfDeps ds graph.now.manifest.paths self.new) }
         ensures places { IsLonger self.old.places.items self.new.places.items }
         ensures deps_places { IsLonger self.old.deps_places.items self.new.deps_places.items }
     {

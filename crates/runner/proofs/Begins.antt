@@ -39,7 +39,7 @@ module _ (tells : Bool) (course : Course) (graph : Graph) (tick : List ℕ) (sui
 
     -- a fault before anything is written
     pub cut_looking : (new : World) → OnlyLooks tells now new → IsCut tells course graph state.plan new
-    cut_looking new looks = cut_free tells course graph state.plan new on.steps on.planned on.taken (looks_carried tells course graph stays None state now new on looks)
+    cut_looking new looks = cut_free tells course graph state.plan new on.steps on.planned on.taken on.since (looks_carried tells course graph stays None state now new on looks)
 
     module _ (mid new : World) (looks : OnlyLooks tells now mid) (writes : WritesAt tells state.records.logs.build_log.path mid new) where
       abbrev pub on_mid : IsOn tells course graph (Some (suc e)) state mid
@@ -57,7 +57,7 @@ module _ (tells : Bool) (course : Course) (graph : Graph) (tick : List ℕ) (sui
           → IsLogging tells B format own (declared_by graph).edges steps (Some (suc e)) entry first mid state.records.logs → IsLoggedStill tells B format own (declared_by graph).edges steps (Some (suc e)) entry first new)
           → IsCut tells course graph state.plan new
       cut_beginning logged =
-          cut_met tells course graph state.plan new on.steps (suc e) (record { under_way = inr (said.lawful.0, said.lawful.1); stale = said.lawful.1.stale; taken_in = inl said.lawful.1.once }) on.planned on.taken
+          cut_met tells course graph state.plan new on.steps (suc e) (record { under_way = inr (said.lawful.0, said.lawful.1); stale = said.lawful.1.stale; taken_in = inl said.lawful.1.once }) on.planned on.taken on.since
           (log_carried tells course graph (Some (suc e)) (Some (suc e)) state mid new on_mid course.own.build_log suits.log_owned log_writes
           (subst (λ (edges : List Edge). IsLoggedStill tells course.behaviour course.format course.own edges on.steps (Some (suc e)) course.store course.entry new) (sym same_edges)
           (logged course.behaviour course.format course.own on.steps course.store course.entry declared_logging)))

@@ -13,7 +13,7 @@ use Rattle.build_theory.specs.Order.{IsOrderlyFrom}
 use Rattle.build_theory.specs.Run.{IsRun}
 use Rattle.build_theory.proofs.Lists.{has_number-filter, has_number-one}
 use Rattle.build_theory.proofs.Events.{runs_push}
-use Rattle.build_theory.proofs.Orderly.{orderly_of, started_before}
+use Rattle.build_theory.proofs.Orderly.{started_before}
 use Rattle.build_theory.proofs.Steps.{in_right, started-append}
 use Rattle.build_theory.proofs.Runs.{running_now}
 use Rattle.links.specs.Held.{times}

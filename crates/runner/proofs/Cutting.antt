@@ -47,6 +47,12 @@ passes_cut old mid new cut last starts cause takes = record {
     by_fault Stopped is = refl
     by_fault Memory is = absurd (false≢true is)
 
+-- what was started in two calls one after the other
+pub starts_then : (old mid new : World) → Unrefused old mid → StartsUnrefused old mid → StartsUnrefused mid new → StartsUnrefused old new
+starts_then old mid new calm (inl before) (inl none) = inl (none ∙ before)
+starts_then old mid new calm (inr before) (inl none) = inr (none ∙ before)
+starts_then old mid new calm first (inr some) = inr (some ∙ calm.failures)
+
 -- what runs was taken in after a fault: nothing more was started
 pub starts_cut : (old mid new : World) (last : Cut) → StartsUnrefused old mid → TakesIn mid new last → StartsUnrefused old new
 starts_cut old mid new last (inl none) takes = inl (takes.at_start ∙ none)

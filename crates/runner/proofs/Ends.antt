@@ -37,6 +37,7 @@ module _ (tells : Bool) (course : Course) (graph : Graph) (now : World) where
     met = None;
     cut = whole over.on.steps over.on.carried;
     in_hand = nothing (task_of course.asked course.store) over.on.steps;
+    since = over.on.since;
     ends = (refl, over.on.carried.run, over.over.lawful, over.over.loads, many);
     goes = over.on.carried.goes over.over.goes;
     removed = over.on.removed;
@@ -50,6 +51,7 @@ module _ (tells : Bool) (course : Course) (graph : Graph) (now : World) where
       met = None;
       cut = whole over.on.steps over.on.carried;
       in_hand = nothing (task_of course.asked course.store) over.on.steps;
+      since = over.on.since;
       ends = (refl, over.on.carried.run, over.over.lawful, over.over.loads, over.on.noted);
       goes = over.on.carried.goes over.over.goes;
       removed = over.on.removed;
@@ -67,11 +69,11 @@ module _ (tells : Bool) (course : Course) (graph : Graph) (now : World) where
   pub cut_looking : (state : State) (plan : Plan) (new : World) → plan ≡ state.plan → OnlyLooks tells now new → IsOn tells course graph None state now → IsCut tells course graph plan new
   cut_looking state plan new same looks on =
       subst (λ (p : Plan). IsCut tells course graph p new) (sym {A = Plan} same)
-      (cut_free tells course graph state.plan new on.steps on.planned on.taken (carried_looks tells course.behaviour course.format course.own course.asked course.store course.entry course.phases (goes_on course) on.steps None now new looks on.carried))
+      (cut_free tells course graph state.plan new on.steps on.planned on.taken on.since (carried_looks tells course.behaviour course.format course.own course.asked course.store course.entry course.phases (goes_on course) on.steps None now new looks on.carried))
 
   -- a fault has cut it off, and since then commands were taken in
   pub ran_cut : (plan : Plan) (last : World) (cut : Cut) → IsCut tells course graph plan now
       → ((steps : List Done) (met : Option ℕ) → IsCutOff tells course.behaviour course.format course.own course.asked course.store course.phases steps met course.entry now
       → IsCutOff tells course.behaviour course.format course.own course.asked course.store course.phases steps met course.entry last)
       → HasRun tells course last (Err cut)
-  ran_cut plan last cut at rest = record { steps = at.steps; met = at.met; cut = rest at.steps at.met at.cut; in_hand = at.in_hand; ends = tt; goes = tt; removed = tt }
+  ran_cut plan last cut at rest = record { steps = at.steps; met = at.met; cut = rest at.steps at.met at.cut; in_hand = at.in_hand; since = at.since; ends = tt; goes = tt; removed = tt }

@@ -173,10 +173,10 @@ module _ (edges : List Edge) (graph : Graph) (once : IsMadeOnce edges) (stand : 
 -- ---- an edge that is in hand where it ended well
 
 module _ (tells : Bool) (course : Course) (graph : Graph) where
-  pub cut_hand : (plan : Plan) (new : World) (steps : List Done) (i : ℕ) (ok : Bool) → IsInHand (task_of course.asked course.store) steps i → IsPlanned (task_of course.asked course.store) graph plan steps → AreTaken (task_of course.asked course.store) steps → Carried tells course graph steps (in_hand_after i ok) new
+  pub cut_hand : (plan : Plan) (new : World) (steps : List Done) (i : ℕ) (ok : Bool) → IsInHand (task_of course.asked course.store) steps i → IsPlanned (task_of course.asked course.store) graph plan steps → AreTaken (task_of course.asked course.store) steps → IsSince course.refused steps → Carried tells course graph steps (in_hand_after i ok) new
       → IsCut tells course graph plan new
-  cut_hand plan new steps i true at planned taken carried = cut_met tells course graph plan new steps i at planned taken carried
-  cut_hand plan new steps i false at planned taken carried = cut_free tells course graph plan new steps planned taken carried
+  cut_hand plan new steps i true at planned taken since carried = cut_met tells course graph plan new steps i at planned taken since carried
+  cut_hand plan new steps i false at planned taken since carried = cut_free tells course graph plan new steps planned taken since carried
 
 -- ---- a command is taken in
 
@@ -214,6 +214,7 @@ module _ (tells : Bool) (course : Course) (tick : List ℕ) (graph : Graph) (sui
     met = Some (suc e);
     planned = end_planned false plan takes;
     taken = end_tells false;
+    since = end_since false;
     run = run_looks tells course.own task course.entry (After false) mid new
         (run_takes_in tells course.own task course.entry on.steps now mid (suc e) false ok on.carried.beside.idle on.carried.run ((λ well. absurd (false≢true well)), (λ none. absurd (named none))) finish) looks;
     cut = cut_in_reading tells course.behaviour course.format course.own course.asked course.store course.entry course.phases (goes_on course) on.steps now mid new (suc e) ok turn.lawful finish looks on.carried named;
@@ -281,7 +282,7 @@ module _ (tells : Bool) (course : Course) (tick : List ℕ) (graph : Graph) (sui
 
     -- where noting it met a fault
     pub end_cut : (plan : Plan) → TakesStep graph state.plan plan (Ended (suc e) well) → IsCut tells course graph plan new
-    end_cut plan takes = cut_hand tells course graph plan new more (suc e) well (in_hand well) (end_planned well plan takes) (end_tells well) end_carried
+    end_cut plan takes = cut_hand tells course graph plan new more (suc e) well (in_hand well) (end_planned well plan takes) (end_tells well) (end_since well) end_carried
 
     -- its files are removed when that is recorded
     end_removed : AreRemoved tells course.own (edges_of course) more (in_hand_after (suc e) well) course.entry new

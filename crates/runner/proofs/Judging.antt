@@ -134,8 +134,8 @@ module _ (tells : Bool) (course : Course) (graph : Graph) (stays : LogStays) (ti
     pub may_be_judged : FilesAreKept course.own (edges_of course) course.entry.history now.history
         → MayBeJudgedBy graph on.told.records on.told.deps state.plan.changed.items course.store (well_in on.steps) course.entry.history new.history (suc e) (is_quiet course.own (edges_of course) on.steps)
     may_be_judged before = record {
-      records = (on.told.same tell before).0;
-      deps = (on.told.same tell before).1;
+      records = on.told.same.0;
+      deps = on.told.same.1;
       recorded = subst (λ (es : List Edge). (p : List ℕ) → has (recorded_inputs course.store es (suc e)) p ≡ has (recorded_by graph (suc e)) p) same_edges (λ p. suits.recorded (suc e) p);
       untouched = subst (λ (es : List Edge). AreUntouched es course.entry.history new.history (suc e)) same_edges
           (outputs_untouched tells course.own (task_of course.asked course.store) on.steps course.entry new suits.idle rest tell files suits.once (suc e) turn.command turn.once);

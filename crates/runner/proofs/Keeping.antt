@@ -42,7 +42,7 @@ use Rattle.records.specs.Known.{AreKnown}
 use Rattle.records.specs.Logging.{AreSameLogs, IsLogging, IsLoggedStill}
 use Rattle.records.specs.Laws.{LeavesTheLogs, LogStays}
 use Rattle.runner.specs.declared.state.State.{State}
-use Rattle.runner.specs.Course.{Course, goes_on, Suits, edges_of, is_quiet, IsSeenStill, AreAnew, AreSeenBefore, AreTold, AreStarted, IsOn}
+use Rattle.runner.specs.Course.{Course, goes_on, Suits, IsSince, edges_of, is_quiet, IsSeenStill, AreAnew, AreSeenBefore, AreTold, AreStarted, IsOn}
 use Rattle.runner.specs.Removing.{AreRemoved}
 use Rattle.runner.specs.Going.{IsInHand, IsCut}
 use Rattle.runner.proofs.Quiet.{KeepsQuiet, RunBy, quiet_own, quiet_response, quiet_depfile, quiet_looks}
@@ -159,7 +159,7 @@ module _ (tells : Bool) (course : Course) (graph : Graph) where
 
   -- over a call that keeps quiet paths
   pub told_over : (steps : List Done) (state : State) (now new : World) → Quietly steps now new → AreTold tells course graph state now → AreTold tells course graph state new
-  told_over steps state now new quiet told = record { records = told.records; deps = told.deps; known = told.known; same = λ tell kept. told.same tell (quiet tell kept).0 }
+  told_over steps state now new quiet told = record { records = told.records; deps = told.deps; known = told.known; same = told.same }
 
   pub seen_over : (steps : List Done) (state : State) (now new : World) → Quietly steps now new → IsSeenStill tells course graph steps state now → IsSeenStill tells course graph steps state new
   seen_over steps state now new quiet seen tell kept =
@@ -407,13 +407,13 @@ module _ (tells : Bool) (course : Course) (graph : Graph) where
   cut_of steps hand new carried = cut_off tells course.behaviour course.format course.own course.asked course.store course.entry course.phases (goes_on course) steps hand new carried
 
   -- with no edge in hand
-  pub cut_free : (plan : Plan) (new : World) (steps : List Done) → IsPlanned (task_of course.asked course.store) graph plan steps → AreTaken (task_of course.asked course.store) steps → Carried steps None new → Cut plan new
-  cut_free plan new steps planned taken carried = record { steps = steps; met = None; planned = planned; taken = taken; run = carried.run; cut = cut_of steps None new carried; in_hand = λ i is. nothing i is }
+  pub cut_free : (plan : Plan) (new : World) (steps : List Done) → IsPlanned (task_of course.asked course.store) graph plan steps → AreTaken (task_of course.asked course.store) steps → IsSince course.refused steps → Carried steps None new → Cut plan new
+  cut_free plan new steps planned taken since carried = record { steps = steps; met = None; planned = planned; taken = taken; since = since; run = carried.run; cut = cut_of steps None new carried; in_hand = λ i is. nothing i is }
     where
       nothing : (i : ℕ) → None ≡ Some i → IsInHand (task_of course.asked course.store) steps i
       nothing i is = cc
 
   -- with the edge in hand whose start or taking in met it
-  pub cut_met : (plan : Plan) (new : World) (steps : List Done) (i : ℕ) → IsInHand (task_of course.asked course.store) steps i → IsPlanned (task_of course.asked course.store) graph plan steps → AreTaken (task_of course.asked course.store) steps → Carried steps (Some i) new → Cut plan new
-  cut_met plan new steps i at planned taken carried =
-      record { steps = steps; met = Some i; planned = planned; taken = taken; run = carried.run; cut = cut_of steps (Some i) new carried; in_hand = λ k is. subst (λ (n : ℕ). IsInHand (task_of course.asked course.store) steps n) (same_some i k is) at }
+  pub cut_met : (plan : Plan) (new : World) (steps : List Done) (i : ℕ) → IsInHand (task_of course.asked course.store) steps i → IsPlanned (task_of course.asked course.store) graph plan steps → AreTaken (task_of course.asked course.store) steps → IsSince course.refused steps → Carried steps (Some i) new → Cut plan new
+  cut_met plan new steps i at planned taken since carried =
+      record { steps = steps; met = Some i; planned = planned; taken = taken; since = since; run = carried.run; cut = cut_of steps (Some i) new carried; in_hand = λ k is. subst (λ (n : ℕ). IsInHand (task_of course.asked course.store) steps n) (same_some i k is) at }

@@ -28,6 +28,7 @@ use Rattle.runner.specs.Going.{IsInHand, IsCut}
 use Rattle.runner.specs.Starting.{IsBegun}
 use Rattle.runner.proofs.Places.{within}
 use Rattle.runner.proofs.Keeping.{not_well_yet, stale_is_command, looks_carried, on_depfile, on_response, on_ticks, cut_free, cut_met}
+use Rattle.runner.proofs.Onward.{since_goes}
 use Rattle.runner.proofs.Launching.{with_starts, with_plan, on_stamped, on_starts, start_carried, start_planned, start_taken, ready_to_start}
 
 pub err_then : {T E : Type 0} {P Q : Type 0} (r : Result T E) → OnErr r P → (P → Q) → OnErr r Q
@@ -98,7 +99,7 @@ module _ (tells : Bool) (course : Course) (graph : Graph) (stays : LogStays) (ti
 
   -- its old depfile could not be removed
   pub cut_clearing : IsCut tells course graph state.plan gone
-  cut_clearing = cut_met tells course graph state.plan gone steps (suc e) in_hand begun.on.planned begun.on.taken on_gone.carried
+  cut_clearing = cut_met tells course graph state.plan gone steps (suc e) in_hand begun.on.planned begun.on.taken begun.on.since on_gone.carried
 
   module _ (mid : World) (at : WritesAt tells act.response_path gone mid) where
     response_at : WritesAt tells (edge_at (edges_of course) (suc e)).act.response_path gone mid
@@ -109,11 +110,11 @@ module _ (tells : Bool) (course : Course) (graph : Graph) (stays : LogStays) (ti
 
     -- its response file could not be written
     pub cut_writing : IsCut tells course graph state.plan mid
-    cut_writing = cut_met tells course graph state.plan mid steps (suc e) in_hand begun.on.planned begun.on.taken on_mid.carried
+    cut_writing = cut_met tells course graph state.plan mid steps (suc e) in_hand begun.on.planned begun.on.taken begun.on.since on_mid.carried
 
     -- no stamp was given
     pub cut_ticking : (new : World) → TicksOrNot tells tick mid new → IsCut tells course graph state.plan new
-    cut_ticking new ticks = cut_met tells course graph state.plan new steps (suc e) in_hand begun.on.planned begun.on.taken
+    cut_ticking new ticks = cut_met tells course graph state.plan new steps (suc e) in_hand begun.on.planned begun.on.taken begun.on.since
         (carried_ticks_or_not tells course.behaviour course.format course.own course.asked course.store course.entry course.phases (goes_on course) steps (Some (suc e)) mid new tick suits.owned suits.no_build_log suits.no_deps_log ticks on_mid.carried)
 
     module _ (new : World) (stamp : ℕ) (ticks : Ticks tells tick stamp mid new) where
@@ -155,12 +156,13 @@ module _ (tells : Bool) (course : Course) (graph : Graph) (stays : LogStays) (ti
         cut_starting takes made =
             cut_free tells course graph plan last (steps ++ Started (suc e) ∷ []) (start_planned tells course graph stays stamped new last e act plan on_last begun.next begun.goes begun.unloaded is ready (of_job made) suits.once takes)
             (start_taken tells course graph stays stamped new last e act plan on_last begun.next begun.goes begun.unloaded is ready (of_job made) suits.once)
+            (since_goes course.refused begun.goes (steps ++ Started (suc e) ∷ []))
             (start_carried tells course graph stays stamped new last e act plan on_last begun.next begun.goes begun.unloaded is ready (of_job made) suits.once)
 
         pub cut_unstarted : plan ≡ state.plan → OnlyLooks tells new last → IsCut tells course graph plan last
         cut_unstarted same looks =
             subst (λ (p : Plan). IsCut tells course graph p last) (sym same)
-            (cut_met tells course graph state.plan last steps (suc e) in_hand begun.on.planned begun.on.taken (looks_carried tells course graph stays (Some (suc e)) state new last on_new looks))
+            (cut_met tells course graph state.plan last steps (suc e) in_hand begun.on.planned begun.on.taken begun.on.since (looks_carried tells course graph stays (Some (suc e)) state new last on_new looks))
 
         -- as the events show it
         module _ (known seen : List Event) (known_is : known ≡ new.earlier ++ new.events) (seen_is : seen ≡ last.earlier ++ last.events) (same : last.earlier ≡ new.earlier)

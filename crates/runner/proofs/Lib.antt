@@ -23,3 +23,6 @@ pub mod Comparing
 pub mod Recording
 pub mod Onward
 pub mod Refused
+pub mod Loaded
+pub mod After
+pub mod Nothing

@@ -102,7 +102,7 @@ module _ (tells : Bool) (course : Course) (tick : List ℕ) (graph : Graph) (sui
 
   -- a fault behind a call that wrote one of the logs, or before one
   pub cut_in_hand : IsCut tells course graph state.plan now
-  cut_in_hand = cut_met tells course graph state.plan now on.steps (suc e) in_hand on.planned on.taken on.carried
+  cut_in_hand = cut_met tells course graph state.plan now on.steps (suc e) in_hand on.planned on.taken on.since on.carried
 
   -- the logs over the edges that the graph declares
   pub logging_declared : IsLogging tells course.behaviour course.format course.own (declared_by graph).edges on.steps (Some (suc e)) course.store course.entry now state.records.logs
@@ -110,7 +110,7 @@ module _ (tells : Bool) (course : Course) (tick : List ℕ) (graph : Graph) (sui
 
   pub cut_logging : (path : List ℕ) → course.own.files path ≡ true → (new : World) → WritesAt tells path now new
       → IsLoggedStill tells course.behaviour course.format course.own (declared_by graph).edges on.steps (Some (suc e)) course.store course.entry new → IsCut tells course graph state.plan new
-  cut_logging path owned new writes logged = cut_met tells course graph state.plan new on.steps (suc e) in_hand on.planned on.taken
+  cut_logging path owned new writes logged = cut_met tells course graph state.plan new on.steps (suc e) in_hand on.planned on.taken on.since
       (log_carried tells course graph (Some (suc e)) (Some (suc e)) state now new on path owned writes
       (subst (λ (g : BuildGraph). IsLoggedStill tells course.behaviour course.format course.own g.edges on.steps (Some (suc e)) course.store course.entry new) (sym suits.same) logged))
 
@@ -300,7 +300,7 @@ module _ (tells : Bool) (course : Course) (tick : List ℕ) (graph : Graph) (sui
 
     -- its depfile could not be removed
     pub cut_clearing : IsCut tells course graph state.plan gone
-    cut_clearing = cut_free tells course graph state.plan gone steps done.on.planned done.on.taken carried_gone
+    cut_clearing = cut_free tells course graph state.plan gone steps done.on.planned done.on.taken done.on.since carried_gone
 
     module _ (new : World) (removes : WritesAt tells act.response_path gone new) where
       pub removes_it : WritesAt tells (edge_at (edges_of course) job).act.response_path gone new
@@ -343,4 +343,4 @@ module _ (tells : Bool) (course : Course) (tick : List ℕ) (graph : Graph) (sui
       }
 
       pub cut_removing : IsCut tells course graph state.plan new
-      cut_removing = cut_free tells course graph state.plan new steps done.on.planned done.on.taken carried_new
+      cut_removing = cut_free tells course graph state.plan new steps done.on.planned done.on.taken done.on.since carried_new

@@ -111,12 +111,12 @@ AreSeenBefore tells course graph steps state now =
 
 -- ---- where a run stands
 
--- the records in memory, of both logs, are those of the store at the entry, where files are kept
+-- the records in memory, of both logs, are those that the logs told at the entry
 pub record AreTold (tells : Bool) (course : Course) (graph : Graph) (state : State) (now : World) : Type 0 where
   pub records : List Record
   pub deps : List DepsRecord
   pub known : AreKnown graph records deps state.records
-  pub same : IsTrue tells → FilesAreKept course.own (edges_of course) course.entry.history now.history → (course.store.records ≡ records) × (course.store.deps ≡ deps)
+  pub same : (course.store.records ≡ records) × (course.store.deps ≡ deps)
 
 -- each command that runs was started under the stamp that is noted for it
 abbrev pub AreStarted : Course → List Done → State → World → Type 0

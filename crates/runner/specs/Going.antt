@@ -23,7 +23,7 @@ use Rattle.plan.specs.declared.step.Step.{Step}
 use Rattle.plan.specs.declared.step.Step.TheVariants.{Ended as Over}
 use Rattle.plan.specs.declared.plan.Plan.{Plan}
 use Rattle.plan.specs.Planned.{IsPlanned, AreTaken, IsNextOf, IsDueOf}
-use Rattle.runner.specs.Course.{Course, goes_on, Suits, IsOn}
+use Rattle.runner.specs.Course.{Course, goes_on, IsSince, Suits, IsOn}
 use Rattle.runner.specs.Restat.{IsFlagged, IsForgotten}
 use Rattle.runner.specs.declared.turn.Halt.{Halt}
 use Rattle.runner.specs.declared.turn.Halt.TheVariants as halt
@@ -74,12 +74,14 @@ pub record IsInHand (task : Task) (steps : List Done) (i : ℕ) : Type 0 where
   pub stale : has_number (out_of_date_in steps) i ≡ true
   pub taken_in : (has_number (started_in steps) i ≡ false) ⊎ (has_number (ended_in steps) i ≡ true)
 
--- where a fault has left a run, with its plan: `met` is the edge whose start or taking in met it
+-- where a fault has left a run, with its plan: `met` is the edge whose start or taking in met it; where a load was refused before, what
+-- was done since then was that commands were taken in
 pub record IsCut (tells : Bool) (course : Course) (graph : Graph) (plan : Plan) (now : World) : Type 0 where
   pub steps : List Done
   pub met : Option ℕ
   pub planned : IsPlanned (task_of course.asked course.store) graph plan steps
   pub taken : AreTaken (task_of course.asked course.store) steps
+  pub since : IsSince course.refused steps
   pub run : IsRun tells course.own (task_of course.asked course.store) steps course.entry now
   pub cut : IsCutOff tells course.behaviour course.format course.own course.asked course.store course.phases steps met course.entry now
   pub in_hand : (i : ℕ) → met ≡ Some i → IsInHand (task_of course.asked course.store) steps i

@@ -7,3 +7,4 @@ pub mod Starting
 pub mod Ran
 pub mod Cutting
 pub mod Telling
+pub mod After

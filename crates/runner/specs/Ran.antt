@@ -16,7 +16,7 @@ use Rattle.runner.specs.declared.summary.Pause.{Pause}
 use Rattle.runner.specs.declared.summary.Pause.TheVariants.{Load, Ended}
 use Rattle.runner.specs.declared.summary.Summary.{Summary}
 use Rattle.runner.specs.declared.summary.Summary.TheVariants.{Well, Failed}
-use Rattle.runner.specs.Course.{Course, edges_of}
+use Rattle.runner.specs.Course.{Course, edges_of, IsSince}
 use Rattle.runner.specs.Going.{IsInHand, IsAtLoad, IsFinished}
 use Rattle.runner.specs.Removing.{AreRemoved}
 
@@ -32,12 +32,13 @@ EndsRun tells course steps met new (Err cut) = Unit {0}
 
 -- What a run has done at its end: its steps, its verdicts, and what its logs tell, as the theory of builds with logs asks for them;
 -- how that ended, and that no load was refused where it ended by itself; which edge met the fault, if the start or the taking in of one
--- did; and that a run which was not cut off has removed its response files.
+-- did; what was done since a load was refused, if one was; and that a run which was not cut off has removed its response files.
 pub record HasRun (tells : Bool) (course : Course) (new : World) (result : Result Summary Cut) : Type 0 where
   pub steps : List Step
   pub met : Option ℕ
   pub cut : IsCutOff tells course.behaviour course.format course.own course.asked course.store course.phases steps met course.entry new
   pub in_hand : (i : ℕ) → met ≡ Some i → IsInHand (task_of course.asked course.store) steps i
+  pub since : IsSince course.refused steps
   pub ends : EndsRun tells course steps met new result
   pub goes : IfOk result (λ summary. cut.phased.build.taken_in ≡ [])
   pub removed : IfOk result (λ summary. AreRemoved tells course.own (edges_of course) steps None course.entry new)

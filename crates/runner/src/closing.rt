@@ -4,6 +4,7 @@ ghost use Rattle.std.specs.Prelude.{◌≡◌, None, false, IfOk, IfErr, OnOk, O
 ghost use Rattle.model.specs.SingleBuild.{PassesNoFault};
 ghost use Rattle.model.specs.SingleBuild as answer;
 ghost use Rattle.build_theory.specs.Seen.{IsSeen, Unrefused, StartsUnrefused};
+ghost use Rattle.runner.specs.After.{ComesAfter, LooksUnlessMore};
 ghost use Rattle.runner.specs.Course.{Course, goes_on, Suits, IsOn};
 ghost use Rattle.runner.specs.Cut.{fault_of, IsLeft};
 ghost use Rattle.runner.specs.Cutting.{Cuts};
@@ -24,6 +25,8 @@ pub fn finish<S: Site>(site: &mut S, setting: Setting<'_>, state: &mut State<'_>
     requires going { (going : IsGoing S.tells setting.tick.now setting.graph.now state.old (S.world site.old)) × (goes_on going.course ≡ false) }
     requires enough { AreSet setting.graph.now state.old.set.items }
     ensures ran { (course : Course) → Suits course setting.entry.tick.now setting.entry.graph.now → goes_on course ≡ false → IsOn S.tells course setting.entry.graph.now None state.old (S.world site.old) → HasFinished S.tells course setting.entry.graph.now state.new (S.world site.new) result }
+    ensures grows { ComesAfter S.tells (S.world site.old) (S.world site.new) }
+    ensures looked { OnOk result (LooksUnlessMore S.tells setting.entry.graph.now (S.world site.old) (S.world site.new) state.old.looks state.new.looks) }
     ensures calm { IfOk result (λ done. Unrefused (S.world site.old) (S.world site.new)) }
     ensures starts { StartsUnrefused (S.world site.old) (S.world site.new) }
     ensures seen { IfErr result (λ cut. IsSeen (S.world site.old) (S.world site.new) (fault_of cut)) }
@@ -46,6 +49,8 @@ fn take_in_running<S: Site>(
     requires going { (going : IsGoing S.tells setting.tick.now setting.graph.now state.old (S.world site.old)) × (goes_on going.course ≡ false) }
     requires enough { AreSet setting.graph.now state.old.set.items }
     ensures cuts { Cuts (S.world site.old) (S.world site.new) result }
+    ensures grows { ComesAfter S.tells (S.world site.old) (S.world site.new) }
+    ensures looked { OnOk result (LooksUnlessMore S.tells setting.entry.graph.now (S.world site.old) (S.world site.new) state.old.looks state.new.looks) }
     ensures finished { OnOk result ((course : Course) → Suits course setting.entry.tick.now setting.entry.graph.now → goes_on course ≡ false → IsOn S.tells course setting.entry.graph.now None state.old (S.world site.old) → IsFinished S.tells course setting.entry.graph.now state.new (S.world site.new)) }
     ensures cut { OnErr result ((course : Course) → Suits course setting.entry.tick.now setting.entry.graph.now → goes_on course ≡ false → IsOn S.tells course setting.entry.graph.now None state.old (S.world site.old) → IsCut S.tells course setting.entry.graph.now state.new.plan (S.world site.new)) }
 {

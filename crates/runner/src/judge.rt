@@ -1,7 +1,8 @@
 //! Judging an edge.
 
-ghost use Rattle.std.specs.Prelude.{◌≡◌, ◌<◌, ℕ, suc, Bool, None, false, is_some, get_or, OnOk, OnErr};
-ghost use Rattle.model.specs.Calls.{OnlyLooks, HasCause};
+ghost use Rattle.std.specs.Prelude.{◌≡◌, ◌<◌, None, false, is_some, get_or, OnOk, OnErr};
+ghost use Rattle.model.specs.Calls.{HasCause};
+ghost use Rattle.looks.specs.Looking.{HasLooked};
 ghost use Rattle.plan.specs.declared.step.Step.TheVariants as step;
 ghost use Rattle.plan.specs.Planned.{IsOffered, is_stale};
 ghost use Rattle.runner.specs.Course.{Course, Suits, IsOn};
@@ -28,7 +29,7 @@ pub fn judge<S: Site>(
     requires running { (S.world site.old).stopped ≡ false }
     requires going { (going : IsGoing S.tells setting.tick.now setting.graph.now state.old (S.world site.old)) × IsSaid going.course setting.graph.now going.on.steps (step.Judge edge) }
     requires offered { IsOffered state.old.plan (step.Judge edge) }
-    ensures looks { OnlyLooks S.tells (S.world site.old) (S.world site.new) }
+    ensures looked { HasLooked S.tells setting.entry.graph.now (S.world site.old) (S.world site.new) state.old.looks state.new.looks }
     ensures cause { HasCause (S.world site.old) (S.world site.new) result }
     ensures nearer { OnOk result (work_left state.new.plan.standings.items < work_left state.old.plan.standings.items) }
     ensures enough { state.new.set ≡ state.old.set }

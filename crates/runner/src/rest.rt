@@ -7,6 +7,7 @@ ghost use Rattle.model.specs.Calls.{HasCause, is_stop};
 ghost use Rattle.build_theory.specs.Seen.{IsSeen};
 ghost use Rattle.links.specs.declared.graph.Graph.{Graph};
 ghost use Rattle.log_theory.specs.Ledger.{IsCutOff};
+ghost use Rattle.runner.specs.After.{ComesAfter};
 ghost use Rattle.runner.specs.Course.{Course};
 ghost use Rattle.runner.specs.Cut.{fault_of, IsLeft};
 ghost use Rattle.runner.specs.Cutting.{IfWaiting, SomeRuns, SoManyRun, IsStoppedBy, TakesIn};
@@ -26,7 +27,9 @@ pub fn give_up<S: Site>(site: &mut S, plan: &Plan, fault: SiteFault) -> Cut
     ensures ran { (course : Course) (graph : Graph) → IsCut S.tells course graph plan.now (S.world site.old) → HasRun S.tells course (S.world site.new) (Err result) }
     ensures seen { (entry : World) → IsSeen entry (S.world site.old) fault → IsSeen entry (S.world site.new) (fault_of result) }
     ensures left { IsLeft (S.world site.new) result }
+    ensures grows { ComesAfter S.tells (S.world site.old) (S.world site.new) }
     ensures takes_in { TakesIn (S.world site.old) (S.world site.new) result }
+    ensures rest { (course : Course) (steps : List Done) (met : Option ℕ) → IsCutOff S.tells course.behaviour course.format course.own course.asked course.store course.phases steps met course.entry (S.world site.old) → IsCutOff S.tells course.behaviour course.format course.own course.asked course.store course.phases steps met course.entry (S.world site.new) }
 {
     take_in_rest(site, plan.running(), Cut::Other(fault))
 }
@@ -41,6 +44,7 @@ pub fn take_in_rest<S: Site>(site: &mut S, count: usize, cut: Cut) -> Cut
     ensures first { (fault_of result ≡ fault_of cut) ⊎ (fault_of result ≡ SiteFault.Stopped) }
     ensures still { IfWaiting cut (S.world site.new ≡ S.world site.old) }
     ensures left { IsLeft (S.world site.new) result }
+    ensures grows { ComesAfter S.tells (S.world site.old) (S.world site.new) }
     ensures takes_in { TakesIn (S.world site.old) (S.world site.new) result }
     ensures rest { (course : Course) (steps : List Done) (met : Option ℕ) → IsCutOff S.tells course.behaviour course.format course.own course.asked course.store course.phases steps met course.entry (S.world site.old) → IsCutOff S.tells course.behaviour course.format course.own course.asked course.store course.phases steps met course.entry (S.world site.new) }
 {
@@ -59,6 +63,7 @@ fn take_in_all<S: Site>(site: &mut S, count: usize) -> Result<(), SiteFault>
     requires running { (S.world site.old).stopped ≡ false }
     requires many { SoManyRun count (S.world site.old).events }
     ensures cause { HasCause (S.world site.old) (S.world site.new) result }
+    ensures grows { ComesAfter S.tells (S.world site.old) (S.world site.new) }
     ensures at_start { (S.world site.new).failures_at_start ≡ (S.world site.old).failures_at_start }
     ensures runs { OnErr result (SomeRuns (S.world site.new)) }
     ensures idle { OnOk result (IsIdle (S.world site.new).events) }

@@ -1,11 +1,12 @@
 //! Running commands until a plan has ended, or a dyndep file is to be loaded.
 
-ghost use Rattle.std.specs.Prelude.{◌≡◌, Bool, true, false, None, IfOk, IfErr, OnErr, Ok};
+ghost use Rattle.std.specs.Prelude.{◌≡◌, Bool, true, false, None, IfOk, IfErr, OnOk, OnErr, Ok};
 ghost use Rattle.model.specs.World.{World};
 ghost use Rattle.model.specs.SingleBuild.{PassesNoFault};
 ghost use Rattle.model.specs.SingleBuild as answer;
 ghost use Rattle.build_theory.specs.Seen.{IsSeen, Unrefused, StartsUnrefused};
 ghost use Rattle.runner.specs.Cut.{fault_of, IsLeft};
+ghost use Rattle.runner.specs.After.{ComesAfter, LooksUnlessMore};
 ghost use Rattle.runner.specs.Course.{Course, goes_on, Suits, IsOn};
 ghost use Rattle.runner.specs.Going.{IsGoing, IsOver, IsHalted, IsCut, AreSet};
 ghost use Rattle.runner.specs.Ran.{HasRun, HasPaused, AreEdgesOf, IsPauseOf};
@@ -44,6 +45,8 @@ pub fn run_plan<S: Site>(
     requires enough { AreSet setting.graph.now state.old.set.items }
     ensures ran { (course : Course) → Suits course setting.entry.tick.now setting.entry.graph.now → goes_on course ≡ true → IsOn S.tells course setting.entry.graph.now None state.old (S.world site.old) → HasPaused S.tells course setting.entry.graph.now state.new (S.world site.new) result }
     ensures pause { IfOk result (IsPauseOf setting.entry.graph.now) }
+    ensures grows { ComesAfter S.tells (S.world site.old) (S.world site.new) }
+    ensures looked { OnOk result (LooksUnlessMore S.tells setting.entry.graph.now (S.world site.old) (S.world site.new) state.old.looks state.new.looks) }
     ensures set { state.new.set ≡ state.old.set }
     ensures calm { IfOk result (λ pause. Unrefused (S.world site.old) (S.world site.new)) }
     ensures starts { StartsUnrefused (S.world site.old) (S.world site.new) }
@@ -63,6 +66,8 @@ fn run<S: Site>(site: &mut S, setting: Setting<'_>, state: &mut State<'_>) -> Re
     requires going { (going : IsGoing S.tells setting.tick.now setting.graph.now state.old (S.world site.old)) × (goes_on going.course ≡ true) }
     requires enough { AreSet setting.graph.now state.old.set.items }
     ensures cuts { Cuts (S.world site.old) (S.world site.new) result }
+    ensures grows { ComesAfter S.tells (S.world site.old) (S.world site.new) }
+    ensures looked { OnOk result (LooksUnlessMore S.tells setting.entry.graph.now (S.world site.old) (S.world site.new) state.old.looks state.new.looks) }
     ensures set { state.new.set ≡ state.old.set }
     ensures halts { IfOk result (λ halt. (course : Course) → Suits course setting.entry.tick.now setting.entry.graph.now → goes_on course ≡ true → IsOn S.tells course setting.entry.graph.now None state.old (S.world site.old) → IsHalted S.tells course setting.entry.graph.now state.new (S.world site.new) halt) }
     ensures cut { OnErr result ((course : Course) → Suits course setting.entry.tick.now setting.entry.graph.now → goes_on course ≡ true → IsOn S.tells course setting.entry.graph.now None state.old (S.world site.old) → IsCut S.tells course setting.entry.graph.now state.new.plan (S.world site.new)) }
@@ -77,6 +82,7 @@ fn run<S: Site>(site: &mut S, setting: Setting<'_>, state: &mut State<'_>) -> Re
 /// Why a run pauses that takes no step now. At its end the failed edges go to the summary.
 fn paused(alloc: Global, state: &mut State<'_>, halt: Halt) -> Pause
     ensures set { state.new.set ≡ state.old.set }
+    ensures looks { state.new.looks ≡ state.old.looks }
     ensures pauses { (tells : Bool) (course : Course) (graph : Graph) (now : World) → IsHalted tells course graph state.old now halt → HasPaused tells course graph state.new now (Ok result) × IsPauseOf graph result }
 {
     match halt {

@@ -10,6 +10,7 @@ ghost use Rattle.links.specs.Told.{declared_by};
 ghost use Rattle.plan.specs.declared.step.Standing.{Standing};
 ghost use Rattle.plan.specs.declared.step.Step.TheVariants as step;
 ghost use Rattle.plan.specs.Planned.{TakesStep, IsOffered};
+ghost use Rattle.runner.specs.After.{ComesAfter};
 ghost use Rattle.runner.specs.Course.{Course, Suits, IsOn};
 ghost use Rattle.runner.specs.Going.{IsGoing, IsSaid, IsCut, work_left};
 ghost use Rattle.runner.specs.Starting.{IsBegun};
@@ -43,6 +44,8 @@ pub fn start_edge<S: Site>(
     requires offered { IsOffered state.old.plan (step.Start edge) }
     ensures cause { HasCause (S.world site.old) (S.world site.new) result }
     ensures starts { StartsUnrefused (S.world site.old) (S.world site.new) }
+    ensures grows { ComesAfter S.tells (S.world site.old) (S.world site.new) }
+    ensures some { OnOk result ((S.world site.new).events ≡ (S.world site.old).events → ⊥) }
     ensures nearer { OnOk result (work_left state.new.plan.standings.items < work_left state.old.plan.standings.items) }
     ensures set { state.new.set ≡ state.old.set }
     ensures on { OnOk result ((course : Course) → Suits course setting.entry.tick.now setting.entry.graph.now → (on : IsOn S.tells course setting.entry.graph.now None state.old (S.world site.old)) → IsSaid course setting.entry.graph.now on.steps (step.Start edge) → IsOn S.tells course setting.entry.graph.now None state.new (S.world site.new)) }
@@ -86,6 +89,8 @@ fn launch<S: Site>(
     requires offered { IsOffered state.old.plan (step.Start edge) }
     ensures cause { HasCause (S.world site.old) (S.world site.new) result }
     ensures starts { StartsUnrefused (S.world site.old) (S.world site.new) }
+    ensures grows { ComesAfter S.tells (S.world site.old) (S.world site.new) }
+    ensures some { OnOk result ((S.world site.new).events ≡ (S.world site.old).events → ⊥) }
     ensures nearer { OnOk result (work_left state.new.plan.standings.items < work_left state.old.plan.standings.items) }
     ensures set { state.new.set ≡ state.old.set }
     ensures on { OnOk result ((course : Course) → Suits course setting.entry.tick.now setting.entry.graph.now → IsBegun S.tells course setting.entry.graph.now (suc edge) state.old (S.world site.old) → IsOn S.tells course setting.entry.graph.now None state.new (S.world site.new)) }

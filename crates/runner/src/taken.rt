@@ -12,6 +12,7 @@ ghost use Rattle.looks.specs.Seen.{look_at};
 ghost use Rattle.plan.specs.declared.step.Standing.{Standing};
 ghost use Rattle.plan.specs.Standing.{standing_at};
 ghost use Rattle.plan.specs.Planned.{IsPlanOver, TakesStep};
+ghost use Rattle.runner.specs.After.{ComesAfter};
 ghost use Rattle.runner.specs.Course.{Course, Suits, IsOn};
 ghost use Rattle.runner.specs.Going.{IsGoing, MayTakeIn, IsCut, AreSet, IsSameBeside, HasEnded, failed_after, work_left};
 ghost use Rattle.runner.specs.Removing.{EndsByRemoving};
@@ -47,6 +48,8 @@ pub fn take_in<S: Site>(
     requires waits { (going : IsGoing S.tells setting.tick.now setting.graph.now state.old (S.world site.old)) × MayTakeIn going.course going.on.steps }
     requires enough { AreSet setting.graph.now state.old.set.items }
     ensures cuts { Cuts (S.world site.old) (S.world site.new) result }
+    ensures grows { ComesAfter S.tells (S.world site.old) (S.world site.new) }
+    ensures some { OnOk result ((S.world site.new).events ≡ (S.world site.old).events → ⊥) }
     ensures of_wait { IfErr result (IsOfWait (S.world site.old) (S.world site.new)) }
     ensures nearer { OnOk result (work_left state.new.plan.standings.items < work_left state.old.plan.standings.items) }
     ensures set { state.new.set ≡ state.old.set }
@@ -82,6 +85,7 @@ fn take_in_told<S: Site>(
     requires ending { (course : Course) × Suits course setting.tick.now setting.graph.now × IsEnding S.tells course setting.graph.now (suc edge) finished.ok told state.old (S.world site.old) }
     requires enough { AreSet setting.graph.now state.old.set.items }
     ensures cuts { Cuts (S.world site.old) (S.world site.new) result }
+    ensures grows { ComesAfter S.tells (S.world site.old) (S.world site.new) }
     ensures events { (S.world site.new).events ≡ (S.world site.old).events }
     ensures of_wait { IfErr result (λ cut. IfWaiting cut ⊥) }
     ensures nearer { OnOk result (work_left state.new.plan.standings.items < work_left state.old.plan.standings.items) }
@@ -236,6 +240,7 @@ fn record_end<S: Site>(
     requires running { (S.world site.old).stopped ≡ false }
     requires taken_in { (course : Course) × Suits course setting.tick.now setting.graph.now × IsTakenIn S.tells course setting.graph.now (suc edge) (get_or state.old.starts.items edge 0) ok told.now state.old (S.world site.old) }
     ensures cause { HasCause (S.world site.old) (S.world site.new) result }
+    ensures grows { ComesAfter S.tells (S.world site.old) (S.world site.new) }
     ensures events { (S.world site.new).events ≡ (S.world site.old).events }
     ensures at_start { (S.world site.new).failures_at_start ≡ (S.world site.old).failures_at_start }
     ensures plan { state.new.plan ≡ state.old.plan }

@@ -1,14 +1,10 @@
 //! One turn of a run.
 
-ghost use Rattle.std.specs.Prelude.{◌≡◌, ◌<◌, ℕ, suc, None, true, false, length, vec_len, IfOk, IfErr, OnOk, OnErr, MatchOption};
-ghost use Rattle.model.specs.World.{World};
-ghost use Rattle.links.specs.declared.graph.Graph.{Graph};
-ghost use Rattle.model.specs.SingleBuild.{task_of};
-ghost use Rattle.plan.specs.declared.step.Step.TheVariants as step;
-ghost use Rattle.plan.specs.Planned.{IsNextOf};
+ghost use Rattle.std.specs.Prelude.{◌≡◌, ◌<◌, None, true, false, IfOk, OnOk, OnErr, MatchOption};
+ghost use Rattle.runner.specs.After.{ComesAfter, LooksUnlessMore};
 ghost use Rattle.runner.specs.Course.{Course, goes_on, Suits, IsOn};
 ghost use Rattle.runner.specs.Going.{IsGoing, IsHalted, IsCut, AreSet, work_left};
-ghost use Rattle.runner.specs.Cutting.{Cuts, IsOfWait};
+ghost use Rattle.runner.specs.Cutting.{Cuts};
 
 use crate::cut::Cut;
 use crate::judge::judge;
@@ -39,6 +35,8 @@ pub fn go_on<S: Site>(
     requires going { (going : IsGoing S.tells setting.tick.now setting.graph.now state.old (S.world site.old)) × (goes_on going.course ≡ true) }
     requires enough { AreSet setting.graph.now state.old.set.items }
     ensures cuts { Cuts (S.world site.old) (S.world site.new) result }
+    ensures grows { ComesAfter S.tells (S.world site.old) (S.world site.new) }
+    ensures looked { OnOk result (LooksUnlessMore S.tells setting.entry.graph.now (S.world site.old) (S.world site.new) state.old.looks state.new.looks) }
     ensures nearer { IfOk result (λ halt. MatchOption halt (work_left state.new.plan.standings.items < work_left state.old.plan.standings.items) (λ halt. Unit {0})) }
     ensures set { state.new.set ≡ state.old.set }
     ensures on { IfOk result (λ halt. (course : Course) → Suits course setting.entry.tick.now setting.entry.graph.now → goes_on course ≡ true → IsOn S.tells course setting.entry.graph.now None state.old (S.world site.old) → MatchOption halt (IsOn S.tells course setting.entry.graph.now None state.new (S.world site.new)) (IsHalted S.tells course setting.entry.graph.now state.new (S.world site.new))) }

@@ -8,6 +8,7 @@ ghost use Rattle.scripts.specs.Script.{GoesOn, BuildsAlone};
 use builder::{Options, Report, build};
 use depfile::has_reading;
 use deps_log::has_format;
+use dyndep_law::has_reading as has_dyndeps;
 use sim::{Call, Order, Sim, Timing, Toy};
 use site::{Event, Site};
 use std::alloc::{AllocError, Global};
@@ -114,6 +115,7 @@ fn build_alone(alloc: Global, site: &mut Sim<Toy>, options: &Options, targets: &
 {
     has_format();
     has_reading();
+    has_dyndeps();
     let report = build(alloc, site, options, targets);
     go_on(site, &report);
     site.forget_faults();

@@ -1,5 +1,6 @@
 //! What a clean build of the files of a site gives.
 
+use crate::grown::grow;
 use crate::made_up::Source;
 use clean::{NoDepfiles, clean_build};
 use manifest::read;
@@ -8,7 +9,7 @@ use sim::{History, Sim, Toy};
 use std::alloc::{AllocError, Global};
 use text::{Bytes, Path};
 
-/// What the build file of a site declares, and what a clean build leaves.
+/// What the build file of a site declares, with what its dyndep files add, and what a clean build leaves.
 #[derive(Drop)]
 pub struct Clean {
     graph: BuildGraph,
@@ -16,7 +17,8 @@ pub struct Clean {
 }
 
 impl Clean {
-    /// The clean build from what the paths of the histories hold, unless the build file cannot be read.
+    /// The clean build from what the paths of the histories hold, unless the build file cannot be read. Dyndep files are taken as they
+    /// are.
     pub fn of(
         alloc: Global,
         site: &mut Sim<Toy>,
@@ -74,10 +76,14 @@ impl Clean {
     }
 }
 
-/// The build graph of the site's build file.
+/// The build graph of the site's build file, with what its dyndep files add.
 fn declared(alloc: Global, site: &mut Sim<Toy>) -> Result<Option<BuildGraph>, AllocError> {
     match read(alloc, site, "build.ninja") {
-        Ok(manifest) => Ok(Some(manifest.texts(alloc)?)),
+        Ok(manifest) => {
+            let mut graph = manifest.texts(alloc)?;
+            grow(alloc, site, &mut graph)?;
+            Ok(Some(graph))
+        }
         Err(_) => Ok(None),
     }
 }

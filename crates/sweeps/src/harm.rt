@@ -1,6 +1,6 @@
 //! What is done to the files of a history between builds.
 
-use crate::made_up::Source;
+use crate::made_up::{Source, dyndep_in};
 use crate::random::Random;
 use sim::{Sim, Toy};
 use std::alloc::{AllocError, Global};
@@ -25,16 +25,20 @@ const DEPS_LOG: Log = Log {
     begun: b"r\t1\tb",
 };
 
-/// A source is written or deleted. One whose name begins with `u` names what commands read that scan it.
+/// A source is written or deleted, beside the build file of this line.
 pub fn edit(
     alloc: Global,
     site: &mut Sim<Toy>,
     source: Source<'_>,
+    graph: &str,
     random: &mut Random,
 ) -> Result<(), AllocError> {
     let path = random.part(source.sources, ' ');
     if random.one_in(5) {
         return site.erase(path);
+    }
+    if path.starts_with('y') {
+        return site.put(path, &dyndep_in(alloc, graph, path)?);
     }
     let text = if path.starts_with('u') {
         let (first, second) = (

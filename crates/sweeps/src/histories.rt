@@ -3,11 +3,10 @@
 use crate::clean_build::Clean;
 use crate::ends::is_success;
 use crate::harm::{edit, harm};
-use crate::made_up::Source;
+use crate::made_up::{Source, dyndep_in, edges_in};
 use crate::moves::{build_alone, options, put_edges, start_again, targets};
 use crate::places::CALLS;
 use crate::random::Random;
-use crate::rows::cut;
 use builder::{Options, Report};
 use sim::{Call, Order, Sim, Timing, Toy};
 use site::Site;
@@ -44,7 +43,7 @@ struct Trial<'a> {
 }
 
 /// A success leaves what a clean build gives, and behind it nothing is to be done; where a command failed, the clean build
-/// lacks something; a refusal started nothing. Each history has the next seed.
+/// lacks something; a refusal started nothing, where there are no dyndep files. Each history has the next seed.
 pub fn try_histories<W: Write>(
     alloc: Global,
     source: Source<'_>,
@@ -111,16 +110,22 @@ impl<'a> Trial<'a> {
         Ok(())
     }
 
-    /// Another build file, or the same one again.
+    /// Another build file, or the same one again, with its dyndep files.
     fn put_graph(&mut self, site: &mut Sim<Toy>) -> Result<(), AllocError> {
         self.graph = self.random.part(self.source.graphs, '\n');
-        put_edges(self.alloc, site, cut(self.graph).1)
+        put_edges(self.alloc, site, edges_in(self.graph))?;
+        for path in self.source.sources.split(' ') {
+            if path.starts_with('y') {
+                site.put(path, &dyndep_in(self.alloc, self.graph, path)?)?;
+            }
+        }
+        Ok(())
     }
 
     fn make_move(&mut self, site: &mut Sim<Toy>) -> io::Result<()> {
         start_again(site);
         match self.random.below(10) {
-            0 | 1 | 2 => edit(self.alloc, site, self.source, &mut self.random)?,
+            0 | 1 | 2 => edit(self.alloc, site, self.source, self.graph, &mut self.random)?,
             3 => self.put_graph(site)?,
             4 => harm(self.alloc, site, self.source, &mut self.random)?,
             _ => self.build(site)?,
@@ -175,7 +180,7 @@ impl<'a> Trial<'a> {
         let is_right = match report {
             Report::Success { .. } => self.is_clean(site, target)?,
             Report::Failed { .. } => self.lacks_output(site)?,
-            Report::Refused(_) => !started,
+            Report::Refused(_) => !started || self.graph.contains('@'),
             Report::Fault(_) => true,
         };
         if !is_right {

@@ -9,6 +9,7 @@
 mod clean_build;
 mod driven;
 mod ends;
+mod grown;
 mod harm;
 mod histories;
 mod made_up;

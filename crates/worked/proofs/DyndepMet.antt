@@ -170,11 +170,11 @@ success = record {
       named = (refl, tt);
       no_cycle = λ i within. no_cycle i;
       sources = λ told kept. (
-        λ loads at point. record {
+        λ loads apart at point. record {
           of_targets = (made_here (declared (codes "a")) at (codes "o") 2 refl, tt);
           of_edges = λ i due. declared_there at (there_at (codes "a") [] at point a_there refl) (there_at (codes "dd.src") [] at point src_there refl) i;
         },
-        λ loads at point. record {
+        λ loads apart at point. record {
           of_targets = (made_here (grown (codes "a")) at (codes "o") 2 refl, tt);
           of_edges = λ i due. grown_there at (there_at (codes "a") first_phase at point a_there refl) (there_at (codes "dd.src") first_phase at point src_there refl) i;
         },
@@ -221,11 +221,11 @@ again = record {
       named = (refl, tt);
       no_cycle = λ i within. no_cycle i;
       sources = λ told kept. (
-        λ loads at point. record {
+        λ loads apart at point. record {
           of_targets = (made_here (declared (codes "a")) at (codes "o") 2 refl, tt);
           of_edges = λ i due. declared_there at (there_again (codes "a") [] at refl point a_there) (there_again (codes "dd.src") [] at refl point src_there) i;
         },
-        λ loads at point. record {
+        λ loads apart at point. record {
           of_targets = (made_here (grown (codes "a")) at (codes "o") 2 refl, tt);
           of_edges = λ i due. grown_there at (there_again (codes "a") clean_first at refl point a_there) (there_again (codes "dd.src") clean_first at refl point src_there) i;
         },

@@ -1,6 +1,7 @@
-use Rattle.std.proofs.Common.{ℕ, ◌+◌, length, ap, subst, arith}
-use Rattle.builder.specs.Recorded.{AreJoined, texts_of}
-use Rattle.builder.proofs.Joining.{joined_none, numbered_none, known_more, has_joined}
+use Rattle.std.proofs.Common.{◌≡◌, ℕ, length, ap, subst, arith}
+use Rattle.links.specs.Held.{list_at}
+use Rattle.builder.specs.Recorded.{IsJoined, MayBeJoined, texts_of}
+use Rattle.builder.proofs.Joining.{joined_none, joined_next, may_be_first, numbered_none, known_more, has_joined}
 use Rattle.builder.proofs.Numbering.{more_none, more_then}
 use Rattle.builder.proofs.recorded.join_recorded.Goals as goal
 
@@ -27,8 +28,11 @@ loop-place-preserved c =
       grown = more_then first now new c.loop-place.invariant.grown c.in_ok-join_edge.ensures.grown;
       numbered = c.in_ok-join_edge.ensures.numbered;
       joined = λ rs ds known none.
-          subst (λ (e : ℕ). AreJoined now rs ds e → AreJoined new rs ds (e + 1)) c.edge-edge.ensures (c.in_ok-join_edge.ensures.joined rs ds (known_more first now c.loop-place.invariant.grown rs ds c.args.records.now known))
-          (c.loop-place.invariant.joined rs ds known none);
+          let so_far = c.loop-place.invariant.joined rs ds known none in
+          joined_next now new rs ds c.loop-place.place so_far c.in_ok-join_edge.ensures.grown
+          (subst (λ (d : ℕ). (e : ℕ) → (e ≡ d → ⊥) → list_at new.recorded e ≡ list_at now.recorded e) c.edge-edge.ensures c.in_ok-join_edge.ensures.others)
+          (subst (λ (d : ℕ). MayBeJoined now rs ds d → IsJoined new rs ds d) c.edge-edge.ensures (c.in_ok-join_edge.ensures.joined rs ds (known_more first now c.loop-place.invariant.grown rs ds c.args.records.now known))
+          (may_be_first now rs ds c.loop-place.place so_far));
     }
 
 pub returns : goal.returns

@@ -1,7 +1,6 @@
 use Rattle.std.proofs.Common.{List, ℕ, Option, None, get_or, ◌∷◌, [], ◌++◌, sym, ◌∙◌, ap, Bor}
 use Rattle.std.specs.Option.{option_map}
 use Rattle.build_log.specs.Kept.{if_some}
-use Rattle.paths.specs.Told.{text_at}
 use Rattle.builder.specs.Recorded.{texts_of}
 use Rattle.builder.proofs.Numbering.{just_more, just_push, just_is}
 use Rattle.builder.proofs.recorded.push_input.Goals as goal

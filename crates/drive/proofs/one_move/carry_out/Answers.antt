@@ -15,4 +15,4 @@ returns-in-Delete-clause-carried g c =
 pub returns-in-Build-clause-carried : goal.returns-in-Build-clause-carried
 returns-in-Build-clause-carried g c =
     build_carried g.S.Texts.tells g.S.Site.outcome c.args.options.now.file (limits_of c.args.options.now) c.args.reports.now.items (g.S.Texts.world c.args.site.now) (g.S.Texts.world c.build_next.new.site)
-    c.args.step.now c.in-Build.targets c.in-Build.is c.requires.idle c.has_format.ensures c.has_reading.ensures c.build_next.result c.build_next.new.reports.items c.build_next.ensures.reported
+    c.args.step.now c.in-Build.targets c.in-Build.is c.requires.idle c.has_format.ensures c.has_reading.ensures c.has_reading-in-Build.ensures c.build_next.result c.build_next.new.reports.items c.build_next.ensures.reported

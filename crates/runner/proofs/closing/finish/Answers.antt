@@ -2,6 +2,7 @@ use Rattle.model.specs.SingleBuild.{task_of}
 use Rattle.runner.proofs.Counting.{many_by_steps}
 use Rattle.runner.proofs.Cutting.{starts_cut}
 use Rattle.runner.proofs.Ends.{ran_cut}
+use Rattle.runner.proofs.After.{after_then}
 use Rattle.runner.proofs.closing.finish.Goals as goal
 
 pub take_in_rest-requires-clause-many : goal.take_in_rest-requires-clause-many
@@ -19,3 +20,6 @@ returns-in-Err-clause-ran g c course suits ends on =
 pub returns-in-Err-clause-starts : goal.returns-in-Err-clause-starts
 returns-in-Err-clause-starts g c =
     starts_cut (g.S.Texts.world c.args.site.now) (g.S.Texts.world c.take_in_running.new.site) (g.S.Texts.world c.take_in_rest.new.site) c.take_in_rest.result c.in-Err.ensures.cuts.starts c.take_in_rest.ensures.takes_in
+
+pub returns-in-Err-clause-grows : goal.returns-in-Err-clause-grows
+returns-in-Err-clause-grows g c = after_then g.S.Texts.tells (g.S.Texts.world c.args.site.now) (g.S.Texts.world c.take_in_running.new.site) (g.S.Texts.world c.take_in_rest.new.site) c.take_in_running.ensures.grows c.take_in_rest.ensures.grows

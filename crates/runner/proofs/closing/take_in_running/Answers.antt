@@ -1,9 +1,25 @@
-use Rattle.std.proofs.Common.{inl, inr, ◌∙◌}
+use Rattle.std.proofs.Common.{◌∙◌}
 use Rattle.model.specs.SingleBuild.{task_of}
 use Rattle.build_theory.proofs.Calls.{unrefused_call, unrefused_then}
+use Rattle.runner.proofs.Cutting.{starts_then}
 use Rattle.runner.proofs.Onward.{may_finish, none_runs}
 use Rattle.runner.proofs.Results.{on_err}
+use Rattle.runner.proofs.After.{after_then, some_after}
 use Rattle.runner.proofs.closing.take_in_running.Goals as goal
+
+pub run-preserved : goal.run-preserved
+run-preserved g c = record {
+  unrefused = unrefused_then (g.S.Texts.world c.args.site.now) (g.S.Texts.world c.run.site) (g.S.Texts.world c.take_in.new.site) c.run.invariant.unrefused
+      (unrefused_call (g.S.Texts.world c.run.site) (g.S.Texts.world c.take_in.new.site) _ c.in_ok-take_in.ensures.cuts.cause);
+  starts = starts_then (g.S.Texts.world c.args.site.now) (g.S.Texts.world c.run.site) (g.S.Texts.world c.take_in.new.site) c.run.invariant.unrefused c.run.invariant.starts c.in_ok-take_in.ensures.cuts.starts;
+  set = c.take_in.ensures.set ∙ c.run.invariant.set;
+  grows = after_then g.S.Texts.tells (g.S.Texts.world c.args.site.now) (g.S.Texts.world c.run.site) (g.S.Texts.world c.take_in.new.site) c.run.invariant.grows c.take_in.ensures.grows;
+  looked = λ same. absurd (some_after g.S.Texts.tells (g.S.Texts.world c.args.site.now) (g.S.Texts.world c.run.site) (g.S.Texts.world c.take_in.new.site) c.run.invariant.grows c.in_ok-take_in.ensures.some c.take_in.ensures.grows same);
+  on = λ course suits ends was.
+      let on = c.run.invariant.on course suits ends was in
+      c.in_ok-take_in.ensures.on course suits on
+      (may_finish course on.steps c.running.result ends (c.running.ensures.steps (task_of course.asked course.store) c.args.setting.graph.now on.steps on.planned on.taken) c.run-test.true);
+}
 
 pub take_in-requires-clause-waits : goal.take_in-requires-clause-waits
 take_in-requires-clause-waits g c =
@@ -24,22 +40,5 @@ returns-clause-finished g c course suits ends was =
     let on = c.run.invariant.on course suits ends was in
     record { on = on; none = none_runs on.steps c.running.result (c.running.ensures.steps (task_of course.asked course.store) c.args.setting.graph.now on.steps on.planned on.taken) c.run-test.false }
 
-pub run-preserved : goal.run-preserved
-run-preserved g c =
-    let old = g.S.Texts.world c.args.site.now in
-    let mid = g.S.Texts.world c.run.site in
-    let new = g.S.Texts.world c.take_in.new.site in
-    let was = c.run.invariant in
-    let took = c.in_ok-take_in.ensures in
-    record {
-      unrefused = unrefused_then old mid new was.unrefused (unrefused_call mid new _ took.cuts.cause);
-      starts = elim took.cuts.starts [
-        | inl none ↦ elim was.starts [ inl before ↦ inl (none ∙ before) | inr before ↦ inr (none ∙ before) ]
-        | inr some ↦ inr (some ∙ was.unrefused.failures)
-      ];
-      set = took.set ∙ was.set;
-      on = λ course suits ends began.
-          let on = was.on course suits ends began in
-          took.on course suits on
-          (may_finish course on.steps c.running.result ends (c.running.ensures.steps (task_of course.asked course.store) c.args.setting.graph.now on.steps on.planned on.taken) c.run-test.true);
-    }
+pub returns-in_err-take_in-clause-grows : goal.returns-in_err-take_in-clause-grows
+returns-in_err-take_in-clause-grows g c = after_then g.S.Texts.tells (g.S.Texts.world c.args.site.now) (g.S.Texts.world c.run.site) (g.S.Texts.world c.take_in.new.site) c.run.invariant.grows c.take_in.ensures.grows

@@ -1,9 +1,9 @@
 use Rattle.std.proofs.Common.{suc, true, List, Bool, subst}
 use Rattle.model.specs.declared.record.Record.{Record}
 use Rattle.model.specs.declared.record.DepsRecord.{DepsRecord}
-use Rattle.build_theory.proofs.Calls.{looks_then}
 use Rattle.links.specs.Told.{declared_by}
 use Rattle.looks.specs.Seen.{IfKept}
+use Rattle.looks.proofs.Stays.{looked_then}
 use Rattle.plan.specs.Planned.{is_stale}
 use Rattle.records.specs.Known.{AreKnown}
 use Rattle.verdict.specs.Judged.{IsAnswer, KeepsDepfile}
@@ -17,11 +17,11 @@ reason-requires-clause-command g c =
     let going = c.requires.going.0 in
     judged_command going.course c.args.setting.graph.now c.args.setting.tick.now going.suits c.args.edge (c.requires.going.1.lawful true).0.command
 
-pub returns-in_err-reason-clause-looks : goal.returns-in_err-reason-clause-looks
-returns-in_err-reason-clause-looks g c = looks_then g.S.Texts.tells (g.S.Texts.world c.args.site.now) (g.S.Texts.world c.ask_before.new.site) (g.S.Texts.world c.reason.new.site) c.ask_before.ensures.looked.looks c.reason.ensures.looked.looks
+pub returns-in_err-reason-clause-looked : goal.returns-in_err-reason-clause-looked
+returns-in_err-reason-clause-looked g c = looked_then g.S.Texts.tells c.args.setting.graph.now (g.S.Texts.world c.args.site.now) (g.S.Texts.world c.ask_before.new.site) (g.S.Texts.world c.reason.new.site) c.args.state.now.looks c.ask_before.new.looks c.reason.new.looks c.ask_before.ensures.looked c.reason.ensures.looked
 
-pub returns-clause-looks : goal.returns-clause-looks
-returns-clause-looks g c = looks_then g.S.Texts.tells (g.S.Texts.world c.args.site.now) (g.S.Texts.world c.ask_before.new.site) (g.S.Texts.world c.reason.new.site) c.ask_before.ensures.looked.looks c.reason.ensures.looked.looks
+pub returns-clause-looked : goal.returns-clause-looked
+returns-clause-looked g c = looked_then g.S.Texts.tells c.args.setting.graph.now (g.S.Texts.world c.args.site.now) (g.S.Texts.world c.ask_before.new.site) (g.S.Texts.world c.reason.new.site) c.args.state.now.looks c.ask_before.new.looks c.reason.new.looks c.ask_before.ensures.looked c.reason.ensures.looked
 
 pub returns-clause-nearer : goal.returns-clause-nearer
 returns-clause-nearer g c = judged_less c.args.state.now.plan c.judged.new.self.standings.items c.args.edge c.verdict_of-verdict.result c.requires.offered c.judged.ensures.stands

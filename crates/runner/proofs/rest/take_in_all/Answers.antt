@@ -4,6 +4,7 @@ use Rattle.log_theory.proofs.Ledger.{cut_looks, cut_finishes}
 use Rattle.runner.proofs.Counting.{some_of_many, many_less}
 use Rattle.runner.proofs.Cutting.{some_still}
 use Rattle.runner.proofs.Results.{on_err}
+use Rattle.runner.proofs.After.{after_then, after_finish, after_looks}
 use Rattle.runner.proofs.rest.take_in_all.Goals as goal
 
 pub wait_any-requires : goal.wait_any-requires
@@ -23,8 +24,12 @@ pub rest-preserved : goal.rest-preserved
 rest-preserved g c = record {
   many = many_less g.S.Texts.tells c.rest.left (g.S.Texts.world c.rest.site) (g.S.Texts.world c.wait_any.new.self) c.in_ok-wait_any.field-0.job c.in_ok-wait_any.field-0.ok c.rest.invariant.many c.in_ok-wait_any.ensures.finishes;
   unrefused = unrefused_then (g.S.Texts.world c.args.site.now) (g.S.Texts.world c.rest.site) (g.S.Texts.world c.wait_any.new.self) c.rest.invariant.unrefused (unrefused_call (g.S.Texts.world c.rest.site) (g.S.Texts.world c.wait_any.new.self) _ c.in_ok-wait_any.ensures.cause);
+  grows = after_then g.S.Texts.tells (g.S.Texts.world c.args.site.now) (g.S.Texts.world c.rest.site) (g.S.Texts.world c.wait_any.new.self) c.rest.invariant.grows (after_finish g.S.Texts.tells c.in_ok-wait_any.field-0.job c.in_ok-wait_any.field-0.ok (g.S.Texts.world c.rest.site) (g.S.Texts.world c.wait_any.new.self) c.in_ok-wait_any.ensures.finishes);
   at_start = c.in_ok-wait_any.ensures.finishes.at_start ∙ c.rest.invariant.at_start;
   rest = λ course steps met cut.
       cut_finishes g.S.Texts.tells course.behaviour course.format course.own course.asked course.store course.entry course.phases steps met (g.S.Texts.world c.rest.site) (g.S.Texts.world c.wait_any.new.self) c.in_ok-wait_any.field-0.job c.in_ok-wait_any.field-0.ok c.in_ok-wait_any.ensures.finishes
       (c.rest.invariant.rest course steps met cut);
 }
+
+pub returns-in_err-wait_any-clause-grows : goal.returns-in_err-wait_any-clause-grows
+returns-in_err-wait_any-clause-grows g c = after_then g.S.Texts.tells (g.S.Texts.world c.args.site.now) (g.S.Texts.world c.rest.site) (g.S.Texts.world c.wait_any.new.self) c.rest.invariant.grows (after_looks g.S.Texts.tells (g.S.Texts.world c.rest.site) (g.S.Texts.world c.wait_any.new.self) c.in_err-wait_any.ensures.err)

@@ -2,6 +2,7 @@ use Rattle.std.proofs.Common.{◌≡◌, ℕ, List, Option}
 use Rattle.model.specs.Schedule.{Step as Done}
 use Rattle.build_theory.specs.Seen.{Unrefused}
 use Rattle.log_theory.specs.Ledger.{IsCutOff}
+use Rattle.runner.specs.After.{ComesAfter}
 use Rattle.runner.specs.Course.{Course}
 use Rattle.runner.specs.Cutting.{SoManyRun}
 use Rattle.runner.proofs.rest.take_in_all.Given as goal
@@ -10,6 +11,7 @@ abbrev pub invariant-rest : goal.invariant-rest
 invariant-rest g l = record {
   many : SoManyRun l.left (g.S.Texts.world l.site).events;
   unrefused : Unrefused (g.S.Texts.world l.fn.site) (g.S.Texts.world l.site);
+  grows : ComesAfter g.S.Texts.tells (g.S.Texts.world l.fn.site) (g.S.Texts.world l.site);
   at_start : (g.S.Texts.world l.site).failures_at_start ≡ (g.S.Texts.world l.fn.site).failures_at_start;
   rest : (course : Course) (steps : List Done) (met : Option ℕ) → IsCutOff g.S.Texts.tells course.behaviour course.format course.own course.asked course.store course.phases steps met course.entry (g.S.Texts.world l.fn.site)
       → IsCutOff g.S.Texts.tells course.behaviour course.format course.own course.asked course.store course.phases steps met course.entry (g.S.Texts.world l.site);

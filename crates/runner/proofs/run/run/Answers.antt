@@ -1,7 +1,11 @@
-use Rattle.std.proofs.Common.{None}
+use Rattle.std.proofs.Common.{None, ◌∙◌}
 use Rattle.runner.specs.Course.{IsOn}
 use Rattle.runner.specs.Going.{IsHalted}
 use Rattle.runner.proofs.Results.{some_of, on_err}
+use Rattle.runner.proofs.Nothing.{none_of}
+use Rattle.runner.proofs.After.{after_then, looks_then_looks}
+use Rattle.build_theory.proofs.Calls.{unrefused_call, unrefused_then}
+use Rattle.runner.proofs.Cutting.{starts_then}
 use Rattle.runner.proofs.run.run.Goals as goal
 
 pub go_on-requires-clause-going : goal.go_on-requires-clause-going
@@ -17,3 +21,24 @@ returns-in-Some-clause-halts g c course suits goes on =
     some_of c.in_ok-halt.field-0 c.in-Some.halt (IsOn g.S.Texts.tells course c.args.setting.graph.now None c.go_on.new.state (g.S.Texts.world c.go_on.new.site))
     (IsHalted g.S.Texts.tells course c.args.setting.graph.now c.go_on.new.state (g.S.Texts.world c.go_on.new.site)) c.in-Some.is
     (c.in_ok-halt.ensures.on course suits goes (c.run.invariant.on course suits goes on))
+
+pub returns-in_err-halt-clause-grows : goal.returns-in_err-halt-clause-grows
+returns-in_err-halt-clause-grows g c = after_then g.S.Texts.tells (g.S.Texts.world c.args.site.now) (g.S.Texts.world c.run.site) (g.S.Texts.world c.go_on.new.site) c.run.invariant.grows c.go_on.ensures.grows
+
+pub returns-in-Some-clause-grows : goal.returns-in-Some-clause-grows
+returns-in-Some-clause-grows g c = after_then g.S.Texts.tells (g.S.Texts.world c.args.site.now) (g.S.Texts.world c.run.site) (g.S.Texts.world c.go_on.new.site) c.run.invariant.grows c.go_on.ensures.grows
+
+pub returns-in-Some-clause-looked : goal.returns-in-Some-clause-looked
+returns-in-Some-clause-looked g c = looks_then_looks g.S.Texts.tells c.args.setting.graph.now (g.S.Texts.world c.args.site.now) (g.S.Texts.world c.run.site) (g.S.Texts.world c.go_on.new.site) c.args.state.now.looks c.run.state.looks c.go_on.new.state.looks c.run.invariant.grows c.go_on.ensures.grows c.run.invariant.looked c.in_ok-halt.ensures.looked
+
+pub run-preserved : goal.run-preserved
+run-preserved g c = record {
+  unrefused = unrefused_then (g.S.Texts.world c.args.site.now) (g.S.Texts.world c.run.site) (g.S.Texts.world c.go_on.new.site) c.run.invariant.unrefused (unrefused_call (g.S.Texts.world c.run.site) (g.S.Texts.world c.go_on.new.site) _ c.in_ok-halt.ensures.cuts.cause);
+  starts = starts_then (g.S.Texts.world c.args.site.now) (g.S.Texts.world c.run.site) (g.S.Texts.world c.go_on.new.site) c.run.invariant.unrefused c.run.invariant.starts c.in_ok-halt.ensures.cuts.starts;
+  set = c.go_on.ensures.set ∙ c.run.invariant.set;
+  grows = after_then g.S.Texts.tells (g.S.Texts.world c.args.site.now) (g.S.Texts.world c.run.site) (g.S.Texts.world c.go_on.new.site) c.run.invariant.grows c.go_on.ensures.grows;
+  looked = looks_then_looks g.S.Texts.tells c.args.setting.graph.now (g.S.Texts.world c.args.site.now) (g.S.Texts.world c.run.site) (g.S.Texts.world c.go_on.new.site) c.args.state.now.looks c.run.state.looks c.go_on.new.state.looks c.run.invariant.grows c.go_on.ensures.grows c.run.invariant.looked c.in_ok-halt.ensures.looked;
+  on = λ course suits goes was.
+      none_of c.in_ok-halt.field-0 (IsOn g.S.Texts.tells course c.args.setting.graph.now None c.go_on.new.state (g.S.Texts.world c.go_on.new.site)) (IsHalted g.S.Texts.tells course c.args.setting.graph.now c.go_on.new.state (g.S.Texts.world c.go_on.new.site)) c.in_default.is
+      (c.in_ok-halt.ensures.on course suits goes (c.run.invariant.on course suits goes was));
+}

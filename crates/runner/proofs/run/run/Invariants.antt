@@ -1,5 +1,6 @@
 use Rattle.std.proofs.Common.{◌≡◌, true, None}
 use Rattle.build_theory.specs.Seen.{Unrefused, StartsUnrefused}
+use Rattle.runner.specs.After.{ComesAfter, LooksUnlessMore}
 use Rattle.runner.specs.Course.{Course, goes_on, Suits, IsOn}
 use Rattle.runner.specs.Going.{work_left}
 use Rattle.runner.proofs.run.run.Given as goal
@@ -9,6 +10,8 @@ invariant-run g l = record {
   unrefused : Unrefused (g.S.Texts.world l.fn.site) (g.S.Texts.world l.site);
   starts : StartsUnrefused (g.S.Texts.world l.fn.site) (g.S.Texts.world l.site);
   set : l.state.set ≡ l.fn.state.set;
+  grows : ComesAfter g.S.Texts.tells (g.S.Texts.world l.fn.site) (g.S.Texts.world l.site);
+  looked : LooksUnlessMore g.S.Texts.tells l.setting.graph.now (g.S.Texts.world l.fn.site) (g.S.Texts.world l.site) l.fn.state.looks l.state.looks;
   on : (course : Course) → Suits course l.setting.tick.now l.setting.graph.now → goes_on course ≡ true → IsOn g.S.Texts.tells course l.setting.graph.now None l.fn.state (g.S.Texts.world l.fn.site) → IsOn g.S.Texts.tells course l.setting.graph.now None l.state (g.S.Texts.world l.site);
 }
 

@@ -2,6 +2,10 @@ use Rattle.model.specs.SingleBuild.{task_of}
 use Rattle.runner.proofs.Counting.{many_by_steps}
 use Rattle.runner.proofs.Cutting.{starts_cut}
 use Rattle.runner.proofs.Ends.{ran_cut}
+use Rattle.runner.proofs.After.{after_then}
+use Rattle.std.proofs.Common.{sym, subst}
+use Rattle.looks.specs.declared.table.Looks.{Looks}
+use Rattle.runner.specs.After.{LooksUnlessMore}
 use Rattle.runner.proofs.run.run_plan.Goals as goal
 
 pub take_in_rest-requires-clause-many : goal.take_in_rest-requires-clause-many
@@ -28,3 +32,9 @@ pub returns-in-Ok-clause-pause : goal.returns-in-Ok-clause-pause
 returns-in-Ok-clause-pause g c =
     let going = c.requires.going.0 in
     (c.paused.ensures.pauses g.S.Texts.tells going.course c.args.setting.graph.now (g.S.Texts.world c.run.new.site) (c.in-Ok.ensures.halts going.course going.suits c.requires.going.1 going.on)).1
+
+pub returns-in-Err-clause-grows : goal.returns-in-Err-clause-grows
+returns-in-Err-clause-grows g c = after_then g.S.Texts.tells (g.S.Texts.world c.args.site.now) (g.S.Texts.world c.run.new.site) (g.S.Texts.world c.take_in_rest.new.site) c.run.ensures.grows c.take_in_rest.ensures.grows
+
+pub returns-in-Ok-clause-looked : goal.returns-in-Ok-clause-looked
+returns-in-Ok-clause-looked g c = subst (λ (l : Looks). LooksUnlessMore g.S.Texts.tells c.args.setting.graph.now (g.S.Texts.world c.args.site.now) (g.S.Texts.world c.run.new.site) c.args.state.now.looks l) (sym {A = Looks} c.paused.ensures.looks) c.in-Ok.ensures.looked

@@ -1,4 +1,4 @@
-use Rattle.std.proofs.Common.{ℕ, ◌<◌, List, slice_set, Err, subst, ap, sym, ◌∙◌}
+use Rattle.std.proofs.Common.{ℕ, ◌<◌, List, slice_set, Err, subst, ap, sym, ◌∙◌, None}
 use Rattle.std.specs.Vec.{with_items}
 use Rattle.std.proofs.lemmas.Result.{err_from_is_err_and}
 use Rattle.model.specs.World.{runs}
@@ -9,6 +9,7 @@ use Rattle.runner.proofs.Cutting.{cause_err}
 use Rattle.runner.proofs.Results.{on_err, ok_then}
 use Rattle.runner.proofs.Work.{started_less}
 use Rattle.runner.proofs.Launched.{err_then, one_set, start_told, cut_clearing, cut_writing, cut_ticking, starts_idle, launch_on, launch_cut}
+use Rattle.runner.proofs.After.{after_then, after_removal, after_writes, after_tick, after_tick_or_not, after_start_result, some_after, one_started, after_start}
 use Rattle.runner.proofs.start.launch.Goals as goal
 
 pub returns-in_err-remove_old_depfile-clause-cut : goal.returns-in_err-remove_old_depfile-clause-cut
@@ -68,3 +69,18 @@ returns-clause-cut g c =
     c.act-act.ensures begun c.remove_old_depfile.ensures.at (g.S.Texts.world c.write_response.new.site) c.write_response.ensures.at (g.S.Texts.world c.tick.new.self) c.in_ok-stamp.stamp c.in_ok-stamp.ensures.ticks
     (g.S.Texts.world c.start-result.new.self) c.job.result c.job.ensures (with_items c.args.state.now.starts c.note_stamp.new.starts) (one_set c.args.state.now.starts c.note_stamp.new.starts c.args.edge c.in_ok-stamp.stamp (c.note_stamp.ensures ∙ ap (λ (l : List ℕ). slice_set l c.args.edge c.in_ok-stamp.stamp) c.deref_mut.ensures.value)) c.note_start.new.plan c.in_ok-remove_old_depfile.ensures.removed c.in_ok-write_response.ensures.written
     c.events-known.result.now c.events.result.now c.events-known.ensures c.events.ensures c.start-result.ensures.cause.earlier c.note_start.ensures.still c.note_start.ensures.planned c.note_start.ensures.flags made)
+
+pub returns-in_err-remove_old_depfile-clause-grows : goal.returns-in_err-remove_old_depfile-clause-grows
+returns-in_err-remove_old_depfile-clause-grows g c = after_removal g.S.Texts.tells c.act-act.result.now.depfile None (g.S.Texts.world c.args.site.now) (g.S.Texts.world c.remove_old_depfile.new.site) c.remove_old_depfile.ensures.at
+
+pub returns-in_err-write_response-clause-grows : goal.returns-in_err-write_response-clause-grows
+returns-in_err-write_response-clause-grows g c = after_then g.S.Texts.tells (g.S.Texts.world c.args.site.now) (g.S.Texts.world c.remove_old_depfile.new.site) (g.S.Texts.world c.write_response.new.site) (after_removal g.S.Texts.tells c.act-act.result.now.depfile None (g.S.Texts.world c.args.site.now) (g.S.Texts.world c.remove_old_depfile.new.site) c.remove_old_depfile.ensures.at) (after_writes g.S.Texts.tells c.act-act.result.now.response_path (g.S.Texts.world c.remove_old_depfile.new.site) (g.S.Texts.world c.write_response.new.site) c.write_response.ensures.at)
+
+pub returns-in_err-stamp-clause-grows : goal.returns-in_err-stamp-clause-grows
+returns-in_err-stamp-clause-grows g c = after_then g.S.Texts.tells (g.S.Texts.world c.args.site.now) (g.S.Texts.world c.write_response.new.site) (g.S.Texts.world c.tick.new.self) (after_then g.S.Texts.tells (g.S.Texts.world c.args.site.now) (g.S.Texts.world c.remove_old_depfile.new.site) (g.S.Texts.world c.write_response.new.site) (after_removal g.S.Texts.tells c.act-act.result.now.depfile None (g.S.Texts.world c.args.site.now) (g.S.Texts.world c.remove_old_depfile.new.site) c.remove_old_depfile.ensures.at) (after_writes g.S.Texts.tells c.act-act.result.now.response_path (g.S.Texts.world c.remove_old_depfile.new.site) (g.S.Texts.world c.write_response.new.site) c.write_response.ensures.at)) (after_tick_or_not g.S.Texts.tells c.args.setting.tick.now (g.S.Texts.world c.write_response.new.site) (g.S.Texts.world c.tick.new.self) c.in_err-stamp.ensures.err)
+
+pub returns-clause-grows : goal.returns-clause-grows
+returns-clause-grows g c = after_then g.S.Texts.tells (g.S.Texts.world c.args.site.now) (g.S.Texts.world c.tick.new.self) (g.S.Texts.world c.start-result.new.self) (after_then g.S.Texts.tells (g.S.Texts.world c.args.site.now) (g.S.Texts.world c.write_response.new.site) (g.S.Texts.world c.tick.new.self) (after_then g.S.Texts.tells (g.S.Texts.world c.args.site.now) (g.S.Texts.world c.remove_old_depfile.new.site) (g.S.Texts.world c.write_response.new.site) (after_removal g.S.Texts.tells c.act-act.result.now.depfile None (g.S.Texts.world c.args.site.now) (g.S.Texts.world c.remove_old_depfile.new.site) c.remove_old_depfile.ensures.at) (after_writes g.S.Texts.tells c.act-act.result.now.response_path (g.S.Texts.world c.remove_old_depfile.new.site) (g.S.Texts.world c.write_response.new.site) c.write_response.ensures.at)) (after_tick g.S.Texts.tells c.args.setting.tick.now c.in_ok-stamp.stamp (g.S.Texts.world c.write_response.new.site) (g.S.Texts.world c.tick.new.self) c.in_ok-stamp.ensures.ticks)) (after_start_result g.S.Texts.tells c.start-result.result c.job.result c.act-act.result.now (g.S.Texts.world c.tick.new.self) (g.S.Texts.world c.start-result.new.self) c.start-result.ensures.starts c.start-result.ensures.err)
+
+pub returns-clause-some : goal.returns-clause-some
+returns-clause-some g c = ok_then c.start-result.result c.start-result.ensures.starts (λ made. some_after g.S.Texts.tells (g.S.Texts.world c.args.site.now) (g.S.Texts.world c.tick.new.self) (g.S.Texts.world c.start-result.new.self) (after_then g.S.Texts.tells (g.S.Texts.world c.args.site.now) (g.S.Texts.world c.write_response.new.site) (g.S.Texts.world c.tick.new.self) (after_then g.S.Texts.tells (g.S.Texts.world c.args.site.now) (g.S.Texts.world c.remove_old_depfile.new.site) (g.S.Texts.world c.write_response.new.site) (after_removal g.S.Texts.tells c.act-act.result.now.depfile None (g.S.Texts.world c.args.site.now) (g.S.Texts.world c.remove_old_depfile.new.site) c.remove_old_depfile.ensures.at) (after_writes g.S.Texts.tells c.act-act.result.now.response_path (g.S.Texts.world c.remove_old_depfile.new.site) (g.S.Texts.world c.write_response.new.site) c.write_response.ensures.at)) (after_tick g.S.Texts.tells c.args.setting.tick.now c.in_ok-stamp.stamp (g.S.Texts.world c.write_response.new.site) (g.S.Texts.world c.tick.new.self) c.in_ok-stamp.ensures.ticks)) (one_started g.S.Texts.tells c.job.result c.act-act.result.now (g.S.Texts.world c.tick.new.self) (g.S.Texts.world c.start-result.new.self) made) (after_start g.S.Texts.tells c.job.result c.act-act.result.now (g.S.Texts.world c.tick.new.self) (g.S.Texts.world c.start-result.new.self) made))

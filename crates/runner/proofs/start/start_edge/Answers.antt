@@ -3,6 +3,7 @@ use Rattle.build_theory.proofs.Calls.{looks_then}
 use Rattle.runner.proofs.Results.{on_err, ok_then}
 use Rattle.runner.proofs.Launched.{err_then}
 use Rattle.runner.proofs.Begins.{declared_once, declared_some, next_command, cut_looking, cut_beginning, begun_now}
+use Rattle.runner.proofs.After.{after_then, after_looks, after_writes, some_after}
 use Rattle.runner.proofs.start.start_edge.Goals as goal
 
 pub returns-in_err-make_folders-clause-cut : goal.returns-in_err-make_folders-clause-cut
@@ -65,3 +66,18 @@ returns-clause-cut g c =
     (g.S.Texts.world c.start.new.site) (g.S.Texts.world c.begin.new.site)
     (looks_then g.S.Texts.tells (g.S.Texts.world c.args.site.now) (g.S.Texts.world c.make_folders.new.site) (g.S.Texts.world c.start.new.site) c.make_folders.ensures.looks c.start.ensures.looks)
     c.begin.ensures.writes c.begin.new.self c.start.new.self c.begin.ensures.same c.begin.ensures.places c.begin.ensures.deps_places c.in_ok-begin.ensures.ok))
+
+pub returns-in_err-make_folders-clause-grows : goal.returns-in_err-make_folders-clause-grows
+returns-in_err-make_folders-clause-grows g c = after_looks g.S.Texts.tells (g.S.Texts.world c.args.site.now) (g.S.Texts.world c.make_folders.new.site) c.make_folders.ensures.looks
+
+pub returns-in_err-start-clause-grows : goal.returns-in_err-start-clause-grows
+returns-in_err-start-clause-grows g c = after_then g.S.Texts.tells (g.S.Texts.world c.args.site.now) (g.S.Texts.world c.make_folders.new.site) (g.S.Texts.world c.start.new.site) (after_looks g.S.Texts.tells (g.S.Texts.world c.args.site.now) (g.S.Texts.world c.make_folders.new.site) c.make_folders.ensures.looks) (after_looks g.S.Texts.tells (g.S.Texts.world c.make_folders.new.site) (g.S.Texts.world c.start.new.site) c.start.ensures.looks)
+
+pub returns-in_err-begin-clause-grows : goal.returns-in_err-begin-clause-grows
+returns-in_err-begin-clause-grows g c = after_then g.S.Texts.tells (g.S.Texts.world c.args.site.now) (g.S.Texts.world c.start.new.site) (g.S.Texts.world c.begin.new.site) (after_then g.S.Texts.tells (g.S.Texts.world c.args.site.now) (g.S.Texts.world c.make_folders.new.site) (g.S.Texts.world c.start.new.site) (after_looks g.S.Texts.tells (g.S.Texts.world c.args.site.now) (g.S.Texts.world c.make_folders.new.site) c.make_folders.ensures.looks) (after_looks g.S.Texts.tells (g.S.Texts.world c.make_folders.new.site) (g.S.Texts.world c.start.new.site) c.start.ensures.looks)) (after_writes g.S.Texts.tells c.args.state.now.records.logs.build_log.path (g.S.Texts.world c.start.new.site) (g.S.Texts.world c.begin.new.site) c.begin.ensures.writes)
+
+pub returns-clause-grows : goal.returns-clause-grows
+returns-clause-grows g c = after_then g.S.Texts.tells (g.S.Texts.world c.args.site.now) (g.S.Texts.world c.begin.new.site) (g.S.Texts.world c.launch.new.site) (after_then g.S.Texts.tells (g.S.Texts.world c.args.site.now) (g.S.Texts.world c.start.new.site) (g.S.Texts.world c.begin.new.site) (after_then g.S.Texts.tells (g.S.Texts.world c.args.site.now) (g.S.Texts.world c.make_folders.new.site) (g.S.Texts.world c.start.new.site) (after_looks g.S.Texts.tells (g.S.Texts.world c.args.site.now) (g.S.Texts.world c.make_folders.new.site) c.make_folders.ensures.looks) (after_looks g.S.Texts.tells (g.S.Texts.world c.make_folders.new.site) (g.S.Texts.world c.start.new.site) c.start.ensures.looks)) (after_writes g.S.Texts.tells c.args.state.now.records.logs.build_log.path (g.S.Texts.world c.start.new.site) (g.S.Texts.world c.begin.new.site) c.begin.ensures.writes)) c.launch.ensures.grows
+
+pub returns-clause-some : goal.returns-clause-some
+returns-clause-some g c = ok_then c.launch.result c.launch.ensures.some (λ some. some_after g.S.Texts.tells (g.S.Texts.world c.args.site.now) (g.S.Texts.world c.begin.new.site) (g.S.Texts.world c.launch.new.site) (after_then g.S.Texts.tells (g.S.Texts.world c.args.site.now) (g.S.Texts.world c.start.new.site) (g.S.Texts.world c.begin.new.site) (after_then g.S.Texts.tells (g.S.Texts.world c.args.site.now) (g.S.Texts.world c.make_folders.new.site) (g.S.Texts.world c.start.new.site) (after_looks g.S.Texts.tells (g.S.Texts.world c.args.site.now) (g.S.Texts.world c.make_folders.new.site) c.make_folders.ensures.looks) (after_looks g.S.Texts.tells (g.S.Texts.world c.make_folders.new.site) (g.S.Texts.world c.start.new.site) c.start.ensures.looks)) (after_writes g.S.Texts.tells c.args.state.now.records.logs.build_log.path (g.S.Texts.world c.start.new.site) (g.S.Texts.world c.begin.new.site) c.begin.ensures.writes)) some c.launch.ensures.grows)

@@ -8,6 +8,7 @@ use Rattle.runner.specs.Removing.{EndsByRemoving}
 use Rattle.runner.proofs.Results.{ok_then, on_err}
 use Rattle.runner.proofs.Removing.{grew_thrice, ends_by_removing}
 use Rattle.runner.proofs.Recording.{taken_command, taken_some, taken_once, taken_within, taken_stamped, taken_under, cut_recording, cut_clearing, removed, cut_removing}
+use Rattle.runner.proofs.After.{after_then, after_removal, after_writes, after_same}
 use Rattle.runner.proofs.taken.record_end.Goals as goal
 
 pub index-start-requires : goal.index-start-requires
@@ -120,3 +121,18 @@ returns-in_err-remove_read_depfile-clause-at_start g c =
 pub returns-clause-at_start : goal.returns-clause-at_start
 returns-clause-at_start g c =
     c.remove_response.ensures.at.at_start ∙ ((writes_or_not_at g.S.Texts.tells c.command.result.now.act.depfile None (g.S.Texts.world c.done.new.site) (g.S.Texts.world c.remove_read_depfile.new.site) c.remove_read_depfile.ensures.at).at_start ∙ (c.done.ensures.writes.at_start ∙ c.report.ensures.writes.at_start))
+
+pub returns-in_err-report-clause-grows : goal.returns-in_err-report-clause-grows
+returns-in_err-report-clause-grows g c = after_writes g.S.Texts.tells c.args.state.now.records.logs.deps_log.path (g.S.Texts.world c.args.site.now) (g.S.Texts.world c.report.new.site) c.report.ensures.writes
+
+pub returns-in_err-done-clause-grows : goal.returns-in_err-done-clause-grows
+returns-in_err-done-clause-grows g c = after_then g.S.Texts.tells (g.S.Texts.world c.args.site.now) (g.S.Texts.world c.report.new.site) (g.S.Texts.world c.done.new.site) (after_writes g.S.Texts.tells c.args.state.now.records.logs.deps_log.path (g.S.Texts.world c.args.site.now) (g.S.Texts.world c.report.new.site) c.report.ensures.writes) (after_writes g.S.Texts.tells c.report.new.state.records.logs.build_log.path (g.S.Texts.world c.report.new.site) (g.S.Texts.world c.done.new.site) c.done.ensures.writes)
+
+pub returns-in_err-remove_read_depfile-clause-grows : goal.returns-in_err-remove_read_depfile-clause-grows
+returns-in_err-remove_read_depfile-clause-grows g c = after_then g.S.Texts.tells (g.S.Texts.world c.args.site.now) (g.S.Texts.world c.done.new.site) (g.S.Texts.world c.remove_read_depfile.new.site) (after_then g.S.Texts.tells (g.S.Texts.world c.args.site.now) (g.S.Texts.world c.report.new.site) (g.S.Texts.world c.done.new.site) (after_writes g.S.Texts.tells c.args.state.now.records.logs.deps_log.path (g.S.Texts.world c.args.site.now) (g.S.Texts.world c.report.new.site) c.report.ensures.writes) (after_writes g.S.Texts.tells c.report.new.state.records.logs.build_log.path (g.S.Texts.world c.report.new.site) (g.S.Texts.world c.done.new.site) c.done.ensures.writes)) (after_removal g.S.Texts.tells c.command.result.now.act.depfile None (g.S.Texts.world c.done.new.site) (g.S.Texts.world c.remove_read_depfile.new.site) c.remove_read_depfile.ensures.at)
+
+pub returns-clause-grows : goal.returns-clause-grows
+returns-clause-grows g c = after_then g.S.Texts.tells (g.S.Texts.world c.args.site.now) (g.S.Texts.world c.remove_read_depfile.new.site) (g.S.Texts.world c.remove_response.new.site) (after_then g.S.Texts.tells (g.S.Texts.world c.args.site.now) (g.S.Texts.world c.done.new.site) (g.S.Texts.world c.remove_read_depfile.new.site) (after_then g.S.Texts.tells (g.S.Texts.world c.args.site.now) (g.S.Texts.world c.report.new.site) (g.S.Texts.world c.done.new.site) (after_writes g.S.Texts.tells c.args.state.now.records.logs.deps_log.path (g.S.Texts.world c.args.site.now) (g.S.Texts.world c.report.new.site) c.report.ensures.writes) (after_writes g.S.Texts.tells c.report.new.state.records.logs.build_log.path (g.S.Texts.world c.report.new.site) (g.S.Texts.world c.done.new.site) c.done.ensures.writes)) (after_removal g.S.Texts.tells c.command.result.now.act.depfile None (g.S.Texts.world c.done.new.site) (g.S.Texts.world c.remove_read_depfile.new.site) c.remove_read_depfile.ensures.at)) (after_writes g.S.Texts.tells c.act.result.now.response_path (g.S.Texts.world c.remove_read_depfile.new.site) (g.S.Texts.world c.remove_response.new.site) c.remove_response.ensures.at)
+
+pub returns-then-not-ok-clause-grows : goal.returns-then-not-ok-clause-grows
+returns-then-not-ok-clause-grows g c = after_same g.S.Texts.tells (g.S.Texts.world c.args.site.now)

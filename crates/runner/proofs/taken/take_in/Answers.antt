@@ -11,8 +11,9 @@ use Rattle.runner.proofs.Ends.{cut_looking}
 use Rattle.runner.proofs.Finishing.{end_unread, ending_of, not_failed}
 use Rattle.runner.proofs.Launched.{err_then}
 use Rattle.runner.proofs.Removing.{taken_by_removing}
-use Rattle.runner.proofs.Results.{ok_then, ok_both}
+use Rattle.runner.proofs.Results.{ok_then, ok_both, on_ok}
 use Rattle.runner.proofs.Running.{some_runs, running_edge}
+use Rattle.runner.proofs.After.{after_then, after_looks, after_finish, one_ended}
 use Rattle.runner.proofs.taken.take_in.Goals as goal
 
 pub wait_any-requires : goal.wait_any-requires
@@ -98,3 +99,15 @@ returns-in-Err-clause-cuts g c =
 pub returns-in-Err-clause-cut : goal.returns-in-Err-clause-cut
 returns-in-Err-clause-cut g c course suits on turn =
     cut_looking g.S.Texts.tells course c.args.setting.graph.now (g.S.Texts.world c.args.site.now) c.args.state.now c.args.state.now.plan (g.S.Texts.world c.wait_any.new.self) refl c.in-Err.ensures.err on
+
+pub returns-in-Ok-read_told-clause-grows : goal.returns-in-Ok-read_told-clause-grows
+returns-in-Ok-read_told-clause-grows g c = after_then g.S.Texts.tells (g.S.Texts.world c.args.site.now) (g.S.Texts.world c.read_told.new.site) (g.S.Texts.world c.take_in_told.new.site) (after_then g.S.Texts.tells (g.S.Texts.world c.args.site.now) (g.S.Texts.world c.wait_any.new.self) (g.S.Texts.world c.read_told.new.site) (after_finish g.S.Texts.tells c.in-Ok.finished.job c.in-Ok.finished.ok (g.S.Texts.world c.args.site.now) (g.S.Texts.world c.wait_any.new.self) c.in-Ok.ensures.finishes) (after_looks g.S.Texts.tells (g.S.Texts.world c.wait_any.new.self) (g.S.Texts.world c.read_told.new.site) c.read_told.ensures.looks)) c.take_in_told.ensures.grows
+
+pub returns-in-Ok-read_told-clause-some : goal.returns-in-Ok-read_told-clause-some
+returns-in-Ok-read_told-clause-some g c = on_ok c.take_in_told.result (λ same. one_ended g.S.Texts.tells c.in-Ok.finished.job c.in-Ok.finished.ok (g.S.Texts.world c.args.site.now) (g.S.Texts.world c.wait_any.new.self) c.in-Ok.ensures.finishes (sym c.read_told.ensures.looks.events ∙ (sym c.take_in_told.ensures.events ∙ same)))
+
+pub returns-in-Err-read_told-clause-grows : goal.returns-in-Err-read_told-clause-grows
+returns-in-Err-read_told-clause-grows g c = after_then g.S.Texts.tells (g.S.Texts.world c.args.site.now) (g.S.Texts.world c.wait_any.new.self) (g.S.Texts.world c.read_told.new.site) (after_finish g.S.Texts.tells c.in-Ok.finished.job c.in-Ok.finished.ok (g.S.Texts.world c.args.site.now) (g.S.Texts.world c.wait_any.new.self) c.in-Ok.ensures.finishes) (after_looks g.S.Texts.tells (g.S.Texts.world c.wait_any.new.self) (g.S.Texts.world c.read_told.new.site) c.read_told.ensures.looks)
+
+pub returns-in-Err-clause-grows : goal.returns-in-Err-clause-grows
+returns-in-Err-clause-grows g c = after_looks g.S.Texts.tells (g.S.Texts.world c.args.site.now) (g.S.Texts.world c.wait_any.new.self) c.in-Err.ensures.err

@@ -7,6 +7,7 @@ use Rattle.runner.proofs.Keeping.{on_looks}
 use Rattle.runner.proofs.Recording.{on_shown}
 use Rattle.runner.proofs.Removing.{removing_then, removing_after}
 use Rattle.runner.proofs.Results.{on_ok, on_err, ok_by, err_by}
+use Rattle.runner.proofs.After.{after_then, after_looks}
 use Rattle.runner.proofs.taken.take_in_told.Goals as goal
 
 pub note_end-requires-clause-running : goal.note_end-requires-clause-running
@@ -59,3 +60,12 @@ returns-clause-cut g c =
     cut_looking g.S.Texts.tells course c.args.setting.graph.now (g.S.Texts.world c.record_end.new.site) c.record_end.new.state c.record_end.new.state.plan (g.S.Texts.world c.show_end.new.site) refl c.show_end.ensures.looks
     ((ok_by c.record_end.result c.map_err-2.result _ c.map_err-2.ensures.variant c.in_ok-map_err-2.was c.record_end.ensures.on) course suits
     (ending_taken g.S.Texts.tells course c.args.setting.tick.now c.args.setting.graph.now suits c.args.state.now (g.S.Texts.world c.args.site.now) c.args.edge c.args.finished.ok c.ended-finished.result.ok c.args.told c.ended-finished.ensures.ok c.one_answer.ensures ending c.lists_stand.ensures (g.S.Texts.world c.note_end.new.site) c.note_end.new.state (ok_by c.note_end.result c.map_err.result _ c.map_err.ensures.variant c.in_ok-map_err.was c.note_end.ensures.ended) c.log_stays.ensures c.none_while_running.ensures c.note_end.ensures.planned (ok_by c.note_end.result c.map_err.result _ c.map_err.ensures.variant c.in_ok-map_err.was c.note_end.ensures.noted))))
+
+pub returns-in_err-map_err-clause-grows : goal.returns-in_err-map_err-clause-grows
+returns-in_err-map_err-clause-grows g c = after_looks g.S.Texts.tells (g.S.Texts.world c.args.site.now) (g.S.Texts.world c.note_end.new.site) c.note_end.ensures.looks
+
+pub returns-in_err-map_err-2-clause-grows : goal.returns-in_err-map_err-2-clause-grows
+returns-in_err-map_err-2-clause-grows g c = after_then g.S.Texts.tells (g.S.Texts.world c.args.site.now) (g.S.Texts.world c.note_end.new.site) (g.S.Texts.world c.record_end.new.site) (after_looks g.S.Texts.tells (g.S.Texts.world c.args.site.now) (g.S.Texts.world c.note_end.new.site) c.note_end.ensures.looks) c.record_end.ensures.grows
+
+pub returns-clause-grows : goal.returns-clause-grows
+returns-clause-grows g c = after_then g.S.Texts.tells (g.S.Texts.world c.args.site.now) (g.S.Texts.world c.record_end.new.site) (g.S.Texts.world c.show_end.new.site) (after_then g.S.Texts.tells (g.S.Texts.world c.args.site.now) (g.S.Texts.world c.note_end.new.site) (g.S.Texts.world c.record_end.new.site) (after_looks g.S.Texts.tells (g.S.Texts.world c.args.site.now) (g.S.Texts.world c.note_end.new.site) c.note_end.ensures.looks) c.record_end.ensures.grows) (after_looks g.S.Texts.tells (g.S.Texts.world c.record_end.new.site) (g.S.Texts.world c.show_end.new.site) c.show_end.ensures.looks)

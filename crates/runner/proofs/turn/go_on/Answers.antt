@@ -1,8 +1,8 @@
-use Rattle.std.proofs.Common.{Bool}
 use Rattle.runner.proofs.Results.{on_err, ok_by, err_by}
 use Rattle.runner.proofs.Ends.{cut_looking, at_load}
 use Rattle.runner.proofs.Onward.{said_next, may_wait}
-use Rattle.runner.specs.Course.{Course}
+use Rattle.runner.proofs.After.{after_same, after_looks}
+use Rattle.looks.proofs.Stays.{looked_none}
 use Rattle.runner.proofs.turn.go_on.Goals as goal
 
 pub judge-requires-clause-going : goal.judge-requires-clause-going
@@ -13,7 +13,7 @@ judge-requires-clause-going g c =
 pub returns-in_err-map_err-in-Judge-clause-cut : goal.returns-in_err-map_err-in-Judge-clause-cut
 returns-in_err-map_err-in-Judge-clause-cut g c = on_err c.from_residual.result (λ course suits goes on.
     cut_looking g.S.Texts.tells course c.args.setting.graph.now (g.S.Texts.world c.args.site.now) c.args.state.now c.judge.new.state.plan (g.S.Texts.world c.judge.new.site)
-    (err_by c.judge.result c.map_err.result _ c.map_err.ensures.variant c.in_err-map_err-in-Judge.was c.judge.ensures.plan) c.judge.ensures.looks on)
+    (err_by c.judge.result c.map_err.result _ c.map_err.ensures.variant c.in_err-map_err-in-Judge.was c.judge.ensures.plan) c.judge.ensures.looked.looks on)
 
 pub start_edge-requires-clause-going : goal.start_edge-requires-clause-going
 start_edge-requires-clause-going g c =
@@ -61,3 +61,30 @@ returns-in-Load-clause-on g c course suits goes on =
 pub returns-in-Ended-clause-on : goal.returns-in-Ended-clause-on
 returns-in-Ended-clause-on g c course suits goes on =
     record { on = on; over = said_next course c.args.setting.graph.now c.args.state.now.plan _ on.steps goes on.planned on.taken c.in-Ended.ensures.lawful c.in-Ended.ensures.loads }
+
+pub returns-in_err-map_err-in-Judge-clause-grows : goal.returns-in_err-map_err-in-Judge-clause-grows
+returns-in_err-map_err-in-Judge-clause-grows g c = after_looks g.S.Texts.tells (g.S.Texts.world c.args.site.now) (g.S.Texts.world c.judge.new.site) c.judge.ensures.looked.looks
+
+pub returns-in_ok-map_err-in-Judge-clause-grows : goal.returns-in_ok-map_err-in-Judge-clause-grows
+returns-in_ok-map_err-in-Judge-clause-grows g c = after_looks g.S.Texts.tells (g.S.Texts.world c.args.site.now) (g.S.Texts.world c.judge.new.site) c.judge.ensures.looked.looks
+
+pub returns-in_ok-map_err-in-Judge-clause-looked : goal.returns-in_ok-map_err-in-Judge-clause-looked
+returns-in_ok-map_err-in-Judge-clause-looked g c same = c.judge.ensures.looked
+
+pub returns-in_ok-map_err-in-Start-clause-looked : goal.returns-in_ok-map_err-in-Start-clause-looked
+returns-in_ok-map_err-in-Start-clause-looked g c same = absurd (ok_by c.start_edge.result c.map_err-in-Start.result _ c.map_err-in-Start.ensures.variant c.in_ok-map_err-in-Start.was c.start_edge.ensures.some same)
+
+pub returns-in_ok-take_in-in-Wait-clause-looked : goal.returns-in_ok-take_in-in-Wait-clause-looked
+returns-in_ok-take_in-in-Wait-clause-looked g c same = absurd (c.in_ok-take_in-in-Wait.ensures.some same)
+
+pub returns-in-Load-clause-grows : goal.returns-in-Load-clause-grows
+returns-in-Load-clause-grows g c = after_same g.S.Texts.tells (g.S.Texts.world c.args.site.now)
+
+pub returns-in-Load-clause-looked : goal.returns-in-Load-clause-looked
+returns-in-Load-clause-looked g c same = looked_none g.S.Texts.tells c.args.setting.graph.now (g.S.Texts.world c.args.site.now) c.args.state.now.looks
+
+pub returns-in-Ended-clause-grows : goal.returns-in-Ended-clause-grows
+returns-in-Ended-clause-grows g c = after_same g.S.Texts.tells (g.S.Texts.world c.args.site.now)
+
+pub returns-in-Ended-clause-looked : goal.returns-in-Ended-clause-looked
+returns-in-Ended-clause-looked g c same = looked_none g.S.Texts.tells c.args.setting.graph.now (g.S.Texts.world c.args.site.now) c.args.state.now.looks

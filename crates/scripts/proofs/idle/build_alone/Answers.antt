@@ -25,5 +25,5 @@ pub returns-clause-idle : goal.returns-clause-idle
 returns-clause-idle c =
     let exit = world_of c.build-report.new.site in
     let forgets = c.forget_faults.ensures in
-    goes_idle toy_outcome c.args.options.now.file (limits_of c.args.options.now) c.args.targets.now (world_of c.args.site.now) exit c.requires c.has_format.ensures c.has_reading.ensures c.build-report.result (world_of c.forget_faults.new.self) c.build-report.ensures
+    goes_idle toy_outcome c.args.options.now.file (limits_of c.args.options.now) c.args.targets.now (world_of c.args.site.now) exit c.requires c.has_format.ensures c.has_reading.ensures c.has_reading-2.ensures c.build-report.result (world_of c.forget_faults.new.self) c.build-report.ensures
     (subst (λ (world : World). GoesOn c.build-report.result exit world) (sym {A = World} (ap (λ (site : Sim Toy). world_of site) forgets)) c.go_on.ensures)

@@ -1,0 +1,44 @@
+-- How a build begins, and how its run is reported.
+use Rattle.std.specs.Prelude.{◌≡◌, ◌⊎◌, ℕ, List, [], length, replicate, vec_len, Result, Ok, Err, IfErr}
+use Rattle.model.specs.declared.fault.SiteFault.TheVariants.{Memory}
+use Rattle.model.specs.declared.graph.Edge.{Edge}
+use Rattle.model.specs.World.{World}
+use Rattle.model.specs.Phases.{Phase}
+use Rattle.model.specs.SingleBuild.{PassesNoFault}
+use Rattle.std.specs.Prelude.{Bool}
+use Rattle.build_theory.specs.Seen.{IsSeen}
+use Rattle.links.specs.declared.cone.Cone.{Cone}
+use Rattle.links.specs.declared.graph.Graph.{Graph}
+use Rattle.looks.specs.declared.table.Look.TheVariants.{Unasked}
+use Rattle.records.specs.declared.records.Records.{Records}
+use Rattle.runner.specs.declared.state.State.{State}
+use Rattle.runner.specs.declared.summary.Summary.{Summary}
+use Rattle.runner.specs.Course.{Course}
+use Rattle.builder.specs.declared.asked.Limits.{Limits}
+use Rattle.builder.specs.declared.report.Report.{Report}
+use Rattle.builder.specs.declared.report.Report.TheVariants.{Fault}
+use Rattle.builder.specs.declared.stop.Stop.{Stop}
+use Rattle.builder.specs.Going.{BeginsAt, HasEndedSo, IfFault, stop_answer}
+use Rattle.builder.specs.Reports.{IsPlanFor, SaysEnd, report_of}
+
+-- in this state of a run nothing was judged, seen or started yet; it has these records
+pub record IsFresh (graph : Graph) (cone : Cone) (limits : Limits) (records : Records) (state : State) : Type 0 where
+  pub plan : IsPlanFor graph cone limits state.plan
+  pub looks : state.looks.seen.items ≡ replicate (length graph.manifest.paths) Unasked
+  pub kept : state.records ≡ records
+  pub failed : state.failed.items ≡ []
+  pub starts : vec_len state.starts ≡ length graph.manifest.lines
+
+-- the report of a run that ended so, or want of memory to tell it
+abbrev pub IsReportOf : Graph → Result Summary Stop → Report → Type 0
+IsReportOf graph (Ok summary) report = (report ≡ Fault Memory) ⊎ SaysEnd graph summary report
+IsReportOf graph (Err stopped) report = report ≡ report_of stopped
+
+-- a run that began so has ended, over these edges, and this is its report
+pub record IsReported (tells : Bool) (tick : List ℕ) (graph : Graph) (cone : Cone) (state : State) (old : World) (after : Graph) (last : Cone) (new : World) (report : Report) : Type 0 where
+  pub grown : List Edge
+  pub said : Result Summary Stop
+  pub ended : (course : Course) (edges : List Edge) (phases : List Phase) → BeginsAt tells tick course edges phases graph cone state old → HasEndedSo tells course grown after last new said
+  pub faults : PassesNoFault old new (stop_answer said)
+  pub seen : IfErr said (λ stopped. IfFault stopped (IsSeen old new))
+  pub is : IsReportOf after said report
