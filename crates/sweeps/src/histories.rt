@@ -12,6 +12,7 @@ use sim::{Call, Order, Sim, Timing, Toy};
 use site::Site;
 use std::alloc::{AllocError, Global};
 use std::io::{self, Write};
+use text::Text;
 
 /// How many moves a history has.
 const MOVES: usize = 24;
@@ -157,16 +158,37 @@ impl<'a> Trial<'a> {
         target: Option<&str>,
     ) -> io::Result<()> {
         let targets = targets(self.alloc, target)?;
+        self.build_these(site, options, target, targets.as_slice())
+    }
+
+    fn build_these(
+        &mut self,
+        site: &mut Sim<Toy>,
+        options: &Options,
+        target: Option<&str>,
+        targets: &[Text],
+    ) -> io::Result<()> {
         let before = site.events().len();
-        let report = build_alone(self.alloc, site, options, targets.as_slice());
+        let report = build_alone(self.alloc, site, options, targets);
         site.forget_faults();
         let started = site.events().len() > before;
         self.judge(site, &report, target, started)?;
-        if is_success(&report) && self.graph.starts_with("edges") && self.random.one_in(3) {
-            let report = build_alone(self.alloc, site, options, targets.as_slice());
-            self.judge_next(&report)?;
+        self.build_again(site, options, targets, is_success(&report))
+    }
+
+    /// Now and then the same again, behind a success.
+    fn build_again(
+        &mut self,
+        site: &mut Sim<Toy>,
+        options: &Options,
+        targets: &[Text],
+        is_well: bool,
+    ) -> io::Result<()> {
+        if !is_well || !self.graph.starts_with("edges") || !self.random.one_in(3) {
+            return Ok(());
         }
-        Ok(())
+        let report = build_alone(self.alloc, site, options, targets);
+        self.judge_next(&report)
     }
 
     fn judge(
