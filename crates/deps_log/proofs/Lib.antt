@@ -1,4 +1,5 @@
 mod Plain
+pub mod Digits
 pub mod Fields
 pub mod Sayings
 pub mod Keeping

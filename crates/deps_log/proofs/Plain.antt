@@ -1,12 +1,12 @@
 -- A line in which nothing is escaped, of a record with one output.
-use Rattle.std.proofs.Common.{◌≡◌, ◌≢◌, ◌<◌, ◌≤◌, ◌^◌, ℕ, zero, suc, decimal, true, List, [], ◌∷◌, ◌++◌, length, refl, sym, ap, ◌∙◌, subst, arith, append-nil, append_assoc}
+use Rattle.std.proofs.Common.{◌≡◌, ◌<◌, ◌^◌, ℕ, zero, suc, decimal, true, List, [], ◌∷◌, ◌++◌, length, sym, ap, ◌∙◌, subst, arith, append-nil, append_assoc}
 use Rattle.std.specs.List.{flat_map}
 use Rattle.std.specs.Str.{IsUtf8, IsAscii}
 use Rattle.std.proofs.lemmas.Fmt.{decimal_digit}
 use Rattle.std.proofs.lemmas.Str.{IsUtf8-from_ascii}
 use Rattle.std.proofs.lemmas.List.Concat.{flat_map-append}
 use Rattle.std.proofs.lemmas.Bool.{false≢true}
-use Rattle.model.specs.Graph.{has, StandsTwice}
+use Rattle.model.specs.Graph.{has}
 use Rattle.model.specs.declared.record.DepsRecord.{DepsRecord}
 use Rattle.build_log.specs.declared.form.Version.{Version}
 use Rattle.build_log.specs.declared.form.Version.TheVariants.{Two}
@@ -14,7 +14,7 @@ use Rattle.build_log.specs.Line.{field_and_tab, line_text, AreTexts}
 use Rattle.build_log.specs.Form.{HasLine}
 use Rattle.build_log.specs.Kept.{AreDistinct, AreNumbersOf}
 use Rattle.build_log.specs.Taken.{AreTakenFrom}
-use Rattle.deps_log.specs.Record.{head_fields, fields_of, IsRecord, forms}
+use Rattle.deps_log.specs.Record.{head_fields, fields_of, forms}
 
 -- the record of one output
 abbrev pub plain_record : List ℕ → ℕ → List (List ℕ) → DepsRecord

@@ -5,6 +5,7 @@
 mod deps;
 mod laws;
 mod log;
+mod number;
 mod record;
 
 pub use deps::Deps;

@@ -11,6 +11,7 @@ ghost use Rattle.build_log.specs.Found.{texts_in};
 ghost use Rattle.build_log.specs.Kept.{AreDistinct};
 ghost use Rattle.deps_log.specs.Record.{fields_of, told_fields, head_fields, IsRecord, IsNoRecord, forms};
 
+use crate::number::number_in;
 use build_log::{
     Field, Version, are_distinct, end_line, number_of, plain_field, push_list, push_number,
     push_text, split_counted, split_outputs, without_dot,
@@ -106,19 +107,6 @@ fn behind_kind(front: &[u8]) -> Option<&[u8]>
         [b'r', b'\t', b'1', b'\t', after @ ..] => Some(after),
         _ => None,
     }
-}
-
-/// The number whose field stands in front, and what stands behind its tab.
-fn number_in(bytes: &[u8]) -> Option<(u64, &[u8])>
-    requires { Lacks 10 bytes.now }
-    ensures number { IfSome result (λ parts. bytes.now ≡ field_and_tab (decimal parts.0) ++ parts.1.now) }
-    ensures utf8 { IfSome result (λ parts. IsUtf8 (decimal parts.0)) }
-    ensures low { IfSome result (λ parts. parts.0 < 2 ^ 64) }
-    ensures line_feed { IfSome result (λ parts. Lacks 10 parts.1.now) }
-{
-    let (text, after) = plain_field(bytes)?;
-    let number = number_of(text)?;
-    Some((number, after))
 }
 
 /// Writes the line, with its line feed, of a record that says that the command of these outputs, which was started under

@@ -1,4 +1,4 @@
-use Rattle.std.proofs.Common.{rules, ◌≡◌, ◌∷◌, List, ℕ}
+use Rattle.std.proofs.Common.{rules}
 use Rattle.std.specs.Str.{IsUtf8}
 use Rattle.deps_log.proofs.Plain.{head_is, kind_utf8, one_utf8}
 use Rattle.deps_log.proofs.record.head_in.Goals as goal
