@@ -46,7 +46,7 @@ impl<'a> Calls<'a> {
     ) -> Result<(), AllocError> {
         match first {
             "read" => push_found(self.host.read(rest).map(|content| content.is_some()), told),
-            "stat" => push_found(self.host.stat(rest).map(|stamp| stamp.is_some()), told),
+            "stat" => self.push_stat(rest, told),
             "failures" => push_number(alloc, self.host.failures(), told),
             "trouble" => self.push_trouble(told),
             _ => self.push_run(alloc, first, rest, told),
@@ -67,8 +67,39 @@ impl<'a> Calls<'a> {
             "printed" => push_text(printed(self.rt, rest), told),
             "restarted" => push_text(restarted(self.rt, one, other), told),
             "ticks" => self.push_ticks(alloc, rest, told),
+            _ => self.push_stamp(alloc, first, rest, told),
+        }
+    }
+
+    /// `stamp PATH`: when the file was written last. `stat_long COUNT PATH` and `stat_nul PATH`: whether there is a file at a path of
+    /// so many bytes that leads to PATH, and at one with a NUL behind PATH.
+    fn push_stamp(
+        &mut self,
+        alloc: Global,
+        first: &str,
+        rest: &str,
+        told: &mut String,
+    ) -> Result<(), AllocError> {
+        match first {
+            "stamp" => match self.host.stat(rest) {
+                Ok(Some(stamp)) => push_number(alloc, stamp, told),
+                found => push_found(found.map(|stamp| stamp.is_some()), told),
+            },
+            "stat_long" => {
+                let (count, name) = word(rest);
+                let path = long_path(alloc, count.parse().unwrap_or(0), name)?;
+                self.push_stat(path.as_str(), told)
+            }
+            "stat_nul" => {
+                let path = format!(in alloc; "{rest}\0behind")?;
+                self.push_stat(path.as_str(), told)
+            }
             _ => self.push_beside(alloc, first, rest, told),
         }
+    }
+
+    fn push_stat(&mut self, path: &str, told: &mut String) -> Result<(), AllocError> {
+        push_found(self.host.stat(path).map(|stamp| stamp.is_some()), told)
     }
 
     /// `holds PATH` and `exists PATH`: what others see.
@@ -140,6 +171,16 @@ impl<'a> Calls<'a> {
             _ => None,
         }
     }
+}
+
+/// A path of so many bytes that leads to the file in this folder.
+fn long_path(alloc: Global, count: usize, name: &str) -> Result<String, AllocError> {
+    let mut path = String::from_str(alloc, ".")?;
+    for _ in 1..count.saturating_sub(name.len()) {
+        path.push_str("/")?;
+    }
+    path.push_str(name)?;
+    Ok(path)
 }
 
 /// A site on which nothing has happened.
