@@ -2,6 +2,7 @@
 
 ghost use Rattle.std.specs.Prelude.{◌≡◌, ◌<◌, [], ℕ, nat_eq, OnOk, length, get_or};
 ghost use Rattle.indexmap.specs.IndexSet.{insert_key};
+ghost use Rattle.links.specs.Held.{StandOnce};
 
 use paths::PathId;
 use std::alloc::{AllocError, Global};
@@ -66,12 +67,14 @@ impl PathSet {
 
     /// The paths.
     pub fn as_slice(&self) -> &[PathId]
-        ensures { result.now ≡ self.now }
+        ensures paths { result.now ≡ self.now }
+        ensures once { StandOnce self.now }
     {
         self.paths.as_slice()
     }
 
     /// Puts a path in, where it is not in.
+    #[inline(always)]
     pub fn insert(&mut self, path: PathId) -> Result<(), AllocError>
         ensures { OnOk result (self.new ≡ insert_key nat_eq self.old path) }
     {
