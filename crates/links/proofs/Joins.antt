@@ -9,7 +9,6 @@ use Rattle.model.specs.Graph.{has_number}
 use Rattle.build_theory.proofs.Lists.{has_number-left, has_number-right}
 use Rattle.links.specs.declared.graph.Graph.{Graph}
 use Rattle.links.specs.Held.{list_at, times, StandOnce, AreRecorded, AreUsers, pushed}
-use Rattle.links.specs.Grown.{HasGained}
 use Rattle.links.specs.Links.{links_of}
 use Rattle.links.proofs.Lists.{times-append, times_pushed, length-pushed}
 use Rattle.links.proofs.Sets.{Gains, gains_all, all_once, all_fresh}
@@ -112,17 +111,3 @@ module _ (graph : Graph) (edge : ℕ) (none one two inputs : List ℕ) (empty : 
           false≢true (sym absent ∙ subst (λ (l : List ℕ). has_number l p ≡ true) (sym gains.grows) (has_number-left one gains.more p (subst (λ (l : List ℕ). has_number l p ≡ true) (sym one_is) h)))) in
           let new : has_number inputs p ≡ false = false_from_ne_true (has_number inputs p) (λ h. false≢true (sym absent ∙ gains.has p h)) in
           absent ∙ sym (ap (λ (b : Bool). b || has_number inputs p) old ∙ new)
-
--- an edge that had none
-pub gained_alone : (graph new : Graph) (edge : ℕ) (inputs : List ℕ) → edge < length graph.manifest.lines → list_at graph.recorded edge ≡ [] → StandOnce inputs
-    → new.manifest ≡ graph.manifest → new.makers ≡ graph.makers → new.recorded ≡ set graph.recorded edge inputs → HasGained graph new edge inputs
-gained_alone graph new edge inputs lt empty once manifest makers recorded = record {
-  manifest = manifest;
-  makers = makers;
-  gained = λ p. ap (λ (l : List ℕ). has_number l p) here ∙ sym (ap (λ (l : List ℕ). has_number l p || has_number inputs p) empty);
-  once = subst StandOnce (sym {A = List ℕ} here) once;
-  others = λ e other. ap (λ (l : List (List ℕ)). list_at l e) recorded ∙ get_or-set_other graph.recorded edge e inputs [] other;
-}
-  where
-    here : list_at new.recorded edge ≡ inputs
-    here = ap (λ (l : List (List ℕ)). list_at l edge) recorded ∙ get_or-set_same graph.recorded edge inputs [] (omega (arith, lt, graph.recording.fits))

@@ -34,7 +34,7 @@ impl Model for PathSet {
 
 impl PathSet {
     /// No paths, which takes no memory.
-    pub fn new(alloc: Global) -> PathSet
+    pub(crate) fn new(alloc: Global) -> PathSet
         ensures { result ≡ [] }
     {
         PathSet {
@@ -45,7 +45,7 @@ impl PathSet {
     }
 
     /// Lets all paths go, and keeps the room.
-    pub fn clear(&mut self)
+    pub(crate) fn clear(&mut self)
         ensures { self.new ≡ [] }
     {
         self.paths.clear();
@@ -59,14 +59,14 @@ impl PathSet {
     }
 
     /// How many paths there are.
-    pub fn len(&self) -> usize
+    pub(crate) fn len(&self) -> usize
         ensures { result ≡ length self.now }
     {
         self.paths.len()
     }
 
     /// The paths.
-    pub fn as_slice(&self) -> &[PathId]
+    pub(crate) fn as_slice(&self) -> &[PathId]
         ensures paths { result.now ≡ self.now }
         ensures once { StandOnce self.now }
     {
