@@ -1,13 +1,14 @@
 -- A graph that gets more paths keeps the numbers of those that it has.
-use Rattle.std.proofs.Common.{◌≡◌, ◌<◌, ◌==◌, ◌||◌, bytes_eq, cond, Bool, true, false, ℕ, zero, suc, List, [], ◌∷◌, ◌++◌, length, get_or, slice_get, Option, Some, None, refl, sym, ◌∙◌, ap, subst, append_assoc, append-nil, arith}
+use Rattle.std.proofs.Common.{◌≡◌, ◌<◌, ◌==◌, ◌||◌, ◌⊎◌, inl, inr, bytes_eq, cond, Bool, true, false, ℕ, zero, suc, List, [], ◌∷◌, ◌++◌, length, get_or, slice_get, Option, Some, None, refl, sym, ◌∙◌, ap, subst, append_assoc, append-nil, arith}
 use Rattle.std.proofs.lemmas.Bool.{eqb-true, eq-eqb, or_left, or_right}
 use Rattle.std.proofs.lemmas.List.{map-append, length-append, get_or_append_left}
 use Rattle.std.proofs.lemmas.Option.{slice_get_within, get_or_from_slice_get}
 use Rattle.model.specs.Graph.{has, has_number}
-use Rattle.build_theory.proofs.Lists.{same_some}
+use Rattle.build_theory.proofs.Lists.{same_some, same_bytes}
 use Rattle.paths.specs.Told.{text_at, texts_at}
 use Rattle.links.specs.Grown.{HasNumbered}
 use Rattle.links.specs.declared.graph.Graph.{Graph}
+use Rattle.links.proofs.Texts.{has_text}
 use Rattle.builder.specs.Recorded.{HasMorePaths, HasOnlyMorePaths, AreNumbered, IsNumberedToo, HaveJust}
 
 -- ---- more paths
@@ -173,3 +174,29 @@ just_as graph numbers paths others same just = record { within = just.within; sa
 
 pub just_is : (graph : Graph) (numbers : List ℕ) (paths others : List (List ℕ)) → paths ≡ others → HaveJust graph numbers paths → HaveJust graph numbers others
 just_is graph numbers paths others is just = subst (λ (l : List (List ℕ)). HaveJust graph numbers l) is just
+
+-- ---- sets of numbers
+
+-- a path more that is there already
+pub has_again : (paths : List (List ℕ)) (text : List ℕ) → has paths text ≡ true → (p : List ℕ) → has paths p ≡ has (paths ++ text ∷ []) p
+has_again paths text there p = by_test (bytes_eq text p) refl ∙ sym (has_both paths (text ∷ []) p)
+  where
+    or_true : (b : Bool) → b ≡ cond b true false
+    or_true true = refl
+    or_true false = refl
+
+    by_test : (b : Bool) → bytes_eq text p ≡ b → has paths p ≡ cond (has paths p) true (b || false)
+    by_test true same = let here = subst (λ (t : List ℕ). has paths t ≡ true) (same_bytes text p same) there in here ∙ sym (ap (λ (b : Bool). cond b true true) here)
+    by_test false other = or_true (has paths p)
+
+pub just_insert : (graph : Graph) (numbers new : List ℕ) (paths : List (List ℕ)) (number : ℕ) → HaveJust graph numbers paths → number < length graph.manifest.paths
+    → ((has_number numbers number ≡ true) × (new ≡ numbers)) ⊎ (new ≡ numbers ++ number ∷ []) → HaveJust graph new (paths ++ text_at graph.manifest.paths number ∷ [])
+just_insert graph numbers new paths number just lt put = elim put [
+  | inl held ↦
+      subst (λ (l : List ℕ). HaveJust graph l (paths ++ text ∷ [])) (sym {A = List ℕ} held.1)
+      (just_as graph numbers paths (paths ++ text ∷ []) (has_again paths text (sym (just.same text) ∙ has_text graph.manifest.paths numbers number held.0)) just)
+  | inr fresh ↦ just_push graph numbers new paths number just lt fresh
+]
+  where
+    text : List ℕ
+    text = text_at graph.manifest.paths number

@@ -1,6 +1,6 @@
 //! Recorded inputs, which commands of earlier builds told in their depfiles (manual: "Depfile").
 
-ghost use Rattle.std.specs.Prelude.{◌≡◌, ◌<◌, ◌+◌, ◌++◌, ℕ, suc, true, List, None, Some, IfOk, OnOk, OnErr, length, get_or, slice_get};
+ghost use Rattle.std.specs.Prelude.{◌≡◌, ◌<◌, ◌+◌, ◌++◌, [], ℕ, suc, true, List, None, Some, IfOk, OnOk, OnErr, length, get_or, slice_get};
 ghost use Rattle.model.specs.declared.record.Record.{Record};
 ghost use Rattle.model.specs.declared.record.DepsRecord.{DepsRecord};
 ghost use Rattle.model.specs.Graph.{has_number, edge_at, outputs};
@@ -17,7 +17,7 @@ ghost use Rattle.builder.specs.Reports.{IsUnrecorded};
 ghost use Rattle.builder.specs.Recorded.{are_known, is_in_use, HasMorePaths, HasOnlyMorePaths, IsJoined, MayBeJoined, AreToJoin, HasJoinedOf, AreNumbered, IsNumberedToo, HaveJust, IsShared, HasJoined, deps_place, named_by, texts_of};
 
 use deps_log::Deps;
-use links::{Graph, LoadedEdge};
+use links::{Graph, LoadedEdge, PathSet};
 use model::Act;
 use paths::{Action, EdgeId, PathId};
 use records::Records;
@@ -28,6 +28,7 @@ pub fn join_recorded(alloc: Global, graph: &mut Graph, records: &Records) -> Res
     requires known { (rs : List Record) × (ds : List DepsRecord) × AreKnown graph.old rs ds records.now }
     ensures { OnOk result ((rs : List Record) (ds : List DepsRecord) → AreKnown graph.old rs ds records.now → IsUnrecorded graph.old → HasJoined graph.old graph.new rs ds records.now) }
 {
+    graph.reserve_inputs(count_of(graph, records))?;
     let mut numbers = Vec::new(alloc);
     for place in 0..graph.edges() {
         let edge = graph.manifest.edge(place);
@@ -54,6 +55,27 @@ pub fn join_loaded(
     Ok(())
 }
 
+/// How many paths the deps records name that are in force for what edges make.
+fn count_of(graph: &Graph, records: &Records) -> usize {
+    let mut count = 0usize;
+    for place in 0..graph.edges() {
+        let edge = graph.manifest.edge(place);
+        count = count.saturating_add(count_named(records, graph.outputs(edge)));
+    }
+    count
+}
+
+/// How many paths the deps records in force for these outputs name.
+fn count_named(records: &Records, outputs: &[PathId]) -> usize {
+    let mut count = 0usize;
+    for output in outputs {
+        if let Some(deps) = records.deps(*output) {
+            count = count.saturating_add(deps.paths.as_slice().len());
+        }
+    }
+    count
+}
+
 /// Records in the graph the recorded inputs of the edge, where they are in use. `numbers` are those that paths of the deps log are
 /// known to have in the graph.
 fn join_edge(
@@ -74,8 +96,9 @@ fn join_edge(
     if !is_in_use(graph, records, edge) {
         return Ok(());
     }
-    let inputs = inputs_of(alloc, graph, records, numbers, edge)?;
-    graph.add_inputs(alloc, edge, &inputs)?;
+    let mut inputs = graph.lend_set(alloc);
+    put_inputs(alloc, graph, records, numbers, &mut inputs, edge)?;
+    graph.add_set(alloc, edge, inputs)?;
     Ok(())
 }
 
@@ -115,24 +138,25 @@ fn is_known(records: &Records, act: &Act, output: PathId) -> bool
     }
 }
 
-/// The numbers of the recorded inputs of an edge. What several outputs share is taken once.
-fn inputs_of(
+/// Puts the numbers of the recorded inputs of an edge into the set. What several outputs share is put in once.
+fn put_inputs(
     alloc: Global,
     graph: &mut Graph,
     records: &Records,
     numbers: &mut Vec<Option<PathId>>,
+    inputs: &mut PathSet,
     edge: EdgeId,
-) -> Result<Vec<PathId>, AllocError>
-    requires { edge < length graph.old.manifest.lines }
+) -> Result<(), AllocError>
+    requires edge { edge < length graph.old.manifest.lines }
+    requires empty { inputs.old ≡ [] }
     ensures grown { HasOnlyMorePaths graph.old graph.new }
     ensures numbered { AreNumbered graph.old (texts_of records.now) numbers.old.items → AreNumbered graph.new (texts_of records.now) numbers.new.items }
-    ensures inputs { IfOk result (λ inputs. (rs : List Record) (ds : List DepsRecord) → AreKnown graph.old rs ds records.now → AreNumbered graph.old (texts_of records.now) numbers.old.items → HaveJust graph.new inputs.items (all_paths_in ds (outputs (edge_at (declared_by graph.old).edges (suc edge))))) }
+    ensures inputs { OnOk result ((rs : List Record) (ds : List DepsRecord) → AreKnown graph.old rs ds records.now → AreNumbered graph.old (texts_of records.now) numbers.old.items → HaveJust graph.new inputs.new (all_paths_in ds (outputs (edge_at (declared_by graph.old).edges (suc edge))))) }
 {
-    let mut inputs = Vec::new(alloc);
     for place in 0..graph.outputs(edge).len() {
-        push_inputs_at(alloc, graph, records, numbers, &mut inputs, edge, place)?;
+        push_inputs_at(alloc, graph, records, numbers, inputs, edge, place)?;
     }
-    Ok(inputs)
+    Ok(())
 }
 
 /// Adds the numbers of the paths that the record of the output at this place names, unless it is that of the output before it.
@@ -141,7 +165,7 @@ fn push_inputs_at(
     graph: &mut Graph,
     records: &Records,
     numbers: &mut Vec<Option<PathId>>,
-    inputs: &mut Vec<PathId>,
+    inputs: &mut PathSet,
     edge: EdgeId,
     place: usize,
 ) -> Result<(), AllocError>
@@ -149,7 +173,7 @@ fn push_inputs_at(
     requires place { place < length ((links_of graph.old).outputs edge) }
     ensures grown { HasOnlyMorePaths graph.old graph.new }
     ensures numbered { AreNumbered graph.old (texts_of records.now) numbers.old.items → AreNumbered graph.new (texts_of records.now) numbers.new.items }
-    ensures inputs { OnOk result ((paths : List (List ℕ)) (rs : List Record) (ds : List DepsRecord) → AreKnownOf paths ((links_of graph.old).outputs edge) rs ds records.now → AreNumbered graph.old (texts_of records.now) numbers.old.items → HaveJust graph.old inputs.old.items (named_by paths ds ((links_of graph.old).outputs edge) place) → HaveJust graph.new inputs.new.items (named_by paths ds ((links_of graph.old).outputs edge) (place + 1))) }
+    ensures inputs { OnOk result ((paths : List (List ℕ)) (rs : List Record) (ds : List DepsRecord) → AreKnownOf paths ((links_of graph.old).outputs edge) rs ds records.now → AreNumbered graph.old (texts_of records.now) numbers.old.items → HaveJust graph.old inputs.old (named_by paths ds ((links_of graph.old).outputs edge) place) → HaveJust graph.new inputs.new (named_by paths ds ((links_of graph.old).outputs edge) (place + 1))) }
 {
     if is_shared(graph, records, edge, place) {
         return Ok(());
@@ -186,14 +210,13 @@ fn push_inputs(
     graph: &mut Graph,
     records: &Records,
     numbers: &mut Vec<Option<PathId>>,
-    inputs: &mut Vec<PathId>,
+    inputs: &mut PathSet,
     deps: &Deps,
 ) -> Result<(), AllocError>
     ensures grown { HasOnlyMorePaths graph.old graph.new }
     ensures numbered { AreNumbered graph.old (texts_of records.now) numbers.old.items → AreNumbered graph.new (texts_of records.now) numbers.new.items }
-    ensures inputs { OnOk result ((paths : List (List ℕ)) → AreNumbered graph.old (texts_of records.now) numbers.old.items → HaveJust graph.old inputs.old.items paths → HaveJust graph.new inputs.new.items (paths ++ logged_at (texts_of records.now) deps.now.paths)) }
+    ensures inputs { OnOk result ((paths : List (List ℕ)) → AreNumbered graph.old (texts_of records.now) numbers.old.items → HaveJust graph.old inputs.old paths → HaveJust graph.new inputs.new (paths ++ logged_at (texts_of records.now) deps.now.paths)) }
 {
-    inputs.reserve(deps.paths.as_slice().len())?;
     for path in deps.paths.as_slice() {
         push_input(alloc, graph, records, numbers, inputs, *path)?;
     }
@@ -206,22 +229,22 @@ fn push_input(
     graph: &mut Graph,
     records: &Records,
     numbers: &mut Vec<Option<PathId>>,
-    inputs: &mut Vec<PathId>,
+    inputs: &mut PathSet,
     path: usize,
 ) -> Result<(), AllocError>
     ensures grown { HasOnlyMorePaths graph.old graph.new }
     ensures numbered { AreNumbered graph.old (texts_of records.now) numbers.old.items → AreNumbered graph.new (texts_of records.now) numbers.new.items }
-    ensures inputs { OnOk result ((paths : List (List ℕ)) → AreNumbered graph.old (texts_of records.now) numbers.old.items → HaveJust graph.old inputs.old.items paths → HaveJust graph.new inputs.new.items (paths ++ if_some (slice_get (texts_of records.now) path))) }
+    ensures inputs { OnOk result ((paths : List (List ℕ)) → AreNumbered graph.old (texts_of records.now) numbers.old.items → HaveJust graph.old inputs.old paths → HaveJust graph.new inputs.new (paths ++ if_some (slice_get (texts_of records.now) path))) }
 {
     if let Some(number) = number_at(numbers, path) {
-        inputs.push(number)?;
+        inputs.insert(number)?;
         return Ok(());
     }
     let Some(text) = records.deps_path(path) else {
         return Ok(());
     };
     let number = number_of(alloc, graph, numbers, path, text)?;
-    inputs.push(number)?;
+    inputs.insert(number)?;
     Ok(())
 }
 

@@ -8,15 +8,17 @@ use Rattle.indexmap.specs.IndexSet.{insert_key}
 use Rattle.model.specs.Graph.{has_number}
 use Rattle.build_theory.proofs.Lists.{has_number-push, has_number-push_other}
 use Rattle.links.specs.Marked.{AreOfRound}
+use Rattle.links.proofs.Lists.{once_push}
 
 pub rounded_first : AreOfRound [] [] 1
-rounded_first = record { some = omega arith; past = λ p. omega arith; held = λ p. refl }
+rounded_first = record { some = omega arith; past = λ p. omega arith; held = λ p. refl; once = λ n. omega arith }
 
 pub rounded_next : (paths rounds : List ℕ) (round : ℕ) → AreOfRound paths rounds round → AreOfRound [] rounds (round + 1)
 rounded_next paths rounds round are = record {
   some = omega arith;
   past = λ p. let below = are.past p in omega arith;
   held = λ p. sym (ne_eqb (get_or rounds p 0) (round + 1) (λ e. let below = are.past p in omega arith));
+  once = λ n. omega arith;
 }
 
 -- where no round is another
@@ -25,10 +27,11 @@ rounded_same paths rounds others round are same = record {
   some = are.some;
   past = λ p. subst (λ (n : ℕ). n ≤ round) (sym (same p)) (are.past p);
   held = λ p. are.held p ∙ ap (λ (n : ℕ). n == round) (sym (same p));
+  once = are.once;
 }
 
-pub rounded_push : (paths rounds : List ℕ) (round path : ℕ) → AreOfRound paths rounds round → path < length rounds → AreOfRound (paths ++ path ∷ []) (set rounds path round) round
-rounded_push paths rounds round path are within = record {
+pub rounded_push : (paths rounds : List ℕ) (round path : ℕ) → AreOfRound paths rounds round → path < length rounds → get_or rounds path 0 ≢ round → AreOfRound (paths ++ path ∷ []) (set rounds path round) round
+rounded_push paths rounds round path are within fresh = record {
   some = are.some;
   past = λ p. elim (eqb_tells p path) [
     | inl here ↦ let at = ap (λ (k : ℕ). get_or (set rounds path round) k 0) here.1 ∙ get_or-set_same rounds path round 0 within in omega arith
@@ -41,6 +44,7 @@ rounded_push paths rounds round path are within = record {
     | inr other ↦
         has_number-push_other paths path p (λ e. other.1 (sym e)) ∙ (are.held p ∙ ap (λ (n : ℕ). n == round) (sym (get_or-set_other rounds path p round 0 other.1)))
   ];
+  once = once_push paths path are.once (are.held path ∙ ne_eqb (get_or rounds path 0) round fresh);
 }
 
 flip : (a b : ℕ) → nat_eq a b ≡ (b == a)

@@ -28,6 +28,13 @@ pub record Gains (old new numbers : List ℕ) : Type 0 where
   pub has : (n : ℕ) → has_number numbers n ≡ true → has_number new n ≡ true
   pub each : (n : ℕ) → has_number new n ≡ true → (has_number old n ≡ true) ⊎ (has_number numbers n ≡ true)
 
+-- a set into which a number is put keeps its list, or has the number behind
+pub inserted : (xs new : List ℕ) (n : ℕ) → new ≡ insert_key nat_eq xs n → ((has_number xs n ≡ true) × (new ≡ xs)) ⊎ (new ≡ xs ++ n ∷ [])
+inserted xs new n is = elim (cases_Bool (list_any (nat_eq n) xs)) [
+  | inl here ↦ inl (any_number xs n here, is ∙ ap (λ (b : Bool). if b then xs else xs ++ n ∷ []) here)
+  | inr fresh ↦ inr (is ∙ ap (λ (b : Bool). if b then xs else xs ++ n ∷ []) fresh)
+]
+
 gains_one : (xs : List ℕ) (n : ℕ) → Gains xs (insert_key nat_eq xs n) (n ∷ [])
 gains_one xs n = by (list_any (nat_eq n) xs) refl
   where

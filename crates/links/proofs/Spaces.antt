@@ -1,8 +1,8 @@
 -- Lists in flat memory, with room to grow.
-use Rattle.std.proofs.Common.{◌≡◌, ◌≢◌, ◌⊎◌, inl, inr, ℕ, zero, suc, ◌+◌, ◌-◌, ◌<◌, ◌≤◌, List, [], ◌∷◌, ◌++◌, map, length, take, drop, get_or, refl, sym, ◌∙◌, ap, subst, arith, length-append, append_assoc}
+use Rattle.std.proofs.Common.{◌≡◌, ◌≢◌, ◌⊎◌, inl, inr, ℕ, zero, suc, ◌+◌, ◌-◌, ◌^◌, ◌<◌, ◌≤◌, min, List, [], ◌∷◌, ◌++◌, map, length, take, drop, get_or, refl, sym, ◌∙◌, ap, subst, arith, length-append, append_assoc}
 use Rattle.std.proofs.Math.ListN.{set, replicate}
-use Rattle.std.proofs.Math.Seq.{drop-append_seam}
-use Rattle.std.proofs.lemmas.List.{take-append-le, drop-append-le, drop-set-lt, drop-set-add, take-set-le, get_or-set_same, get_or-set_other, get_or-map, length-map, length-drop, length-take-le, get_or_default}
+use Rattle.std.proofs.Math.Seq.{drop-append_seam, take-append_seam, drop-append-add}
+use Rattle.std.proofs.lemmas.List.{take-append-le, drop-append-le, drop-set-lt, drop-set-add, take-set-le, get_or-set_same, get_or-set_other, get_or-map, length-map, length-drop, length-take-le, get_or_default, take_all, drop-replicate}
 use Rattle.paths.specs.Lists.{between, Extends}
 use Rattle.links.specs.declared.recorded.Span.{Span}
 use Rattle.links.specs.declared.users.Room.{Room}
@@ -272,11 +272,14 @@ module _ (items : List ℕ) (rooms : List Room) (are : AreRooms items rooms) (vi
   pub lies_in : IsRoomIn (length items) room
   lies_in = subst (IsRoomIn (length items)) (sym at_none) (are.within place)
 
-  pub push_view : (e : ℕ) → room.stop < room.end → map (room_of (set items room.stop e)) (set rooms place (room_made room.start (room.stop + 1) room.end)) ≡ push_at view path e
-  push_view e free =
+  -- the room may have been looked at twice
+  pub push_view : (e : ℕ) (again : Room) → again ≡ get_or rooms place again → room.stop < room.end → map (room_of (set items room.stop e)) (set rooms place (room_made again.start (room.stop + 1) again.end)) ≡ push_at view path e
+  push_view e again is_again free =
       let next : room.stop + 1 ≡ suc room.stop = omega arith in
-      ap (λ (n : ℕ). map (room_of (set items room.stop e)) (set rooms place (room_made room.start n room.end))) next
-      ∙ (pushed_in items rooms are place in_rooms room at_none e free ∙ (ap (λ (v : List (List ℕ)). push_at v place e) is ∙ ap (λ (n : ℕ). push_at view n e) same))
+      let seen : again ≡ room = is_again ∙ (get_or_default rooms place again no_room in_rooms ∙ sym at_none) in
+      ap (λ (r : Room). map (room_of (set items room.stop e)) (set rooms place (room_made r.start (room.stop + 1) r.end))) seen
+      ∙ (ap (λ (n : ℕ). map (room_of (set items room.stop e)) (set rooms place (room_made room.start n room.end))) next
+      ∙ (pushed_in items rooms are place in_rooms room at_none e free ∙ (ap (λ (v : List (List ℕ)). push_at v place e) is ∙ ap (λ (n : ℕ). push_at view n e) same)))
 
   pub pop_view : map (room_of items) (set rooms place (room_made room.start (room.stop - 1) room.end)) ≡ set view path (take (length (list_at view path) - 1) (list_at view path))
   pop_view =
@@ -304,19 +307,37 @@ module _ (items : List ℕ) (rooms : List Room) (are : AreRooms items rooms) (vi
 pub kept_view : (items new : List ℕ) (rooms : List Room) (view : List (List ℕ)) → AreRooms items rooms → map (room_of items) rooms ≡ view → Extends items new → map (room_of new) rooms ≡ view
 kept_view items new rooms view are is extends = rooms_kept items rooms are new extends ∙ is
 
--- a move, one step after the other
-pub moved_by : (old one two three list more : List ℕ) (e stop : ℕ) → one ≡ old ++ list → two ≡ one ++ e ∷ [] → three ≡ two ++ more → stop ≡ length two → IsMoved old three (list ++ e ∷ []) stop
-moved_by old one two three list more e stop a b d at = record {
-  more = more;
-  grows = d ∙ (ap (λ (l : List ℕ). l ++ more) second ∙ append_assoc old (list ++ e ∷ []) more);
-  at = at ∙ (ap length second ∙ length-append old (list ++ e ∷ []));
+-- a sum that is below the bound at which it would stay
+pub unsaturated : (sum size : ℕ) → size ≡ min sum 18446744073709551615 → size < 2 ^ 63 → size ≡ sum
+unsaturated sum size is low = omega (arith, is, low)
+
+-- a move into more room
+pub moved_over : (old wide new : List ℕ) (start stop count size e at : ℕ) → start ≤ stop → stop ≤ length old → count ≡ stop - start → size ≡ length old + count + 1 + count
+    → wide ≡ take size old ++ replicate (size - length old) e → new ≡ take (length old) wide ++ (between wide start stop ++ drop (length old + count) wide)
+    → at ≡ length old + count + 1 → IsMoved old new (between old start stop ++ e ∷ []) at
+moved_over old wide new start stop count size e at order fits is_count is_size is_wide is_new is_at = record {
+  more = replicate count e;
+  grows = is_new ∙ (ap (λ (l : List ℕ). l ++ (between wide start stop ++ drop (length old + count) wide)) front ∙ ap (λ (l : List ℕ). old ++ l) behind);
+  at = let list = length-append (between old start stop) (e ∷ []) in let long = length-between old start stop fits in is_at ∙ omega (arith, list, long, is_count);
 }
   where
-    second : two ≡ old ++ (list ++ e ∷ [])
-    second = b ∙ (ap (λ (l : List ℕ). l ++ e ∷ []) a ∙ append_assoc old list (e ∷ []))
+    fill : List ℕ
+    fill = replicate (size - length old) e
 
-pub extends_one : (old new more : List ℕ) → new ≡ old ++ more → Extends old new
-extends_one old new more is = record { more = more; grows = is }
+    grown : wide ≡ old ++ fill
+    grown = is_wide ∙ ap (λ (l : List ℕ). l ++ fill) (take_all size old (omega (arith, is_size)))
 
-pub extends_two : (old one new first more : List ℕ) → one ≡ old ++ first → new ≡ one ++ more → Extends old new
-extends_two old one new first more a b = record { more = first ++ more; grows = b ∙ (ap (λ (l : List ℕ). l ++ more) a ∙ append_assoc old first more) }
+    front : take (length old) wide ≡ old
+    front = ap (take (length old)) grown ∙ take-append_seam old fill
+
+    left : (size - length old) - count ≡ suc count
+    left = omega (arith, is_size)
+
+    rest : drop (length old + count) wide ≡ e ∷ replicate count e
+    rest = ap (drop (length old + count)) grown ∙ (drop-append-add old fill count ∙ (drop-replicate count (size - length old) e ∙ ap (λ (n : ℕ). replicate n e) left))
+
+    behind : between wide start stop ++ drop (length old + count) wide ≡ (between old start stop ++ e ∷ []) ++ replicate count e
+    behind =
+        ap (λ (l : List ℕ). between l start stop ++ drop (length old + count) wide) grown
+        ∙ (ap (λ (l : List ℕ). l ++ drop (length old + count) wide) (between_more old fill start stop order fits)
+        ∙ (ap (λ (l : List ℕ). between old start stop ++ l) rest ∙ sym (append_assoc (between old start stop) (e ∷ []) (replicate count e))))

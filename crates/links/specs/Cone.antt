@@ -103,6 +103,11 @@ IsConeFault links requested (Cycle paths) = IsRound links requested paths
 
 -- ---- walks
 
+-- what the edge needs from this place on has no maker
+pub record IsMadeEnd (links : Links) (e end : ℕ) : Type 0 where
+  pub within : end ≤ length (needs_at links e)
+  pub sources : (k : ℕ) → end ≤ k → k < length (needs_at links e) → maker_at links e k ≡ None
+
 -- the path that an edge waits for: the last of its inputs that are left
 abbrev pub awaited : Links → List ℕ → ℕ → ℕ
 awaited links left e = slice_index (needs_at links e) (slice_index left e - 1)

@@ -77,6 +77,7 @@ pub struct Cone {
 impl Cone {
     /// These edges, those that make what they need, those that make what they name for validation, and so on. A circle
     /// of edges that need one another is refused; validations make none.
+    #[inline(always)]
     pub fn of(
         alloc: Global,
         graph: &Graph,

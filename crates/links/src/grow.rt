@@ -10,6 +10,9 @@ use crate::path_set::PathSet;
 use paths::{EdgeId, PathId};
 use std::alloc::{AllocError, Global};
 
+/// For each input that is recorded so many places are reserved for who names it: lists that grow leave room behind.
+const USERS_ROOM: usize = 3;
+
 impl Graph {
     /// The number of a path, which gets one where it has none. No build line names more than before: the path gets a
     /// number past those that one does.
@@ -23,6 +26,44 @@ impl Graph {
         let added = self.manifest.paths.add(alloc, path);
         self.users.truncate(self.manifest.paths.len());
         added
+    }
+
+    /// Room for so many more recorded inputs of edges.
+    pub fn reserve_inputs(&mut self, inputs: usize) -> Result<(), AllocError>
+        ensures { self.new ≡ self.old }
+    {
+        self.recorded.reserve(inputs)?;
+        self.users.reserve(inputs.saturating_mul(USERS_ROOM))
+    }
+
+    /// No paths, in a room that the graph lends until `add_set`.
+    pub fn lend_set(&mut self, alloc: Global) -> PathSet
+        ensures set { result ≡ [] }
+        ensures same { self.new ≡ self.old }
+    {
+        self.recorded.take_room(alloc)
+    }
+
+    /// Records the paths of a set as inputs of the edge, each once, beside those that were recorded before.
+    ///
+    /// Where memory is refused, nothing is changed.
+    pub fn add_set(
+        &mut self,
+        alloc: Global,
+        edge: EdgeId,
+        inputs: PathSet,
+    ) -> Result<(), AllocError>
+        requires edge { edge < length self.old.manifest.lines }
+        requires inputs { All (λ p. p < length self.old.manifest.paths) inputs }
+        ensures gained { OnOk result (HasGained self.old self.new edge inputs) }
+        ensures err { OnErr result (self.new ≡ self.old) }
+    {
+        if !self.recorded.at(edge).is_empty() {
+            return self.add_inputs(alloc, edge, inputs.as_slice());
+        }
+        let gained = self.record(edge, inputs.as_slice(), 0);
+        self.recorded.put_room(inputs);
+        gained
     }
 
     /// Records these inputs of the edge, each once, beside those that were recorded before.

@@ -26,4 +26,5 @@ pub use cone::{Cone, ConeFault, Mark};
 pub use fault::{ExtendFault, GraphFault};
 pub use graph::Graph;
 pub use laws::{lists_stand, numbers_stand};
+pub use path_set::PathSet;
 pub use reading::Reading;

@@ -2,6 +2,7 @@
 
 ghost use Rattle.std.specs.Prelude.{◌≡◌, ◌<◌, [], ℕ, nat_eq, OnOk, length, get_or};
 ghost use Rattle.indexmap.specs.IndexSet.{insert_key};
+ghost use Rattle.links.specs.Held.{StandOnce};
 
 use paths::PathId;
 use std::alloc::{AllocError, Global};
@@ -33,7 +34,7 @@ impl Model for PathSet {
 
 impl PathSet {
     /// No paths, which takes no memory.
-    pub fn new(alloc: Global) -> PathSet
+    pub(crate) fn new(alloc: Global) -> PathSet
         ensures { result ≡ [] }
     {
         PathSet {
@@ -44,7 +45,7 @@ impl PathSet {
     }
 
     /// Lets all paths go, and keeps the room.
-    pub fn clear(&mut self)
+    pub(crate) fn clear(&mut self)
         ensures { self.new ≡ [] }
     {
         self.paths.clear();
@@ -58,20 +59,22 @@ impl PathSet {
     }
 
     /// How many paths there are.
-    pub fn len(&self) -> usize
+    pub(crate) fn len(&self) -> usize
         ensures { result ≡ length self.now }
     {
         self.paths.len()
     }
 
     /// The paths.
-    pub fn as_slice(&self) -> &[PathId]
-        ensures { result.now ≡ self.now }
+    pub(crate) fn as_slice(&self) -> &[PathId]
+        ensures paths { result.now ≡ self.now }
+        ensures once { StandOnce self.now }
     {
         self.paths.as_slice()
     }
 
     /// Puts a path in, where it is not in.
+    #[inline(always)]
     pub fn insert(&mut self, path: PathId) -> Result<(), AllocError>
         ensures { OnOk result (self.new ≡ insert_key nat_eq self.old path) }
     {

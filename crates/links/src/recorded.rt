@@ -63,6 +63,13 @@ impl Recorded {
         &self.numbers[span.start..span.stop]
     }
 
+    /// Room for so many more recorded inputs.
+    pub(crate) fn reserve(&mut self, inputs: usize) -> Result<(), AllocError>
+        ensures { self.new ≡ self.old }
+    {
+        self.numbers.reserve(inputs)
+    }
+
     /// Gives the edge these recorded inputs in place of those that it had. Where memory is refused, it keeps them.
     pub fn set(&mut self, edge: EdgeId, inputs: &[PathId]) -> Result<(), AllocError>
         requires { edge < length self.old }

@@ -1,6 +1,6 @@
 //! For each path the edges that name it, in flat memory.
 
-ghost use Rattle.std.specs.Prelude.{◌≡◌, ◌<◌, ◌++◌, ◌∷◌, ◌-◌, ◌≤◌, ℕ, List, All, [], length, take, slice_set, IfOk, OnOk, OnErr};
+ghost use Rattle.std.specs.Prelude.{◌≡◌, ◌<◌, ◌+◌, ◌++◌, ◌∷◌, ◌-◌, ◌≤◌, ℕ, List, All, [], length, take, drop, slice_set, IfOk, OnOk, OnErr};
 ghost use Rattle.std.proofs.Math.ListN.{replicate};
 ghost use Rattle.paths.specs.Lists.{between, Extends};
 ghost use Rattle.links.specs.Rooms.{IsMoved};
@@ -89,6 +89,13 @@ impl Users {
         self.rooms.truncate(paths);
     }
 
+    /// Room for so many more edges, where no list moves.
+    pub fn reserve(&mut self, edges: usize) -> Result<(), AllocError>
+        ensures { self.new ≡ self.old }
+    {
+        self.edges.reserve(edges)
+    }
+
     /// Puts an edge behind those that name the path. Where memory is refused, nothing is changed.
     pub fn push(&mut self, path: PathId, edge: EdgeId) -> Result<(), AllocError>
         requires { path < length self.old }
@@ -99,11 +106,7 @@ impl Users {
         let room = self.rooms[place];
         if room.stop < room.end {
             self.edges[room.stop] = edge;
-            self.rooms[place] = Room {
-                start: room.start,
-                stop: room.stop + 1,
-                end: room.end,
-            };
+            self.rooms[place].stop = room.stop + 1;
             Ok(())
         } else {
             self.push_moved(path, edge)
@@ -186,9 +189,21 @@ fn append_moved(
     ensures ok { IfOk result (IsMoved edges.old.items edges.new.items (between edges.old.items start stop ++ edge ∷ [])) }
     ensures err { OnErr result (Extends edges.old.items edges.new.items) }
 {
-    edges.extend_from_within(start..stop)?;
-    edges.push(edge)?;
     let end = edges.len();
-    edges.resize(end + (stop - start), edge)?;
-    Ok(end)
+    let count = stop - start;
+    edges.resize((end + count + 1).saturating_add(count), edge)?;
+    copy_behind(edges.as_mut_slice(), start, stop, end);
+    Ok(end + count + 1)
+}
+
+/// Copies what stands between two places to a place behind them.
+fn copy_behind(edges: &mut [EdgeId], start: usize, stop: usize, end: usize)
+    requires order { start ≤ stop }
+    requires behind { stop ≤ end }
+    requires within { end + (stop - start) ≤ length edges.old }
+    ensures copied { edges.new ≡ take end edges.old ++ (between edges.old start stop ++ drop (end + (stop - start)) edges.old) }
+    ensures length { length edges.new ≡ length edges.old }
+{
+    let (front, back) = edges.split_at_mut(end);
+    back[..stop - start].copy_from_slice(&front[start..stop]);
 }

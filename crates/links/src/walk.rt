@@ -4,7 +4,7 @@ ghost use Rattle.std.specs.Prelude.{◌≡◌, ℕ, ◌∷◌, true, false, map,
 ghost use Rattle.std.specs.List.{IsFirstBest};
 ghost use Rattle.links.specs.declared.cone.Mark;
 ghost use Rattle.links.specs.Links.{links_of, needs_at};
-ghost use Rattle.links.specs.Cone.{is_unseen, mark_at, maker_at, maker_listed, awaited, Awaits, IsLeft, Keeps, Grows, HasSeenMakers, HasSeenValidators, IsConeFault, IsNeeded, IsRound, IsWalk, IsLast, IsNextInput, work};
+ghost use Rattle.links.specs.Cone.{is_unseen, mark_at, maker_at, maker_listed, awaited, Awaits, IsLeft, Keeps, Grows, HasSeenMakers, HasSeenValidators, IsConeFault, IsMadeEnd, IsNeeded, IsRound, IsWalk, IsLast, IsNextInput, work};
 
 use crate::cone::{ConeFault, Mark};
 use crate::graph::Graph;
@@ -43,7 +43,7 @@ impl<'a> Walk<'a> {
             requested,
             order: Vec::new(alloc),
             marks: vec![in alloc; Mark::Unseen; graph.edges()]?,
-            left: need_counts(alloc, graph)?,
+            left: made_ends(alloc, graph)?,
             stack: Vec::new(alloc),
         })
     }
@@ -328,16 +328,28 @@ impl<'a> Walk<'a> {
     }
 }
 
-/// How many paths each edge needs.
-fn need_counts(alloc: Global, graph: &Graph) -> Result<Vec<usize>, AllocError>
-    ensures fits { IfOk result (λ counts. vec_len counts ≡ length graph.now.manifest.lines) }
-    ensures counts { IfOk result (λ counts. EachIndex counts.items (λ e. slice_index counts.items e ≡ length (needs_at (links_of graph.now) e))) }
+/// Up to where each edge needs what some edge makes. Behind that stand sources, as nearly all recorded inputs are.
+fn made_ends(alloc: Global, graph: &Graph) -> Result<Vec<usize>, AllocError>
+    ensures fits { IfOk result (λ ends. vec_len ends ≡ length graph.now.manifest.lines) }
+    ensures ends { IfOk result (λ ends. EachIndex ends.items (λ e. IsMadeEnd (links_of graph.now) e (slice_index ends.items e))) }
 {
-    let mut counts = Vec::new(alloc);
+    let mut ends = Vec::new(alloc);
     for place in 0..graph.edges() {
-        counts.push(graph.need_count(graph.manifest.edge(place)))?;
+        ends.push(made_end(graph, graph.manifest.edge(place)))?;
     }
-    Ok(counts)
+    Ok(ends)
+}
+
+/// Up to where the edge needs what some edge makes.
+fn made_end(graph: &Graph, edge: EdgeId) -> usize
+    requires { edge < length graph.now.manifest.lines }
+    ensures { IsMadeEnd (links_of graph.now) edge result }
+{
+    let mut end = graph.need_count(edge);
+    while end > 0 && graph.maker(graph.need(edge, end - 1)).is_none() {
+        end -= 1;
+    }
+    end
 }
 
 /// Where the lowest of these stands, the first one where several are equal.

@@ -68,6 +68,7 @@ pub fn maker_of(graph: &Graph, place: usize) -> Option<EdgeId>
 }
 
 /// For each edge of the cone, how many of its inputs and recorded inputs are not there.
+#[inline(always)]
 pub fn first_counts(
     alloc: Global,
     graph: &Graph,

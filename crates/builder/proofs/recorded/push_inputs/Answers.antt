@@ -12,7 +12,7 @@ loop-path-preserved c = record {
   grown = only_then c.args.graph.now c.loop-path.graph c.push_input.new.graph c.loop-path.invariant.grown c.push_input.ensures.grown;
   numbered = λ are. c.push_input.ensures.numbered (c.loop-path.invariant.numbered are);
   inputs = λ paths are just.
-      just_is c.push_input.new.graph c.push_input.new.inputs.items _ _
+      just_is c.push_input.new.graph c.push_input.new.inputs _ _
       (append_assoc paths _ _ ∙ ap (λ (l : List (List ℕ)). paths ++ l) (logged_item (texts_of c.args.records.now) c.as_slice-path-items.result.now c.args.deps.now.paths c.as_slice-path-items.ensures c.loop-path.path-index _ c.loop-path-test.true))
       (c.in_ok-push_input.ensures.inputs _ (c.loop-path.invariant.numbered are) (c.loop-path.invariant.inputs paths are just));
 }

@@ -12,7 +12,7 @@ pub record-requires-clause-inputs : goal.record-requires-clause-inputs
 record-requires-clause-inputs c =
     let graph = c.args.self.now in
     let first = c.in_ok-add_all.ensures ∙ ap (insert_all nat_eq c.args.all.now) c.at.ensures in
-    subst (λ (l : List ℕ). (k d : ℕ) → k < length l → get_or l k d < length graph.manifest.paths) (sym {A = List ℕ} c.as_slice.ensures)
+    subst (λ (l : List ℕ). (k d : ℕ) → k < length l → get_or l k d < length graph.manifest.paths) (sym {A = List ℕ} c.as_slice.ensures.paths)
     (all_index (length graph.manifest.paths) c.add_all-2.new.all
     (gained_within graph c.args.edge c.args.all.now c.add_all.new.all c.add_all-2.new.all c.args.inputs.now c.requires.empty first c.in_ok-add_all-2.ensures (index_all (length graph.manifest.paths) c.args.inputs.now c.requires.inputs)))
 
@@ -20,14 +20,14 @@ pub record-requires-clause-once : goal.record-requires-clause-once
 record-requires-clause-once c =
     let graph = c.args.self.now in
     let first = c.in_ok-add_all.ensures ∙ ap (insert_all nat_eq c.args.all.now) c.at.ensures in
-    subst StandOnce (sym {A = List ℕ} c.as_slice.ensures)
+    subst StandOnce (sym {A = List ℕ} c.as_slice.ensures.paths)
     (gained_once graph c.args.edge c.args.all.now c.add_all.new.all c.add_all-2.new.all c.args.inputs.now c.requires.empty first c.in_ok-add_all-2.ensures)
 
 pub record-requires-clause-held : goal.record-requires-clause-held
 record-requires-clause-held c =
     let graph = c.args.self.now in
     let first = c.in_ok-add_all.ensures ∙ ap (insert_all nat_eq c.args.all.now) c.at.ensures in
-    ap (take c.len-held.result) c.as_slice.ensures
+    ap (take c.len-held.result) c.as_slice.ensures.paths
     ∙ gained_held graph c.args.edge c.args.all.now c.add_all.new.all c.add_all-2.new.all c.args.inputs.now c.requires.empty first c.in_ok-add_all-2.ensures c.len-held.result c.len-held.ensures
 
 pub record-requires-clause-within : goal.record-requires-clause-within
@@ -35,7 +35,7 @@ record-requires-clause-within c =
     let graph = c.args.self.now in
     let first = c.in_ok-add_all.ensures ∙ ap (insert_all nat_eq c.args.all.now) c.at.ensures in
     let long = gained_longer graph c.args.edge c.args.all.now c.add_all.new.all c.add_all-2.new.all c.args.inputs.now c.requires.empty first c.in_ok-add_all-2.ensures c.len-held.result c.len-held.ensures in
-    let size : length c.as_slice.result.now ≡ length c.add_all-2.new.all = ap length c.as_slice.ensures in
+    let size : length c.as_slice.result.now ≡ length c.add_all-2.new.all = ap length c.as_slice.ensures.paths in
     omega (arith, long, size)
 
 pub returns-clause-gained : goal.returns-clause-gained
@@ -44,7 +44,7 @@ returns-clause-gained c =
     let keys = c.add_all-2.new.all in
     let first = c.in_ok-add_all.ensures ∙ ap (insert_all nat_eq c.args.all.now) c.at.ensures in
     on_ok_then c.record.result c.record.ensures.recorded (λ recorded.
-    let is : c.record.new.self.recorded ≡ set graph.recorded c.args.edge keys = recorded ∙ ap (set graph.recorded c.args.edge) c.as_slice.ensures in
+    let is : c.record.new.self.recorded ≡ set graph.recorded c.args.edge keys = recorded ∙ ap (set graph.recorded c.args.edge) c.as_slice.ensures.paths in
     let here : list_at c.record.new.self.recorded c.args.edge ≡ keys = ap (λ (l : List (List ℕ)). list_at l c.args.edge) is ∙ get_or-set_same graph.recorded c.args.edge keys [] (omega (arith, c.requires.edge, graph.recording.fits)) in
     record {
       manifest = c.record.ensures.manifest;

@@ -12,8 +12,9 @@ invariant_of-self-then-index-self c =
     let round = c.self.inside.round in
     let place = c.index-place.result in
     let are = rounded_same paths c.self.inside.rounds.items rounds round c.self.invariant c.reach.ensures.same in
+    let at : c.index.result.now ≡ get_or rounds place 0 = c.index.ensures ∙ get_or_default rounds place c.index.result.now 0 c.in_ok-reach.ensures.reached in
     subst (λ (l : List ℕ). AreOfRound l (set rounds place round) round) (sym (c.in_ok-push.ensures.items ∙ ap (λ (p : ℕ). paths ++ p ∷ []) (sym c.index-place.ensures.place)))
-    (rounded_push paths rounds round place are c.in_ok-reach.ensures.reached)
+    (rounded_push paths rounds round place are c.in_ok-reach.ensures.reached (λ e. c.if-index-self.true (at ∙ e)))
 
 pub returns-in_ok-push : goal.returns-in_ok-push
 returns-in_ok-push c =

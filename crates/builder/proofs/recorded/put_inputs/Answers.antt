@@ -10,7 +10,7 @@ use Rattle.builder.specs.Recorded.{HaveJust, named_by}
 use Rattle.builder.proofs.Joining.{outputs_known}
 use Rattle.builder.proofs.Numbering.{only_then, just_is}
 use Rattle.builder.proofs.Telling.{outputs_are}
-use Rattle.builder.proofs.recorded.inputs_of.Goals as goal
+use Rattle.builder.proofs.recorded.put_inputs.Goals as goal
 
 pub returns-in_err-push_inputs_at-clause-numbered : goal.returns-in_err-push_inputs_at-clause-numbered
 returns-in_err-push_inputs_at-clause-numbered c are k n is = c.push_inputs_at.ensures.numbered (c.loop-place.invariant.numbered are) k n is
@@ -27,7 +27,7 @@ loop-place-preserved c =
       grown = only_then first now new c.loop-place.invariant.grown c.push_inputs_at.ensures.grown;
       numbered = λ are. c.push_inputs_at.ensures.numbered (c.loop-place.invariant.numbered are);
       inputs = λ rs ds known are.
-          subst (λ (ns : List ℕ). AreKnownOf first.manifest.paths ns rs ds records → HaveJust now c.loop-place.inputs.items (named_by first.manifest.paths ds ns place) → HaveJust new c.push_inputs_at.new.inputs.items (named_by first.manifest.paths ds ns (place + 1)))
+          subst (λ (ns : List ℕ). AreKnownOf first.manifest.paths ns rs ds records → HaveJust now c.loop-place.inputs (named_by first.manifest.paths ds ns place) → HaveJust new c.push_inputs_at.new.inputs (named_by first.manifest.paths ds ns (place + 1)))
           (ap (λ (ls : List Line). line_outputs (line_at ls edge)) c.loop-place.invariant.grown.grown.lines)
           (λ of just. c.in_ok-push_inputs_at.ensures.inputs first.manifest.paths rs ds of (c.loop-place.invariant.numbered are) just)
           (outputs_known first rs ds records known edge ((links_of first).outputs edge) refl)
@@ -38,7 +38,7 @@ pub returns-clause-inputs : goal.returns-clause-inputs
 returns-clause-inputs c rs ds known are =
     let first = c.args.graph.now in
     let edge = c.args.edge in
-    just_is c.loop-place.graph c.loop-place.inputs.items _ _
+    just_is c.loop-place.graph c.loop-place.inputs _ _
     (ap (λ (ns : List ℕ). all_paths_in ds (texts_at first.manifest.paths ns)) (take_all c.loop-place.place ((links_of first).outputs edge) (subst (λ (ns : List ℕ). length ns ≤ c.loop-place.place) c.outputs-place-end.ensures c.loop-place-test.false))
     ∙ ap (all_paths_in ds) (sym (outputs_are first.manifest edge)))
     (c.loop-place.invariant.inputs rs ds known are)
