@@ -10,6 +10,7 @@ import stat
 import subprocess
 import sys
 import tempfile
+import threading
 import time
 
 # What stands in front of a command that is shown.
@@ -31,6 +32,7 @@ class Ground:
         self.keep = keep
         self.kills_wanted = kills
         self.counts = collections.Counter()
+        self.counting = threading.Lock()
         self.found = []
         self.left = []
         self.folder = os.path.realpath(tempfile.mkdtemp(prefix="nj-real-"))
@@ -60,16 +62,20 @@ class Ground:
         self.left.append(f"{what}: {why}")
         print(f"  left out: {what}: {why}", flush=True)
 
+    def count(self, what, more=1):
+        with self.counting:
+            self.counts[what] += more
+
     def tree(self, name):
         """A new and empty folder."""
-        self.counts["trees"] += 1
+        self.count("trees")
         folder = os.path.join(self.folder, name)
         os.makedirs(folder)
         os.chmod(folder, 0o755)
         return folder
 
     def step(self, what):
-        self.counts["steps"] += 1
+        self.count("steps")
         print(f"  {what}", flush=True)
 
     def wrong(self, where, what):

@@ -1,5 +1,7 @@
 """Builds that are killed at random moments, and the builds behind them."""
 
+import concurrent.futures
+import functools
 import os
 import random
 import shutil
@@ -11,6 +13,7 @@ import ground
 from ground import is_idle, write
 
 JOBS = 4
+LANES = 3
 UNITS = 16
 TABLES = 8
 
@@ -234,7 +237,7 @@ def rounds(place, tree, name, count, kill, number):
         if turn % 10 == 0:
             place.expect(is_idle(tree.build()), one.where, "the build behind that has something to do")
             tree.begun_and_ended()
-    place.counts["kills"] += hits
+    place.count("kills", hits)
     place.step(f"{name}: {turn} builds, {hits} of them killed while they ran")
 
 
@@ -293,7 +296,7 @@ def appends(place, tree, count):
         was_torn = torn(tree)
         cut += was_torn
         Round(tree, f"append {turn}").finish(changed + lost(tree) if was_torn else changed, JOBS + 1)
-    place.counts["kills"] += hits
+    place.count("kills", hits)
     place.step(f"appends: {count} builds, {hits} of them killed while they ran, {cut} logs cut off in the last record")
 
 
@@ -322,22 +325,38 @@ def calls(place, tree, count):
         with open(listed, encoding="utf-8", errors="replace") as it:
             hits += "killed by SIGKILL" in it.read()
         Round(tree, f"{kind} {when} ({turn})").finish(changed, JOBS + 1)
-    place.counts["kills"] += hits
+    place.count("kills", hits)
     place.step(f"calls: {count} builds, {hits} of them killed before a system call")
 
 
-def run(place):
-    tree = Tree(place, "killed")
+def first_build(place, name):
+    """A tree of this name that has been built, or nothing where that went wrong."""
+    tree = Tree(place, name)
     ran = tree.build()
     tree.begun_and_ended()
-    if not place.expect(ran.status == 0 and not tree.wrong_outputs(), "kills", f"a first build: {ran.text[-900:]}"):
-        return
-    many, some = place.kills_wanted, max(place.kills_wanted // 5, 1)
-    rounds(place, tree, "SIGKILL of all", many, kill_all, signal.SIGKILL)
-    rounds(place, tree, "SIGKILL of nj alone", many, kill_alone, signal.SIGKILL)
-    for number in (signal.SIGINT, signal.SIGTERM):
-        rounds(place, tree, f"{number.name} to all", some, kill_all, number)
-        rounds(place, tree, f"{number.name} to nj alone", some, kill_alone, number)
-    edits_meanwhile(place, tree, some)
-    appends(place, tree, some)
-    calls(place, tree, 2 * some)
+    if place.expect(ran.status == 0 and not tree.wrong_outputs(), f"kills, {name}", f"a first build: {ran.text[-900:]}"):
+        return tree
+    return None
+
+
+def lanes(many):
+    """What is tried, each in a tree of its own."""
+    some = max(many // 5, 1)
+    for number in (signal.SIGKILL, signal.SIGINT, signal.SIGTERM):
+        for kill, whom in ((kill_all, "nj and all its commands"), (kill_alone, "nj alone")):
+            yield f"{number.name} to {whom}", functools.partial(rounds, name=f"{number.name} to {whom}", count=many, kill=kill, number=number)
+    yield "edits meanwhile", functools.partial(edits_meanwhile, count=some)
+    yield "appends", functools.partial(appends, count=some)
+    yield "calls", functools.partial(calls, count=2 * some)
+
+
+def run(place):
+    def lane(name, what):
+        tree = first_build(place, "killed-" + name.replace(" ", "-"))
+        if tree:
+            what(place, tree)
+
+    # Builds mostly wait for their commands, which mostly sleep.
+    with concurrent.futures.ThreadPoolExecutor(LANES) as pool:
+        for it in [pool.submit(lane, *it) for it in lanes(place.kills_wanted)]:
+            it.result()

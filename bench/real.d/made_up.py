@@ -149,7 +149,7 @@ def change(folder, kind, path, text):
 def step(pair, graph, what, words):
     """A build of each copy. Behind a failure nj may run what ninja takes for made: a command that failed has no record."""
     place, where = pair.ground, f"{pair.name}, {what}"
-    place.counts["steps"] += 1
+    place.count("steps")
     nj, ninja = (pair.build(it, "-j", "3", "-k", "0", *words) for it in Pair.TOOLS)
     failed = nj.status != 0
     place.expect((nj.status == 0) == (ninja.status == 0), where, f"status {nj.status}, by ninja {ninja.status}: {nj.text[-600:]} {ninja.text[-600:]}")
@@ -178,7 +178,7 @@ def cut_off(pair, graph):
             build.wait(graph.chance.uniform(0, 0.1))
         except subprocess.TimeoutExpired:
             kill_all(build, signal.SIGKILL)
-            pair.ground.counts["kills"] += 1
+            pair.ground.count("kills")
     graph.killed = graph.unsettled = True
 
 

@@ -76,6 +76,8 @@ add_test(NAME check COMMAND check)
 configure_file(version.h.in version.h)
 add_library(objects OBJECT part0.cc)
 add_library(module MODULE part1.cc $<TARGET_OBJECTS:objects>)
+add_custom_command(OUTPUT copied.cc COMMAND ${CMAKE_COMMAND} -E copy ${CMAKE_SOURCE_DIR}/part2.cc copied.cc DEPENDS part2.cc)
+add_library(copied STATIC ${CMAKE_BINARY_DIR}/copied.cc)
 install(TARGETS app)
 """
 CMAKE_TERMINAL = """\
@@ -125,6 +127,7 @@ WHOLE = CMAKE_MADE + CMAKE_LIBRARIES + CMAKE_MAIN
 CMAKES = [
     cmake("cmake", WHOLE + CMAKE_TESTS, files={
         **SOURCES, "make_header": MAKE_HEADER, "version.h.in": "#define VERSION @CMAKE_VERSION@\n", "CMakeLists.txt": CMAKE_HEAD + WHOLE + CMAKE_TESTS},
+          edits=[("a source", "part1.cc"), ("a header", "parts.h"), ("what makes a header", "number.txt"), ("what a source is made of", "part2.cc")],
           targets=("test", "help", "clean", "module", "app"), terminal=True),
     cmake("cmake-unity", WHOLE, "-DCMAKE_UNITY_BUILD=ON"),
     cmake("cmake-responses", WHOLE, "-DCMAKE_NINJA_FORCE_RESPONSE_FILE=ON"),
@@ -187,15 +190,21 @@ def meson(name, text, *flags, **how):
     return Project(name, **{**known, **how})
 
 
+MESON_FORTRAN = {
+    **{it: FORTRAN[it] for it in ("units.f90", "main.f90")},
+    "meson.build": "project('tried', 'fortran')\nunits = static_library('units', 'units.f90')\nexecutable('app', 'main.f90', link_with: units)\n",
+}
 MESONS = [
     meson("meson", MESON_MADE + MESON_REST + MESON_TESTS, targets=("test", "clean", "app", "listed.txt"), terminal=True),
     meson("meson-unity", MESON_MADE + MESON_REST, "--unity", "on"),
     meson("meson-again", MESON_MADE + MESON_REST, regenerates=("meson.build", "some = static", "add_project_arguments('-DAGAIN', language: 'cpp')\nsome = static")),
     meson("meson-optimized", MESON_MADE + MESON_REST, "--buildtype", "release", "-Db_lto=true", "-Dcpp_args=-frandom-seed=1"),
-    meson("meson-fortran", "", wants=("meson", "gfortran"), files={
-        **{it: FORTRAN[it] for it in ("units.f90", "main.f90")},
-        "meson.build": "project('tried', 'fortran')\nunits = static_library('units', 'units.f90')\nexecutable('app', 'main.f90', link_with: units)\n"},
-        edits=[("a module", "units.f90"), ("a program", "main.f90")]),
+    meson("meson-fortran", "", wants=("meson", "gfortran"), files=MESON_FORTRAN, edits=[
+        ("a module offers more", "units.f90", "contains\n", "  integer, parameter :: more = 1\ncontains\n"), ("a program", "main.f90")]),
+    # gfortran leaves a module file as it was where its text would be the same, and Meson's edges have no restat: from then on it is
+    # older than its source, and both tools run that command in each build.
+    meson("meson-fortran-touched", "", wants=("meson", "gfortran"), files=MESON_FORTRAN, edits=[("a module", "units.f90"), ("a program", "main.f90")],
+          rests=False),
 ]
 
 GN_TOOLCHAIN = """\
