@@ -79,7 +79,7 @@ impl Graph {
     }
 
     /// The phony edge that makes the path, if one does.
-    fn alias(&self, path: PathId) -> Option<EdgeId>
+    pub fn alias(&self, path: PathId) -> Option<EdgeId>
         ensures value { result ≡ alias_at (links_of self.now) path }
         ensures within { IfSome result (λ edge. edge < length self.now.manifest.lines) }
     {

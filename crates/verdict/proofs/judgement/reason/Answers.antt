@@ -86,5 +86,5 @@ returns-clause-reason g c rs ds known keeps told set kept seen =
     depfile_later tells graph a h d c.args.looks.now c.args.looks.now (follow a h d) (stay h d) still both.looks act command.deps c.in_ok-depfile.depfile told
     (subst (λ (x : Act). x.depfile ≢ [] → AreKept (bytes_eq x.depfile) a.history d.history) act_is (keeps told))
     (c.in_ok-depfile.ensures.there told) in
-    is_answer graph c.lists_stand.ensures e taken.edges taken.reading line command c.command_of-command.ensures rs ds c.args.changed.now
+    is_answer graph c.lists_stand.ensures e taken.edges taken.read line command c.command_of-command.ensures rs ds c.args.changed.now
     c.in_ok-outputs.outputs c.in_ok-inputs.inputs c.in_ok-depfile.depfile c.judge.result set d.history whole.0 whole.1 depfile c.judge.ensures
