@@ -1,7 +1,7 @@
 -- What is taken in by what was seen of paths, and what phony edges read in sum.
-use Rattle.std.proofs.Common.{◌≡◌, inl, inr, ℕ, suc, ◌+◌, ◌<◌, ◌==◌, Bool, true, false, List, [], ◌∷◌, ◌++◌, Option, Some, None, length, take, get_or, refl, sym, ◌∙◌, ap, subst, append_assoc}
+use Rattle.std.proofs.Common.{◌≡◌, inl, inr, ℕ, suc, ◌+◌, ◌<◌, ◌==◌, Bool, true, false, List, [], ◌∷◌, ◌++◌, Option, Some, None, cond, length, take, get_or, refl, sym, ◌∙◌, ap, subst, append_assoc}
 use Rattle.std.specs.List.{flat_map}
-use Rattle.std.proofs.lemmas.Bool.{false≢true, or_cases, or_left, or_right, eq-eqb}
+use Rattle.std.proofs.lemmas.Bool.{false≢true, or_cases, or_left, or_right, eq-eqb, eqb-true}
 use Rattle.std.proofs.lemmas.List.{append-nil, take_more}
 use Rattle.std.proofs.lemmas.Grind.{flat_map-append}
 use Rattle.model.specs.declared.event.Moment.{Moment}
@@ -35,6 +35,9 @@ none_some x is = cc
 
 some_same : (x y : ℕ) → Some x ≡ Some y → x ≡ y
 some_same x y is = cc
+
+sum_same : (x y : Inputs) → Some x ≡ Some y → x ≡ y
+sum_same x y is = cc
 
 seen_of : (stamp : Option ℕ) → seen_stamp (look_of stamp) ≡ stamp
 seen_of None = refl
@@ -119,6 +122,17 @@ module _ (graph : Graph) (flags : List Bool) where
 
   pub sums_stay : (seen new : List Look) → Stays seen new → (sums : Sums) → AreSums graph flags seen sums → AreSums graph flags new sums
   sums_stay seen new stays sums so e inputs is = sum_stays seen new stays e inputs (so e inputs is)
+
+  noted_by : (seen : List Look) (e q : ℕ) (sum : Inputs) (old new : Option Inputs) (b : Bool) → (b ≡ true → e ≡ q) → new ≡ cond b (Some sum) old → IsSum graph flags seen e sum
+      → ((inputs : Inputs) → old ≡ Some inputs → IsSum graph flags seen q inputs) → (inputs : Inputs) → new ≡ Some inputs → IsSum graph flags seen q inputs
+  noted_by seen e q sum old new true same is noted so inputs has =
+      subst (λ (n : ℕ). IsSum graph flags seen n inputs) (same refl) (subst (IsSum graph flags seen e) (sum_same sum inputs (sym is ∙ has)) noted)
+  noted_by seen e q sum old new false same is noted so inputs has = so inputs (sym is ∙ has)
+
+  -- a sum that is noted is right, and so are the others
+  pub sum_noted : (seen : List Look) (e q : ℕ) (sum : Inputs) (old new : Option Inputs) → new ≡ cond (e == q) (Some sum) old → IsSum graph flags seen e sum
+      → ((inputs : Inputs) → old ≡ Some inputs → IsSum graph flags seen q inputs) → (inputs : Inputs) → new ≡ Some inputs → IsSum graph flags seen q inputs
+  sum_noted seen e q sum old new is = noted_by seen e q sum old new (e == q) (λ same. eqb-true e q same) is
 
   -- what an edge reads in sum, where all of it was taken in after nothing
   pub sum_taken : (seen : List Look) (e : ℕ) (edges : List ℕ) (none inputs : Inputs) → IsReadingOf graph e edges → AreInputs [] none

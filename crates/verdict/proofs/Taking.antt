@@ -22,7 +22,7 @@ use Rattle.looks.specs.Looking.{HasLooked, LooksFollow, FilesStay}
 use Rattle.dirty.specs.declared.inputs.Inputs.{Inputs}
 use Rattle.dirty.specs.declared.outputs.Outputs.{Outputs}
 use Rattle.dirty.specs.Summaries.{AreOutputs, AreInputs, TakesOutput}
-use Rattle.verdict.specs.Facts.{output_at, stamp_at, one_input, all_inputs, AreIn, HasOutputs, HasDepfile, TakesOne, TakesAll}
+use Rattle.verdict.specs.Facts.{output_at, AreIn, HasOutputs, HasDepfile}
 
 -- a call that only looks asks for no path of the table
 pub looked_still : (tells : Bool) (graph : Graph) (a b : World) (looks : Looks) → FilesStay tells a b → OnlyLooks tells a b → HasLooked tells graph a b looks looks

@@ -13,17 +13,39 @@ add_paths-requires-clause-within g c =
     let graph = c.args.graph.now in
     within_by (length graph.manifest.paths) ((links_of graph).regular c.args.edge) c.regular_inputs-regular.result.now c.regular_inputs-regular.ensures (c.lists_stand.ensures.regular_within c.args.edge)
 
-pub add_paths-2-requires-clause-within : goal.add_paths-2-requires-clause-within
-add_paths-2-requires-clause-within g c =
+pub add_paths-requires-2-clause-within : goal.add_paths-requires-2-clause-within
+add_paths-requires-2-clause-within g c =
     let graph = c.args.graph.now in
     within_by (length graph.manifest.paths) ((links_of graph).recorded c.args.edge) c.recorded_inputs-recorded.result.now c.recorded_inputs-recorded.ensures (c.lists_stand.ensures.recorded_within c.args.edge)
 
 -- what was kept in sum is right by what was seen since
+pub returns-in_err-add_paths-clause-summed : goal.returns-in_err-add_paths-clause-summed
+returns-in_err-add_paths-clause-summed g c = sums_stay c.args.graph.now c.args.changed.now c.args.looks.now.seen.items c.add_paths.new.looks.seen.items c.add_paths.ensures.looked.stays c.args.sums.now c.requires.summed
+
+pub returns-in_err-add_paths-2-clause-summed : goal.returns-in_err-add_paths-2-clause-summed
+returns-in_err-add_paths-2-clause-summed g c = sums_stay c.args.graph.now c.args.changed.now c.add_aliases.new.looks.seen.items c.add_paths-2.new.looks.seen.items c.add_paths-2.ensures.looked.stays c.add_aliases.new.sums c.add_aliases.ensures.summed
+
 pub add_aliases-requires-clause-summed : goal.add_aliases-requires-clause-summed
 add_aliases-requires-clause-summed g c = sums_stay c.args.graph.now c.args.changed.now c.args.looks.now.seen.items c.add_paths.new.looks.seen.items c.add_paths.ensures.looked.stays c.args.sums.now c.requires.summed
 
 pub returns-clause-summed : goal.returns-clause-summed
 returns-clause-summed g c = sums_stay c.args.graph.now c.args.changed.now c.add_aliases.new.looks.seen.items c.add_paths-2.new.looks.seen.items c.add_paths-2.ensures.looked.stays c.add_aliases.new.sums c.add_aliases.ensures.summed
+
+pub returns-in_err-add_aliases-clause-looked : goal.returns-in_err-add_aliases-clause-looked
+returns-in_err-add_aliases-clause-looked g c =
+    looked_then g.S.Texts.tells c.args.graph.now (g.S.Texts.world c.args.site.now) (g.S.Texts.world c.add_paths.new.site) (g.S.Texts.world c.add_aliases.new.site) c.args.looks.now c.add_paths.new.looks c.add_aliases.new.looks
+    c.add_paths.ensures.looked c.add_aliases.ensures.looked
+
+pub returns-in_err-add_paths-2-clause-looked : goal.returns-in_err-add_paths-2-clause-looked
+returns-in_err-add_paths-2-clause-looked g c =
+    let tells = g.S.Texts.tells in
+    let graph = c.args.graph.now in
+    let a = g.S.Texts.world c.args.site.now in
+    let b = g.S.Texts.world c.add_paths.new.site in
+    let d = g.S.Texts.world c.add_aliases.new.site in
+    let f = g.S.Texts.world c.add_paths-2.new.site in
+    looked_then tells graph a d f c.args.looks.now c.add_aliases.new.looks c.add_paths-2.new.looks
+    (looked_then tells graph a b d c.args.looks.now c.add_paths.new.looks c.add_aliases.new.looks c.add_paths.ensures.looked c.add_aliases.ensures.looked) c.add_paths-2.ensures.looked
 
 pub returns-clause-looked : goal.returns-clause-looked
 returns-clause-looked g c =
@@ -57,6 +79,6 @@ returns-clause-inputs g c =
     record {
       edges = c.args.edge ∷ joined.edges;
       read = read_by_all graph flags two c.args.edge c.add_paths.new.inputs c.add_aliases.new.inputs joined;
-      all = λ told_files set kept seen in_ns in_ms. has_all graph flags set _ three (whole.seen told_files set kept seen) _ recorded c.new-inputs.result c.add_aliases.new.inputs c.add_paths-2.new.inputs c.new-inputs.ensures
+      all = λ told_files set kept seen in_ns in_ms. has_all graph flags set (g.S.Texts.world c.add_paths-2.new.site).history three (whole.seen told_files set kept seen) _ recorded c.new-inputs.result c.add_aliases.new.inputs c.add_paths-2.new.inputs c.new-inputs.ensures
           (taken_stays graph flags false two three c.add_paths-2.ensures.looked.stays _ c.new-inputs.result c.add_aliases.new.inputs both) told in_ns in_ms;
     }
