@@ -28,3 +28,7 @@ TakesOutput act output old new = (outputs : List OutputFacts) → AreOutputs act
 -- one input more was taken in
 abbrev pub TakesInput : InputFacts → Inputs → Inputs → Type 0
 TakesInput input old new = (inputs : List InputFacts) → AreInputs inputs old → AreInputs (inputs ++ input ∷ []) new
+
+-- all inputs of another summary were taken in
+abbrev pub JoinsInputs : Inputs → Inputs → Inputs → Type 0
+JoinsInputs others old new = (inputs more : List InputFacts) → AreInputs inputs old → AreInputs more others → AreInputs (inputs ++ more) new

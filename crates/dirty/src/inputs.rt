@@ -1,7 +1,7 @@
 //! What is known of the paths that a command reads.
 
 ghost use Rattle.std.specs.Prelude.{[]};
-ghost use Rattle.dirty.specs.Summaries.{AreInputs, TakesInput};
+ghost use Rattle.dirty.specs.Summaries.{AreInputs, JoinsInputs, TakesInput};
 
 use crate::stamps::later_of;
 
@@ -35,5 +35,14 @@ impl Inputs {
         self.has_absent = self.has_absent || stamp.is_none();
         self.has_changed = self.has_changed || changed;
         self.latest_stamp = later_of(self.latest_stamp, stamp);
+    }
+
+    /// Takes in all that others were taken in for, in one step.
+    pub fn join(&mut self, others: Inputs)
+        ensures { JoinsInputs others self.old self.new }
+    {
+        self.has_absent = self.has_absent || others.has_absent;
+        self.has_changed = self.has_changed || others.has_changed;
+        self.latest_stamp = later_of(self.latest_stamp, others.latest_stamp);
     }
 }

@@ -1,6 +1,6 @@
 //! Commands that are due.
 
-ghost use Rattle.std.specs.Prelude.{◌≡◌, ◌||◌, ◌<◌, ℕ, suc, List, IfOk, length, false};
+ghost use Rattle.std.specs.Prelude.{◌≡◌, ◌||◌, ◌<◌, ℕ, suc, [], List, IfOk, length, false};
 ghost use Rattle.std.specs.List.{list_any};
 ghost use Rattle.model.specs.Calls.{HasCause};
 ghost use Rattle.model.specs.Graph.{has_number};
@@ -13,6 +13,7 @@ ghost use Rattle.looks.specs.Looking.{HasLooked};
 ghost use Rattle.dues.specs.Stores.{IsStoreOf};
 ghost use Rattle.dues.specs.Quiet.{IfQuiet};
 ghost use Rattle.dues.specs.Dues.{is_made_due, reads_due, IsDueEdge};
+ghost use Rattle.verdict.specs.Summed.{AreSums};
 
 use links::{Graph, lists_stand};
 use looks::Looks;
@@ -21,7 +22,7 @@ use paths::{EdgeId, PathId};
 use records::Records;
 use site::Site;
 use std::alloc::Global;
-use verdict::reason;
+use verdict::{Sums, reason};
 
 /// Whether the command, which was not judged, is due, where it is known which edges before it are: it reads what a due edge
 /// makes, or it is out of date. Where the first is so no file is looked at: a command that runs may be writing it.
@@ -30,6 +31,7 @@ pub fn is_command_due<S: Site>(
     site: &mut S,
     graph: &Graph,
     looks: &mut Looks,
+    sums: &mut Sums,
     records: &Records,
     due: &[bool],
     edge: EdgeId,
@@ -39,15 +41,17 @@ pub fn is_command_due<S: Site>(
     requires within { edge < length graph.now.manifest.lines }
     requires due { length due.now ≡ length graph.now.manifest.lines }
     requires command { (links_of graph.now).phony edge ≡ false }
+    requires summed { AreSums graph.now [] looks.old.seen.items sums.old }
     ensures looked { HasLooked S.tells graph.now (S.world site.old) (S.world site.new) looks.old looks.new }
     ensures cause { HasCause (S.world site.old) (S.world site.new) result }
+    ensures summed { AreSums graph.now [] looks.new.seen.items sums.new }
     ensures due { IfOk result (λ is. (store : Store) (targets : List (List ℕ)) (before : List Step) → IsStoreOf graph.now records.now store → IsOrderly (declared_by graph.now).edges before → has_number (judged_in before) (suc edge) ≡ false → IfQuiet S.tells graph.now store targets before (S.world site.old) (S.world site.new) looks.old (λ files. IsDueEdge graph.now store before due.now edge files is)) }
 {
     lists_stand(graph);
     if reads_due(graph, due, edge) {
         return Ok(true);
     }
-    let found = reason(alloc, site, graph, looks, records, &[], edge)?;
+    let found = reason(alloc, site, graph, looks, sums, records, &[], edge)?;
     Ok(found.is_some())
 }
 

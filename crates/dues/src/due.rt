@@ -1,6 +1,6 @@
 //! Which edges are due.
 
-ghost use Rattle.std.specs.Prelude.{◌≡◌, ◌<◌, ℕ, All, List, IfOk, length, vec_len, false};
+ghost use Rattle.std.specs.Prelude.{◌≡◌, ◌<◌, ℕ, All, [], List, IfOk, length, vec_len, false};
 ghost use Rattle.model.specs.Calls.{HasCause};
 ghost use Rattle.model.specs.Records.{Store};
 ghost use Rattle.model.specs.Schedule.{Step};
@@ -11,6 +11,7 @@ ghost use Rattle.dues.specs.Stores.{IsStoreOf};
 ghost use Rattle.dues.specs.Quiet.{IfQuiet};
 ghost use Rattle.dues.specs.UnderWay.{was_due, StandsIn, IsUnderWay};
 ghost use Rattle.dues.specs.Dues.{AreDue, IsDueEdge};
+ghost use Rattle.verdict.specs.Summed.{AreSums};
 
 use crate::aliases::is_alias_due;
 use crate::commands::is_command_due;
@@ -22,6 +23,7 @@ use plan::{Plan, Standing};
 use records::Records;
 use site::Site;
 use std::alloc::Global;
+use verdict::Sums;
 
 /// For each edge, whether it is in the cone and due: commands by how they were judged, and where they were not by their records
 /// and files, aliases by the paths that they name, and both by the edges that make what they read.
@@ -45,10 +47,13 @@ pub fn due_edges<S: Site>(
 {
     looks_follow();
     lists_stand(graph);
+    let mut sums = Sums::new(alloc);
     let mut due = vec![in alloc; false; graph.edges()]?;
     let order = cone.order.as_slice();
     for edge in order {
-        due[edge.index()] = is_due(alloc, site, graph, plan, looks, records, &due, *edge)?;
+        due[edge.index()] = is_due(
+            alloc, site, graph, plan, looks, &mut sums, records, &due, *edge,
+        )?;
     }
     Ok(due)
 }
@@ -60,6 +65,7 @@ fn is_due<S: Site>(
     graph: &Graph,
     plan: &Plan,
     looks: &mut Looks,
+    sums: &mut Sums,
     records: &Records,
     due: &[bool],
     edge: EdgeId,
@@ -69,8 +75,10 @@ fn is_due<S: Site>(
     requires within { edge < length graph.now.manifest.lines }
     requires plan { vec_len plan.now.standings ≡ length graph.now.manifest.lines }
     requires due { length due.now ≡ length graph.now.manifest.lines }
+    requires summed { AreSums graph.now [] looks.old.seen.items sums.old }
     ensures looked { HasLooked S.tells graph.now (S.world site.old) (S.world site.new) looks.old looks.new }
     ensures cause { HasCause (S.world site.old) (S.world site.new) result }
+    ensures summed { AreSums graph.now [] looks.new.seen.items sums.new }
     ensures due { IfOk result (λ is. (store : Store) (targets : List (List ℕ)) (before : List Step) → IsStoreOf graph.now records.now store → IsOrderly (declared_by graph.now).edges before → StandsIn graph.now plan.now before edge → IfQuiet S.tells graph.now store targets before (S.world site.old) (S.world site.new) looks.old (λ files. IsDueEdge graph.now store before due.now edge files is)) }
 {
     lists_stand(graph);
@@ -79,7 +87,7 @@ fn is_due<S: Site>(
     }
     match was_due(plan.standing(edge)) {
         Some(due) => Ok(due),
-        None => is_command_due(alloc, site, graph, looks, records, due, edge),
+        None => is_command_due(alloc, site, graph, looks, sums, records, due, edge),
     }
 }
 

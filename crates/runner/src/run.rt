@@ -24,6 +24,7 @@ use plan::{End, Plan};
 use site::Site;
 use std::alloc::Global;
 use std::mem;
+use verdict::Sums;
 
 /// Runs a plan: judges, starts and takes in what the plan says until it has ended, or says that a dyndep file is to be loaded. What
 /// is found in order by the files and the records of the entry is not started. Each start is put into the log before it, each
@@ -72,8 +73,9 @@ fn run<S: Site>(site: &mut S, setting: Setting<'_>, state: &mut State<'_>) -> Re
     ensures halts { IfOk result (λ halt. (course : Course) → Suits course setting.entry.tick.now setting.entry.graph.now → goes_on course ≡ true → IsOn S.tells course setting.entry.graph.now None state.old (S.world site.old) → IsHalted S.tells course setting.entry.graph.now state.new (S.world site.new) halt) }
     ensures cut { OnErr result ((course : Course) → Suits course setting.entry.tick.now setting.entry.graph.now → goes_on course ≡ true → IsOn S.tells course setting.entry.graph.now None state.old (S.world site.old) → IsCut S.tells course setting.entry.graph.now state.new.plan (S.world site.new)) }
 {
+    let mut sums = Sums::new(setting.alloc);
     'run: loop {
-        if let Some(halt) = go_on(site, setting, state)? {
+        if let Some(halt) = go_on(site, setting, state, &mut sums)? {
             return Ok(halt);
         }
     }

@@ -26,12 +26,11 @@ use Rattle.links.specs.declared.graph.Graph.{Graph}
 use Rattle.links.specs.Linked.{StandFor}
 use Rattle.links.specs.Links.{links_of}
 use Rattle.links.specs.Alias.{counts_if_present}
-use Rattle.links.specs.ReadingOf.{IsReadingOf}
 use Rattle.links.specs.Told.{declared_by}
 use Rattle.dirty.specs.declared.inputs.Inputs.{Inputs}
 use Rattle.dirty.specs.declared.outputs.Outputs.{Outputs}
 use Rattle.dirty.specs.Summaries.{AreOutputs, AreInputs}
-use Rattle.verdict.specs.Facts.{flag_at, output_at, stamp_at, all_inputs, AreIn, HasOutputs, HasInputs, HasDepfile}
+use Rattle.verdict.specs.Facts.{flag_at, output_at, stamp_at, all_inputs, AreIn, HasOutputs, HasInputs, HasDepfile, IsReadBy}
 use Rattle.verdict.specs.Judged.{HasPathsOf, AreRecordedOf, MayBeJudgedBy, IsAnswer, everything}
 use Rattle.verdict.proofs.Reasons.{reason_same, outputs_same, takes, taken, taken_inputs, taken_has, has_taken, flat_has, has_flat, has_text, number_of, are_in}
 
@@ -65,7 +64,7 @@ same_reason a b act r s restat d f deps one two same xs ys outputs ins outs inpu
     ∙ (ap (λ (l : List OutputFacts). reason_of (with_all b s f one l outs)) outputs
     ∙ reason_same b s f one two ys outs same))))
 
-module _ (graph : Graph) (stands : StandFor (declared_by graph).edges graph.manifest.paths (links_of graph)) (e : ℕ) (es : List ℕ) (reading : IsReadingOf graph e es) where
+module _ (graph : Graph) (stands : StandFor (declared_by graph).edges graph.manifest.paths (links_of graph)) (e : ℕ) (es : List ℕ) (read : IsReadBy graph e es) where
   abbrev regs : List ℕ
   regs = flat_map (links_of graph).regular es
 
@@ -105,7 +104,7 @@ module _ (graph : Graph) (stands : StandFor (declared_by graph).edges graph.mani
                 | inl named ↦
                     let is = taken_has graph files false regs n.0 named in
                     let at = flat_has (links_of graph).regular es n.0 is.0 in
-                    inl ((reading.read (view_of files) p).1 (record {
+                    inl ((read (view_of files) p).1 (record {
                       edge = at.0;
                       listed = at.1;
                       path = n.0;
@@ -120,7 +119,7 @@ module _ (graph : Graph) (stands : StandFor (declared_by graph).edges graph.mani
           all : Counted (declared_by graph).edges store files (suc e) p → has (texts_at graph.manifest.paths both) p ≡ true
           all is = elim is [
             | inl named ↦
-                let at = (reading.read (view_of files) p).0 named in
+                let at = (read (view_of files) p).0 named in
                 let counts = subst (λ (q : List ℕ). (counts_if_present (links_of graph) at.path ≡ false) ⊎ IsSome (view_of files q)) (sym at.text) at.counts in
                 subst (λ (q : List ℕ). has (texts_at graph.manifest.paths both) q ≡ true) at.text
                 (has_text graph.manifest.paths both at.path
@@ -145,7 +144,7 @@ module _ (graph : Graph) (stands : StandFor (declared_by graph).edges graph.mani
         (λ n h.
         let at = flat_has (links_of graph).regular es n h in
         has_paths.read (text_at graph.manifest.paths n)
-        ((reading.read everything (text_at graph.manifest.paths n)).1 (record { edge = at.0; listed = at.1; path = n; input = at.2; text = refl; counts = inr refl })))
+        ((read everything (text_at graph.manifest.paths n)).1 (record { edge = at.0; listed = at.1; path = n; input = at.2; text = refl; counts = inr refl })))
 
     recs_in : AreIn set graph.manifest.paths recs
     recs_in = are_in set graph.manifest.paths recs (λ n h. has_paths.recorded (text_at graph.manifest.paths n) (in_use (text_at graph.manifest.paths n) ∙ has_text graph.manifest.paths recs n h))

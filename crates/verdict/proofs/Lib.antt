@@ -3,3 +3,4 @@ pub mod Reasons
 pub mod Answering
 pub mod Known
 pub mod Depfiles
+pub mod Summing

@@ -22,7 +22,7 @@ use Rattle.looks.specs.Looking.{HasLooked, LooksFollow, FilesStay}
 use Rattle.dirty.specs.declared.inputs.Inputs.{Inputs}
 use Rattle.dirty.specs.declared.outputs.Outputs.{Outputs}
 use Rattle.dirty.specs.Summaries.{AreOutputs, AreInputs, TakesOutput}
-use Rattle.verdict.specs.Facts.{output_at, stamp_at, one_input, all_inputs, AreIn, HasOutputs, HasDepfile, TakesOne, TakesAll}
+use Rattle.verdict.specs.Facts.{output_at, AreIn, HasOutputs, HasDepfile}
 
 -- a call that only looks asks for no path of the table
 pub looked_still : (tells : Bool) (graph : Graph) (a b : World) (looks : Looks) → FilesStay tells a b → OnlyLooks tells a b → HasLooked tells graph a b looks looks
@@ -35,7 +35,7 @@ looked_still tells graph a b looks stay only = record {
 
 -- ---- one element more
 
-flat_more : {X A : Type 0} (f : X → List A) (xs : List X) (k : ℕ) (d : X) → k < length xs → flat_map f (take (k + 1) xs) ≡ flat_map f (take k xs) ++ f (get_or xs k d)
+pub flat_more : {X A : Type 0} (f : X → List A) (xs : List X) (k : ℕ) (d : X) → k < length xs → flat_map f (take (k + 1) xs) ≡ flat_map f (take k xs) ++ f (get_or xs k d)
 flat_more f xs k d lt =
     ap (flat_map f) (take_more xs k d lt)
     ∙ (flat_map-append f (take k xs) (get_or xs k d ∷ []) ∙ ap (λ l. flat_map f (take k xs) ++ l) (append-nil (f (get_or xs k d))))
@@ -48,13 +48,6 @@ module _ (paths : List (List ℕ)) (set : List ℕ → Bool) (f g : List Moment)
   outputs_stay rs ds (n ∷ ns) within =
       ap (λ (file : Option File). record { stamp = stamp_of file; made = in_force rs (text_at paths n); deps_start = deps_start (deps_in_force ds (text_at paths n)) } ∷ map (output_at paths rs ds f) ns) (sym (same (text_at paths n) within.0))
       ∙ ap (λ (l : List OutputFacts). output_at paths rs ds g n ∷ l) (outputs_stay rs ds ns within.1)
-
-inputs_stay : (graph : Graph) (flags : List Bool) (always : Bool) (set : List ℕ → Bool) (f g : List Moment) → ((p : List ℕ) → set p ≡ true → file_at g p ≡ file_at f p)
-    → (ns : List ℕ) → AreIn set graph.manifest.paths ns → all_inputs graph flags always f ns ≡ all_inputs graph flags always g ns
-inputs_stay graph flags always set f g same [] within = refl
-inputs_stay graph flags always set f g same (n ∷ ns) within =
-    ap (λ (file : Option File). one_input graph flags always n (stamp_of file) ++ all_inputs graph flags always f ns) (sym (same (text_at graph.manifest.paths n) within.0))
-    ∙ ap (λ (l : List InputFacts). one_input graph flags always n (stamp_at graph.manifest.paths g n) ++ l) (inputs_stay graph flags always set f g same ns within.1)
 
 -- ---- one call after another
 
@@ -86,56 +79,6 @@ module _ (tells : Bool) (graph : Graph) (a b c : World) (one two : Looks) (follo
       (ap (λ (s : Option ℕ). map (output_at paths rs ds c.history) (take k xs) ++ record { stamp = s; made = in_force rs (text_at paths x); deps_start = deps_start (deps_in_force ds (text_at paths x)) } ∷ []) (is_stamp told set now.1 now.2 parts.1.0)
       ∙ (sym (map-append (output_at paths rs ds c.history) (take k xs) (x ∷ [])) ∙ ap (map (output_at paths rs ds c.history)) (sym (take_more xs k d lt))))
       (takes (map (output_at paths rs ds c.history) (take k xs)) (outputs_later act rs ds (take k xs) old so told set kept seen parts.0))
-
-  -- inputs
-  pub takes_one_more : (flags : List Bool) (always : Bool) (xs : List ℕ) (k d : ℕ) → k < length xs → (zero old new : Inputs) → IfKept tells graph.manifest.paths a b one.seen.items (TakesAll graph flags always (take k xs) zero old)
-      → (stamp : Option ℕ) → IfKept tells graph.manifest.paths b c two.seen.items (IsStampIn (text_at graph.manifest.paths (get_or xs k d)) stamp)
-      → TakesOne graph flags always (get_or xs k d) stamp old new
-      → IfKept tells graph.manifest.paths a c one.seen.items (TakesAll graph flags always (take (k + 1) xs) zero new)
-  takes_one_more flags always xs k d lt zero old new so stamp is_stamp takes told set kept seen within inputs of =
-      let now = between told set kept seen in
-      let paths = graph.manifest.paths in
-      let x = get_or xs k d in
-      let parts = all_parts (λ p. set (text_at paths p) ≡ true) (take k xs) (x ∷ []) (subst (AreIn set paths) (take_more xs k d lt) within) in
-      subst (λ (l : List InputFacts). AreInputs l new)
-      (append_assoc inputs (all_inputs graph flags always b.history (take k xs)) (one_input graph flags always x stamp)
-      ∙ ap (λ (l : List InputFacts). inputs ++ l)
-      (ap (λ (l : List InputFacts). l ++ one_input graph flags always x stamp) (inputs_stay graph flags always set b.history c.history now.3 (take k xs) parts.0)
-      ∙ (ap (λ (s : Option ℕ). all_inputs graph flags always c.history (take k xs) ++ one_input graph flags always x s) (is_stamp told set now.1 now.2 parts.1.0)
-      ∙ sym (flat_more (λ p. one_input graph flags always p (stamp_at paths c.history p)) xs k d lt))))
-      (takes (inputs ++ all_inputs graph flags always b.history (take k xs)) (so told set now.0 seen parts.0 inputs of))
-
-  pub takes_then : (flags : List Bool) (always : Bool) (ns ms : List ℕ) (zero old new : Inputs) → IfKept tells graph.manifest.paths a b one.seen.items (TakesAll graph flags always ns zero old)
-      → IfKept tells graph.manifest.paths b c two.seen.items (TakesAll graph flags always ms old new) → IfKept tells graph.manifest.paths a c one.seen.items (TakesAll graph flags always (ns ++ ms) zero new)
-  takes_then flags always ns ms zero old new so then told set kept seen within inputs of =
-      let now = between told set kept seen in
-      let paths = graph.manifest.paths in
-      let parts = all_parts (λ p. set (text_at paths p) ≡ true) ns ms within in
-      subst (λ (l : List InputFacts). AreInputs l new)
-      (append_assoc inputs (all_inputs graph flags always b.history ns) (all_inputs graph flags always c.history ms)
-      ∙ ap (λ (l : List InputFacts). inputs ++ l)
-      (ap (λ (l : List InputFacts). l ++ all_inputs graph flags always c.history ms) (inputs_stay graph flags always set b.history c.history now.3 ns parts.0)
-      ∙ sym (flat_map-append (λ p. one_input graph flags always p (stamp_at paths c.history p)) ns ms)))
-      (then told set now.1 now.2 parts.1 (inputs ++ all_inputs graph flags always b.history ns) (so told set now.0 seen parts.0 inputs of))
-
-  -- the regular inputs of one edge more
-  pub takes_edge_more : (flags : List Bool) (always : Bool) (of_edge : ℕ → List ℕ) (xs : List ℕ) (k d : ℕ) → k < length xs → (zero old new : Inputs)
-      → IfKept tells graph.manifest.paths a b one.seen.items (TakesAll graph flags always (flat_map of_edge (take k xs)) zero old)
-      → IfKept tells graph.manifest.paths b c two.seen.items (TakesAll graph flags always (of_edge (get_or xs k d)) old new)
-      → IfKept tells graph.manifest.paths a c one.seen.items (TakesAll graph flags always (flat_map of_edge (take (k + 1) xs)) zero new)
-  takes_edge_more flags always of_edge xs k d lt zero old new so then =
-      subst (λ (l : List ℕ). IfKept tells graph.manifest.paths a c one.seen.items (TakesAll graph flags always l zero new)) (sym (flat_more of_edge xs k d lt))
-      (takes_then flags always (flat_map of_edge (take k xs)) (of_edge (get_or xs k d)) zero old new so then)
-
-  -- what is read, then what is recorded
-  pub has_inputs : (flags : List Bool) (ns ms : List ℕ) (none read all : Inputs) → AreInputs [] none
-      → IfKept tells graph.manifest.paths a b one.seen.items (TakesAll graph flags false ns none read)
-      → IfKept tells graph.manifest.paths b c two.seen.items (TakesAll graph flags true ms read all)
-      → IfKept tells graph.manifest.paths a c one.seen.items (λ set files. AreIn set graph.manifest.paths ns → AreIn set graph.manifest.paths ms → AreInputs (all_inputs graph flags false files ns ++ all_inputs graph flags true files ms) all)
-  has_inputs flags ns ms none read all of_none so then told set kept seen in_ns in_ms =
-      let now = between told set kept seen in
-      subst (λ (l : List InputFacts). AreInputs (l ++ all_inputs graph flags true c.history ms) all) (inputs_stay graph flags false set b.history c.history now.3 ns in_ns)
-      (then told set now.1 now.2 in_ms (all_inputs graph flags false b.history ns) (so told set now.0 seen in_ns [] of_none))
 
   -- outputs that were taken in by the first call, and what the second one leaves
   pub with_outputs : (act : Act) (rs : List Record) (ds : List DepsRecord) (ns : List ℕ) (outputs : Outputs) (So : (List ℕ → Bool) → List Moment → Type 0) → IfKept tells graph.manifest.paths a b one.seen.items (HasOutputs graph act rs ds ns outputs)

@@ -1,5 +1,5 @@
 -- What the judgement of an edge reads, by the numbers of paths.
-use Rattle.std.specs.Prelude.{◌≡◌, ◌≢◌, ◌<◌, ◌||◌, not, ℕ, Bool, true, false, List, [], ◌∷◌, ◌++◌, if◌then◌else◌, map, length, get_or, Option, is_some}
+use Rattle.std.specs.Prelude.{◌≡◌, ◌≢◌, ◌<◌, ◌↔◌, ◌||◌, not, ℕ, suc, Bool, true, false, List, [], ◌∷◌, ◌++◌, if◌then◌else◌, map, length, get_or, Option, Some, None, is_some}
 use Rattle.std.specs.List.{AllByRecursion, flat_map}
 use Rattle.model.specs.declared.act.Act.{Act}
 use Rattle.model.specs.declared.event.Moment.{Moment}
@@ -7,8 +7,9 @@ use Rattle.model.specs.declared.graph.Deps.{Deps}
 use Rattle.model.specs.declared.graph.Deps.TheVariants.{Unset}
 use Rattle.model.specs.declared.record.Record.{Record}
 use Rattle.model.specs.declared.record.DepsRecord.{DepsRecord}
-use Rattle.model.specs.World.{World, file_at, stamp_of}
+use Rattle.model.specs.World.{World, View, file_at, stamp_of}
 use Rattle.model.specs.Graph.{has_number}
+use Rattle.model.specs.Reading.{IsRead}
 use Rattle.model.specs.OutOfDate.{deps_start}
 use Rattle.model.specs.Records.{in_force, deps_in_force}
 use Rattle.model.specs.Judgement.{OutputFacts, InputFacts}
@@ -16,9 +17,11 @@ use Rattle.paths.specs.Told.{text_at}
 use Rattle.links.specs.declared.graph.Graph.{Graph}
 use Rattle.links.specs.Links.{links_of}
 use Rattle.links.specs.Alias.{counts_if_present}
-use Rattle.links.specs.ReadingOf.{IsReadingOf}
+use Rattle.links.specs.ReadingOf.{IsCountedIn}
+use Rattle.links.specs.Told.{declared_by}
 use Rattle.looks.specs.declared.table.Look.{Look}
-use Rattle.looks.specs.Seen.{IfKept}
+use Rattle.looks.specs.declared.table.Look.TheVariants.{Unasked, Absent, Stamp}
+use Rattle.looks.specs.Seen.{look_at, is_asked, IfKept}
 use Rattle.dirty.specs.declared.inputs.Inputs.{Inputs}
 use Rattle.dirty.specs.declared.outputs.Outputs.{Outputs}
 use Rattle.dirty.specs.Summaries.{AreOutputs, AreInputs}
@@ -75,19 +78,39 @@ HasDepfile act deps is files = act.depfile ≢ [] → deps ≡ Unset → is ≡ 
 abbrev pub TakesOne : Graph → List Bool → Bool → ℕ → Option ℕ → Inputs → Inputs → Type 0
 TakesOne graph flags always p stamp old new = (inputs : List InputFacts) → AreInputs inputs old → AreInputs (inputs ++ one_input graph flags always p stamp) new
 
--- these paths were taken in, after others
-abbrev pub TakesAll : Graph → List Bool → Bool → List ℕ → Inputs → Inputs → (List ℕ → Bool) → List Moment → Type 0
-TakesAll graph flags always numbers old new set files =
-    AreIn set graph.manifest.paths numbers → (inputs : List InputFacts) → AreInputs inputs old → AreInputs (inputs ++ all_inputs graph flags always files numbers) new
-
 -- these are all inputs of an edge that reads what these edges name
 abbrev pub HasInputs : Graph → List Bool → List ℕ → ℕ → Inputs → (List ℕ → Bool) → List Moment → Type 0
 HasInputs graph flags edges e inputs set files =
     AreIn set graph.manifest.paths (flat_map (links_of graph).regular edges) → AreIn set graph.manifest.paths ((links_of graph).recorded e)
     → AreInputs (all_inputs graph flags false files (flat_map (links_of graph).regular edges) ++ all_inputs graph flags true files ((links_of graph).recorded e)) inputs
 
+-- just what the edge reads is named by these edges and counts, in each view
+abbrev pub IsReadBy : Graph → ℕ → List ℕ → Type 0
+IsReadBy graph e edges = (view : View) (p : List ℕ) → IsRead (declared_by graph).edges view (suc e) p ↔ IsCountedIn graph edges view p
+
 -- the inputs of the edge
 pub record AreInputsOf (graph : Graph) (tells : Bool) (flags : List Bool) (e : ℕ) (old new : World) (seen : List Look) (inputs : Inputs) : Type 0 where
   pub edges : List ℕ
-  pub reading : IsReadingOf graph e edges
+  pub read : IsReadBy graph e edges
   pub all : IfKept tells graph.manifest.paths old new seen (HasInputs graph flags edges e inputs)
+
+-- ---- by what was seen of paths
+
+-- the stamp that was seen
+abbrev pub seen_stamp : Look → Option ℕ
+seen_stamp Unasked = None
+seen_stamp Absent = None
+seen_stamp (Stamp stamp) = Some stamp
+
+-- these paths as inputs, as they were seen
+abbrev pub seen_inputs : Graph → List Bool → Bool → List Look → List ℕ → List InputFacts
+seen_inputs graph flags always seen numbers = flat_map (λ p. one_input graph flags always p (seen_stamp (look_at seen p))) numbers
+
+-- these paths were asked for
+abbrev pub AreAsked : List Look → List ℕ → Type 0
+AreAsked seen numbers = AllByRecursion (λ p. is_asked (look_at seen p) ≡ true) numbers
+
+-- these paths were asked for and taken in, after others
+pub record HasTaken (graph : Graph) (flags : List Bool) (always : Bool) (seen : List Look) (numbers : List ℕ) (old new : Inputs) : Type 0 where
+  pub asked : AreAsked seen numbers
+  pub takes : (inputs : List InputFacts) → AreInputs inputs old → AreInputs (inputs ++ seen_inputs graph flags always seen numbers) new

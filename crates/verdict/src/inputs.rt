@@ -1,19 +1,20 @@
 //! The facts of what an edge reads.
 
-ghost use Rattle.std.specs.Prelude.{◌≡◌, ◌<◌, ℕ, IfOk, OnOk, true, false, length};
+ghost use Rattle.std.specs.Prelude.{◌≡◌, ◌<◌, ◌∷◌, [], ℕ, IfOk, OnOk, true, false, length};
 ghost use Rattle.std.specs.List.{flat_map};
 ghost use Rattle.model.specs.Calls.{HasCause};
 ghost use Rattle.model.specs.Graph.{has_number};
 ghost use Rattle.links.specs.Links.{links_of};
 ghost use Rattle.links.specs.ReadingOf.{edges_in};
 ghost use Rattle.looks.specs.Looking.{HasLooked};
-ghost use Rattle.looks.specs.Seen.{IfKept};
-ghost use Rattle.verdict.specs.Facts.{AreInputsOf, TakesAll, TakesOne, flag_at};
+ghost use Rattle.verdict.specs.Facts.{AreInputsOf, HasTaken, TakesOne, flag_at};
+ghost use Rattle.verdict.specs.Summed.{AreSums, HasJoined, IsSum};
 
 use crate::stamps::stamp_of;
+use crate::sums::Sums;
 use dirty::Inputs;
 use links::{Graph, Reading, lists_stand};
-use looks::{Looks, looks_follow};
+use looks::{Look, Looks, looks_follow};
 use model::SiteFault;
 use paths::{EdgeId, PathId};
 use site::Site;
@@ -26,6 +27,126 @@ pub(crate) fn inputs_of<S: Site>(
     site: &mut S,
     graph: &Graph,
     looks: &mut Looks,
+    sums: &mut Sums,
+    changed: &[bool],
+    edge: EdgeId,
+) -> Result<Inputs, SiteFault>
+    requires running { (S.world site.old).stopped ≡ false }
+    requires fits { length looks.old.seen.items ≡ length graph.now.manifest.paths }
+    requires within { edge < length graph.now.manifest.lines }
+    requires summed { AreSums graph.now changed.now looks.old.seen.items sums.old }
+    ensures looked { HasLooked S.tells graph.now (S.world site.old) (S.world site.new) looks.old looks.new }
+    ensures cause { HasCause (S.world site.old) (S.world site.new) result }
+    ensures summed { AreSums graph.now changed.now looks.new.seen.items sums.new }
+    ensures inputs { IfOk result (λ inputs. AreInputsOf graph.now S.tells changed.now edge (S.world site.old) (S.world site.new) looks.old.seen.items inputs) }
+{
+    looks_follow();
+    lists_stand(graph);
+    let mut inputs = Inputs::new();
+    let regular = graph.regular_inputs(edge);
+    add_paths(site, graph, looks, changed, false, regular, &mut inputs)?;
+    add_aliases(
+        alloc,
+        site,
+        graph,
+        looks,
+        sums,
+        changed,
+        regular,
+        &mut inputs,
+    )?;
+    let recorded = graph.recorded_inputs(edge);
+    add_paths(site, graph, looks, changed, true, recorded, &mut inputs)?;
+    Ok(inputs)
+}
+
+/// Takes in what the phony edges read that make these paths.
+fn add_aliases<S: Site>(
+    alloc: Global,
+    site: &mut S,
+    graph: &Graph,
+    looks: &mut Looks,
+    sums: &mut Sums,
+    changed: &[bool],
+    paths: &[PathId],
+    inputs: &mut Inputs,
+) -> Result<(), SiteFault>
+    requires running { (S.world site.old).stopped ≡ false }
+    requires fits { length looks.old.seen.items ≡ length graph.now.manifest.paths }
+    requires summed { AreSums graph.now changed.now looks.old.seen.items sums.old }
+    ensures looked { HasLooked S.tells graph.now (S.world site.old) (S.world site.new) looks.old looks.new }
+    ensures cause { HasCause (S.world site.old) (S.world site.new) result }
+    ensures summed { AreSums graph.now changed.now looks.new.seen.items sums.new }
+    ensures joined { OnOk result (HasJoined graph.now changed.now looks.new.seen.items paths.now inputs.old inputs.new) }
+{
+    looks_follow();
+    for path in paths {
+        add_alias(alloc, site, graph, looks, sums, changed, *path, inputs)?;
+    }
+    Ok(())
+}
+
+/// Takes in what the phony edge reads that makes the path, if one does.
+fn add_alias<S: Site>(
+    alloc: Global,
+    site: &mut S,
+    graph: &Graph,
+    looks: &mut Looks,
+    sums: &mut Sums,
+    changed: &[bool],
+    path: PathId,
+    inputs: &mut Inputs,
+) -> Result<(), SiteFault>
+    requires running { (S.world site.old).stopped ≡ false }
+    requires fits { length looks.old.seen.items ≡ length graph.now.manifest.paths }
+    requires summed { AreSums graph.now changed.now looks.old.seen.items sums.old }
+    ensures looked { HasLooked S.tells graph.now (S.world site.old) (S.world site.new) looks.old looks.new }
+    ensures cause { HasCause (S.world site.old) (S.world site.new) result }
+    ensures summed { AreSums graph.now changed.now looks.new.seen.items sums.new }
+    ensures joined { OnOk result (HasJoined graph.now changed.now looks.new.seen.items (path ∷ []) inputs.old inputs.new) }
+{
+    looks_follow();
+    if let Some(alias) = graph.alias(path) {
+        let sum = sum_of(alloc, site, graph, looks, sums, changed, alias)?;
+        inputs.join(sum);
+    }
+    Ok(())
+}
+
+/// What the phony edge reads comes to, which is noted.
+fn sum_of<S: Site>(
+    alloc: Global,
+    site: &mut S,
+    graph: &Graph,
+    looks: &mut Looks,
+    sums: &mut Sums,
+    changed: &[bool],
+    edge: EdgeId,
+) -> Result<Inputs, SiteFault>
+    requires running { (S.world site.old).stopped ≡ false }
+    requires fits { length looks.old.seen.items ≡ length graph.now.manifest.paths }
+    requires within { edge < length graph.now.manifest.lines }
+    requires summed { AreSums graph.now changed.now looks.old.seen.items sums.old }
+    ensures looked { HasLooked S.tells graph.now (S.world site.old) (S.world site.new) looks.old looks.new }
+    ensures cause { HasCause (S.world site.old) (S.world site.new) result }
+    ensures summed { AreSums graph.now changed.now looks.new.seen.items sums.new }
+    ensures sum { IfOk result (IsSum graph.now changed.now looks.new.seen.items edge) }
+{
+    looks_follow();
+    if let Some(sum) = sums.get(edge) {
+        return Ok(sum);
+    }
+    let sum = read_by(alloc, site, graph, looks, changed, edge)?;
+    sums.note(edge, sum)?;
+    Ok(sum)
+}
+
+/// What the edge reads comes to.
+fn read_by<S: Site>(
+    alloc: Global,
+    site: &mut S,
+    graph: &Graph,
+    looks: &mut Looks,
     changed: &[bool],
     edge: EdgeId,
 ) -> Result<Inputs, SiteFault>
@@ -34,15 +155,12 @@ pub(crate) fn inputs_of<S: Site>(
     requires within { edge < length graph.now.manifest.lines }
     ensures looked { HasLooked S.tells graph.now (S.world site.old) (S.world site.new) looks.old looks.new }
     ensures cause { HasCause (S.world site.old) (S.world site.new) result }
-    ensures inputs { IfOk result (λ inputs. AreInputsOf graph.now S.tells changed.now edge (S.world site.old) (S.world site.new) looks.old.seen.items inputs) }
+    ensures sum { IfOk result (IsSum graph.now changed.now looks.new.seen.items edge) }
 {
     looks_follow();
-    lists_stand(graph);
     let reading = graph.reading(alloc, edge)?;
     let mut inputs = Inputs::new();
     add_edges(site, graph, looks, changed, edges_of(&reading), &mut inputs)?;
-    let recorded = graph.recorded_inputs(edge);
-    add_paths(site, graph, looks, changed, true, recorded, &mut inputs)?;
     Ok(inputs)
 }
 
@@ -70,7 +188,7 @@ fn add_edges<S: Site>(
     requires within { (d : ℕ) → has_number edges.now d ≡ true → d < length graph.now.manifest.lines }
     ensures looked { HasLooked S.tells graph.now (S.world site.old) (S.world site.new) looks.old looks.new }
     ensures cause { HasCause (S.world site.old) (S.world site.new) result }
-    ensures taken { OnOk result (IfKept S.tells graph.now.manifest.paths (S.world site.old) (S.world site.new) looks.old.seen.items (TakesAll graph.now changed.now false (flat_map (links_of graph.now).regular edges.now) inputs.old inputs.new)) }
+    ensures taken { OnOk result (HasTaken graph.now changed.now false looks.new.seen.items (flat_map (links_of graph.now).regular edges.now) inputs.old inputs.new) }
 {
     looks_follow();
     lists_stand(graph);
@@ -96,18 +214,46 @@ fn add_paths<S: Site>(
     requires within { (p : ℕ) → has_number paths.now p ≡ true → p < length graph.now.manifest.paths }
     ensures looked { HasLooked S.tells graph.now (S.world site.old) (S.world site.new) looks.old looks.new }
     ensures cause { HasCause (S.world site.old) (S.world site.new) result }
-    ensures taken { OnOk result (IfKept S.tells graph.now.manifest.paths (S.world site.old) (S.world site.new) looks.old.seen.items (TakesAll graph.now changed.now always paths.now inputs.old inputs.new)) }
+    ensures taken { OnOk result (HasTaken graph.now changed.now always looks.new.seen.items paths.now inputs.old inputs.new) }
 {
     looks_follow();
+    // What is taken in stays in registers.
+    let mut taken = *inputs;
     for path in paths {
-        let stamp = stamp_of(site, graph, looks, *path)?;
-        add_path(graph, changed, always, *path, stamp, inputs);
+        add_path(site, graph, looks, changed, always, *path, &mut taken)?;
     }
+    *inputs = taken;
+    Ok(())
+}
+
+/// Takes in the path: always, or where it counts. Most paths were asked for and have a file, and that counts always.
+fn add_path<S: Site>(
+    site: &mut S,
+    graph: &Graph,
+    looks: &mut Looks,
+    changed: &[bool],
+    always: bool,
+    path: PathId,
+    inputs: &mut Inputs,
+) -> Result<(), SiteFault>
+    requires running { (S.world site.old).stopped ≡ false }
+    requires fits { length looks.old.seen.items ≡ length graph.now.manifest.paths }
+    requires within { path < length graph.now.manifest.paths }
+    ensures looked { HasLooked S.tells graph.now (S.world site.old) (S.world site.new) looks.old looks.new }
+    ensures cause { HasCause (S.world site.old) (S.world site.new) result }
+    ensures taken { OnOk result (HasTaken graph.now changed.now always looks.new.seen.items (path ∷ []) inputs.old inputs.new) }
+{
+    if let Look::Stamp(stamp) = looks.look(path) {
+        inputs.add(Some(stamp), is_changed(changed, path));
+        return Ok(());
+    }
+    let stamp = stamp_of(site, graph, looks, path)?;
+    add_stamp(graph, changed, always, path, stamp, inputs);
     Ok(())
 }
 
 /// Takes in the path, which has this stamp: always, or where it counts.
-fn add_path(
+fn add_stamp(
     graph: &Graph,
     changed: &[bool],
     always: bool,

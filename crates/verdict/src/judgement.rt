@@ -13,10 +13,12 @@ ghost use Rattle.looks.specs.Looking.{HasLooked};
 ghost use Rattle.looks.specs.Seen.{IfKept};
 ghost use Rattle.records.specs.Known.{AreKnown};
 ghost use Rattle.verdict.specs.Judged.{IsAnswer, KeepsDepfile};
+ghost use Rattle.verdict.specs.Summed.{AreSums};
 
 use crate::depfile::has_depfile;
 use crate::inputs::inputs_of;
 use crate::outputs::outputs_of;
+use crate::sums::Sums;
 use dirty::{Facts, judge};
 use links::{Graph, lists_stand, numbers_stand};
 use looks::{Looks, looks_follow};
@@ -32,13 +34,14 @@ use std::alloc::Global;
 ///
 /// What was seen of a path is not asked for again, but for the depfile that the command is to leave. The answer is right for
 /// each set of paths that has all these and whose files stay as they are during the call, as that of the depfile does, whatever
-/// commands write elsewhere. It takes time for the outputs and inputs that are met, and memory only for the phony edges that are
-/// read through.
+/// commands write elsewhere. It takes time for the outputs and inputs that are met; what a phony edge reads is met
+/// once, and then known by `sums`, which takes memory for each phony edge that is read through.
 pub fn reason<S: Site>(
     alloc: Global,
     site: &mut S,
     graph: &Graph,
     looks: &mut Looks,
+    sums: &mut Sums,
     records: &Records,
     changed: &[bool],
     edge: EdgeId,
@@ -47,8 +50,10 @@ pub fn reason<S: Site>(
     requires fits { length looks.old.seen.items ≡ length graph.now.manifest.paths }
     requires within { edge < length graph.now.manifest.lines }
     requires command { (links_of graph.now).phony edge ≡ false }
+    requires summed { AreSums graph.now changed.now looks.old.seen.items sums.old }
     ensures looked { HasLooked S.tells graph.now (S.world site.old) (S.world site.new) looks.old looks.new }
     ensures cause { HasCause (S.world site.old) (S.world site.new) result }
+    ensures summed { AreSums graph.now changed.now looks.new.seen.items sums.new }
     ensures reason { IfOk result (λ reason. (rs : List Record) (ds : List DepsRecord) → AreKnown graph.now rs ds records.now → KeepsDepfile S.tells (declared_by graph.now).edges (S.world site.old) (S.world site.new) (suc edge) → IfKept S.tells graph.now.manifest.paths (S.world site.old) (S.world site.new) looks.old.seen.items (IsAnswer graph.now rs ds changed.now edge reason)) }
 {
     looks_follow();
@@ -63,7 +68,7 @@ pub fn reason<S: Site>(
         &command.act,
         graph.outputs(edge),
     )?;
-    let inputs = inputs_of(alloc, site, graph, looks, changed, edge)?;
+    let inputs = inputs_of(alloc, site, graph, looks, sums, changed, edge)?;
     Ok(judge(&Facts {
         act: &command.act,
         restat: command.restat,

@@ -6,5 +6,7 @@ mod inputs;
 mod judgement;
 mod outputs;
 mod stamps;
+mod sums;
 
 pub use judgement::reason;
+pub use sums::Sums;

@@ -4,7 +4,7 @@ ghost use Rattle.std.specs.Prelude.{◌≡◌, ◌<◌, IfOk, false, length};
 ghost use Rattle.model.specs.Calls.{HasCause};
 ghost use Rattle.paths.specs.Told.{text_at};
 ghost use Rattle.looks.specs.Looking.{HasLooked};
-ghost use Rattle.looks.specs.Seen.{IfKept, IsStampIn};
+ghost use Rattle.looks.specs.Seen.{look_at, look_of, IfKept, IsStampIn};
 
 use links::Graph;
 use looks::Looks;
@@ -24,6 +24,7 @@ pub(crate) fn stamp_of<S: Site>(
     requires within { path < length graph.now.manifest.paths }
     ensures looked { HasLooked S.tells graph.now (S.world site.old) (S.world site.new) looks.old looks.new }
     ensures cause { HasCause (S.world site.old) (S.world site.new) result }
+    ensures seen { IfOk result (λ stamp. look_at looks.new.seen.items path ≡ look_of stamp) }
     ensures stamp { IfOk result (λ stamp. IfKept S.tells graph.now.manifest.paths (S.world site.old) (S.world site.new) looks.old.seen.items (IsStampIn (text_at graph.now.manifest.paths path) stamp)) }
 {
     looks.stamp(site, graph, path)

@@ -42,6 +42,7 @@ loop-edge-preserved g c =
     record {
       looked = looked_then c.looks_follow.ensures.follow g.S.Texts.tells c.args.graph.now (g.S.Texts.world c.args.site.now) (g.S.Texts.world c.loop-edge.site) (g.S.Texts.world c.is_due.new.site) c.args.looks.now c.loop-edge.looks c.is_due.new.looks c.loop-edge.invariant.looked c.is_due.ensures.looked;
       unrefused = unrefused_then (g.S.Texts.world c.args.site.now) (g.S.Texts.world c.loop-edge.site) (g.S.Texts.world c.is_due.new.site) c.loop-edge.invariant.unrefused (unrefused_call (g.S.Texts.world c.loop-edge.site) (g.S.Texts.world c.is_due.new.site) _ c.in_ok-due-2.ensures.cause);
+      summed = c.is_due.ensures.summed;
       fits = length-set due c.index.result c.in_ok-due-2.field-0 ∙ c.loop-edge.invariant.fits;
       due = λ store targets before way.
           let first = subst (λ (l : List ℕ). AreMakersFirst edges (recorded_inputs store edges) [] (map suc l)) (sym {A = List ℕ} c.as_slice-order.ensures.value) way.listed.ordered in

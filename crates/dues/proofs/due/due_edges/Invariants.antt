@@ -1,9 +1,10 @@
-use Rattle.std.proofs.Common.{◌≡◌, ℕ, List, length, take}
+use Rattle.std.proofs.Common.{◌≡◌, [], ℕ, List, length, take}
 use Rattle.model.specs.Records.{Store}
 use Rattle.model.specs.Schedule.{Step}
 use Rattle.build_theory.specs.Seen.{Unrefused}
 use Rattle.links.specs.Told.{declared_by}
 use Rattle.looks.specs.Looking.{HasLooked}
+use Rattle.verdict.specs.Summed.{AreSums}
 use Rattle.dues.specs.Quiet.{IfQuiet}
 use Rattle.dues.specs.UnderWay.{IsUnderWay}
 use Rattle.dues.specs.Dues.{AreDue}
@@ -13,6 +14,7 @@ abbrev pub invariant-loop-edge : goal.invariant-loop-edge
 invariant-loop-edge g l = record {
   looked : HasLooked g.S.Texts.tells l.graph (g.S.Texts.world l.fn.site) (g.S.Texts.world l.site) l.fn.looks l.looks;
   unrefused : Unrefused (g.S.Texts.world l.fn.site) (g.S.Texts.world l.site);
+  summed : AreSums l.graph [] l.looks.seen.items l.sums;
   fits : length l.due.items ≡ length l.graph.manifest.lines;
   due : (store : Store) (targets : List (List ℕ)) (before : List Step) → IsUnderWay l.graph l.records l.cone l.plan store targets before
       → IfQuiet g.S.Texts.tells l.graph store targets before (g.S.Texts.world l.fn.site) (g.S.Texts.world l.site) l.fn.looks (λ files. AreDue (declared_by l.graph).edges store before files (take l.edge-index l.order) l.due.items);

@@ -1,4 +1,4 @@
-use Rattle.std.proofs.Common.{◌≡◌, Some, None, true, false, suc, sym, ◌∙◌, ap, rules}
+use Rattle.std.proofs.Common.{◌≡◌, [], Some, None, true, false, suc, sym, ◌∙◌, ap, rules}
 use Rattle.std.proofs.lemmas.Bool.{false≢true, false_from_ne_true}
 use Rattle.model.specs.Graph.{has_number}
 use Rattle.model.specs.Schedule.{out_of_date_in}
@@ -6,6 +6,7 @@ use Rattle.build_theory.proofs.Orderly.{kept_orderly}
 use Rattle.links.specs.Links.{links_of}
 use Rattle.links.specs.Told.{declared_by}
 use Rattle.plan.specs.Planned.{standing_in}
+use Rattle.verdict.proofs.Summing.{sums_stay}
 use Rattle.dues.specs.UnderWay.{was_due}
 use Rattle.dues.proofs.AliasDues.{alias_due}
 use Rattle.dues.proofs.Judging.{due_by_standing, unjudged_by}
@@ -25,6 +26,9 @@ returns-then-is_phony-clause-due g c =
     let same = said told set kept seen files alike.paths (outputs_known graph c.lists_stand.ensures store targets before set has c.args.edge fresh) (regular_known graph c.lists_stand.ensures store targets before set has c.args.edge) in
     let decided = alias_due edges graph.manifest.paths (links_of graph) files c.lists_stand.ensures store before steps c.args.due.now c.args.edge phony known in
     ((λ so. decided.0 (sym same ∙ so)), (λ due. same ∙ decided.1 due)))
+
+pub returns-then-is_phony-clause-summed : goal.returns-then-is_phony-clause-summed
+returns-then-is_phony-clause-summed g c = sums_stay c.args.graph.now [] c.args.looks.now.seen.items c.is_alias_due.new.looks.seen.items c.is_alias_due.ensures.looked.stays c.args.sums.now c.requires.summed
 
 pub returns-in-Some-clause-due : goal.returns-in-Some-clause-due
 returns-in-Some-clause-due g c store targets before known_by orderly stands keeps told set kept seen has files alike known =

@@ -1,4 +1,4 @@
-use Rattle.std.proofs.Common.{suc, true, List, Bool, subst}
+use Rattle.std.proofs.Common.{suc, true, List, Bool, sym, ap, ◌∙◌, subst}
 use Rattle.model.specs.declared.record.Record.{Record}
 use Rattle.model.specs.declared.record.DepsRecord.{DepsRecord}
 use Rattle.links.specs.Told.{declared_by}
@@ -6,6 +6,8 @@ use Rattle.looks.specs.Seen.{IfKept}
 use Rattle.looks.proofs.Stays.{looked_then}
 use Rattle.plan.specs.Planned.{is_stale}
 use Rattle.records.specs.Known.{AreKnown}
+use Rattle.verdict.specs.Summed.{AreSums}
+use Rattle.verdict.proofs.Summing.{sums_stay}
 use Rattle.verdict.specs.Judged.{IsAnswer, KeepsDepfile}
 use Rattle.runner.proofs.Work.{judged_less}
 use Rattle.runner.proofs.Noticed.{with_looks, on_looked}
@@ -22,6 +24,26 @@ returns-in_err-reason-clause-looked g c = looked_then g.S.Texts.tells c.args.set
 
 pub returns-clause-looked : goal.returns-clause-looked
 returns-clause-looked g c = looked_then g.S.Texts.tells c.args.setting.graph.now (g.S.Texts.world c.args.site.now) (g.S.Texts.world c.ask_before.new.site) (g.S.Texts.world c.reason.new.site) c.args.state.now.looks c.ask_before.new.looks c.reason.new.looks c.ask_before.ensures.looked c.reason.ensures.looked
+
+pub reason-requires-clause-summed : goal.reason-requires-clause-summed
+reason-requires-clause-summed g c =
+    let state = c.args.state.now in
+    subst (λ (flags : List Bool). AreSums c.args.setting.graph.now flags c.ask_before.new.looks.seen.items c.args.sums.now) (sym {A = List Bool} c.deref.ensures.value)
+    (sums_stay c.args.setting.graph.now state.plan.changed.items state.looks.seen.items c.ask_before.new.looks.seen.items c.ask_before.ensures.looked.stays c.args.sums.now c.requires.summed)
+
+pub returns-in_err-ask_before-clause-summed : goal.returns-in_err-ask_before-clause-summed
+returns-in_err-ask_before-clause-summed g c =
+    let state = c.args.state.now in
+    sums_stay c.args.setting.graph.now state.plan.changed.items state.looks.seen.items c.ask_before.new.looks.seen.items c.ask_before.ensures.looked.stays c.args.sums.now c.requires.summed
+
+pub returns-in_err-reason-clause-summed : goal.returns-in_err-reason-clause-summed
+returns-in_err-reason-clause-summed g c =
+    subst (λ (flags : List Bool). AreSums c.args.setting.graph.now flags c.reason.new.looks.seen.items c.reason.new.sums) c.deref.ensures.value c.reason.ensures.summed
+
+pub returns-clause-summed : goal.returns-clause-summed
+returns-clause-summed g c =
+    subst (λ (flags : List Bool). AreSums c.args.setting.graph.now flags c.reason.new.looks.seen.items c.reason.new.sums)
+    (c.deref.ensures.value ∙ sym (ap (λ (it : _). it.items) c.judged.ensures.flags)) c.reason.ensures.summed
 
 pub returns-clause-nearer : goal.returns-clause-nearer
 returns-clause-nearer g c = judged_less c.args.state.now.plan c.judged.new.self.standings.items c.args.edge c.verdict_of-verdict.result c.requires.offered c.judged.ensures.stands

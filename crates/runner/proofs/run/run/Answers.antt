@@ -35,6 +35,7 @@ pub run-preserved : goal.run-preserved
 run-preserved g c = record {
   unrefused = unrefused_then (g.S.Texts.world c.args.site.now) (g.S.Texts.world c.run.site) (g.S.Texts.world c.go_on.new.site) c.run.invariant.unrefused (unrefused_call (g.S.Texts.world c.run.site) (g.S.Texts.world c.go_on.new.site) _ c.in_ok-halt.ensures.cuts.cause);
   starts = starts_then (g.S.Texts.world c.args.site.now) (g.S.Texts.world c.run.site) (g.S.Texts.world c.go_on.new.site) c.run.invariant.unrefused c.run.invariant.starts c.in_ok-halt.ensures.cuts.starts;
+  summed = c.in_ok-halt.ensures.summed;
   set = c.go_on.ensures.set ∙ c.run.invariant.set;
   grows = after_then g.S.Texts.tells (g.S.Texts.world c.args.site.now) (g.S.Texts.world c.run.site) (g.S.Texts.world c.go_on.new.site) c.run.invariant.grows c.go_on.ensures.grows;
   looked = looks_then_looks g.S.Texts.tells c.args.setting.graph.now (g.S.Texts.world c.args.site.now) (g.S.Texts.world c.run.site) (g.S.Texts.world c.go_on.new.site) c.args.state.now.looks c.run.state.looks c.go_on.new.state.looks c.run.invariant.grows c.go_on.ensures.grows c.run.invariant.looked c.in_ok-halt.ensures.looked;

@@ -11,6 +11,7 @@ use Rattle.verdict.proofs.Reasons.{within_by}
 use Rattle.verdict.proofs.Known.{known_of}
 use Rattle.verdict.proofs.Taking.{looked_still, with_outputs, behind, depfile_later}
 use Rattle.verdict.proofs.Answering.{is_answer}
+use Rattle.verdict.proofs.Summing.{sums_stay}
 use Rattle.verdict.proofs.judgement.reason.Goals as goal
 
 pub outputs_of-requires-clause-within : goal.outputs_of-requires-clause-within
@@ -22,6 +23,12 @@ pub returns-in_err-depfile-clause-looked : goal.returns-in_err-depfile-clause-lo
 returns-in_err-depfile-clause-looked g c =
     looked_still g.S.Texts.tells c.args.graph.now (g.S.Texts.world c.args.site.now) (g.S.Texts.world c.has_depfile.new.site) c.args.looks.now
     (c.looks_follow.ensures.stay g.S.Texts.tells (g.S.Texts.world c.args.site.now) (g.S.Texts.world c.has_depfile.new.site)) c.has_depfile.ensures.looks
+
+pub returns-in_err-outputs-clause-summed : goal.returns-in_err-outputs-clause-summed
+returns-in_err-outputs-clause-summed g c = sums_stay c.args.graph.now c.args.changed.now c.args.looks.now.seen.items c.outputs_of.new.looks.seen.items c.outputs_of.ensures.looked.stays c.args.sums.now c.requires.summed
+
+pub inputs_of-requires-clause-summed : goal.inputs_of-requires-clause-summed
+inputs_of-requires-clause-summed g c = sums_stay c.args.graph.now c.args.changed.now c.args.looks.now.seen.items c.outputs_of.new.looks.seen.items c.outputs_of.ensures.looked.stays c.args.sums.now c.requires.summed
 
 pub returns-in_err-outputs-clause-looked : goal.returns-in_err-outputs-clause-looked
 returns-in_err-outputs-clause-looked g c =
@@ -86,5 +93,5 @@ returns-clause-reason g c rs ds known keeps told set kept seen =
     depfile_later tells graph a h d c.args.looks.now c.args.looks.now (follow a h d) (stay h d) still both.looks act command.deps c.in_ok-depfile.depfile told
     (subst (λ (x : Act). x.depfile ≢ [] → AreKept (bytes_eq x.depfile) a.history d.history) act_is (keeps told))
     (c.in_ok-depfile.ensures.there told) in
-    is_answer graph c.lists_stand.ensures e taken.edges taken.reading line command c.command_of-command.ensures rs ds c.args.changed.now
+    is_answer graph c.lists_stand.ensures e taken.edges taken.read line command c.command_of-command.ensures rs ds c.args.changed.now
     c.in_ok-outputs.outputs c.in_ok-inputs.inputs c.in_ok-depfile.depfile c.judge.result set d.history whole.0 whole.1 depfile c.judge.ensures

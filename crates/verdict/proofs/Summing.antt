@@ -1,0 +1,257 @@
+-- What is taken in by what was seen of paths, and what phony edges read in sum.
+use Rattle.std.proofs.Common.{◌≡◌, inl, inr, ℕ, suc, ◌+◌, ◌<◌, ◌==◌, Bool, true, false, List, [], ◌∷◌, ◌++◌, Option, Some, None, cond, length, take, get_or, refl, sym, ◌∙◌, ap, subst, append_assoc}
+use Rattle.std.specs.List.{flat_map}
+use Rattle.std.proofs.lemmas.Bool.{false≢true, or_cases, or_left, or_right, eq-eqb, eqb-true}
+use Rattle.std.proofs.lemmas.List.{append-nil, take_more}
+use Rattle.std.proofs.lemmas.Grind.{flat_map-append}
+use Rattle.model.specs.declared.event.Moment.{Moment}
+use Rattle.model.specs.World.{View, stamp_of, file_at}
+use Rattle.model.specs.Graph.{has_number}
+use Rattle.model.specs.Reading.{IsRead}
+use Rattle.model.specs.Judgement.{InputFacts}
+use Rattle.build_theory.proofs.Lists.{all_append, has_number-left, has_number-right, has_number-cases, has_number-one, has_number-is}
+use Rattle.paths.specs.Told.{text_at}
+use Rattle.links.specs.declared.graph.Graph.{Graph}
+use Rattle.links.specs.Links.{links_of}
+use Rattle.links.specs.Alias.{alias_at}
+use Rattle.links.specs.ReadingOf.{IsCountedIn, IsReadingOf}
+use Rattle.links.specs.Told.{declared_by}
+use Rattle.links.proofs.ReadThrough.{read_by_step, read_counted, read_through}
+use Rattle.looks.specs.declared.table.Look.{Look}
+use Rattle.looks.specs.Seen.{look_at, look_of, is_asked, AreSeenOf}
+use Rattle.dirty.specs.declared.inputs.Inputs.{Inputs}
+use Rattle.dirty.specs.Summaries.{AreInputs, TakesInput, JoinsInputs}
+use Rattle.verdict.specs.declared.sums.Sums.{Sums}
+use Rattle.verdict.specs.Facts.{flag_at, stamp_at, one_input, all_inputs, AreIn, TakesOne, IsReadBy, seen_stamp, seen_inputs, AreAsked, HasTaken}
+use Rattle.verdict.specs.Summed.{IsSum, AreSums, IsReadThrough, HasJoined}
+use Rattle.verdict.proofs.Taking.{flat_more}
+
+-- what was seen is still known
+abbrev pub Stays : List Look → List Look → Type 0
+Stays seen new = (p : ℕ) → is_asked (look_at seen p) ≡ true → look_at new p ≡ look_at seen p
+
+none_some : (x : ℕ) → None ≡ Some x → ⊥
+none_some x is = cc
+
+some_same : (x y : ℕ) → Some x ≡ Some y → x ≡ y
+some_same x y is = cc
+
+sum_same : (x y : Inputs) → Some x ≡ Some y → x ≡ y
+sum_same x y is = cc
+
+seen_of : (stamp : Option ℕ) → seen_stamp (look_of stamp) ≡ stamp
+seen_of None = refl
+seen_of (Some stamp) = refl
+
+pub asked_of : (stamp : Option ℕ) (look : Look) → look ≡ look_of stamp → is_asked look ≡ true
+asked_of None look is = ap is_asked is
+asked_of (Some stamp) look is = ap is_asked is
+
+pub stamp_by : (stamp : Option ℕ) (look : Look) → look ≡ look_of stamp → seen_stamp look ≡ stamp
+stamp_by stamp look is = ap seen_stamp is ∙ seen_of stamp
+
+asked_stays : (seen new : List Look) → Stays seen new → (ns : List ℕ) → AreAsked seen ns → AreAsked new ns
+asked_stays seen new stays [] asked = tt
+asked_stays seen new stays (n ∷ ns) asked = (ap is_asked (stays n asked.0) ∙ asked.0, asked_stays seen new stays ns asked.1)
+
+-- a present file is taken in whether its path always counts or not
+pub takes_present : (graph : Graph) (flags : List Bool) (always : Bool) (p stamp : ℕ) (changed : Bool) (old new : Inputs) → changed ≡ flag_at flags p
+    → TakesInput (record { stamp = Some stamp; changed = changed }) old new → TakesOne graph flags always p (Some stamp) old new
+takes_present graph flags true p stamp changed old new is takes inputs of = subst (λ (c : Bool). AreInputs (inputs ++ record { stamp = Some stamp; changed = c } ∷ []) new) is (takes inputs of)
+takes_present graph flags false p stamp changed old new is takes inputs of = subst (λ (c : Bool). AreInputs (inputs ++ record { stamp = Some stamp; changed = c } ∷ []) new) is (takes inputs of)
+
+module _ (graph : Graph) (flags : List Bool) where
+  -- ---- one list of paths and another
+
+  inputs_same : (always : Bool) (seen new : List Look) → Stays seen new → (ns : List ℕ) → AreAsked seen ns → seen_inputs graph flags always seen ns ≡ seen_inputs graph flags always new ns
+  inputs_same always seen new stays [] asked = refl
+  inputs_same always seen new stays (n ∷ ns) asked =
+      ap (λ (look : Look). one_input graph flags always n (seen_stamp look) ++ seen_inputs graph flags always seen ns) (sym (stays n asked.0))
+      ∙ ap (λ (l : List InputFacts). one_input graph flags always n (seen_stamp (look_at new n)) ++ l) (inputs_same always seen new stays ns asked.1)
+
+  pub taken_stays : (always : Bool) (seen new : List Look) → Stays seen new → (ns : List ℕ) (a b : Inputs) → HasTaken graph flags always seen ns a b → HasTaken graph flags always new ns a b
+  taken_stays always seen new stays ns a b taken = record {
+    asked = asked_stays seen new stays ns taken.asked;
+    takes = λ inputs of. subst (λ (l : List InputFacts). AreInputs (inputs ++ l) b) (inputs_same always seen new stays ns taken.asked) (taken.takes inputs of);
+  }
+
+  pub taken_none : (always : Bool) (seen : List Look) (a : Inputs) → HasTaken graph flags always seen [] a a
+  taken_none always seen a = record { asked = tt; takes = λ inputs of. subst (λ (l : List InputFacts). AreInputs l a) (sym (append-nil inputs)) of }
+
+  pub taken_then : (always : Bool) (seen : List Look) (xs ys : List ℕ) (a b c : Inputs) → HasTaken graph flags always seen xs a b → HasTaken graph flags always seen ys b c → HasTaken graph flags always seen (xs ++ ys) a c
+  taken_then always seen xs ys a b c one two = record {
+    asked = all_append (λ p. is_asked (look_at seen p) ≡ true) xs ys one.asked two.asked;
+    takes = λ inputs of.
+        subst (λ (l : List InputFacts). AreInputs l c)
+        (append_assoc inputs (seen_inputs graph flags always seen xs) (seen_inputs graph flags always seen ys)
+        ∙ ap (λ (l : List InputFacts). inputs ++ l) (sym (flat_map-append (λ p. one_input graph flags always p (seen_stamp (look_at seen p))) xs ys)))
+        (two.takes (inputs ++ seen_inputs graph flags always seen xs) (one.takes inputs of));
+  }
+
+  pub taken_one : (always : Bool) (seen : List Look) (p : ℕ) (stamp : Option ℕ) (a b : Inputs) → look_at seen p ≡ look_of stamp → TakesOne graph flags always p stamp a b → HasTaken graph flags always seen (p ∷ []) a b
+  taken_one always seen p stamp a b is takes = record {
+    asked = (asked_of stamp (look_at seen p) is, tt);
+    takes = λ inputs of.
+        subst (λ (s : Option ℕ). AreInputs (inputs ++ (one_input graph flags always p s ++ [])) b) (sym (stamp_by stamp (look_at seen p) is))
+        (subst (λ (l : List InputFacts). AreInputs (inputs ++ l) b) (sym (append-nil (one_input graph flags always p stamp))) (takes inputs of));
+  }
+
+  -- one path more, by what was seen before and after it
+  pub taken_more : (always : Bool) (seen new : List Look) → Stays seen new → (xs : List ℕ) (k d : ℕ) → k < length xs → (a b c : Inputs) → HasTaken graph flags always seen (take k xs) a b
+      → HasTaken graph flags always new (get_or xs k d ∷ []) b c → HasTaken graph flags always new (take (k + 1) xs) a c
+  taken_more always seen new stays xs k d lt a b c one two =
+      subst (λ (l : List ℕ). HasTaken graph flags always new l a c) (sym (take_more xs k d lt))
+      (taken_then always new (take k xs) (get_or xs k d ∷ []) a b c (taken_stays always seen new stays (take k xs) a b one) two)
+
+  -- the paths of one edge more
+  pub taken_edge : (always : Bool) (of_edge : ℕ → List ℕ) (seen new : List Look) → Stays seen new → (xs : List ℕ) (k d : ℕ) → k < length xs → (a b c : Inputs) → HasTaken graph flags always seen (flat_map of_edge (take k xs)) a b
+      → HasTaken graph flags always new (of_edge (get_or xs k d)) b c → HasTaken graph flags always new (flat_map of_edge (take (k + 1) xs)) a c
+  taken_edge always of_edge seen new stays xs k d lt a b c one two =
+      subst (λ (l : List ℕ). HasTaken graph flags always new l a c) (sym (flat_more of_edge xs k d lt))
+      (taken_then always new (flat_map of_edge (take k xs)) (of_edge (get_or xs k d)) a b c (taken_stays always seen new stays (flat_map of_edge (take k xs)) a b one) two)
+
+  -- ---- sums
+
+  sum_stays : (seen new : List Look) → Stays seen new → (e : ℕ) (inputs : Inputs) → IsSum graph flags seen e inputs → IsSum graph flags new e inputs
+  sum_stays seen new stays e inputs sum = record {
+    edges = sum.edges;
+    read = sum.read;
+    asked = asked_stays seen new stays (flat_map (links_of graph).regular sum.edges) sum.asked;
+    are = subst (λ (l : List InputFacts). AreInputs l inputs) (inputs_same false seen new stays (flat_map (links_of graph).regular sum.edges) sum.asked) sum.are;
+  }
+
+  pub sums_stay : (seen new : List Look) → Stays seen new → (sums : Sums) → AreSums graph flags seen sums → AreSums graph flags new sums
+  sums_stay seen new stays sums so e inputs is = sum_stays seen new stays e inputs (so e inputs is)
+
+  noted_by : (seen : List Look) (e q : ℕ) (sum : Inputs) (old new : Option Inputs) (b : Bool) → (b ≡ true → e ≡ q) → new ≡ cond b (Some sum) old → IsSum graph flags seen e sum
+      → ((inputs : Inputs) → old ≡ Some inputs → IsSum graph flags seen q inputs) → (inputs : Inputs) → new ≡ Some inputs → IsSum graph flags seen q inputs
+  noted_by seen e q sum old new true same is noted so inputs has =
+      subst (λ (n : ℕ). IsSum graph flags seen n inputs) (same refl) (subst (IsSum graph flags seen e) (sum_same sum inputs (sym is ∙ has)) noted)
+  noted_by seen e q sum old new false same is noted so inputs has = so inputs (sym is ∙ has)
+
+  -- a sum that is noted is right, and so are the others
+  pub sum_noted : (seen : List Look) (e q : ℕ) (sum : Inputs) (old new : Option Inputs) → new ≡ cond (e == q) (Some sum) old → IsSum graph flags seen e sum
+      → ((inputs : Inputs) → old ≡ Some inputs → IsSum graph flags seen q inputs) → (inputs : Inputs) → new ≡ Some inputs → IsSum graph flags seen q inputs
+  sum_noted seen e q sum old new is = noted_by seen e q sum old new (e == q) (λ same. eqb-true e q same) is
+
+  -- what an edge reads in sum, where all of it was taken in after nothing
+  pub sum_taken : (seen : List Look) (e : ℕ) (edges : List ℕ) (none inputs : Inputs) → IsReadingOf graph e edges → AreInputs [] none
+      → HasTaken graph flags false seen (flat_map (links_of graph).regular edges) none inputs → IsSum graph flags seen e inputs
+  sum_taken seen e edges none inputs reading of taken = record { edges = edges; read = reading.read; asked = taken.asked; are = taken.takes [] of }
+
+  -- ---- what is read through phony edges
+
+  pub joined_none : (seen : List Look) (a : Inputs) → HasJoined graph flags seen [] a a
+  joined_none seen a = record {
+    edges = [];
+    read = λ view p. ((λ through. absurd (false≢true through.listed)), (λ is. absurd (false≢true is.listed)));
+    taken = taken_none false seen a;
+  }
+
+  -- a path that no phony edge makes
+  pub joined_plain : (seen : List Look) (x : ℕ) (a : Inputs) → alias_at (links_of graph) x ≡ None → HasJoined graph flags seen (x ∷ []) a a
+  joined_plain seen x a plain = record {
+    edges = [];
+    read = λ view p. (
+      (λ through. absurd (none_some through.alias (sym plain ∙ (ap (alias_at (links_of graph)) (has_number-is x through.path through.listed) ∙ through.made)))),
+      (λ is. absurd (false≢true is.listed)),
+    );
+    taken = taken_none false seen a;
+  }
+
+  -- a path that this phony edge makes
+  pub joined_alias : (seen : List Look) (x j : ℕ) (inputs a b : Inputs) → alias_at (links_of graph) x ≡ Some j → IsSum graph flags seen j inputs → JoinsInputs inputs a b → HasJoined graph flags seen (x ∷ []) a b
+  joined_alias seen x j inputs a b made sum joins = record {
+    edges = sum.edges;
+    read = λ view p. (
+      (λ through.
+          let same : through.alias ≡ j = some_same through.alias j (sym through.made ∙ (sym (ap (alias_at (links_of graph)) (has_number-is x through.path through.listed)) ∙ made)) in
+          (sum.read view p).0 (subst (λ (n : ℕ). IsRead (declared_by graph).edges view (suc n) p) same through.read)),
+      (λ is. record { path = x; listed = has_number-one x; alias = j; made = made; read = (sum.read view p).1 is }),
+    );
+    taken = record { asked = sum.asked; takes = λ xs of. joins xs (seen_inputs graph flags false seen (flat_map (links_of graph).regular sum.edges)) of sum.are };
+  }
+
+  -- one list of paths and another
+  joined_then : (seen : List Look) (xs ys : List ℕ) (a b c : Inputs) → HasJoined graph flags seen xs a b → HasJoined graph flags seen ys b c → HasJoined graph flags seen (xs ++ ys) a c
+  joined_then seen xs ys a b c one two = record {
+    edges = one.edges ++ two.edges;
+    read = λ view p. (
+      (λ through. elim (has_number-cases xs ys through.path through.listed) [
+        | inl early ↦
+            let is = (one.read view p).0 (record { path = through.path; listed = early; alias = through.alias; made = through.made; read = through.read }) in
+            record { edge = is.edge; listed = has_number-left one.edges two.edges is.edge is.listed; path = is.path; input = is.input; text = is.text; counts = is.counts }
+        | inr late ↦
+            let is = (two.read view p).0 (record { path = through.path; listed = late; alias = through.alias; made = through.made; read = through.read }) in
+            record { edge = is.edge; listed = has_number-right one.edges two.edges is.edge is.listed; path = is.path; input = is.input; text = is.text; counts = is.counts }
+      ]),
+      (λ is. elim (has_number-cases one.edges two.edges is.edge is.listed) [
+        | inl early ↦
+            let through = (one.read view p).1 (record { edge = is.edge; listed = early; path = is.path; input = is.input; text = is.text; counts = is.counts }) in
+            record { path = through.path; listed = has_number-left xs ys through.path through.listed; alias = through.alias; made = through.made; read = through.read }
+        | inr late ↦
+            let through = (two.read view p).1 (record { edge = is.edge; listed = late; path = is.path; input = is.input; text = is.text; counts = is.counts }) in
+            record { path = through.path; listed = has_number-right xs ys through.path through.listed; alias = through.alias; made = through.made; read = through.read }
+      ]),
+    );
+    taken = subst (λ (l : List ℕ). HasTaken graph flags false seen l a c) (sym (flat_map-append (links_of graph).regular one.edges two.edges))
+        (taken_then false seen (flat_map (links_of graph).regular one.edges) (flat_map (links_of graph).regular two.edges) a b c one.taken two.taken);
+  }
+
+  pub joined_stays : (seen new : List Look) → Stays seen new → (xs : List ℕ) (a b : Inputs) → HasJoined graph flags seen xs a b → HasJoined graph flags new xs a b
+  joined_stays seen new stays xs a b joined = record {
+    edges = joined.edges;
+    read = joined.read;
+    taken = taken_stays false seen new stays (flat_map (links_of graph).regular joined.edges) a b joined.taken;
+  }
+
+  -- one path more, by what was seen before and after it
+  pub joined_more : (seen new : List Look) → Stays seen new → (xs : List ℕ) (k d : ℕ) → k < length xs → (a b c : Inputs) → HasJoined graph flags seen (take k xs) a b
+      → HasJoined graph flags new (get_or xs k d ∷ []) b c → HasJoined graph flags new (take (k + 1) xs) a c
+  joined_more seen new stays xs k d lt a b c one two =
+      subst (λ (l : List ℕ). HasJoined graph flags new l a c) (sym (take_more xs k d lt))
+      (joined_then new (take k xs) (get_or xs k d ∷ []) a b c (joined_stays seen new stays (take k xs) a b one) two)
+
+  -- ---- all that an edge reads
+
+  -- its own inputs, and what is read through the phony edges among those that make them
+  pub read_by_all : (seen : List Look) (e : ℕ) (a b : Inputs) (joined : HasJoined graph flags seen ((links_of graph).regular e) a b) → IsReadBy graph e (e ∷ joined.edges)
+  read_by_all seen e a b joined view p = (
+    (λ read. elim (read_by_step graph view e p read) [
+      | inl is ↦ record {
+          edge = is.edge;
+          listed = or_left (e == is.edge) (has_number joined.edges is.edge) (eq-eqb e is.edge (has_number-is e is.edge is.listed));
+          path = is.path;
+          input = is.input;
+          text = is.text;
+          counts = is.counts;
+        }
+      | inr next ↦
+          let is = (joined.read view p).0 (record { path = next.0; listed = next.2; alias = next.1; made = next.3; read = next.4 }) in
+          record { edge = is.edge; listed = or_right (e == is.edge) (has_number joined.edges is.edge) is.listed; path = is.path; input = is.input; text = is.text; counts = is.counts }
+    ]),
+    (λ is. elim (has_number-cases (e ∷ []) joined.edges is.edge is.listed) [
+      | inl here ↦ subst (λ (n : ℕ). IsRead (declared_by graph).edges view (suc n) p) (sym (has_number-is e is.edge here)) (read_counted graph (e ∷ joined.edges) view p is)
+      | inr later ↦
+          let through = (joined.read view p).1 (record { edge = is.edge; listed = later; path = is.path; input = is.input; text = is.text; counts = is.counts }) in
+          read_through graph e through.path through.alias through.listed through.made view p through.read
+    ]),
+  )
+
+  -- ---- by the files that were seen
+
+  seen_are : (always : Bool) (set : List ℕ → Bool) (files : List Moment) (seen : List Look) → AreSeenOf set graph.manifest.paths files seen → (ns : List ℕ) → AreAsked seen ns → AreIn set graph.manifest.paths ns
+      → seen_inputs graph flags always seen ns ≡ all_inputs graph flags always files ns
+  seen_are always set files seen are [] asked within = refl
+  seen_are always set files seen are (n ∷ ns) asked within =
+      ap (λ (s : Option ℕ). one_input graph flags always n s ++ seen_inputs graph flags always seen ns) (stamp_by (stamp_at graph.manifest.paths files n) (look_at seen n) (are n asked.0 within.0))
+      ∙ ap (λ (l : List InputFacts). one_input graph flags always n (stamp_at graph.manifest.paths files n) ++ l) (seen_are always set files seen are ns asked.1 within.1)
+
+  -- what is read, then what is recorded
+  pub has_all : (set : List ℕ → Bool) (files : List Moment) (seen : List Look) → AreSeenOf set graph.manifest.paths files seen → (ns ms : List ℕ) (none read all : Inputs) → AreInputs [] none
+      → HasTaken graph flags false seen ns none read → HasTaken graph flags true seen ms read all → AreIn set graph.manifest.paths ns → AreIn set graph.manifest.paths ms
+      → AreInputs (all_inputs graph flags false files ns ++ all_inputs graph flags true files ms) all
+  has_all set files seen are ns ms none read all of first second in_ns in_ms =
+      subst (λ (l : List InputFacts). AreInputs (l ++ all_inputs graph flags true files ms) all) (seen_are false set files seen are ns first.asked in_ns)
+      (subst (λ (l : List InputFacts). AreInputs (seen_inputs graph flags false seen ns ++ l) all) (seen_are true set files seen are ms second.asked in_ms)
+      (second.takes (seen_inputs graph flags false seen ns) (first.takes [] of)))

@@ -1,0 +1,13 @@
+use Rattle.std.proofs.Common.{take}
+use Rattle.verdict.specs.Summed.{AreSums, HasJoined}
+use Rattle.build_theory.specs.Seen.{Unrefused}
+use Rattle.looks.specs.Looking.{HasLooked}
+use Rattle.verdict.proofs.inputs.add_aliases.Given as goal
+
+abbrev pub invariant-loop-path : goal.invariant-loop-path
+invariant-loop-path g l = record {
+  looked : HasLooked g.S.Texts.tells l.graph (g.S.Texts.world l.fn.site) (g.S.Texts.world l.site) l.fn.looks l.looks;
+  unrefused : Unrefused (g.S.Texts.world l.fn.site) (g.S.Texts.world l.site);
+  summed : AreSums l.graph l.changed l.looks.seen.items l.sums;
+  joined : HasJoined l.graph l.changed l.looks.seen.items (take l.path-index l.paths) l.fn.inputs l.inputs;
+}
