@@ -1,17 +1,21 @@
-use Rattle.std.proofs.Common.{◌≡◌, ℕ, length, ap, subst, arith}
+use Rattle.std.proofs.Common.{◌≡◌, ℕ, length, ap, sym, subst, arith}
+use Rattle.links.specs.declared.graph.Graph.{Graph}
 use Rattle.links.specs.Held.{list_at}
 use Rattle.builder.specs.Recorded.{IsJoined, MayBeJoined, texts_of}
+use Rattle.builder.specs.Reports.{IsUnrecorded}
 use Rattle.builder.proofs.Joining.{joined_none, joined_next, may_be_first, numbered_none, known_more, has_joined}
-use Rattle.builder.proofs.Numbering.{more_none, more_then}
+use Rattle.builder.proofs.Numbering.{more_then, only_same}
 use Rattle.builder.proofs.recorded.join_recorded.Goals as goal
 
 pub loop-place-init : goal.loop-place-init
 loop-place-init c =
     let graph = c.args.graph.now in
+    let reserved = c.reserve_inputs.new.self in
+    let same = c.reserve_inputs.ensures in
     record {
-      grown = more_none graph;
-      numbered = numbered_none graph (texts_of c.args.records.now) c.new-numbers.result.items c.new-numbers.ensures.items;
-      joined = λ rs ds known none. joined_none graph rs ds none;
+      grown = (only_same graph reserved same).grown;
+      numbered = numbered_none reserved (texts_of c.args.records.now) c.new-numbers.result.items c.new-numbers.ensures.items;
+      joined = λ rs ds known none. joined_none reserved rs ds (subst (λ (g : Graph). IsUnrecorded g) (sym {A = Graph} same) none);
     }
 
 pub join_edge-requires-clause-known : goal.join_edge-requires-clause-known
@@ -40,4 +44,5 @@ returns c rs ds known none =
     let past = c.loop-place-test.false in
     let all = c.edges-place-end.ensures in
     let same = ap length c.loop-place.invariant.grown.lines in
-    has_joined c.args.graph.now c.loop-place.graph rs ds c.args.records.now c.loop-place.place (omega (arith, past, all, same)) c.loop-place.invariant.grown known (c.loop-place.invariant.joined rs ds known none)
+    let reserved = ap (λ (g : Graph). length g.manifest.lines) c.reserve_inputs.ensures in
+    has_joined c.args.graph.now c.loop-place.graph rs ds c.args.records.now c.loop-place.place (omega (arith, past, all, same, reserved)) c.loop-place.invariant.grown known (c.loop-place.invariant.joined rs ds known none)
