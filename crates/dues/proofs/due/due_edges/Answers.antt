@@ -1,17 +1,30 @@
-use Rattle.std.proofs.Common.{◌≡◌, ◌↔◌, ◌<◌, ◌+◌, ℕ, [], map, List, Bool, true, suc, get_or, length, sym, ◌∙◌, ap, subst, arith, take}
-use Rattle.std.proofs.Math.ListN.{set}
+use Rattle.std.proofs.Common.{◌≡◌, ◌↔◌, ◌<◌, ◌+◌, ℕ, [], map, List, Bool, true, false, suc, get_or, length, sym, ◌∙◌, ap, subst, arith, take, rules}
+use Rattle.std.proofs.Math.ListN.{set, replicate}
 use Rattle.std.proofs.lemmas.List.{take_all, length-set, get_or_default}
 use Rattle.model.specs.Graph.{has_number}
 use Rattle.model.specs.OutOfDate.{IsDue}
 use Rattle.model.specs.Records.{recorded_inputs}
 use Rattle.build_theory.specs.Order.{AreMakersFirst}
-use Rattle.build_theory.proofs.Calls.{unrefused_call, unrefused_then}
+use Rattle.build_theory.proofs.Calls.{unrefused_none, unrefused_call, unrefused_then}
 use Rattle.links.specs.Told.{declared_by}
 use Rattle.dues.specs.Dues.{AreDue, AreMakersKnown, IsDueEdge}
-use Rattle.dues.proofs.DueEdges.{makers_known, due_one_more}
+use Rattle.looks.proofs.Stays.{looked_none}
+use Rattle.dues.proofs.DueEdges.{makers_known, due_one_more, none_due}
 use Rattle.dues.proofs.Slices.{at_has}
 use Rattle.dues.proofs.Stays.{looked_then, quiet_both, quiet_first, quiet_second}
 use Rattle.dues.proofs.due.due_edges.Goals as goal
+
+pub loop-edge-init : goal.loop-edge-init
+loop-edge-init g c =
+    let none : c.in_ok-due.due.items ≡ replicate c.edges.result false = c.in_ok-due.ensures.items_if_clones_equal (λ y h. h) in
+    record {
+      looked = looked_none g.S.Texts.tells c.args.graph.now (g.S.Texts.world c.args.site.now) c.args.looks.now;
+      unrefused = unrefused_none (g.S.Texts.world c.args.site.now) c.requires.running;
+      summed = c.new-sums.ensures c.args.graph.now [] c.args.looks.now.seen.items;
+      fits = search rules;
+      due = λ store targets before way keeps told set kept seen has files alike.
+          subst (λ (l : List Bool). AreDue (declared_by c.args.graph.now).edges store before files [] l) (sym none) (none_due (declared_by c.args.graph.now).edges store before files c.edges.result);
+    }
 
 pub is_due-requires-clause-within : goal.is_due-requires-clause-within
 is_due-requires-clause-within g c =
