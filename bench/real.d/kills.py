@@ -13,7 +13,7 @@ import ground
 from ground import is_idle, write
 
 JOBS = 4
-LANES = 3
+LANES = 6
 UNITS = 16
 TABLES = 8
 
