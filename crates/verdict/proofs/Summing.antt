@@ -219,13 +219,13 @@ module _ (graph : Graph) (flags : List Bool) where
   read_by_all seen e a b joined view p = (
     (λ read. elim (read_by_step graph view e p read) [
       | inl is ↦ record {
-          edge = is.edge;
-          listed = or_left (e == is.edge) (has_number joined.edges is.edge) (eq-eqb e is.edge (has_number-is e is.edge is.listed));
-          path = is.path;
-          input = is.input;
-          text = is.text;
-          counts = is.counts;
-        }
+        edge = is.edge;
+        listed = or_left (e == is.edge) (has_number joined.edges is.edge) (eq-eqb e is.edge (has_number-is e is.edge is.listed));
+        path = is.path;
+        input = is.input;
+        text = is.text;
+        counts = is.counts;
+      }
       | inr next ↦
           let is = (joined.read view p).0 (record { path = next.0; listed = next.2; alias = next.1; made = next.3; read = next.4 }) in
           record { edge = is.edge; listed = or_right (e == is.edge) (has_number joined.edges is.edge) is.listed; path = is.path; input = is.input; text = is.text; counts = is.counts }

@@ -10,8 +10,8 @@ use indexmap::IndexMap;
 use paths::EdgeId;
 use std::alloc::{AllocError, Global};
 
-/// What comes to in sum what phony edges read, so that many edges that read through one do not look at each of its inputs again. It
-/// is right as long as what was seen of files is not forgotten, no path is made anew and the graph stays.
+/// What the inputs that phony edges read come to, so that many edges that read through one do not look at each of them again. It is
+/// right as long as what was seen of files is not forgotten, no path is made anew and the graph stays.
 #[derive(Drop)]
 pub struct Sums {
     alloc: Global,
