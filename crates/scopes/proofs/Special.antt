@@ -22,7 +22,7 @@ other_special name b bytes is first = ap is_special is ∙ by (b == 105) (b == 1
     by false true e = absurd (false≢true (sym e))
     by false false e = refl
 
-no_value : (paths : Paths) (name : List ℕ) → is_special name ≡ false → special_value paths name ≡ None
+pub no_value : (paths : Paths) (name : List ℕ) → is_special name ≡ false → special_value paths name ≡ None
 no_value paths name none = by (bytes_eq name (codes "in")) (bytes_eq name (codes "out")) (bytes_eq name (codes "in_newline")) none
   where
     by : (a b c : Bool) → (a || (b || c)) ≡ false

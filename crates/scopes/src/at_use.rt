@@ -1,12 +1,14 @@
 //! Rule variables, expanded where their rule is used (manual: "Rules", "Evaluation and scoping").
 
-ghost use Rattle.std.specs.Prelude.{◌≡◌, ◌++◌, ◌<◌, ◌≤◌, ℕ, None, Some, List, [], OnOk, IfOk, IsErrOf, IsTrue, length, string_bytes, vec_len};
+ghost use Rattle.std.specs.Prelude.{◌≡◌, ◌++◌, ◌<◌, ◌≤◌, ℕ, None, Some, Ok, List, [], OnOk, IfOk, IfSome, IsErrOf, IsTrue, false, length, string_bytes, unwrap_or, vec_len};
 ghost use Rattle.std.specs.Option.{option_copied};
 ghost use Rattle.indexmap.specs.IndexMap.{get_by_text};
 ghost use Rattle.scopes.specs.Texts.{expansion, part_text, largest_value};
-ghost use Rattle.scopes.specs.Moves.{Move};
+ghost use Rattle.scopes.specs.Moves.{Move, value_at_end};
 ghost use Rattle.scopes.specs.Scopes.{IsScopesOf};
-ghost use Rattle.scopes.specs.Use.{opened, fixed, paths_for, HasCircle, IsValueAtUse};
+ghost use Rattle.scopes.specs.Block.{block_value};
+ghost use Rattle.scopes.specs.Rule.{template_of};
+ghost use Rattle.scopes.specs.Use.{opened, fixed, is_special, paths_for, unless_bound, HasCircle, IsValueAtUse};
 ghost use Rattle.scopes.specs.Steps.{AllDone, IsDone};
 ghost use Rattle.scopes.specs.Large.{IsTooLargeAtUse};
 ghost use Rattle.scopes.specs.Known.{known_value, other_value, text_of, Learns};
@@ -15,7 +17,7 @@ ghost use Rattle.scopes.specs.declared.fault.ExpandFault.TheVariants.{TooLarge a
 ghost use Rattle.scopes.specs.declared.fault.UseFault.TheVariants.{Circle, TooLarge};
 
 use crate::all_scopes::Scopes;
-use crate::buffer::{append, append_joined};
+use crate::buffer::{LARGEST_VALUE, append, append_joined};
 use crate::fault::{ExpandFault, UseFault};
 use crate::order::order_of;
 use crate::template::{Part, Template};
@@ -46,12 +48,20 @@ pub fn expand_use(
     ensures circle { IsErrOf result Circle → HasCircle (opened at.now) asked.now }
     ensures large { IsErrOf result TooLarge → (past : List Move) → IsScopesOf scopes.now past → IsTooLargeAtUse (opened at.now) (fixed at.now asked.now past) asked.now }
 {
-    let known = Known::new(alloc, scopes, at, asked);
-    let Some(template) = at.template(asked) else {
-        return Ok(known.of_name(alloc, asked)?);
+    if begins_as_special(asked) {
+        return expand_in_order(alloc, scopes, at, asked, room);
+    }
+    if let Some(value) = at.block.get(asked) {
+        return Ok(copied(alloc, value.as_str())?);
+    }
+    let Some(template) = at.rule.get(asked) else {
+        let value = in_scope(scopes, at.scope, asked);
+        return Ok(copied(alloc, value)?);
     };
-    if stands_alone(at, template) {
-        return Ok(known.of_template(alloc, template, room)?);
+    room.clear();
+    let known = Known::new(alloc, scopes, at, asked);
+    if known.append_alone(room, template.parts.as_slice())? {
+        return Ok(Text::from_str(alloc, room.as_str())?);
     }
     expand_in_order(alloc, scopes, at, asked, room)
 }
@@ -82,25 +92,41 @@ fn expand_in_order(
     Ok(known.of_name(alloc, asked)?)
 }
 
-/// Whether the text names no text of the rule, as nearly all do.
-fn stands_alone(at: &Use<'_>, template: &Template) -> bool
-    ensures { IsTrue result → AllDone (opened at.now) [] template.now.parts }
+/// What a name stands for in a scope, where neither a block nor a rule binds it.
+fn in_scope<'a>(scopes: &'a Scopes, scope: usize, name: &str) -> &'a str
+    requires { scope < vec_len scopes.now.scopes }
+    ensures { (past : List Move) → IsScopesOf scopes.now past → result.now ≡ unwrap_or (value_at_end past scope name.now) [] }
 {
-    for part in template.parts.as_slice() {
-        if !is_fixed(at, part) {
-            return false;
-        }
+    match scopes.lookup_in(scope, name) {
+        Some(value) => value,
+        None => "",
     }
-    true
 }
 
-/// Whether the part names no text of the rule.
-fn is_fixed(at: &Use<'_>, part: &Part) -> bool
-    ensures { IsTrue result → IsDone (opened at.now) [] part.now }
+/// A value with these characters.
+fn copied(alloc: Global, characters: &str) -> Result<Text, ExpandFault>
+    ensures value { IfOk result (λ text. text ≡ characters.now) }
+    ensures size { IfOk result (λ text. length text ≤ largest_value) }
+    ensures large { IsErrOf result Larger → largest_value < length characters.now }
 {
-    match part {
-        Part::Text(_) => true,
-        Part::Name(name) => at.template(name.as_str()).is_none(),
+    if characters.is_empty() {
+        return Ok(Text::new(alloc));
+    }
+    if characters.len() > LARGEST_VALUE {
+        return Err(ExpandFault::TooLarge);
+    }
+    Ok(Text::from_str(alloc, characters)?)
+}
+
+/// Whether the characters were appended, and not too many.
+fn fits(appended: Result<(), ExpandFault>) -> Result<bool, ExpandFault>
+    ensures fits { IfOk result (λ fits. IsTrue fits → appended ≡ Ok tt) }
+    ensures memory { IsErrOf result Larger → ⊥ }
+{
+    match appended {
+        Ok(()) => Ok(true),
+        Err(ExpandFault::TooLarge) => Ok(false),
+        Err(ExpandFault::Memory) => Err(ExpandFault::Memory),
     }
 }
 
@@ -186,6 +212,88 @@ impl<'a> Known<'a> {
         Ok(Text::from_string(text))
     }
 
+    /// Puts the parts at the end, unless one of them names a text of the rule, as few do, or the text becomes too large.
+    fn append_alone(&self, text: &mut String, parts: &[Part]) -> Result<bool, ExpandFault>
+        requires scope { self.now.at.now.scope < vec_len self.now.scopes.now.scopes }
+        requires none { (name : List ℕ) → get_by_text self.now.values name ≡ None }
+        ensures alone { IfOk result (λ alone. IsTrue alone → AllDone (opened self.now.at.now) [] parts.now) }
+        ensures value { IfOk result (λ alone. IsTrue alone → (past : List Move) → IsScopesOf self.now.scopes.now past → string_bytes text.new ≡ string_bytes text.old ++ expansion (known_value self.now past) parts.now) }
+        ensures size { length (string_bytes text.old) ≤ largest_value → length (string_bytes text.new) ≤ largest_value }
+        ensures memory { IsErrOf result Larger → ⊥ }
+    {
+        for part in parts {
+            if !self.append_part_alone(text, part)? {
+                return Ok(false);
+            }
+        }
+        Ok(true)
+    }
+
+    fn append_part_alone(&self, text: &mut String, part: &Part) -> Result<bool, ExpandFault>
+        requires scope { self.now.at.now.scope < vec_len self.now.scopes.now.scopes }
+        requires none { (name : List ℕ) → get_by_text self.now.values name ≡ None }
+        ensures alone { IfOk result (λ alone. IsTrue alone → IsDone (opened self.now.at.now) [] part.now) }
+        ensures value { IfOk result (λ alone. IsTrue alone → (past : List Move) → IsScopesOf self.now.scopes.now past → string_bytes text.new ≡ string_bytes text.old ++ part_text (known_value self.now past) part.now) }
+        ensures size { length (string_bytes text.old) ≤ largest_value → length (string_bytes text.new) ≤ largest_value }
+        ensures memory { IsErrOf result Larger → ⊥ }
+    {
+        match part {
+            Part::Text(characters) => fits(append(text, characters.as_str())),
+            Part::Name(name) => self.append_name_alone(text, name.as_str()),
+        }
+    }
+
+    fn append_name_alone(&self, text: &mut String, name: &str) -> Result<bool, ExpandFault>
+        requires scope { self.now.at.now.scope < vec_len self.now.scopes.now.scopes }
+        requires none { (name : List ℕ) → get_by_text self.now.values name ≡ None }
+        ensures alone { IfOk result (λ alone. IsTrue alone → opened self.now.at.now name.now ≡ None) }
+        ensures value { IfOk result (λ alone. IsTrue alone → (past : List Move) → IsScopesOf self.now.scopes.now past → string_bytes text.new ≡ string_bytes text.old ++ known_value self.now past name.now) }
+        ensures size { length (string_bytes text.old) ≤ largest_value → length (string_bytes text.new) ≤ largest_value }
+        ensures memory { IsErrOf result Larger → ⊥ }
+    {
+        if !begins_as_special(name) {
+            return self.append_bound(text, name);
+        }
+        match name {
+            "in" => fits(append_joined(text, " ", self.paths.inputs)),
+            "out" => fits(append_joined(text, " ", self.paths.outputs)),
+            "in_newline" => fits(append_joined(text, "\n", self.paths.inputs)),
+            _ => self.append_bound(text, name),
+        }
+    }
+
+    /// The same of a name that stands for no paths.
+    fn append_bound(&self, text: &mut String, name: &str) -> Result<bool, ExpandFault>
+        requires scope { self.now.at.now.scope < vec_len self.now.scopes.now.scopes }
+        requires none { (name : List ℕ) → get_by_text self.now.values name ≡ None }
+        requires plain { is_special name.now ≡ false }
+        ensures alone { IfOk result (λ alone. IsTrue alone → opened self.now.at.now name.now ≡ None) }
+        ensures value { IfOk result (λ alone. IsTrue alone → (past : List Move) → IsScopesOf self.now.scopes.now past → string_bytes text.new ≡ string_bytes text.old ++ known_value self.now past name.now) }
+        ensures size { length (string_bytes text.old) ≤ largest_value → length (string_bytes text.new) ≤ largest_value }
+        ensures memory { IsErrOf result Larger → ⊥ }
+    {
+        match self.bound(name) {
+            Some(value) => fits(append(text, value)),
+            None => Ok(false),
+        }
+    }
+
+    /// What a name stands for that stands for no paths, unless that is a text of the rule.
+    fn bound(&self, name: &str) -> Option<&str>
+        requires scope { self.now.at.now.scope < vec_len self.now.scopes.now.scopes }
+        requires none { (name : List ℕ) → get_by_text self.now.values name ≡ None }
+        ensures alone { IfSome result (λ _. unless_bound (block_value self.now.at.now.block.now name.now) (template_of self.now.at.now.rule.now name.now) ≡ None) }
+        ensures value { IfSome result (λ value. (past : List Move) → IsScopesOf self.now.scopes.now past → value.now ≡ other_value self.now past name.now) }
+    {
+        if let Some(value) = self.at.block.get(name) {
+            return Some(value.as_str());
+        }
+        if self.at.rule.get(name).is_some() {
+            return None;
+        }
+        Some(in_scope(self.scopes, self.at.scope, name))
+    }
+
     fn append_parts(&self, text: &mut String, parts: &[Part]) -> Result<(), ExpandFault>
         requires { self.now.at.now.scope < vec_len self.now.scopes.now.scopes }
         ensures value { OnOk result ((past : List Move) → IsScopesOf self.now.scopes.now past → string_bytes text.new ≡ string_bytes text.old ++ expansion (known_value self.now past) parts.now) }
@@ -239,10 +347,7 @@ impl<'a> Known<'a> {
         if let Some(value) = self.learnt(name) {
             return value.as_str();
         }
-        match self.scopes.lookup_in(self.at.scope, name) {
-            Some(value) => value,
-            None => "",
-        }
+        in_scope(self.scopes, self.at.scope, name)
     }
 
     /// The value of a text of the rule, where it is known.
