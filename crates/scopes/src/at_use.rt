@@ -119,6 +119,7 @@ fn copied(alloc: Global, characters: &str) -> Result<Text, ExpandFault>
 }
 
 /// Whether the characters were appended, and not too many.
+#[inline(always)]
 fn fits(appended: Result<(), ExpandFault>) -> Result<bool, ExpandFault>
     ensures fits { IfOk result (λ fits. IsTrue fits → appended ≡ Ok tt) }
     ensures memory { IsErrOf result Larger → ⊥ }
@@ -263,6 +264,7 @@ impl<'a> Known<'a> {
     }
 
     /// The same of a name that stands for no paths.
+    #[inline(always)]
     fn append_bound(&self, text: &mut String, name: &str) -> Result<bool, ExpandFault>
         requires scope { self.now.at.now.scope < vec_len self.now.scopes.now.scopes }
         requires none { (name : List ℕ) → get_by_text self.now.values name ≡ None }
@@ -279,6 +281,7 @@ impl<'a> Known<'a> {
     }
 
     /// What a name stands for that stands for no paths, unless that is a text of the rule.
+    #[inline(always)]
     fn bound(&self, name: &str) -> Option<&str>
         requires scope { self.now.at.now.scope < vec_len self.now.scopes.now.scopes }
         requires none { (name : List ℕ) → get_by_text self.now.values name ≡ None }
