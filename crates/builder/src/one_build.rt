@@ -50,9 +50,10 @@ use text::Text;
 /// order by their records is not started, and the inputs that it told in its depfile count as its inputs. Each start and each good
 /// end is put behind the build log, and what a command told behind the deps log; one that is damaged tells nothing.
 ///
-/// A dyndep file (manual: "Dynamic Dependencies") is loaded when the command that makes it is settled, and one that no command makes
-/// before anything is started. One that is refused ends the build, and so does a source that is missing once one was loaded: nothing
-/// more is started, and what runs by then is taken in and recorded. Every other refusal has started and written nothing.
+/// A dyndep file (manual: "Dynamic Dependencies") is loaded when its maker is settled; one that no edge makes, before anything is
+/// started, or right behind the load by which an edge that names it joins the build. One that is refused ends the build, and so does a
+/// source that is missing once one was loaded: nothing more is started, and what runs by then is taken in and recorded. Every other
+/// refusal has started and written nothing.
 ///
 /// Where a call was refused, a fault is answered, and nothing was started after it; where the site has stopped, that is the fault. The
 /// file that gets new stamps lies beside the logs.
