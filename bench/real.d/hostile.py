@@ -214,7 +214,9 @@ def seconds(place):
         path = os.environ["PATH"] + ":/usr/sbin:/sbin"
         made = subprocess.run(make, env={**os.environ, "PATH": path}, stdout=subprocess.DEVNULL, stderr=subprocess.DEVNULL, check=False).returncode == 0
     with mounted(place, "ext2", "-o", "loop", image) if made else contextlib.nullcontext() as folder:
-        if folder:
+        if not folder:
+            place.leave_out("a file system with stamps of seconds", "no ext2 can be made or mounted here")
+        else:
             of_seconds(Case(place, "a file system with stamps of seconds", os.path.join(folder, "tree")), lambda _: None)
     of_seconds(Case(place, "stamps of seconds, set behind each build"), whole_seconds)
 
@@ -265,7 +267,9 @@ def limits(place):
     for top, folders, files in os.walk(case.folder):
         for name in [".", *folders, *files]:
             os.chmod(os.path.join(top, name), 0o777)
-    if as_nobody():
+    if not as_nobody():
+        place.leave_out("few processes", "only root may run a build as another user")
+    else:
         case.is_named(case.build("-j", "50", **limited(NPROC=8), **as_nobody()), "8 processes")
         case.is_right(case.build(**as_nobody()), "and any number")
         case.rests(**as_nobody())
