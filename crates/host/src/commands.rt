@@ -1,7 +1,7 @@
 //! Real commands: starting one, and what it prints.
 
 use std::alloc::Global;
-use std::fs::File;
+use std::fs::{File, OpenOptions};
 use std::io::{Read, Seek, SeekFrom};
 use std::process::{Child, Command, Stdio};
 use std::{fs, io};
@@ -18,11 +18,30 @@ pub struct Running {
     printed: Option<Printed>,
 }
 
-/// The file into which a command prints, both its output and its errors.
+/// A file into which commands print, one after another, each both its output and its errors.
 #[derive(Drop)]
 pub struct Printed {
     pub path: String,
+    /// For reading what was printed. A command has an opening of its own.
     pub file: File,
+    /// Whether it is locked until all processes have closed the opening of the last command that have it from there.
+    pub is_locked: bool,
+}
+
+/// The file for a command that is to be started, with the opening that it gets.
+#[derive(Drop)]
+pub struct Opened {
+    pub printed: Printed,
+    pub output: File,
+}
+
+/// Opens a file for a command to print into, and answers whether it is locked by that, which not every file system allows.
+pub fn open_output(rt: &HostRuntime, path: &str) -> io::Result<(File, bool)> {
+    let mut how = OpenOptions::new();
+    how.append(true);
+    let output = how.open(rt, path)?;
+    let is_locked = output.try_lock_shared().is_ok();
+    Ok((output, is_locked))
 }
 
 /// Starts a command. It has an empty input and prints into the file; without one it has the program's own input and output.
@@ -30,17 +49,24 @@ pub fn start(
     alloc: Global,
     rt: &HostRuntime,
     command: &str,
-    printed: Option<Printed>,
+    opened: Option<Opened>,
 ) -> io::Result<Running> {
     let mut shell = Command::new(alloc, SHELL)?;
     shell.arg("-c")?.arg(command)?;
-    if let Some(printed) = &printed {
-        let output = printed.file.try_clone()?;
-        let errors = printed.file.try_clone()?;
-        shell.stdin(Stdio::null()).stdout(output).stderr(errors);
-    }
+    let Some(Opened { printed, output }) = opened else {
+        let child = shell.spawn(rt)?;
+        return Ok(Running {
+            child,
+            printed: None,
+        });
+    };
+    let errors = output.try_clone()?;
+    shell.stdin(Stdio::null()).stdout(output).stderr(errors);
     let child = shell.spawn(rt)?;
-    Ok(Running { child, printed })
+    Ok(Running {
+        child,
+        printed: Some(printed),
+    })
 }
 
 impl Running {
@@ -63,14 +89,11 @@ impl Running {
         }
     }
 
-    /// Removes the file into which it printed. One that cannot be removed stays, until a command is started that is to
-    /// print into it.
-    pub fn close(self, rt: &HostRuntime) {
+    /// Lets the command go, which has ended, and answers the file into which it printed.
+    pub fn into_printed(self) -> Option<Printed> {
         let Running { child, printed } = self;
         drop(child);
-        if let Some(printed) = printed {
-            let _ = fs::remove_file(rt, printed.path.as_str());
-        }
+        printed
     }
 }
 
@@ -82,5 +105,19 @@ impl Printed {
             self.file.read_to_end(&mut bytes)?;
         }
         Ok(Bytes::from_vec(bytes))
+    }
+
+    /// Whether the file is as a new one: it is empty, and no process that a command left behind has it open still.
+    pub fn is_unused(&self) -> bool {
+        if !self.is_locked || self.file.try_lock().is_err() {
+            return false;
+        }
+        let size = self.file.metadata().map(|metadata| metadata.len());
+        self.file.unlock().is_ok() && matches!(size, Ok(0))
+    }
+
+    /// Removes the file. One that cannot be removed stays, until another is made in its place.
+    pub fn remove(self, rt: &HostRuntime) {
+        let _ = fs::remove_file(rt, self.path.as_str());
     }
 }

@@ -30,6 +30,8 @@ pub struct Disk<'a> {
     tick: Option<Kept>,
     /// Files that were appended to, the last one opened behind.
     appended: Vec<Kept>,
+    /// How many files for what commands print got a path.
+    outputs: u64,
 }
 
 /// A file that is kept open.
@@ -47,6 +49,7 @@ impl<'a> Disk<'a> {
             alloc,
             tick: None,
             appended: Vec::new(alloc),
+            outputs: 0,
         }
     }
 
@@ -165,11 +168,13 @@ impl<'a> Disk<'a> {
         fs::create_dir_all(self.rt, path)
     }
 
-    /// The path of the file for what a job prints: beside the file of the last tick, and so beside the logs.
-    pub fn output_path(&self, job: usize) -> Result<String, AllocError> {
+    /// A path that no file for what commands print had before: beside the file of the last tick, and so beside the logs.
+    pub fn output_path(&mut self) -> Result<String, AllocError> {
+        self.outputs = self.outputs.checked_add(1).ok_or(AllocError)?;
+        let number = self.outputs;
         match self.folder() {
-            Some(folder) => format!(in self.alloc; "{folder}/.nj_out.{job}"),
-            None => format!(in self.alloc; ".nj_out.{job}"),
+            Some(folder) => format!(in self.alloc; "{folder}/.nj_out.{number}"),
+            None => format!(in self.alloc; ".nj_out.{number}"),
         }
     }
 
@@ -179,7 +184,7 @@ impl<'a> Disk<'a> {
         Some(folder)
     }
 
-    /// A new and empty file for what a job prints. What was left under its path, perhaps with a command that still
+    /// A new and empty file for what commands print. What was left under its path, perhaps with a command that still
     /// writes into it, is removed.
     pub fn output_file(&mut self, path: &str) -> io::Result<File> {
         self.remove(path)?;

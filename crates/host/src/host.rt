@@ -5,7 +5,7 @@ ghost use Rattle.model.specs.World.{runs};
 ghost use Rattle.model.specs.Calls.{HasCause, OnlyLooks};
 ghost use Rattle.host.specs.World.{world_of, fresh};
 
-use crate::commands::{Printed, SHELL};
+use crate::commands::{Opened, Printed, SHELL, open_output};
 use crate::disk::Disk;
 use crate::jobs::Jobs;
 use crate::trouble::Trouble;
@@ -80,8 +80,9 @@ impl<'a, W: Write> Host<'a, W> {
         }
     }
 
-    /// The file into which a job is to print, unless it has the program's own output.
-    fn open_printed(&mut self, job: usize, console: bool) -> Result<Option<Printed>, SiteFault>
+    /// The file into which a command is to print, unless it has the program's own output: one that an earlier command left as good as
+    /// new, or a new one.
+    fn open_printed(&mut self, console: bool) -> Result<Option<Opened>, SiteFault>
         ensures cause { HasCause (world_of self.old) (world_of self.new) result }
         ensures looks { OnlyLooks false (world_of self.old) (world_of self.new) }
         ensures ok { OnOk result (world_of self.new ≡ world_of self.old) }
@@ -89,17 +90,42 @@ impl<'a, W: Write> Host<'a, W> {
         if console {
             return Ok(None);
         }
-        let path = self.disk.output_path(job)?;
-        let opened = self.disk.output_file(path.as_str());
-        let file = self.noted(path.as_str(), opened)?;
-        Ok(Some(Printed { path, file }))
+        if let Some(unused) = self.jobs.take_unused() {
+            // a command may have removed it
+            if let Ok((output, is_locked)) = open_output(self.rt, unused.path.as_str()) {
+                let printed = Printed {
+                    is_locked,
+                    ..unused
+                };
+                return Ok(Some(Opened { printed, output }));
+            }
+        }
+        let path = self.disk.output_path()?;
+        let made = self.disk.output_file(path.as_str());
+        let file = self.noted(path.as_str(), made)?;
+        let opened = open_output(self.rt, path.as_str());
+        let (output, is_locked) = self.noted(path.as_str(), opened)?;
+        let printed = Printed {
+            path,
+            file,
+            is_locked,
+        };
+        Ok(Some(Opened { printed, output }))
     }
 }
 
 impl<'a, W: Drop> Host<'a, W> {
-    /// What the device refused last, if it refused something and there was memory for its path.
+    /// Removes the files into which commands printed, and answers what the device refused last, if it refused something and there was
+    /// memory for its path.
     pub fn into_trouble(self) -> Option<Trouble> {
-        self.trouble
+        let Host {
+            rt,
+            mut jobs,
+            trouble,
+            ..
+        } = self;
+        jobs.remove_unused(rt);
+        trouble
     }
 }
 
@@ -175,8 +201,8 @@ impl<'a, W: Write> Site for Host<'a, W> {
 
     /// Where it fails, the command was not started.
     fn start(&mut self, job: usize, act: &Act, console: bool) -> Result<(), SiteFault> {
-        let printed = self.open_printed(job, console)?;
-        let started = self.jobs.start(self.rt, job, act, self.ticked, printed);
+        let opened = self.open_printed(console)?;
+        let started = self.jobs.start(self.rt, job, act, self.ticked, opened);
         self.noted(SHELL, started)?;
         self.failures_at_start = self.failures;
         Ok(())

@@ -5,7 +5,7 @@ ghost use Rattle.model.specs.World.{runs};
 ghost use Rattle.host.specs.Told.{nothing_told, with_start, with_finish, restarted};
 
 use crate::commands;
-use crate::commands::{Printed, Running};
+use crate::commands::{Opened, Printed, Running};
 use crate::waiting::{wait_all, wait_first};
 use model::{Act, Event, Finished};
 use std::alloc::{AllocError, Global};
@@ -23,6 +23,8 @@ pub struct Jobs {
     jobs: Vec<usize>,
     /// Their commands, in the same order.
     commands: Vec<Running>,
+    /// Files into which earlier commands printed, as good as new.
+    unused: Vec<Printed>,
 }
 
 impl Model for Jobs {
@@ -47,6 +49,7 @@ impl Jobs {
             before: 0,
             jobs: Vec::new(alloc),
             commands: Vec::new(alloc),
+            unused: Vec::new(alloc),
         }
     }
 
@@ -64,7 +67,7 @@ impl Jobs {
         job: usize,
         act: &Act,
         stamp: u64,
-        printed: Option<Printed>,
+        opened: Option<Opened>,
     ) -> io::Result<()>
         requires { runs job self.old.events ≡ false }
         ensures ok { OnOk result (self.new ≡ with_start job act.now stamp self.old) }
@@ -74,7 +77,7 @@ impl Jobs {
         reserve(&mut self.events, self.jobs.len() + 2)?;
         reserve(&mut self.jobs, 1)?;
         reserve(&mut self.commands, 1)?;
-        let command = commands::start(self.alloc, rt, act.command.as_str(), printed)?;
+        let command = commands::start(self.alloc, rt, act.command.as_str(), opened)?;
         push_reserved(&mut self.events, event);
         push_reserved(&mut self.jobs, job);
         push_reserved(&mut self.commands, command);
@@ -90,10 +93,27 @@ impl Jobs {
     {
         let (place, ok) = wait_first(rt, &mut self.commands)?;
         let output = self.commands[place].read_printed(self.alloc)?;
-        self.commands.remove(place).close(rt);
+        let command = self.commands.remove(place);
+        keep_unused(rt, &mut self.unused, command);
         let job = self.jobs.remove(place);
         push_reserved(&mut self.events, Event::Finish { job, ok });
         Ok(Finished { job, ok, output })
+    }
+
+    /// A file into which an earlier command printed, if one is as good as new.
+    pub fn take_unused(&mut self) -> Option<Printed>
+        ensures { self.new ≡ self.old }
+    {
+        self.unused.pop()
+    }
+
+    /// Removes the files into which earlier commands printed.
+    pub fn remove_unused(&mut self, rt: &HostRuntime)
+        ensures { self.new ≡ self.old }
+    {
+        for printed in mem::replace(&mut self.unused, Vec::new(self.alloc)) {
+            printed.remove(rt);
+        }
     }
 
     /// Waits until all commands have ended. What was told so far is told of before, and no command runs.
@@ -104,6 +124,20 @@ impl Jobs {
         self.jobs = Vec::new(self.alloc);
         self.before = self.events.len();
     }
+}
+
+/// Lets the command go, which has ended, and keeps the file into which it printed for another one, where it is as good as new: to make
+/// a file for each command is dear where many were removed right before.
+fn keep_unused(rt: &HostRuntime, unused: &mut Vec<Printed>, command: Running) {
+    let Some(printed) = command.into_printed() else {
+        return;
+    };
+    if printed.is_unused() {
+        if let Ok(()) = reserve(unused, 1) {
+            return push_reserved(unused, printed);
+        }
+    }
+    printed.remove(rt);
 }
 
 /// The start of a command.

@@ -54,6 +54,8 @@ fn first_ended(commands: &mut Vec<Running>) -> io::Result<Option<(usize, bool)>>
 pub fn wait_all(rt: &HostRuntime, commands: Vec<Running>) {
     for mut command in commands {
         let _ = command.wait();
-        command.close(rt);
+        if let Some(printed) = command.into_printed() {
+            printed.remove(rt);
+        }
     }
 }

@@ -24,7 +24,7 @@ invariant_of-self-2 c = record {
       let paired = c.self.invariant.paired in
       let same = c.in_ok-place.ensures.same in
       let gone = c.remove-job.ensures.len in
-      let away = c.remove.ensures.len in
+      let away = c.remove-command.ensures.len in
       omega (arith, paired, same, gone, away);
   listed = listed_finish c.remove-job.result c.in_ok-place.place c.remove-job.result c.in_ok-place.ok c.self.inside.jobs.items c.remove-job.new.self.items (drop c.self.inside.before c.self.inside.events.items) (drop c.self.inside.before c.push_reserved.new.items.items)
       (within c) c.remove-job.ensures.value c.remove-job.ensures.items
