@@ -2,8 +2,6 @@
 #![tactic(auto)]
 
 #[cfg(test)]
-mod builds;
-#[cfg(test)]
 mod clean_builds;
 #[cfg(test)]
 mod history;

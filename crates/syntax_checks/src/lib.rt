@@ -1,5 +1,4 @@
-//! Tests of reading and of scopes: paths, what texts say, each beginning and each other byte of some texts, and values where
-//! they are used.
+//! Tests of reading: paths, what texts say, and each beginning and each other byte of some texts.
 #![tactic(auto)]
 
 #[cfg(test)]
@@ -7,8 +6,4 @@ mod forms;
 #[cfg(test)]
 mod paths;
 #[cfg(test)]
-mod reader;
-#[cfg(test)]
 mod sweeps;
-#[cfg(test)]
-mod values;
