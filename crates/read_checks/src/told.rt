@@ -1,10 +1,12 @@
 //! What a manifest declares, in short.
 
+ghost use Rattle.std.specs.Prelude.{◌<◌, length};
+
 use manifest::Manifest;
-use model::{Act, Deps, Edge, Pool};
+use model::{Act, Deps, Pool};
+use paths::{Action, Command, EdgeId, PathId, Paths};
 use std::alloc::{AllocError, Global};
 use tables::push_word;
-use text::{Items, Path};
 
 /// The edges, pools, defaults and the folder of the logs, each with `;` behind it. What is not set is left out.
 pub fn push_declared(
@@ -12,18 +14,12 @@ pub fn push_declared(
     manifest: &Manifest,
     told: &mut String,
 ) -> Result<(), AllocError> {
-    let manifest = manifest.texts(alloc)?;
-    push_edges(manifest.edges.as_slice(), told)?;
-    push_pools(alloc, manifest.pools.as_slice(), told)?;
-    push_defaults(manifest.defaults.as_slice(), told)?;
-    push_named(told, "builddir", manifest.builddir.as_str())
-}
-
-fn push_edges(edges: &[Edge], told: &mut String) -> Result<(), AllocError> {
-    for edge in edges {
-        push_edge(told, edge)?;
+    for place in 0..manifest.lines.len() {
+        push_edge(told, manifest, manifest.edge(place))?;
     }
-    Ok(())
+    push_pools(alloc, manifest.pools.as_slice(), told)?;
+    push_defaults(&manifest.paths, manifest.defaults.as_slice(), told)?;
+    push_named(told, "builddir", manifest.builddir.as_str())
 }
 
 fn push_pools(alloc: Global, pools: &[Pool], told: &mut String) -> Result<(), AllocError> {
@@ -34,9 +30,9 @@ fn push_pools(alloc: Global, pools: &[Pool], told: &mut String) -> Result<(), Al
     Ok(())
 }
 
-fn push_defaults(paths: &[Path], told: &mut String) -> Result<(), AllocError> {
-    for path in paths {
-        push_named(told, "default", path.as_str())?;
+fn push_defaults(paths: &Paths, numbers: &[PathId], told: &mut String) -> Result<(), AllocError> {
+    for number in numbers {
+        push_named(told, "default", text_of(paths, *number))?;
     }
     Ok(())
 }
@@ -52,59 +48,77 @@ fn push_named(told: &mut String, name: &str, text: &str) -> Result<(), AllocErro
 }
 
 /// `outputs | implicit outputs : inputs | implicit inputs || order-only inputs |@ validations {command}` and what else is set.
-fn push_edge(told: &mut String, edge: &Edge) -> Result<(), AllocError> {
-    push_lists(told, edge)?;
-    push_flag(told, "phony", edge.phony)?;
-    push_act(told, &edge.act, !edge.phony)?;
-    push_settings(told, edge)?;
+fn push_edge(told: &mut String, manifest: &Manifest, edge: EdgeId) -> Result<(), AllocError>
+    requires { edge < length manifest.now.lines }
+{
+    push_lists(told, manifest, edge)?;
+    match manifest.action(edge) {
+        Action::Alias => push_word(told, "phony")?,
+        Action::Command(command) => push_command(told, &manifest.paths, command)?,
+    }
     told.push(';')
 }
 
-fn push_lists(told: &mut String, edge: &Edge) -> Result<(), AllocError> {
-    push_paths(told, &edge.explicit_outputs)?;
-    push_marked(told, "|", &edge.implicit_outputs)?;
+fn push_lists(told: &mut String, manifest: &Manifest, edge: EdgeId) -> Result<(), AllocError>
+    requires { edge < length manifest.now.lines }
+{
+    let (paths, lines) = (&manifest.paths, &manifest.lines);
+    push_paths(told, paths, lines.explicit_outputs(edge))?;
+    push_marked(told, "|", paths, lines.implicit_outputs(edge))?;
     push_word(told, ":")?;
-    push_paths(told, &edge.explicit_inputs)?;
-    push_marked(told, "|", &edge.implicit_inputs)?;
-    push_marked(told, "||", &edge.order_only_inputs)?;
-    push_marked(told, "|@", &edge.validations)
+    push_paths(told, paths, lines.explicit_inputs(edge))?;
+    push_marked(told, "|", paths, lines.implicit_inputs(edge))?;
+    push_marked(told, "||", paths, lines.order_only_inputs(edge))?;
+    push_marked(told, "|@", paths, lines.validations(edge))
 }
 
-fn push_act(told: &mut String, act: &Act, is_command: bool) -> Result<(), AllocError> {
-    if is_command || !act.command.is_empty() {
-        push_word(told, "{")?;
-        told.push_str(act.command.as_str())?;
-        told.push('}')?;
+fn push_command(told: &mut String, paths: &Paths, command: &Command) -> Result<(), AllocError> {
+    push_act(told, &command.act)?;
+    push_set(told, "description=", command.description.as_str())?;
+    push_flag(told, "deps", command.deps == Deps::Gcc)?;
+    push_flag(told, "restat", command.restat)?;
+    if let Some(pool) = &command.pool {
+        push_set(told, "pool=", pool.as_str())?;
     }
+    if let Some(file) = command.dyndep {
+        push_set(told, "dyndep=", text_of(paths, file))?;
+    }
+    Ok(())
+}
+
+fn push_act(told: &mut String, act: &Act) -> Result<(), AllocError> {
+    push_word(told, "{")?;
+    told.push_str(act.command.as_str())?;
+    told.push('}')?;
     push_set(told, "depfile=", act.depfile.as_str())?;
     push_set(told, "rspfile=", act.response_path.as_str())?;
     push_set(told, "content=", act.response_content.as_str())
 }
 
-fn push_settings(told: &mut String, edge: &Edge) -> Result<(), AllocError> {
-    push_set(told, "description=", edge.description.as_str())?;
-    push_flag(told, "deps", edge.deps == Deps::Gcc)?;
-    push_flag(told, "restat", edge.restat)?;
-    if let Some(pool) = &edge.pool {
-        push_set(told, "pool=", pool.as_str())?;
-    }
-    if let Some(file) = &edge.dyndep {
-        push_set(told, "dyndep=", file.as_str())?;
+fn push_paths(told: &mut String, paths: &Paths, numbers: &[PathId]) -> Result<(), AllocError> {
+    for number in numbers {
+        push_word(told, text_of(paths, *number))?;
     }
     Ok(())
 }
 
-fn push_paths(told: &mut String, paths: &Items<Path>) -> Result<(), AllocError> {
-    for path in paths.as_slice() {
-        push_word(told, path.as_str())?;
+/// The text of a path; the empty one for a number that no path has.
+fn text_of(paths: &Paths, number: PathId) -> &str {
+    match paths.get(number) {
+        Some(text) => text,
+        None => "",
     }
-    Ok(())
 }
 
 /// A mark before the paths, if there are any.
-fn push_marked(told: &mut String, mark: &str, paths: &Items<Path>) -> Result<(), AllocError> {
-    push_flag(told, mark, !paths.is_empty())?;
-    push_paths(told, paths)
+fn push_marked(
+    told: &mut String,
+    mark: &str,
+    paths: &Paths,
+    numbers: &[PathId],
+) -> Result<(), AllocError> {
+    push_flag(told, mark, !numbers.is_empty())?;
+    push_paths(told, paths, numbers)
 }
 
 /// Puts a text behind its name, if it is not empty.

@@ -2,6 +2,7 @@
 
 use crate::grown::grow;
 use crate::made_up::Source;
+use crate::texts::graph_of;
 use clean::{NoDepfiles, clean_build};
 use manifest::read;
 use model::{BuildGraph, Edge, Writer};
@@ -80,7 +81,7 @@ impl Clean {
 fn declared(alloc: Global, site: &mut Sim<Toy>) -> Result<Option<BuildGraph>, AllocError> {
     match read(alloc, site, "build.ninja") {
         Ok(manifest) => {
-            let mut graph = manifest.texts(alloc)?;
+            let mut graph = graph_of(alloc, &manifest)?;
             grow(alloc, site, &mut graph)?;
             Ok(Some(graph))
         }

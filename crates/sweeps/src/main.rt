@@ -18,6 +18,7 @@ mod places;
 mod random;
 mod rows;
 mod sweep;
+mod texts;
 
 use std::alloc::Global;
 use std::io::{self, BufWriter, Read, Write};
