@@ -31,10 +31,3 @@ Breaks One before (Found fault) = IsStuck One before fault
 
 abbrev pub rest_of : Option Cursor → Option (List ℕ)
 rest_of = option_map (λ place. place.rest.now)
-
--- the number of a line of the text, from 1: that many line feeds, and one, stand before some place in it
-pub record IsLineOf (text : List ℕ) (number : ℕ) : Type 0 where
-  pub front : List ℕ
-  pub rest : List ℕ
-  pub spelled : text ≡ front ++ rest
-  pub number_is : number ≡ 1 + line_feeds front
