@@ -73,17 +73,18 @@ pub record InputsForm : Type 0 where
   pub order_only : List Fragments
   pub validations : List Fragments
 
+abbrev pub inputs_form : List Fragments → List Fragments → List Fragments → List Fragments → InputsForm
+inputs_form explicit implicit order_only validations =
+    record { explicit = explicit; implicit = implicit; order_only = order_only; validations = validations }
+
+-- what the lists say
 abbrev pub inputs_of : InputPaths → InputsForm
-inputs_of inputs = record {
-  explicit = paths_of inputs.explicit;
-  implicit = paths_of inputs.implicit;
-  order_only = paths_of inputs.order_only;
-  validations = paths_of inputs.validations;
-}
+inputs_of inputs =
+    inputs_form (paths_of inputs.explicit) (paths_of inputs.implicit) (paths_of inputs.order_only) (paths_of inputs.validations)
 
 -- explicit, implicit and order-only inputs and validations, in this order
 abbrev pub Inputs : Grammar InputsForm
-Inputs = Then Paths (λ explicit. Then (Marked Bar) (λ implicit. Then (Marked DoubleBar) (λ order_only. Then (Marked BarAt) (λ validations. Give (record { explicit = explicit; implicit = implicit; order_only = order_only; validations = validations })))))
+Inputs = Then Paths (λ explicit. Then (Marked Bar) (λ implicit. Then (Marked DoubleBar) (λ order_only. Then (Marked BarAt) (λ validations. Give (inputs_form explicit implicit order_only validations)))))
 
 abbrev pub build_form : List Fragments × List Fragments → List ℕ → InputsForm → BuildForm
 build_form outputs rule_name inputs = record {

@@ -1,9 +1,8 @@
 //! Names and values, and what stands alone in the rest of a line (manual: "Variables", "Rules", "Pools").
 
-ghost use Rattle.std.specs.Prelude.{ℕ, List, ◌≡◌, IfOk, IfErr};
-ghost use Rattle.lexer.specs.Grammar.{Is, Then, Give};
+ghost use Rattle.std.specs.Prelude.{IfOk, IfErr};
 ghost use Rattle.lexer.specs.Places.{IsBehind, Breaks, Reaches};
-ghost use Rattle.lexer.specs.Said.{Form, fragments_of};
+ghost use Rattle.lexer.specs.Said.{fragments_of};
 ghost use Rattle.lexer.specs.Statements.{Bound, NameAlone, LineRest, SomePath, PathAlone};
 
 use crate::characters::Class;

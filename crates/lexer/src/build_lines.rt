@@ -1,7 +1,6 @@
 //! `build` and `default` lines (manual: "Build statements", "Default target statements").
 
-ghost use Rattle.std.specs.Prelude.{ℕ, List, ◌≡◌, ◌++◌, ◌↔◌, [], IsTrue, IfOk, IfErr};
-ghost use Rattle.lexer.specs.Grammar.{Is};
+ghost use Rattle.std.specs.Prelude.{◌≡◌, ◌++◌, ◌↔◌, [], IsTrue, IfOk, IfErr};
 ghost use Rattle.lexer.specs.Places.{IsBehind, Breaks, Reaches};
 ghost use Rattle.lexer.specs.Said.{build_of, paths_of};
 ghost use Rattle.lexer.specs.Statements.{DefaultPaths, BuildPaths, Marked, Outputs, OfRule, Inputs, inputs_of};

@@ -1,6 +1,6 @@
 //! What stands behind a dollar (manual: "Lexical syntax").
 
-ghost use Rattle.std.specs.Prelude.{◌≡◌, ◌∷◌, ◌≤◌, option_map, length, IfOk, IfErr};
+ghost use Rattle.std.specs.Prelude.{◌≡◌, IfOk, IfErr};
 ghost use Rattle.lexer.specs.Escapes.{escape_from, braced_from, bare_from, IsPiece, IsBadEscape};
 ghost use Rattle.lexer.specs.Places.{IsBehind};
 ghost use Rattle.lexer.specs.Tokens.{is_bad};

@@ -1,7 +1,6 @@
 //! The lines of a text.
 
 ghost use Rattle.std.specs.Prelude.{ℕ, List, ◌≡◌, ◌<◌, ◌≤◌, false, [], length, map, option_map, Option, None, Some, IfOk, IfErr, OnOk};
-ghost use Rattle.lexer.specs.Grammar.{AreInRow};
 ghost use Rattle.lexer.specs.Places.{IsBehind, Breaks, Reaches};
 ghost use Rattle.lexer.specs.Said.{Said, form_of, said_of};
 ghost use Rattle.lexer.specs.Lines.{IsRead, AreLines, OfLine, Content, begins_with_space, says_nothing, opens, Nothing, StopsReading};
