@@ -12,7 +12,6 @@ use Rattle.model.specs.declared.graph.Edge.{Edge}
 use Rattle.model.specs.World.{World, content_of, written, file_at, view_of, IsRunning}
 use Rattle.model.specs.Calls.{AllByOthers, OthersWrote, Adds, Starts}
 use Rattle.model.specs.Graph.{edge_at, IsCommand}
-use Rattle.model.specs.Outcome.{Behaviour, depfile_in, read_depfile}
 use Rattle.model.specs.Records.{OwnFiles}
 use Rattle.model.specs.Premises.{OwnFilesApart, FilesAreKept, AllSince, IsWithinEdge, IsNoEdit}
 use Rattle.model.specs.SingleBuild.{IsReadyFor}
@@ -212,8 +211,3 @@ start_ready own edges tells tell old so_far now new was i act command others is 
         adds.grows adds.all_earlier holds files
 
 -- ---- a depfile, from its command's end to when it is read
-
--- it is read as it was when its command ended
-pub depfile_same : (B : Behaviour) (act : Act) (old : List Moment) (ms : List Moment) → AllByRecursion (IsElsewhere act.depfile) ms → depfile_in B act (view_of (old ++ ms)) ≡ depfile_in B act (view_of old)
-depfile_same B act old ms all =
-    ap (λ (held : Option (List ℕ)). elim act.depfile [ [] ↦ Some [] | q ∷ qs ↦ read_depfile B.depfile held ]) (ap content_of (file_stays act.depfile old ms all))

@@ -41,9 +41,6 @@ module _ (tree : List Bool) (node : ℕ) (v : Bool) where
       same_joined i (all i low (omega (arith, fits, length-set tree node v)))
       (λ e. omega (arith, e, fits, leaf, length-set tree node v)) (λ e. other (omega (arith, e))) (λ e. other (omega (arith, e)))
 
-pub joined_all : (tree : List Bool) (node : ℕ) → AreJoinedBut node tree → node ≡ 0 → AreJoined tree
-joined_all tree node but none i low fits = but i low fits (λ e. omega (arith, e, none, low))
-
 -- ---- down from the root
 
 below_none : (tree : List Bool) (i : ℕ) → IsJoined tree i → node_at tree i ≡ false → (node_at tree (2 * i) ≡ false) × (node_at tree (2 * i + 1) ≡ false)
