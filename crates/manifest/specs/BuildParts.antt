@@ -12,13 +12,11 @@ use Rattle.manifest.specs.declared.builds.BlockRead.{BlockRead}
 use Rattle.manifest.specs.declared.builds.BuildRead.{BuildRead}
 use Rattle.manifest.specs.declared.fault.ReadError.{ReadError}
 use Rattle.manifest.specs.declared.kept.Named.{Named}
-use Rattle.manifest.specs.declared.place.Place.{Place as KeptPlace}
 use Rattle.manifest.specs.Answer.{Answer, IsFaultOf}
 use Rattle.manifest.specs.Blocks.{BlockLine, BuildBlock, build_block}
 use Rattle.manifest.specs.Declarations.{OfBuild, RuleHere, build_here}
 use Rattle.manifest.specs.Held.{AreNamed, AreLinesFormed, HasOutput}
 use Rattle.manifest.specs.Keeping.{IsBlockRead}
-use Rattle.manifest.specs.Places.{place_of}
 use Rattle.manifest.specs.Readings.{Outcome, Place, Reading}
 use Rattle.manifest.specs.Readings.Outcome.{Reached}
 use Rattle.manifest.specs.Spelled.{EdgePaths}
@@ -56,15 +54,25 @@ abbrev pub SaysKept : Answer → Named → State → (EdgePaths → Build) → R
 SaysKept (Ok value) named state made reading = IsKeptWith named state made reading
 SaysKept (Err error) named state made reading = IsFaultOf reading error
 
--- of each block and rule that the statement was read from
-abbrev pub SaysPaths : Named → Place → BuildForm → BuildRead → Answer → State → Type 0
-SaysPaths new place form read result state = (lines : List BlockLine)
-    → IsBlockRead (block_in read) place.file (block_of place lines state) → RuleHere place state form.rule (Reached (rule_in read))
-    → SaysKept result new state (made_of place form lines state (rule_in read)) (OfBuild place form lines state)
+-- the statement was read from this block, and has the rule of this name
+abbrev pub HasBlock : Place → BuildRead → State → List BlockLine → Type 0
+HasBlock place read state lines = IsBlockRead (block_in read) place.file (block_of place lines state)
 
-abbrev pub KeepsPaths : Scopes → Named → Named → KeptPlace → BuildForm → BuildRead → Answer → Type 0
-KeepsPaths scopes old new place form read result = (state : State)
-    → IsScopesOf scopes state.past → AreNamed old state.builds → SaysPaths new (place_of place) form read result state
+abbrev pub HasRule : Place → BuildForm → BuildRead → State → Type 0
+HasRule place form read state = RuleHere place state form.rule (Reached (rule_in read))
+
+abbrev pub SaysBuild : Answer → Named → Place → BuildForm → BuildRead → State → List BlockLine → Type 0
+SaysBuild result new place form read state lines =
+    SaysKept result new state (made_of place form lines state (rule_in read)) (OfBuild place form lines state)
+
+-- of each block and rule that the statement was read from
+abbrev pub SaysPaths : Answer → Named → Place → BuildForm → BuildRead → State → Type 0
+SaysPaths result new place form read state = (lines : List BlockLine)
+    → HasBlock place read state lines → HasRule place form read state → SaysBuild result new place form read state lines
+
+abbrev pub KeepsPaths : Answer → Scopes → Named → Named → Place → BuildForm → BuildRead → Type 0
+KeepsPaths result scopes old new place form read = (state : State)
+    → IsScopesOf scopes state.past → AreNamed old state.builds → SaysPaths result new place form read state
 
 -- lines that are well formed stay so, with one more that has an output
 abbrev pub KeepsLines : Scopes → Named → Named → BuildForm → Type 0

@@ -170,7 +170,7 @@ impl Named {
         build: &BuildLine<'_>,
         read: &BuildRead,
     ) -> Result<(), ReadError>
-        ensures said { KeepsPaths scopes.now self.old self.new place.now (build_of build.now) read.now result }
+        ensures said { KeepsPaths result scopes.now self.old self.new (place_of place.now) (build_of build.now) read.now }
         ensures formed { OnOk result (KeepsLines scopes.now self.old self.new (build_of build.now)) }
     {
         let reader = PathReader::new(scopes, &read.edge.block);
