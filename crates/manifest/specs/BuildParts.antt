@@ -66,13 +66,17 @@ SaysBuild result new place form read state lines =
     SaysKept result new state (made_of place form lines state (rule_in read)) (OfBuild place form lines state)
 
 -- of each block and rule that the statement was read from
-abbrev pub SaysPaths : Answer → Named → Place → BuildForm → BuildRead → State → Type 0
-SaysPaths result new place form read state = (lines : List BlockLine)
-    → HasBlock place read state lines → HasRule place form read state → SaysBuild result new place form read state lines
+abbrev pub IfRead : Place → BuildForm → BuildRead → State → (List BlockLine → Type 0) → Type 0
+IfRead place form read state P = (lines : List BlockLine)
+    → HasBlock place read state lines → HasRule place form read state → P lines
+
+-- of each state with these scopes and paths
+abbrev pub OfNames : Scopes → Named → (State → Type 0) → Type 0
+OfNames scopes named P = (state : State) → IsScopesOf scopes state.past → AreNamed named state.builds → P state
 
 abbrev pub KeepsPaths : Answer → Scopes → Named → Named → Place → BuildForm → BuildRead → Type 0
-KeepsPaths result scopes old new place form read = (state : State)
-    → IsScopesOf scopes state.past → AreNamed old state.builds → SaysPaths result new place form read state
+KeepsPaths result scopes old new place form read =
+    OfNames scopes old (λ state. IfRead place form read state (SaysBuild result new place form read state))
 
 -- lines that are well formed stay so, with one more that has an output
 abbrev pub KeepsLines : Scopes → Named → Named → BuildForm → Type 0
