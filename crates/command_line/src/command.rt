@@ -16,6 +16,7 @@ const JOBS: u32 = 4;
 
 const KEEP: u32 = 1;
 
+/// What help says behind the options. Its last line is the one place that tells the version.
 const EXAMPLES: &str = "Examples:
   nj                   builds the default targets of build.ninja
   nj -C out -j8 all    builds `all` by out/build.ninja, with eight commands at once
@@ -24,7 +25,9 @@ const EXAMPLES: &str = "Examples:
 The logs of a build, .nj_log and .nj_deps, stand in the folder that the build file sets as
 `builddir`, else where commands run. NINJA_STATUS sets what stands in front of each
 line, as in '[%f/%t] '. The status is 0 after a success, 1 where a build failed or could not
-be done, and 2 where these words are no command line.";
+be done, and 2 where these words are no command line.
+
+nj 0.1 reads build files up to ninja_required_version 1.12, and its own logs up to version 2.";
 
 /// What these words ask for, where clap finds no fault in them. The program's name is not among them. An error prints as the text to show: help where it
 /// was asked for, and else what is wrong with the words, or that memory was refused.

@@ -1,9 +1,8 @@
 -- The paths of build lines, each once.
-use Rattle.std.proofs.Common.{◌≡◌, ℕ, ◌+◌, Bool, true, false, List, [], ◌∷◌, ◌++◌, ◌||◌, inl, inr, length, map, String, Global, string_bytes, refl, sym, ap, ◌∙◌, arith, length-append, if◌then◌else◌, bytes_eq, subst, ◌<◌, ◌≤◌, suc, get_or, take, drop, append_assoc, Result, Ok, Err}
+use Rattle.std.proofs.Common.{◌≡◌, ℕ, ◌+◌, Bool, true, false, List, [], ◌∷◌, ◌++◌, ◌||◌, inl, inr, length, refl, sym, ap, ◌∙◌, arith, length-append, if◌then◌else◌, bytes_eq, ◌<◌, suc, get_or, drop, Result, Ok, Err}
 use Rattle.std.specs.Prelude.{OnOk}
 use Rattle.std.proofs.lemmas.Bool.{cases_Bool}
 use Rattle.std.proofs.Math.Seq.{drop-cons}
-use Rattle.std.proofs.lemmas.List.{take_more}
 use Rattle.std.proofs.lemmas.Slice.Eq.{bytes_eq-Decides}
 use Rattle.model.specs.Graph.{has}
 use Rattle.manifest.specs.InNumbers.{AreKeys}
@@ -73,9 +72,6 @@ new_key keys before path are missing = record {
 }
 
 -- ---- a loop over paths
-
-pub takes_next : {X : Type 0} (items : List X) (i : ℕ) (item : X) → i < length items → item ≡ get_or items i item → take (i + 1) items ≡ take i items ++ item ∷ []
-takes_next {X = X} items i item within is = take_more items i item within ∙ ap (λ (x : X). take i items ++ x ∷ []) (sym is)
 
 pub drops_next : {X : Type 0} (items : List X) (i : ℕ) (item : X) → i < length items → item ≡ get_or items i item → drop i items ≡ item ∷ drop (i + 1) items
 drops_next {X = X} items i item within is =

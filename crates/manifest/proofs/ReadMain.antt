@@ -11,14 +11,14 @@ use Rattle.manifest.specs.declared.fault.ReadError.{ReadError}
 use Rattle.manifest.specs.declared.fault.ReadError.TheVariants.{Memory, Site, Refused}
 use Rattle.manifest.specs.declared.kept.Declared.{Declared}
 use Rattle.manifest.specs.declared.kept.ReadEdge.{ReadEdge}
-use Rattle.manifest.specs.Readings.{Outcome, Place, fault_at, Refuse, Then}
+use Rattle.manifest.specs.Readings.{Outcome, fault_at, Refuse, Then}
 use Rattle.manifest.specs.Readings.Outcome.{Reached, Broken}
 use Rattle.manifest.specs.Readings.Then.{goes_on, stops}
 use Rattle.manifest.specs.Readings.Where.{with_value}
 use Rattle.manifest.specs.States.{State, nothing}
 use Rattle.manifest.specs.Files.{Reads, deepest}
 use Rattle.manifest.specs.Graphs.{Declares, OfMain, AtEnd}
-use Rattle.manifest.specs.Answer.{held, site_part, in_texts, ReadsFile, IsFaultOf, IsFaultSeen, IsAnswerOf}
+use Rattle.manifest.specs.Answer.{held, site_part, in_texts, ReadsFile, IsFaultSeen, IsAnswerOf}
 use Rattle.paths.specs.declared.line.Line.{Line}
 use Rattle.paths.specs.declared.manifest.Manifest.{Manifest}
 use Rattle.manifest.specs.declared.kept.Named.{Named}
@@ -27,7 +27,7 @@ use Rattle.manifest.specs.InNumbers.{IsWithin, paths_at}
 use Rattle.manifest.specs.Places.{IsFaultAt}
 use Rattle.manifest.specs.Seen.{IsCaused}
 use Rattle.manifest.proofs.Binds.{refuse_at}
-use Rattle.manifest.proofs.Looking.{failed, NoneFailed}
+use Rattle.manifest.proofs.Looking.{NoneFailed}
 use Rattle.manifest.proofs.ReadTo.{seen_fault, seen_fault_wider}
 
 -- ---- causes
@@ -52,28 +52,11 @@ main_cause old mid new first content r cause given rest =
       earlier = rest.earlier ∙ cause.earlier;
     }
 
--- no fault of the site
-pub fault_cause : {T X : Type 0} (old new : World) (R : Outcome X → Type 0) (error : ReadError) (r : Result T ReadError) → NoneFailed old new
-    → IsFaultOf R error → IsErrAnd r (λ (e : ReadError). e ≡ error) → IsCaused old new (site_part r)
-fault_cause old new R error (Ok value) none is passed = absurd passed
-fault_cause old new R error (Err Memory) none is passed = none
-fault_cause old new R error (Err (Refused fault)) none is passed = none
-fault_cause old new R error (Err (Site fault)) none is passed = absurd (subst (IsFaultOf R) (sym passed) is)
-
 pub texts_cause : (old new : World) (R : Outcome BuildGraph → Type 0) (r : Result Manifest ReadError) → NoneFailed old new → IsAnswerOf R (in_texts r) → IsCaused old new (site_part r)
 texts_cause old new R (Ok value) none is = none
 texts_cause old new R (Err Memory) none is = none
 texts_cause old new R (Err (Site fault)) none is = absurd is
 texts_cause old new R (Err (Refused fault)) none is = none
-
--- a refusal at a place is none of the site's
-pub place_cause : (place : Place) (old new : World) (r : ReadError) → NoneFailed old new → IsFaultAt place (NotFound place.file) r → IsCaused old new (site_part (failed r))
-place_cause place old new Memory none is = none
-place_cause place old new (Site fault) none is = absurd is
-place_cause place old new (Refused fault) none is = none
-
-pub memory_cause : (old new : World) → NoneFailed old new → IsCaused old new (site_part (failed Memory))
-memory_cause old new none = none
 
 -- ---- nothing is read yet
 

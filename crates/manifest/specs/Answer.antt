@@ -17,6 +17,10 @@ use Rattle.manifest.specs.Readings.Outcome.{Reached, Broken}
 use Rattle.manifest.specs.Files.{Holds}
 use Rattle.manifest.specs.Graphs.{Declares}
 
+-- the answer of a call that gives nothing else
+abbrev pub Answer : Type 0
+Answer = Result (Unit {0}) ReadError
+
 -- the answer as far as the site has part in it: its fault, where it gave one
 abbrev pub site_part : {T : Type 0} → Result T ReadError → Result (Unit {0}) SiteFault
 site_part (Ok value) = Ok tt

@@ -118,6 +118,10 @@ pub record IsStateOf (declared : Declared) (state : State) : Type 0 where
   pub defaults : AllZip IsDefaultOf declared.defaults.items state.defaults
   pub paths : AreNamed declared.paths state.builds
 
+-- of each state that is kept
+abbrev pub InEachState : Declared → (State → Type 0) → Type 0
+InEachState kept P = (state : State) → IsStateOf kept state → P state
+
 -- the call's answer, and what is kept after it, are those of the reading
 abbrev pub Says : Result (Unit {0}) ReadError → Declared → (Outcome State → Type 0) → Type 0
 Says (Ok value) after reading = (state : State) × IsStateOf after state × reading (Reached state)

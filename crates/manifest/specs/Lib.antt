@@ -18,3 +18,7 @@ pub mod Keeping
 pub mod InNumbers
 pub mod Held
 pub mod Made
+pub mod Statements
+pub mod PathReading
+pub mod Expanding
+pub mod Naming

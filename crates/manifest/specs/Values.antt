@@ -1,7 +1,9 @@
 -- The values of rule variables, in the terms of scopes.
 use Rattle.std.specs.Prelude.{◌≡◌, ℕ, ◌≤◌, true, List, length, codes}
+use Rattle.scopes.specs.declared.all_scopes.Scopes.{Scopes}
 use Rattle.scopes.specs.declared.usage.Use.{Use}
 use Rattle.scopes.specs.Moves.{Move}
+use Rattle.scopes.specs.Scopes.{Always}
 use Rattle.scopes.specs.Use.{opened, fixed, IsValueAtUse}
 use Rattle.scopes.specs.Large.{IsTooLargeAtUse}
 use Rattle.scopes.specs.Texts.{largest_value}
@@ -41,3 +43,11 @@ pub record AreSmall (values : Values) : Type 0 where
   pub restat : length values.restat ≤ largest_value
   pub rspfile : length values.rspfile ≤ largest_value
   pub rspfile_content : length values.rspfile_content ≤ largest_value
+
+-- ---- whatever was done to the scopes
+
+abbrev pub AreValuesIn : Scopes → Use → Values → Type 0
+AreValuesIn scopes at values = Always scopes (λ past. AreValuesAt at past values)
+
+abbrev pub HasNoCircleIn : Scopes → Use → Type 0
+HasNoCircleIn scopes at = Always scopes (λ past. LeadsIntoCircleAt at → ⊥)

@@ -1,15 +1,8 @@
 //! Bindings at the beginning of a line (manual: "Variables").
 
-ghost use Rattle.std.specs.Prelude.{◌≡◌, true, IfOk, OnOk};
-ghost use Rattle.lexer.specs.declared.fault.FaultKind.TheVariants.{TooLarge};
-ghost use Rattle.lexer.specs.Said.{fragments_of};
-ghost use Rattle.manifest.specs.Readings.{Unless, Give, fault_at};
-ghost use Rattle.manifest.specs.Expansion.{text_at, is_large};
-ghost use Rattle.manifest.specs.States.{State};
-ghost use Rattle.manifest.specs.Declarations.{OfBinding};
-ghost use Rattle.manifest.specs.Answer.{IsAnswerOf};
-ghost use Rattle.manifest.specs.Places.{place_of};
-ghost use Rattle.manifest.specs.Held.{IsStateOf, Says, KeepsScopes, IsFormed};
+ghost use Rattle.std.specs.Prelude.{OnOk};
+ghost use Rattle.manifest.specs.Held.{KeepsScopes};
+ghost use Rattle.manifest.specs.Statements.{SaysNext, IsAnswerIn, KeepsFormed, BindingSays, ValueHere};
 
 use crate::fault::{FaultKind, ReadError};
 use crate::kept::Declared;
@@ -29,9 +22,9 @@ impl Declared {
         name: &str,
         value: &Value<'_>,
     ) -> Result<(), ReadError>
-        ensures said { (state : State) → IsStateOf self.old state → Says result self.new (OfBinding (place_of place.now) name.now (fragments_of value.now) state) }
+        ensures said { SaysNext result self.old self.new (BindingSays place.now name.now value.now) }
         ensures scopes { OnOk result (KeepsScopes self.old self.new) }
-        ensures formed { OnOk result (IsFormed self.old → IsFormed self.new) }
+        ensures formed { OnOk result (KeepsFormed self.old self.new) }
     {
         let text = self.expand(alloc, place, value)?;
         if name == "ninja_required_version" && is_newer(text.as_str()) {
@@ -48,7 +41,7 @@ impl Declared {
         place: &Place<'_>,
         value: &Value<'_>,
     ) -> Result<Text, ReadError>
-        ensures { (state : State) → IsStateOf self.now state → IsAnswerOf (Unless (is_large (text_at state.past (fragments_of value.now)) ≡ true) (fault_at (place_of place.now) (FaultKind.Line TooLarge)) (Give (text_at state.past (fragments_of value.now)))) result }
+        ensures { IsAnswerIn self.now (ValueHere place.now value.now) result }
     {
         match expand(alloc, &self.scopes, &Block::new(alloc), value) {
             Ok(text) => Ok(text),

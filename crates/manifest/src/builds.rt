@@ -1,16 +1,13 @@
 //! Build statements (manual: "Build statements").
 
-ghost use Rattle.std.specs.Prelude.{◌≡◌, ℕ, List, [], ◌∷◌, map, IfOk, OnOk};
+ghost use Rattle.std.specs.Prelude.{◌≡◌, IfOk, OnOk};
 ghost use Rattle.lexer.specs.Said.{said_of, build_of};
-ghost use Rattle.scopes.specs.Moves.{Move};
-ghost use Rattle.scopes.specs.Scopes.{IsScopesOf};
-ghost use Rattle.manifest.specs.Blocks.{block_lines, build_block};
-ghost use Rattle.manifest.specs.Declarations.{OfBuild, RuleHere};
-ghost use Rattle.manifest.specs.Held.{IsStateOf, Says, KeepsScopes, IsFormed, HasOutput};
+ghost use Rattle.scopes.specs.Scopes.{Always};
+ghost use Rattle.manifest.specs.Held.{KeepsScopes, IsFormed, HasOutput};
 ghost use Rattle.manifest.specs.InNumbers.{with_line, kept_line};
-ghost use Rattle.manifest.specs.Keeping.{IsBlockRead, IsLineRead, FindsRule};
+ghost use Rattle.manifest.specs.Keeping.{IsLineRead};
 ghost use Rattle.manifest.specs.Places.{place_of};
-ghost use Rattle.manifest.specs.States.{State};
+ghost use Rattle.manifest.specs.Statements.{SaysNext, BuildSays, FindsRuleIn, IsReadFrom};
 
 use crate::blocks::block_line;
 use crate::fault::{FaultKind, ReadError};
@@ -48,7 +45,7 @@ impl Declared {
         build: &BuildLine<'_>,
         block: &[TextLine<'_>],
     ) -> Result<(), ReadError>
-        ensures said { (state : State) → IsStateOf self.old state → Says result self.new (OfBuild (place_of place.now) (build_of build.now) (block_lines (map said_of block.now)) state) }
+        ensures said { SaysNext result self.old self.new (BuildSays place.now build.now block.now) }
         ensures scopes { OnOk result (KeepsScopes self.old self.new) }
         ensures formed { OnOk result (IsFormed self.old → HasOutput (build_of build.now) → IsFormed self.new) }
     {
@@ -81,7 +78,7 @@ impl Declared {
         place: &Place<'_>,
         name: &str,
     ) -> Result<Option<Rc<Rule>>, ReadError>
-        ensures { (state : State) → IsStateOf self.now state → FindsRule (RuleHere (place_of place.now) state name.now) result }
+        ensures { FindsRuleIn self.now (place_of place.now) name.now result }
     {
         if name == "phony" {
             return Ok(None);
@@ -102,7 +99,7 @@ fn read_block(
     scopes: &Scopes,
     lines: &[TextLine<'_>],
 ) -> Result<BlockRead, AllocError>
-    ensures { IfOk result (λ read. (past : List Move) → IsScopesOf scopes.now past → (file : List ℕ) → IsBlockRead read file (build_block file past (block_lines (map said_of lines.now)) [])) }
+    ensures { IfOk result (λ read. Always scopes.now (λ past. IsReadFrom lines.now past read)) }
 {
     let mut block = Block::new(alloc);
     for line in lines {
@@ -123,7 +120,7 @@ fn read_line(
     block: &mut Block,
     line: &TextLine<'_>,
 ) -> Result<Option<usize>, AllocError>
-    ensures { IfOk result (λ stop. (past : List Move) → IsScopesOf scopes.now past → IsLineRead past (said_of line.now) block.old block.new stop) }
+    ensures { IfOk result (λ stop. Always scopes.now (λ past. IsLineRead past (said_of line.now) block.old block.new stop)) }
 {
     let Some(line) = block_line(line) else {
         return Ok(None);

@@ -1,14 +1,10 @@
 //! Statements that read no file.
 
-ghost use Rattle.std.specs.Prelude.{OnOk, map};
-ghost use Rattle.std.specs.Option.{option_map};
-ghost use Rattle.lexer.specs.Said.{said_of, form_of};
-ghost use Rattle.manifest.specs.Files.{OfDeclaration, fault_in};
-ghost use Rattle.manifest.specs.Blocks.{block_lines};
-ghost use Rattle.manifest.specs.Held.{IsStateOf, Says, KeepsScopes, IsFormed};
+ghost use Rattle.std.specs.Prelude.{OnOk};
+ghost use Rattle.lexer.specs.Said.{form_of};
+ghost use Rattle.manifest.specs.Held.{KeepsScopes};
 ghost use Rattle.manifest.specs.Made.{FormHasOutput};
-ghost use Rattle.manifest.specs.Places.{place_of};
-ghost use Rattle.manifest.specs.States.{State};
+ghost use Rattle.manifest.specs.Statements.{SaysNext, KeepsFormed, DeclarationSays};
 
 use crate::fault::ReadError;
 use crate::kept::Declared;
@@ -26,9 +22,9 @@ impl Declared {
         block: &[Line<'_>],
         behind: Option<Fault>,
     ) -> Result<(), ReadError>
-        ensures said { (state : State) → IsStateOf self.old state → Says result self.new (OfDeclaration (place_of place.now) (form_of statement.now) (block_lines (map said_of block.now)) (option_map (fault_in place.now.file.now.value) behind) state) }
+        ensures said { SaysNext result self.old self.new (DeclarationSays place.now (form_of statement.now) block.now behind) }
         ensures scopes { OnOk result (KeepsScopes self.old self.new) }
-        ensures formed { OnOk result (FormHasOutput (form_of statement.now) → IsFormed self.old → IsFormed self.new) }
+        ensures formed { OnOk result (FormHasOutput (form_of statement.now) → KeepsFormed self.old self.new) }
     {
         match statement {
             Statement::Binding { name, value } => self.read_binding(alloc, place, name, value),

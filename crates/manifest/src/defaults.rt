@@ -2,11 +2,10 @@
 
 ghost use Rattle.std.specs.Prelude.{OnOk};
 ghost use Rattle.lexer.specs.Said.{paths_of};
-ghost use Rattle.manifest.specs.Answer.{IsAnswerOf};
-ghost use Rattle.manifest.specs.Declarations.{OfDefault, DefaultPaths};
-ghost use Rattle.manifest.specs.Held.{IsStateOf, Says, KeepsScopes, IsFormed};
+ghost use Rattle.manifest.specs.Declarations.{DefaultPaths};
+ghost use Rattle.manifest.specs.Held.{KeepsScopes};
 ghost use Rattle.manifest.specs.Places.{place_of};
-ghost use Rattle.manifest.specs.States.{State};
+ghost use Rattle.manifest.specs.Statements.{SaysNext, IsAnswerIn, KeepsFormed, DefaultSays};
 
 use crate::fault::ReadError;
 use crate::kept::{Declared, ReadDefault};
@@ -25,9 +24,9 @@ impl Declared {
         place: &Place<'_>,
         values: &[Value<'_>],
     ) -> Result<(), ReadError>
-        ensures said { (state : State) → IsStateOf self.old state → Says result self.new (OfDefault (place_of place.now) (paths_of values.now) state) }
+        ensures said { SaysNext result self.old self.new (DefaultSays place.now (paths_of values.now)) }
         ensures scopes { OnOk result (KeepsScopes self.old self.new) }
-        ensures formed { OnOk result (IsFormed self.old → IsFormed self.new) }
+        ensures formed { OnOk result (KeepsFormed self.old self.new) }
     {
         let paths = self.default_paths(alloc, place, values)?;
         for path in paths.into_vec() {
@@ -47,7 +46,7 @@ impl Declared {
         place: &Place<'_>,
         values: &[Value<'_>],
     ) -> Result<Items<Path>, ReadError>
-        ensures { (state : State) → IsStateOf self.now state → IsAnswerOf (DefaultPaths (place_of place.now) (paths_of values.now) state) result }
+        ensures { IsAnswerIn self.now (DefaultPaths (place_of place.now) (paths_of values.now)) result }
     {
         let block = Block::new(alloc);
         let mut reader = PathReader::new(&self.scopes, &block);

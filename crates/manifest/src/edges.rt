@@ -1,18 +1,15 @@
 //! Build statements, when all is read.
 
-ghost use Rattle.std.specs.Prelude.{◌≡◌, ◌<◌, ◌≤◌, List, length, vec_len, map, IfOk, OnOk, IsTrue};
+ghost use Rattle.std.specs.Prelude.{◌≡◌, ◌<◌, ◌≤◌, length, vec_len, map, IfOk, OnOk, IsTrue};
 ghost use Rattle.std.specs.List.{AllByRecursion};
 ghost use Rattle.std.specs.Map.Iter.{deref};
 ghost use Rattle.lexer.specs.Quote.{quoted};
-ghost use Rattle.model.specs.declared.graph.Pool.{Pool};
 ghost use Rattle.paths.specs.Commands.{dyndep_stop};
 ghost use Rattle.paths.specs.Lists.{line_at};
 ghost use Rattle.paths.specs.Told.{texts_at};
-ghost use Rattle.scopes.specs.Moves.{Move};
-ghost use Rattle.scopes.specs.Scopes.{IsScopesOf};
-ghost use Rattle.manifest.specs.Answer.{IsAnswerOf};
-ghost use Rattle.manifest.specs.Edges.{OfEdge, CommandValues, ExpandedValues, CheckedPool, CheckedDeps};
-ghost use Rattle.manifest.specs.Held.{IsBuildOf, ArePools, IsLineFor, ShowsPaths, ShowsQuoted, IsUseRefused, in_edge};
+ghost use Rattle.manifest.specs.Expanding.{OfEach, OfEachUse, IsMadeFor, HasValues, Expands, AreQuoted};
+ghost use Rattle.manifest.specs.Expanding.{IsPoolChecked, AreDepsChecked};
+ghost use Rattle.manifest.specs.Held.{IsBuildOf, IsUseRefused};
 ghost use Rattle.manifest.specs.Places.{place_of};
 ghost use Rattle.manifest.specs.InNumbers.{IsLonger, IsWithin};
 ghost use Rattle.manifest.specs.States.{Build};
@@ -45,7 +42,7 @@ impl ReadEdge {
         requires scope { self.now.scope < vec_len scopes.now.scopes }
         requires edge { edge < length lines.now }
         requires within { IsWithin table.old (line_at lines.now edge) }
-        ensures edge { (past : List Move) (said : List Pool) (build : Build) → IsScopesOf scopes.now past → ArePools pools.now.entries said → IsBuildOf self.now build → IsLineFor table.old build (line_at lines.now edge) → IsAnswerOf (OfEdge past said build) (in_edge table.new (line_at lines.now edge) result) }
+        ensures edge { OfEach scopes.now pools.now.entries self.now (IsMadeFor table.old table.new (line_at lines.now edge) result) }
         ensures grows { OnOk result (IsLonger table.old table.new) }
         ensures dyndep { IfOk result (λ action. dyndep_stop action ≤ length table.new) }
     {
@@ -75,7 +72,7 @@ impl ReadEdge {
         room: &mut String,
     ) -> Result<Values, ReadError>
         requires { self.now.scope < vec_len scopes.now.scopes }
-        ensures { (past : List Move) (said : List Pool) (build : Build) → IsScopesOf scopes.now past → ArePools pools.now.entries said → IsBuildOf self.now build → ShowsPaths plain.entry build → IsAnswerOf (CommandValues past said build rule.now) result }
+        ensures { OfEach scopes.now pools.now.entries self.now (HasValues plain.entry rule.now result) }
     {
         let values = self.expand(alloc, scopes, rule, plain, room)?;
         self.check_pool(alloc, pools, &values)?;
@@ -92,7 +89,7 @@ impl ReadEdge {
         room: &mut String,
     ) -> Result<Values, ReadError>
         requires { self.now.scope < vec_len scopes.now.scopes }
-        ensures { (past : List Move) (build : Build) → IsScopesOf scopes.now past → IsBuildOf self.now build → ShowsPaths plain.entry build → IsAnswerOf (ExpandedValues past build rule.now) result }
+        ensures { OfEachUse scopes.now self.now plain.entry (Expands rule.now result) }
     {
         // as nearly all
         if are_bare(plain.inputs) && are_bare(plain.outputs) {
@@ -120,7 +117,7 @@ impl ReadEdge {
         room: &mut String,
     ) -> Result<Values, ReadError>
         requires { self.now.scope < vec_len scopes.now.scopes }
-        ensures { (past : List Move) (build : Build) → IsScopesOf scopes.now past → IsBuildOf self.now build → ShowsPaths plain.entry build → ShowsQuoted quoted.entry build → IsAnswerOf (ExpandedValues past build rule.now) result }
+        ensures { OfEachUse scopes.now self.now plain.entry (AreQuoted quoted.entry rule.now result) }
     {
         let at = Use {
             scope: self.scope,
@@ -156,7 +153,7 @@ impl ReadEdge {
         pools: &IndexMap<String, u32>,
         values: &Values,
     ) -> Result<(), ReadError>
-        ensures { (said : List Pool) (build : Build) → ArePools pools.now.entries said → IsBuildOf self.now build → IsAnswerOf (CheckedPool said build values.now) result }
+        ensures { IsPoolChecked pools.now.entries self.now values.now result }
     {
         let pool = values.pool.as_str();
         if pool.is_empty() || pool == "console" || pools.contains_key(pool) {
@@ -168,7 +165,7 @@ impl ReadEdge {
 
     /// Refuses what is neither nothing nor `gcc`, and `gcc` without a depfile.
     fn check_deps(&self, alloc: Global, values: &Values) -> Result<(), ReadError>
-        ensures { (build : Build) → IsBuildOf self.now build → IsAnswerOf (CheckedDeps build values.now) result }
+        ensures { AreDepsChecked self.now values.now result }
     {
         let deps = values.deps.as_str();
         if deps.is_empty() || deps == "gcc" && !values.depfile.is_empty() {

@@ -1,22 +1,21 @@
 //! The build graph, when all is read.
 
-ghost use Rattle.std.specs.Prelude.{◌≡◌, ◌<◌, ◌≤◌, ◌^◌, [], List, ℕ, nat_lt, length, map, IfOk, OnOk};
-ghost use Rattle.std.specs.List.{AllZip, AllByRecursion};
-ghost use Rattle.model.specs.declared.graph.Pool.{Pool as SaidPool};
+ghost use Rattle.std.specs.Prelude.{◌≡◌, ◌<◌, ◌≤◌, ◌^◌, ℕ, nat_lt, length, map, IfOk, OnOk};
+ghost use Rattle.std.specs.List.{AllByRecursion};
 ghost use Rattle.paths.specs.Commands.{dyndep_stop};
 ghost use Rattle.model.specs.Graph.{has_number};
 ghost use Rattle.paths.specs.Lists.{all_paths};
 ghost use Rattle.paths.specs.Told.{text_at, texts_at, edges_of, graph_of};
-ghost use Rattle.scopes.specs.Moves.{Move};
-ghost use Rattle.scopes.specs.Scopes.{IsScopesOf};
-ghost use Rattle.manifest.specs.Answer.{IsAnswerOf, IsGraph, in_texts};
+ghost use Rattle.scopes.specs.Scopes.{Always};
+ghost use Rattle.manifest.specs.Answer.{IsGraph, in_texts};
 ghost use Rattle.manifest.specs.Declarations.{most_edges};
-ghost use Rattle.manifest.specs.Edges.{OfEdges};
-ghost use Rattle.manifest.specs.Graphs.{AtEnd, OfDefault, OfDefaults, builddir_in};
-ghost use Rattle.manifest.specs.Held.{IsStateOf, IsFormed, IsInScope, IsBuildOf, IsDefaultOf, ArePools, IsLineFor, pool_of, in_edges, is_done};
+ghost use Rattle.manifest.specs.Expanding.{OfAll, AreMadeFor};
+ghost use Rattle.manifest.specs.Graphs.{AtEnd, builddir_in};
+ghost use Rattle.manifest.specs.Held.{IsFormed, IsInScope, pool_of};
+ghost use Rattle.manifest.specs.InNumbers.{IsLonger, IsWithin};
+ghost use Rattle.manifest.specs.Naming.{OfNamed, IsDefaultFound, AreDefaultsFound, default_paths};
 ghost use Rattle.manifest.specs.Seen.{IsStated};
-ghost use Rattle.manifest.specs.InNumbers.{AreKeys, IsLonger, IsWithin};
-ghost use Rattle.manifest.specs.States.{State, Build, Default};
+ghost use Rattle.manifest.specs.Statements.{IsAnswerIn};
 
 use crate::fault::{FaultKind, ReadError};
 use crate::kept::{Declared, Named, ReadDefault, ReadEdge};
@@ -33,7 +32,7 @@ impl Declared {
     pub fn finish(self, alloc: Global) -> Result<Manifest, ReadError>
         requires formed { IsFormed self }
         requires stated { IsStated self }
-        ensures said { (state : State) → IsStateOf self state → IsAnswerOf (AtEnd state) (in_texts result) }
+        ensures said { IsAnswerIn self AtEnd (in_texts result) }
         ensures graph { IfOk (in_texts result) IsGraph }
     {
         let Declared {
@@ -98,7 +97,7 @@ fn expand_all(
     requires within { AllByRecursion (IsWithin table.old) lines.now }
     requires count { length read.items ≡ length lines.now }
     requires few { length lines.now ≤ most_edges }
-    ensures edges { (past : List Move) (said : List SaidPool) (builds : List Build) → IsScopesOf scopes.now past → ArePools pools.now.entries said → AllZip IsBuildOf read.items builds → AllZip (IsLineFor table.old) builds lines.now → IsAnswerOf (OfEdges past said builds []) (in_edges table.new lines.now result) }
+    ensures edges { OfAll scopes.now pools.now.entries read.items (AreMadeFor table.old table.new lines.now result) }
     ensures grows { OnOk result (IsLonger table.old table.new) }
     ensures count { IfOk result (λ actions. length actions ≡ length lines.now) }
     ensures dyndeps { IfOk result (AllByRecursion (λ action. dyndep_stop action ≤ length table.new)) }
@@ -120,8 +119,8 @@ fn default_numbers(
     named: usize,
     defaults: &[ReadDefault],
 ) -> Result<Items<PathId>, ReadError>
-    ensures said { (known : List (List ℕ)) (paths : List (List ℕ)) (said : List Default) → IsLonger known table.now → named ≡ length known → AreKeys known paths → AllZip IsDefaultOf defaults.now said → IsAnswerOf (OfDefaults paths said) (is_done result) }
-    ensures texts { IfOk result (λ numbers. texts_at table.now numbers ≡ map (λ (default : ReadDefault). default.path) defaults.now) }
+    ensures said { OfNamed table.now named (AreDefaultsFound defaults.now result) }
+    ensures texts { IfOk result (λ numbers. texts_at table.now numbers ≡ default_paths defaults.now) }
     ensures known { IfOk result (AllByRecursion (λ number. number < named)) }
 {
     let mut numbers = Items::from_vec(Vec::with_capacity(alloc, defaults.len())?);
@@ -137,7 +136,7 @@ fn default_number(
     named: usize,
     default: &ReadDefault,
 ) -> Result<PathId, ReadError>
-    ensures said { (known : List (List ℕ)) (paths : List (List ℕ)) (said : Default) → IsLonger known table.now → named ≡ length known → AreKeys known paths → IsDefaultOf default.now said → IsAnswerOf (OfDefault paths said) (is_done result) }
+    ensures said { OfNamed table.now named (IsDefaultFound default.now result) }
     ensures text { IfOk result (λ number. text_at table.now number ≡ default.now.path) }
     ensures known { IfOk result (λ number. number < named) }
 {
@@ -170,7 +169,7 @@ fn all_pools(alloc: Global, kept: &IndexMap<String, u32>) -> Result<Items<Pool>,
 
 /// The value of `builddir` in the outermost scope.
 fn builddir(alloc: Global, scopes: &Scopes) -> Result<Text, AllocError>
-    ensures { IfOk result (λ text. (past : List Move) → IsScopesOf scopes.now past → text ≡ builddir_in past) }
+    ensures { IfOk result (λ text. Always scopes.now (λ past. text ≡ builddir_in past)) }
 {
     match scopes.lookup_in(0, "builddir") {
         Some(folder) => Text::from_str(alloc, folder),

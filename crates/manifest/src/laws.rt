@@ -4,9 +4,7 @@ ghost use Rattle.std.specs.Prelude.{◌≡◌, List, ℕ, Option, Result, ◌++�
 ghost use Rattle.model.specs.declared.event.Moment.{Moment};
 ghost use Rattle.model.specs.declared.graph.BuildGraph.{BuildGraph};
 ghost use Rattle.manifest.specs.declared.fault.ReadError.{ReadError};
-ghost use Rattle.manifest.specs.Answer.{ReadsFile};
-ghost use Rattle.manifest.specs.Readings.{Outcome};
-ghost use Rattle.manifest.specs.Graphs.{Declares};
+ghost use Rattle.manifest.specs.Naming.{HaveOneOutcome, IsReadLater};
 
 use lexer::{one_form, one_reading};
 use scopes::values_are_unique;
@@ -14,7 +12,7 @@ use scopes::values_are_unique;
 /// A law, which runs nothing: files that stand still declare one graph, or have one first fault. So no graph is declared
 /// where a fault stands that is refused, and the fault that is answered is the first.
 pub fn one_outcome()
-    ensures { (files : List ℕ → Option (List ℕ)) (name : List ℕ) (one other : Outcome BuildGraph) → Declares (λ file content. content ≡ files file) name one → Declares (λ file content. content ≡ files file) name other → one ≡ other }
+    ensures { (files : List ℕ → Option (List ℕ)) (name : List ℕ) → HaveOneOutcome files name }
 {
     one_form();
     one_reading();
@@ -23,5 +21,5 @@ pub fn one_outcome()
 
 /// A law, which runs nothing: what build files declared during a call, they declared during a longer one.
 pub fn reads_longer()
-    ensures { (name : List ℕ) (old mid new later : List Moment) (result : Result BuildGraph ReadError) → new ≡ mid ++ later → ReadsFile name old mid result → ReadsFile name old new result }
+    ensures { (name : List ℕ) (old mid new later : List Moment) (result : Result BuildGraph ReadError) → new ≡ mid ++ later → IsReadLater name old mid new result }
 {}

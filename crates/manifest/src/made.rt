@@ -1,15 +1,13 @@
 //! What edges are made of: paths and values (manual: "Rule variables", "The `phony` rule").
 
-ghost use Rattle.std.specs.Prelude.{◌≡◌, ◌≤◌, List, ℕ, length, if◌then◌else◌, IfOk, IfErr, OnOk};
-ghost use Rattle.std.specs.Option.{option_map};
+ghost use Rattle.std.specs.Prelude.{◌≡◌, ◌≤◌, length, if◌then◌else◌, IfOk, IfErr, OnOk};
 ghost use Rattle.model.specs.declared.graph.Deps.TheVariants.{Unset, Gcc};
-ghost use Rattle.paths.specs.declared.line.Line.{Line};
-ghost use Rattle.paths.specs.declared.manifest.Action.TheVariants.{Command as OfCommand};
 ghost use Rattle.paths.specs.Commands.{stop_of};
 ghost use Rattle.paths.specs.Lists.{line_outputs};
-ghost use Rattle.paths.specs.Told.{text_at, edge_of};
-ghost use Rattle.manifest.specs.Edges.{IsEdgeOf, IsPathOrNone, IsFileOrNone, some_text, is_gcc};
-ghost use Rattle.manifest.specs.InNumbers.{IsLonger, paths_at, HasNumbers, numbers_without, without_own};
+ghost use Rattle.manifest.specs.Edges.{IsPathOrNone, IsFileOrNone, some_text, is_gcc};
+ghost use Rattle.manifest.specs.Expanding.{IsCommandOf, AreKeptOf};
+ghost use Rattle.manifest.specs.InNumbers.{IsLonger, HasNumbers, without_own};
+ghost use Rattle.manifest.specs.PathReading.{text_found};
 
 use crate::fault::ReadError;
 use crate::values::Values;
@@ -23,7 +21,7 @@ use text::{Items, Text};
 /// What an edge with a command does. The dyndep file is put into the table.
 pub fn command_of(alloc: Global, table: &mut Paths, values: Values) -> Result<Command, ReadError>
     ensures grows { OnOk result (IsLonger table.old table.new) }
-    ensures command { IfOk result (λ command. (line : Line) → IsEdgeOf (paths_at table.new line) values (edge_of table.new line (OfCommand command))) }
+    ensures command { IfOk result (λ command. IsCommandOf table.new values command) }
     ensures dyndep { IfOk result (λ command. stop_of command.dyndep ≤ length table.new) }
     ensures memory { IfErr result (λ error. error ≡ ReadError.Memory) }
 {
@@ -86,7 +84,7 @@ fn without(
     outputs: &IndexSet<usize>,
     paths: &[PathId],
 ) -> Result<Items<PathId>, AllocError>
-    ensures { IfOk result (λ kept. (numbers : List ℕ) → HasNumbers outputs.now.keys numbers → kept ≡ numbers_without numbers paths.now) }
+    ensures { IfOk result (λ kept. AreKeptOf outputs.now.keys paths.now kept) }
 {
     let mut kept = Items::from_vec(Vec::with_capacity(alloc, paths.len())?);
     for path in paths {
@@ -115,7 +113,7 @@ fn path_or_none(alloc: Global, text: Text) -> Result<Text, ReadError>
 /// The number of the canonical path, which is put into the table; none for an empty text.
 fn file_or_none(alloc: Global, table: &mut Paths, text: &Text) -> Result<Option<PathId>, ReadError>
     ensures grows { OnOk result (IsLonger table.old table.new) }
-    ensures file { IfOk result (λ number. IsFileOrNone text.now (option_map (text_at table.new) number)) }
+    ensures file { IfOk result (λ number. IsFileOrNone text.now (text_found table.new number)) }
     ensures within { IfOk result (λ number. stop_of number ≤ length table.new) }
     ensures memory { IfErr result (λ error. error ≡ ReadError.Memory) }
 {

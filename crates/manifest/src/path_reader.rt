@@ -1,20 +1,18 @@
 //! The paths of build lines (manual: "Build statements").
 
-ghost use Rattle.std.specs.Prelude.{◌≡◌, ◌≢◌, ◌≤◌, ℕ, List, [], ◌∷◌, ◌||◌, false, length, IfOk, IfErr, IfSome, OnOk};
+ghost use Rattle.std.specs.Prelude.{◌≡◌, ◌≢◌, ◌≤◌, [], ◌∷◌, ◌||◌, false, length, IfOk, IfErr, IfSome, OnOk};
 ghost use Rattle.lexer.specs.Path.{IsCanonical};
 ghost use Rattle.lexer.specs.Said.{fragments_of, paths_of, build_of};
-ghost use Rattle.scopes.specs.Moves.{Move};
-ghost use Rattle.scopes.specs.Scopes.{IsScopesOf};
-ghost use Rattle.scopes.specs.Place.{value_of_name};
-ghost use Rattle.scopes.specs.Texts.{expansion_of_pieces, largest_value};
-ghost use Rattle.manifest.specs.Expansion.{text_of, is_empty, ArePaths};
-ghost use Rattle.manifest.specs.Declarations.{PathsOf};
+ghost use Rattle.scopes.specs.Expanding.{IsTextAlone};
+ghost use Rattle.scopes.specs.Texts.{largest_value};
+ghost use Rattle.manifest.specs.Expansion.{is_empty};
 ghost use Rattle.manifest.specs.Answer.{IsAnswerOf};
 ghost use Rattle.manifest.specs.Places.{place_of};
-ghost use Rattle.manifest.specs.InNumbers.{AreAdded, FindsPaths, numbers_of};
-ghost use Rattle.paths.specs.Told.{text_at, texts_at};
-ghost use Rattle.std.specs.Option.{option_map, option_to_list};
-ghost use Rattle.manifest.specs.Flags.{FlagsAfter, IsPathFound, NoneIsWrong};
+ghost use Rattle.manifest.specs.InNumbers.{AreAdded, numbers_of};
+ghost use Rattle.manifest.specs.PathReading.{FindsLine, Notes, ReadsPaths, ReadsPath, NoneNoted, text_found};
+ghost use Rattle.paths.specs.Told.{texts_at};
+ghost use Rattle.std.specs.Option.{option_to_list};
+ghost use Rattle.manifest.specs.Flags.{IsPathFound};
 
 use crate::fault::{FaultKind, ReadError};
 use crate::place::Place;
@@ -59,7 +57,7 @@ impl<'a> PathReader<'a> {
     ) -> Result<Line, ReadError>
         requires empty { self.has_empty ≡ false }
         requires large { self.has_large ≡ false }
-        ensures said { (past : List Move) → IsScopesOf self.entry.scopes.now past → FindsPaths table.new (PathsOf (place_of place.now) (value_of_name self.entry.block.now past) (build_of build.now)) result }
+        ensures said { FindsLine self.entry table.new (place_of place.now) (build_of build.now) result }
         ensures added { IfOk result (λ line. AreAdded table.old table.new (numbers_of line)) }
     {
         let line = Line {
@@ -76,7 +74,7 @@ impl<'a> PathReader<'a> {
 
     /// Refuses paths of which one expands to nothing, else those of which one is too large.
     pub fn check(&self, alloc: Global, place: &Place<'_>) -> Result<(), ReadError>
-        ensures { IsAnswerOf (NoneIsWrong (place_of place.now) self.now.has_empty self.now.has_large) result }
+        ensures { IsAnswerOf (NoneNoted place.now self.now) result }
     {
         if self.has_empty {
             let kind = FaultKind::Line(lexer::FaultKind::EmptyPath);
@@ -92,8 +90,8 @@ impl<'a> PathReader<'a> {
     pub fn paths(&mut self, alloc: Global, values: &[Value<'_>]) -> Result<Items<Path>, ReadError>
         ensures scopes { self.new.scopes.now ≡ self.old.scopes.now }
         ensures block { self.new.block.now ≡ self.old.block.now }
-        ensures flags { OnOk result ((past : List Move) → IsScopesOf self.old.scopes.now past → FlagsAfter self.old self.new (value_of_name self.old.block.now past) (paths_of values.now)) }
-        ensures paths { IfOk result (λ paths. (past : List Move) → IsScopesOf self.old.scopes.now past → self.new.has_empty ≡ false → self.new.has_large ≡ false → ArePaths (value_of_name self.old.block.now past) (paths_of values.now) paths) }
+        ensures flags { OnOk result (Notes self.old self.new (paths_of values.now)) }
+        ensures paths { IfOk result (λ paths. ReadsPaths self.old self.new (paths_of values.now) paths) }
         ensures memory { IfErr result (λ error. error ≡ ReadError.Memory) }
     {
         let mut paths = Items::from_vec(Vec::with_capacity(alloc, values.len())?);
@@ -114,9 +112,9 @@ impl<'a> PathReader<'a> {
     ) -> Result<Items<PathId>, ReadError>
         ensures scopes { self.new.scopes.now ≡ self.old.scopes.now }
         ensures block { self.new.block.now ≡ self.old.block.now }
-        ensures flags { OnOk result ((past : List Move) → IsScopesOf self.old.scopes.now past → FlagsAfter self.old self.new (value_of_name self.old.block.now past) (paths_of values.now)) }
+        ensures flags { OnOk result (Notes self.old self.new (paths_of values.now)) }
         ensures added { IfOk result (AreAdded table.old table.new) }
-        ensures paths { IfOk result (λ numbers. (past : List Move) → IsScopesOf self.old.scopes.now past → self.new.has_empty ≡ false → self.new.has_large ≡ false → ArePaths (value_of_name self.old.block.now past) (paths_of values.now) (texts_at table.new numbers)) }
+        ensures paths { IfOk result (λ numbers. ReadsPaths self.old self.new (paths_of values.now) (texts_at table.new numbers)) }
         ensures memory { IfErr result (λ error. error ≡ ReadError.Memory) }
     {
         let mut numbers = Items::from_vec(Vec::with_capacity(alloc, values.len())?);
@@ -137,9 +135,9 @@ impl<'a> PathReader<'a> {
     ) -> Result<Option<PathId>, ReadError>
         ensures scopes { self.new.scopes.now ≡ self.old.scopes.now }
         ensures block { self.new.block.now ≡ self.old.block.now }
-        ensures flags { OnOk result ((past : List Move) → IsScopesOf self.old.scopes.now past → FlagsAfter self.old self.new (value_of_name self.old.block.now past) (fragments_of value.now ∷ [])) }
+        ensures flags { OnOk result (Notes self.old self.new (fragments_of value.now ∷ [])) }
         ensures added { IfOk result (λ number. AreAdded table.old table.new (option_to_list number)) }
-        ensures found { IfOk result (λ number. (past : List Move) → IsScopesOf self.old.scopes.now past → self.new.has_empty ≡ false → self.new.has_large ≡ false → IsPathFound (text_of (value_of_name self.old.block.now past) (fragments_of value.now)) (option_map (text_at table.new) number)) }
+        ensures found { IfOk result (λ number. ReadsPath self.old self.new (fragments_of value.now) (text_found table.new number)) }
         ensures memory { IfErr result (λ error. error ≡ ReadError.Memory) }
     {
         match settled(value) {
@@ -157,9 +155,9 @@ impl<'a> PathReader<'a> {
     ) -> Result<Option<PathId>, ReadError>
         ensures scopes { self.new.scopes.now ≡ self.old.scopes.now }
         ensures block { self.new.block.now ≡ self.old.block.now }
-        ensures flags { OnOk result ((past : List Move) → IsScopesOf self.old.scopes.now past → FlagsAfter self.old self.new (value_of_name self.old.block.now past) (fragments_of value.now ∷ [])) }
+        ensures flags { OnOk result (Notes self.old self.new (fragments_of value.now ∷ [])) }
         ensures added { IfOk result (λ number. AreAdded table.old table.new (option_to_list number)) }
-        ensures found { IfOk result (λ number. (past : List Move) → IsScopesOf self.old.scopes.now past → self.new.has_empty ≡ false → self.new.has_large ≡ false → IsPathFound (text_of (value_of_name self.old.block.now past) (fragments_of value.now)) (option_map (text_at table.new) number)) }
+        ensures found { IfOk result (λ number. ReadsPath self.old self.new (fragments_of value.now) (text_found table.new number)) }
         ensures memory { IfErr result (λ error. error ≡ ReadError.Memory) }
     {
         match self.path(alloc, value)? {
@@ -172,8 +170,8 @@ impl<'a> PathReader<'a> {
     fn path(&mut self, alloc: Global, value: &Value<'_>) -> Result<Option<Path>, ReadError>
         ensures scopes { self.new.scopes.now ≡ self.old.scopes.now }
         ensures block { self.new.block.now ≡ self.old.block.now }
-        ensures flags { OnOk result ((past : List Move) → IsScopesOf self.old.scopes.now past → FlagsAfter self.old self.new (value_of_name self.old.block.now past) (fragments_of value.now ∷ [])) }
-        ensures found { IfOk result (λ path. (past : List Move) → IsScopesOf self.old.scopes.now past → self.new.has_empty ≡ false → self.new.has_large ≡ false → IsPathFound (text_of (value_of_name self.old.block.now past) (fragments_of value.now)) path) }
+        ensures flags { OnOk result (Notes self.old self.new (fragments_of value.now ∷ [])) }
+        ensures found { IfOk result (λ path. ReadsPath self.old self.new (fragments_of value.now) path) }
         ensures memory { IfErr result (λ error. error ≡ ReadError.Memory) }
     {
         if let Some(text) = as_it_stands(value) {
@@ -210,7 +208,7 @@ impl<'a> PathReader<'a> {
 
 /// The characters of a path that is canonical as it stands, as nearly all are.
 fn settled<'a>(value: &Value<'a>) -> Option<&'a str>
-    ensures value { IfSome result (λ text. (named : List ℕ → List ℕ) → text.now ≡ expansion_of_pieces named value.now.pieces) }
+    ensures value { IfSome result (λ text. IsTextAlone value.now.pieces text.now) }
     ensures size { IfSome result (λ text. length text.now ≤ largest_value) }
     ensures some { IfSome result (λ text. text.now ≢ []) }
     ensures canonical { IfSome result (λ text. IsCanonical text.now text.now) }

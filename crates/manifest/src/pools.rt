@@ -1,17 +1,10 @@
 //! Pools (manual: "Pools").
 
-ghost use Rattle.std.specs.Prelude.{◌≡◌, ℕ, List, [], None, ◌∷◌, map, ◌||◌, bytes_eq, IfErr, IsErr, OnOk};
-ghost use Rattle.std.specs.Option.{option_map};
-ghost use Rattle.lexer.specs.Said.{said_of};
-ghost use Rattle.model.specs.Graph.{console};
-ghost use Rattle.manifest.specs.Answer.{IsAnswerOf};
-ghost use Rattle.manifest.specs.Blocks.{block_lines};
-ghost use Rattle.manifest.specs.Declarations.{OfPool, PoolLine, DepthOf};
-ghost use Rattle.manifest.specs.Files.{fault_in};
-ghost use Rattle.manifest.specs.Held.{IsStateOf, Says, KeepsScopes, IsFormed};
+ghost use Rattle.std.specs.Prelude.{◌≡◌, None, IfErr, IsErr, OnOk};
+ghost use Rattle.manifest.specs.Held.{InEachState, KeepsScopes};
 ghost use Rattle.manifest.specs.Places.{place_of, IsFaultAt};
-ghost use Rattle.manifest.specs.Readings.{Each};
-ghost use Rattle.manifest.specs.States.{State, is_pool};
+ghost use Rattle.manifest.specs.Statements.{SaysNext, IsAnswerIn, KeepsFormed};
+ghost use Rattle.manifest.specs.Statements.{PoolSays, DepthSays, DepthAt, is_taken_pool, lines_of, lines_of_one};
 
 use crate::blocks::block_line;
 use crate::fault::{FaultKind, ReadError};
@@ -32,9 +25,9 @@ impl Declared {
         block: &[Line<'_>],
         behind: Option<Fault>,
     ) -> Result<(), ReadError>
-        ensures said { (state : State) → IsStateOf self.old state → Says result self.new (OfPool (place_of place.now) name.now (block_lines (map said_of block.now)) (option_map (fault_in place.now.file.now.value) behind) state) }
+        ensures said { SaysNext result self.old self.new (PoolSays place.now name.now block.now behind) }
         ensures scopes { OnOk result (KeepsScopes self.old self.new) }
-        ensures formed { OnOk result (IsFormed self.old → IsFormed self.new) }
+        ensures formed { OnOk result (KeepsFormed self.old self.new) }
     {
         if self.has_pool(name) {
             let kind = FaultKind::RepeatedPool(Text::from_str(alloc, name)?);
@@ -47,7 +40,7 @@ impl Declared {
 
     /// Whether a pool of this name is declared, or built in.
     fn has_pool(&self, name: &str) -> bool
-        ensures { (state : State) → IsStateOf self.now state → result ≡ (bytes_eq name.now console || is_pool state.pools name.now) }
+        ensures { InEachState self.now (λ state. result ≡ is_taken_pool state name.now) }
     {
         name == "console" || self.pools.contains_key(name)
     }
@@ -61,7 +54,7 @@ impl Declared {
         block: &[Line<'_>],
         behind: Option<Fault>,
     ) -> Result<u32, ReadError>
-        ensures { (state : State) → IsStateOf self.now state → IsAnswerOf (DepthOf (place_of place.now) name.now (block_lines (map said_of block.now)) (option_map (fault_in place.now.file.now.value) behind) state) result }
+        ensures { IsAnswerIn self.now (DepthSays place.now name.now block.now behind) result }
     {
         let depth = self.read_depths(alloc, place, name, block)?;
         place.stop_at(alloc, behind)?;
@@ -79,7 +72,7 @@ impl Declared {
         pool: &str,
         block: &[Line<'_>],
     ) -> Result<Option<u32>, ReadError>
-        ensures { (state : State) → IsStateOf self.now state → IsAnswerOf (Each (PoolLine state place.now.file.now.value pool.now) (block_lines (map said_of block.now)) None) result }
+        ensures { IsAnswerIn self.now (DepthAt place.now pool.now (lines_of block.now) None) result }
     {
         let mut depth = None;
         for line in block {
@@ -97,7 +90,7 @@ impl Declared {
         line: &Line<'_>,
         before: Option<u32>,
     ) -> Result<Option<u32>, ReadError>
-        ensures { (state : State) → IsStateOf self.now state → IsAnswerOf (Each (PoolLine state place.now.file.now.value pool.now) (block_lines (said_of line.now ∷ [])) before) result }
+        ensures { IsAnswerIn self.now (DepthAt place.now pool.now (lines_of_one line.now) before) result }
     {
         let Some(line) = block_line(line) else {
             return Ok(before);

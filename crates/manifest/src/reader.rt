@@ -3,14 +3,14 @@
 ghost use Rattle.std.specs.Prelude.{◌≡◌, ◌<◌, IfOk, OnOk, IsTrue, map};
 ghost use Rattle.lexer.specs.Said.{said_of, fragments_of, form_of};
 ghost use Rattle.model.specs.Calls.{OnlyLooks, HasCause};
-ghost use Rattle.model.specs.World.{World};
-ghost use Rattle.manifest.specs.Answer.{site_part, in_texts, ReadsFile, IsGraph, IsAnswerOf};
-ghost use Rattle.manifest.specs.Files.{Reads, OfFile, OpenOf, NameOf, InScope, too_deep_at, inner_at};
-ghost use Rattle.manifest.specs.Held.{IsStateOf, KeepsScopes, IsFormed};
-ghost use Rattle.manifest.specs.Seen.{Covers, seen, IsCaused, FindsFile, SaysSeen, IsStated, GroupSays, LinesSay, if_no_line};
+ghost use Rattle.manifest.specs.Answer.{site_part, in_texts, ReadsFile, IsGraph};
+ghost use Rattle.manifest.specs.Files.{NameOf};
+ghost use Rattle.manifest.specs.Held.{KeepsScopes};
+ghost use Rattle.manifest.specs.Seen.{IsStated, HasCauseIn, Tells, Finds, if_no_line};
+ghost use Rattle.manifest.specs.Seen.{FileSays, TextSays, StatementSays, IncludeSays, SubninjaSays, OpenSays};
 ghost use Rattle.manifest.specs.Made.{HaveOutputs, FormHasOutput};
-ghost use Rattle.manifest.specs.Places.{place_of, IsFaultAt};
-ghost use Rattle.manifest.specs.States.{State};
+ghost use Rattle.manifest.specs.Places.{place_of, whole_file, IsFaultAt};
+ghost use Rattle.manifest.specs.Statements.{IsAnswerIn, KeepsFormed};
 
 use crate::blocks::{Group, split_block};
 use crate::fault::{FaultKind, ReadError};
@@ -71,7 +71,7 @@ pub fn read<R: Texts>(alloc: Global, texts: &mut R, name: &str) -> Result<Manife
 
 /// The refusal of a main file that is not there.
 fn absent(alloc: Global, file: &Rc<Text>, name: &str) -> ReadError
-    ensures { IsFaultAt (record { file = file.now.value; line = 0 }) (FaultKind.NotFound name.now) result }
+    ensures { IsFaultAt (whole_file file.now.value) (FaultKind.NotFound name.now) result }
 {
     let place = Place { file, line: 0 };
     match Text::from_str(alloc, name) {
@@ -91,11 +91,11 @@ fn read_bytes<R: Texts>(
     levels: usize,
 ) -> Result<(), ReadError>
     ensures looks { OnlyLooks R.tells (R.world texts.old) (R.world texts.new) }
-    ensures cause { IsStated declared.old → IsCaused (R.world texts.old) (R.world texts.new) (site_part result) }
-    ensures said { IsTrue R.tells → (entry exit : World) → Covers entry exit (R.world texts.old) (R.world texts.new) → (state : State) → IsStateOf declared.old state → SaysSeen result declared.new (Reads (seen entry exit) levels file.now.value bytes.now state) }
+    ensures cause { IsStated declared.old → HasCauseIn (R.world texts.old) (R.world texts.new) result }
+    ensures said { Tells R.tells (R.world texts.old) (R.world texts.new) declared.old declared.new result (FileSays levels file.now.value bytes.now) }
     ensures scopes { OnOk result (KeepsScopes declared.old declared.new) }
     ensures stated { OnOk result (IsStated declared.old → IsStated declared.new) }
-    ensures formed { OnOk result (IsFormed declared.old → IsFormed declared.new) }
+    ensures formed { OnOk result (KeepsFormed declared.old declared.new) }
 {
     let place = Place { file, line: 1 };
     if bytes.len() > LARGEST_FILE {
@@ -128,11 +128,11 @@ fn read_lines<R: Texts>(
     levels: usize,
 ) -> Result<(), ReadError>
     ensures looks { OnlyLooks R.tells (R.world texts.old) (R.world texts.new) }
-    ensures cause { IsStated declared.old → IsCaused (R.world texts.old) (R.world texts.new) (site_part result) }
-    ensures said { IsTrue R.tells → (entry exit : World) → Covers entry exit (R.world texts.old) (R.world texts.new) → (state : State) → IsStateOf declared.old state → SaysSeen result declared.new (LinesSay (seen entry exit) levels file.now.value fault lines.now state) }
+    ensures cause { IsStated declared.old → HasCauseIn (R.world texts.old) (R.world texts.new) result }
+    ensures said { Tells R.tells (R.world texts.old) (R.world texts.new) declared.old declared.new result (TextSays levels file.now.value fault lines.now) }
     ensures scopes { OnOk result (KeepsScopes declared.old declared.new) }
     ensures stated { OnOk result (IsStated declared.old → IsStated declared.new) }
-    ensures formed { OnOk result (HaveOutputs (map said_of lines.now) → IsFormed declared.old → IsFormed declared.new) }
+    ensures formed { OnOk result (HaveOutputs (map said_of lines.now) → KeepsFormed declared.old declared.new) }
 {
     let (_, mut rest) = split_block(lines);
     while let Some((line, following)) = rest.split_first() {
@@ -170,11 +170,11 @@ fn read_group<R: Texts>(
     levels: usize,
 ) -> Result<(), ReadError>
     ensures looks { OnlyLooks R.tells (R.world texts.old) (R.world texts.new) }
-    ensures cause { IsStated declared.old → IsCaused (R.world texts.old) (R.world texts.new) (site_part result) }
-    ensures said { IsTrue R.tells → (entry exit : World) → Covers entry exit (R.world texts.old) (R.world texts.new) → (state : State) → IsStateOf declared.old state → SaysSeen result declared.new (GroupSays (seen entry exit) levels group.now state) }
+    ensures cause { IsStated declared.old → HasCauseIn (R.world texts.old) (R.world texts.new) result }
+    ensures said { Tells R.tells (R.world texts.old) (R.world texts.new) declared.old declared.new result (StatementSays levels group.now) }
     ensures scopes { OnOk result (KeepsScopes declared.old declared.new) }
     ensures stated { OnOk result (IsStated declared.old → IsStated declared.new) }
-    ensures formed { OnOk result (FormHasOutput (form_of group.now.statement.now) → IsFormed declared.old → IsFormed declared.new) }
+    ensures formed { OnOk result (FormHasOutput (form_of group.now.statement.now) → KeepsFormed declared.old declared.new) }
 {
     let Group {
         place,
@@ -200,11 +200,11 @@ fn read_file<R: Texts>(
     levels: usize,
 ) -> Result<(), ReadError>
     ensures looks { OnlyLooks R.tells (R.world texts.old) (R.world texts.new) }
-    ensures cause { IsStated declared.old → IsCaused (R.world texts.old) (R.world texts.new) (site_part result) }
-    ensures said { IsTrue R.tells → (entry exit : World) → Covers entry exit (R.world texts.old) (R.world texts.new) → (state : State) → IsStateOf declared.old state → SaysSeen result declared.new (OfFile (place_of place.now) (seen entry exit) (too_deep_at levels) (inner_at (seen entry exit) levels) (fragments_of path.now) state) }
+    ensures cause { IsStated declared.old → HasCauseIn (R.world texts.old) (R.world texts.new) result }
+    ensures said { Tells R.tells (R.world texts.old) (R.world texts.new) declared.old declared.new result (IncludeSays levels place.now path.now) }
     ensures scopes { OnOk result (KeepsScopes declared.old declared.new) }
     ensures stated { OnOk result (IsStated declared.old → IsStated declared.new) }
-    ensures formed { OnOk result (IsFormed declared.old → IsFormed declared.new) }
+    ensures formed { OnOk result (KeepsFormed declared.old declared.new) }
 {
     let Opened { file, bytes } = open(alloc, texts, declared, place, path, levels)?;
     read_bytes(alloc, texts, declared, &file, bytes.as_slice(), levels - 1)
@@ -221,11 +221,11 @@ fn read_scope<R: Texts>(
     levels: usize,
 ) -> Result<(), ReadError>
     ensures looks { OnlyLooks R.tells (R.world texts.old) (R.world texts.new) }
-    ensures cause { IsStated declared.old → IsCaused (R.world texts.old) (R.world texts.new) (site_part result) }
-    ensures said { IsTrue R.tells → (entry exit : World) → Covers entry exit (R.world texts.old) (R.world texts.new) → (state : State) → IsStateOf declared.old state → SaysSeen result declared.new (OfFile (place_of place.now) (seen entry exit) (too_deep_at levels) (InScope (inner_at (seen entry exit) levels)) (fragments_of path.now) state) }
+    ensures cause { IsStated declared.old → HasCauseIn (R.world texts.old) (R.world texts.new) result }
+    ensures said { Tells R.tells (R.world texts.old) (R.world texts.new) declared.old declared.new result (SubninjaSays levels place.now path.now) }
     ensures scopes { OnOk result (KeepsScopes declared.old declared.new) }
     ensures stated { OnOk result (IsStated declared.old → IsStated declared.new) }
-    ensures formed { OnOk result (IsFormed declared.old → IsFormed declared.new) }
+    ensures formed { OnOk result (KeepsFormed declared.old declared.new) }
 {
     let Opened { file, bytes } = open(alloc, texts, declared, place, path, levels)?;
     declared.scopes.enter(alloc)?;
@@ -244,8 +244,8 @@ fn open<R: Texts>(
     levels: usize,
 ) -> Result<Opened, ReadError>
     ensures looks { OnlyLooks R.tells (R.world texts.old) (R.world texts.new) }
-    ensures cause { IsStated declared.now → IsCaused (R.world texts.old) (R.world texts.new) (site_part result) }
-    ensures opened { IsTrue R.tells → (entry exit : World) → Covers entry exit (R.world texts.old) (R.world texts.new) → (state : State) → IsStateOf declared.now state → FindsFile (OpenOf (place_of place.now) (seen entry exit) (too_deep_at levels) (fragments_of path.now) state) result }
+    ensures cause { IsStated declared.now → HasCauseIn (R.world texts.old) (R.world texts.new) result }
+    ensures opened { Finds R.tells (R.world texts.old) (R.world texts.new) declared.now result (OpenSays levels place.now path.now) }
     ensures levels { OnOk result (0 < levels) }
 {
     let name = declared.file_name(alloc, place, path)?;
@@ -267,7 +267,7 @@ impl Declared {
         place: &Place<'_>,
         path: &Value<'_>,
     ) -> Result<Text, ReadError>
-        ensures { (state : State) → IsStateOf self.now state → IsAnswerOf (NameOf (place_of place.now) (fragments_of path.now) state) result }
+        ensures { IsAnswerIn self.now (NameOf (place_of place.now) (fragments_of path.now)) result }
     {
         let text = self.expand(alloc, place, path)?;
         match canonical(alloc, text.as_str()) {

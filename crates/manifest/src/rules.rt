@@ -1,18 +1,12 @@
 //! Rules (manual: "Rules").
 
-ghost use Rattle.std.specs.Prelude.{◌≡◌, ℕ, List, [], ◌∷◌, map, OnOk, IfErr, codes, is_some};
-ghost use Rattle.std.specs.Option.{option_map};
-ghost use Rattle.lexer.specs.Said.{said_of};
+ghost use Rattle.std.specs.Prelude.{◌≡◌, [], OnOk, IfErr, codes, is_some};
 ghost use Rattle.scopes.specs.Rule.{template_of};
-ghost use Rattle.manifest.specs.Readings.{Each};
-ghost use Rattle.manifest.specs.Readings.Outcome.{Reached};
-ghost use Rattle.manifest.specs.Answer.{IsAnswerOf, IsFaultOf};
-ghost use Rattle.manifest.specs.Blocks.{RuleText, RuleBlock, RuleLine, IsRuleOf, block_lines, is_rule_variable};
-ghost use Rattle.manifest.specs.Declarations.{OfRule, RuleOf};
-ghost use Rattle.manifest.specs.Files.{fault_in};
+ghost use Rattle.manifest.specs.Answer.{IsAnswerOf};
+ghost use Rattle.manifest.specs.Blocks.{RuleBlock, is_rule_variable};
+ghost use Rattle.manifest.specs.Held.{SaysRule, KeepsScopes};
 ghost use Rattle.manifest.specs.Places.{place_of, IsFaultAt};
-ghost use Rattle.manifest.specs.States.{State};
-ghost use Rattle.manifest.specs.Held.{IsStateOf, Says, SaysRule, KeepsScopes, IsFormed};
+ghost use Rattle.manifest.specs.Statements.{SaysNext, KeepsFormed, RuleSays, RuleIn, KeepsRuleLine, IsRuleLineFault, lines_of};
 
 use crate::blocks::block_line;
 use crate::fault::{FaultKind, ReadError};
@@ -33,9 +27,9 @@ impl Declared {
         block: &[Line<'_>],
         behind: Option<Fault>,
     ) -> Result<(), ReadError>
-        ensures said { (state : State) → IsStateOf self.old state → Says result self.new (OfRule (place_of place.now) name.now (block_lines (map said_of block.now)) (option_map (fault_in place.now.file.now.value) behind) state) }
+        ensures said { SaysNext result self.old self.new (RuleSays place.now name.now block.now behind) }
         ensures scopes { OnOk result (KeepsScopes self.old self.new) }
-        ensures formed { OnOk result (IsFormed self.old → IsFormed self.new) }
+        ensures formed { OnOk result (KeepsFormed self.old self.new) }
     {
         if self.scopes.is_taken(name) {
             return Err(repeated(alloc, place, name));
@@ -67,7 +61,7 @@ fn rule_of(
     block: &[Line<'_>],
     behind: Option<Fault>,
 ) -> Result<Rule, ReadError>
-    ensures { IsAnswerOf (RuleOf (place_of place.now) name.now (block_lines (map said_of block.now)) (option_map (fault_in place.now.file.now.value) behind)) result }
+    ensures { IsAnswerOf (RuleIn place.now name.now block.now behind) result }
 {
     let rule = read_block(alloc, place, block)?;
     place.stop_at(alloc, behind)?;
@@ -91,7 +85,7 @@ fn binds(rule: &Rule, name: &str) -> bool
 
 /// The texts that the block binds.
 fn read_block(alloc: Global, place: &Place<'_>, block: &[Line<'_>]) -> Result<Rule, ReadError>
-    ensures { SaysRule result (RuleBlock place.now.file.now.value (block_lines (map said_of block.now)) []) }
+    ensures { SaysRule result (RuleBlock place.now.file.now.value (lines_of block.now) []) }
 {
     let mut rule = Rule::new(alloc);
     for line in block {
@@ -107,8 +101,8 @@ fn read_line(
     rule: &mut Rule,
     line: &Line<'_>,
 ) -> Result<(), ReadError>
-    ensures ok { OnOk result ((before : List RuleText) → IsRuleOf before rule.old → (after : List RuleText) × IsRuleOf after rule.new × Each (RuleLine place.now.file.now.value) (block_lines (said_of line.now ∷ [])) before (Reached after)) }
-    ensures err { IfErr result (λ error. (before : List RuleText) → IsFaultOf (Each (RuleLine place.now.file.now.value) (block_lines (said_of line.now ∷ [])) before) error) }
+    ensures ok { OnOk result (KeepsRuleLine place.now line.now rule.old rule.new) }
+    ensures err { IfErr result (λ error. IsRuleLineFault place.now line.now error) }
 {
     let Some(line) = block_line(line) else {
         return Ok(());

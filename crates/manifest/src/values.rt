@@ -1,11 +1,10 @@
 //! The values of rule variables of a build statement (manual: "Rule variables").
 
-ghost use Rattle.std.specs.Prelude.{◌<◌, vec_len, List, IfOk, IsErrOf, OnOk};
-ghost use Rattle.scopes.specs.Moves.{Move};
-ghost use Rattle.scopes.specs.Scopes.{IsScopesOf};
+ghost use Rattle.std.specs.Prelude.{◌<◌, vec_len, IfOk, IsErrOf, OnOk};
+ghost use Rattle.scopes.specs.Scopes.{Always};
 ghost use Rattle.scopes.specs.Use.{opened, HasCircle};
 ghost use Rattle.scopes.specs.declared.fault.UseFault.TheVariants.{Circle, TooLarge};
-ghost use Rattle.manifest.specs.Values.{AreValuesAt, AreSmall, LeadsIntoCircleAt, HasLargeValueAt};
+ghost use Rattle.manifest.specs.Values.{AreValuesIn, AreSmall, HasNoCircleIn, LeadsIntoCircleAt, HasLargeValueAt};
 
 use scopes::{Scopes, Use, UseFault, expand_use, values_are_unique};
 use std::alloc::Global;
@@ -38,11 +37,11 @@ impl Values {
         room: &mut String,
     ) -> Result<Values, UseFault>
         requires { at.now.scope < vec_len scopes.now.scopes }
-        ensures values { IfOk result (λ values. (past : List Move) → IsScopesOf scopes.now past → AreValuesAt at.now past values) }
+        ensures values { IfOk result (λ values. AreValuesIn scopes.now at.now values) }
         ensures size { IfOk result AreSmall }
         ensures circle { IsErrOf result Circle → LeadsIntoCircleAt at.now }
-        ensures no_circle { IsErrOf result TooLarge → (past : List Move) → IsScopesOf scopes.now past → LeadsIntoCircleAt at.now → ⊥ }
-        ensures large { IsErrOf result TooLarge → (past : List Move) → IsScopesOf scopes.now past → HasLargeValueAt at.now past }
+        ensures no_circle { IsErrOf result TooLarge → HasNoCircleIn scopes.now at.now }
+        ensures large { IsErrOf result TooLarge → Always scopes.now (λ past. HasLargeValueAt at.now past) }
     {
         match expand_all(alloc, scopes, at, room) {
             Err(UseFault::TooLarge) => {
@@ -61,10 +60,10 @@ fn expand_all(
     room: &mut String,
 ) -> Result<Values, UseFault>
     requires { at.now.scope < vec_len scopes.now.scopes }
-    ensures values { IfOk result (λ values. (past : List Move) → IsScopesOf scopes.now past → AreValuesAt at.now past values) }
+    ensures values { IfOk result (λ values. AreValuesIn scopes.now at.now values) }
     ensures size { IfOk result AreSmall }
     ensures circle { IsErrOf result Circle → LeadsIntoCircleAt at.now }
-    ensures large { IsErrOf result TooLarge → (past : List Move) → IsScopesOf scopes.now past → HasLargeValueAt at.now past }
+    ensures large { IsErrOf result TooLarge → Always scopes.now (λ past. HasLargeValueAt at.now past) }
 {
     Ok(Values {
         command: expand_use(alloc, scopes, at, "command", room)?,
@@ -87,7 +86,7 @@ fn check_circles(
     room: &mut String,
 ) -> Result<(), UseFault>
     requires { at.now.scope < vec_len scopes.now.scopes }
-    ensures none { OnOk result ((past : List Move) → IsScopesOf scopes.now past → LeadsIntoCircleAt at.now → ⊥) }
+    ensures none { OnOk result (HasNoCircleIn scopes.now at.now) }
     ensures circle { IsErrOf result Circle → LeadsIntoCircleAt at.now }
     ensures not_large { IsErrOf result TooLarge → ⊥ }
 {
@@ -111,7 +110,7 @@ fn check_circle(
     room: &mut String,
 ) -> Result<(), UseFault>
     requires { at.now.scope < vec_len scopes.now.scopes }
-    ensures none { OnOk result ((past : List Move) → IsScopesOf scopes.now past → HasCircle (opened at.now) name.now → ⊥) }
+    ensures none { OnOk result (Always scopes.now (λ _. HasCircle (opened at.now) name.now → ⊥)) }
     ensures circle { IsErrOf result Circle → HasCircle (opened at.now) name.now }
     ensures not_large { IsErrOf result TooLarge → ⊥ }
 {

@@ -1,4 +1,3 @@
 pub mod Places
 pub mod Flat
 pub mod Naming
-pub mod Texting

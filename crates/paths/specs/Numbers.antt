@@ -1,5 +1,5 @@
 -- Paths and their numbers.
-use Rattle.std.specs.Prelude.{◌≡◌, ℕ, zero, suc, ◌≤◌, ◌^◌, if◌then◌else◌, nat_lt, List, [], ◌∷◌, ◌++◌, map, length, slice_get, Option, None, Some}
+use Rattle.std.specs.Prelude.{◌≡◌, ℕ, ◌≤◌, ◌^◌, if◌then◌else◌, List, [], ◌∷◌, ◌++◌, map, length, slice_get, Some}
 use Rattle.model.specs.Graph.{has}
 
 -- the new list is the old one and, where that lacks the path, the path behind it; the number is the path's place
@@ -14,11 +14,6 @@ HaveOnePlace paths = (i j : ℕ) (path : List ℕ) → slice_get paths i ≡ Som
 -- the numbers stand for these texts, in order
 abbrev pub AreNumbersOf : List (List ℕ) → List ℕ → List (List ℕ) → Type 0
 AreNumbersOf paths numbers texts = map (slice_get paths) numbers ≡ map Some texts
-
--- the edge of a job, whose number is one more
-abbrev pub edge_of_job : ℕ → Option ℕ
-edge_of_job zero = None
-edge_of_job (suc place) = if nat_lt place (2 ^ 32) then Some place else None
 
 -- the numbers of a table are below this
 abbrev pub IsSmall : List (List ℕ) → Type 0

@@ -1,9 +1,11 @@
 -- The build graph of texts that a manifest stands for.
-use Rattle.std.specs.Prelude.{ℕ, true, false, List, [], ◌∷◌, map, None, get_or}
+use Rattle.std.specs.Prelude.{◌≡◌, ℕ, true, false, List, [], ◌∷◌, map, Some, None, get_or, slice_get}
 use Rattle.std.specs.Option.{option_map}
 use Rattle.model.specs.declared.graph.BuildGraph.{BuildGraph}
 use Rattle.model.specs.declared.graph.Edge.{Edge}
 use Rattle.model.specs.declared.graph.Deps.TheVariants.{Unset}
+use Rattle.model.specs.Graph.{is_named, has_number}
+use Rattle.paths.specs.Lists.{all_paths}
 use Rattle.paths.specs.declared.line.Line.{Line}
 use Rattle.paths.specs.declared.manifest.Action.{Action}
 use Rattle.paths.specs.declared.manifest.Action.TheVariants.{Alias, Command}
@@ -61,3 +63,12 @@ graph_of manifest = record {
   defaults = texts_at manifest.paths manifest.defaults;
   builddir = manifest.builddir;
 }
+
+-- no edge names the path
+abbrev pub IsUnnamed : Manifest → List ℕ → Type 0
+IsUnnamed manifest path = is_named (graph_of manifest).edges path ≡ false
+
+-- the number is that of the path, and an edge names it
+abbrev pub IsNamedNumber : Manifest → List ℕ → ℕ → Type 0
+IsNamedNumber manifest path number =
+    (slice_get manifest.paths number ≡ Some path) × (has_number (all_paths manifest.lines) number ≡ true)

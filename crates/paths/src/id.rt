@@ -1,7 +1,6 @@
 //! The numbers of paths and of edges.
 
 ghost use Rattle.std.specs.Prelude.{◌≡◌, ◌<◌, ◌^◌, suc, nat_lt, None, Some, if◌then◌else◌};
-ghost use Rattle.paths.specs.Numbers.{edge_of_job};
 
 use std::marker::Model;
 
@@ -87,12 +86,5 @@ impl EdgeId {
         ensures { result ≡ suc self }
     {
         self.index() + 1
-    }
-
-    /// The edge with this job; none for 0, and for what no edge has.
-    pub fn of_job(job: usize) -> Option<EdgeId>
-        ensures { result ≡ edge_of_job job }
-    {
-        EdgeId::at(job.checked_sub(1)?)
     }
 }

@@ -6,7 +6,6 @@ mod line;
 mod lines;
 mod manifest;
 mod table;
-mod texts;
 
 pub use id::{EdgeId, PathId};
 pub use line::Line;

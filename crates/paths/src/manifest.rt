@@ -61,9 +61,8 @@ pub struct Manifest {
 }
 
 impl Manifest {
-    ghost use Rattle.std.specs.Prelude.{Some, false, slice_get, MatchOption};
-    ghost use Rattle.model.specs.Graph.{is_named};
-    ghost use Rattle.paths.specs.Told.{graph_of};
+    ghost use Rattle.std.specs.Prelude.{MatchOption};
+    ghost use Rattle.paths.specs.Told.{IsUnnamed, IsNamedNumber};
 
     /// The edge at this place of the reading order, from 0.
     pub fn edge(&self, place: usize) -> EdgeId
@@ -83,7 +82,7 @@ impl Manifest {
 
     /// The number of a path that some edge names; none for any other.
     pub fn number_of(&self, path: &str) -> Option<PathId>
-        ensures { MatchOption result (is_named (graph_of self.now).edges path.now ≡ false) (λ number. (slice_get self.now.paths number ≡ Some path.now) × (has_number (all_paths self.now.lines) number ≡ true)) }
+        ensures { MatchOption result (IsUnnamed self.now path.now) (IsNamedNumber self.now path.now) }
     {
         let number = self.paths.number_of(path)?;
         // a path that no build line names is named by a loaded dyndep file, if by anything

@@ -4,7 +4,7 @@ use crate::ends::push_output;
 use crate::grown::grow;
 use crate::made_up::Source;
 use crate::moves::edit_all;
-use crate::texts::texts;
+use crate::texts::graph_of;
 use clean::{NoDepfiles, clean_build};
 use manifest::{Manifest, read};
 use model::{BuildGraph, Edge, Writer};
@@ -136,7 +136,7 @@ fn grown(
     site: &Sim<Toy>,
     manifest: &Manifest,
 ) -> Result<Option<BuildGraph>, AllocError> {
-    let mut graph = texts(alloc, manifest)?;
+    let mut graph = graph_of(alloc, manifest)?;
     grow(alloc, site, &mut graph)?;
     Ok(Some(graph))
 }

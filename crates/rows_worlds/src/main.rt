@@ -7,6 +7,7 @@
 mod answers;
 mod asked_graph;
 mod clean_site;
+mod documented;
 mod driven;
 mod each_call;
 mod ends;

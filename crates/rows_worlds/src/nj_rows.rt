@@ -1,24 +1,28 @@
 //! Runs of the program in folders. A row `folder` begins an empty folder, and each row behind it is a run of the program there, or what
-//! somebody does or sees beside it.
+//! somebody does or sees beside it. The manual page and the completions lie in the folder where the program begins.
 
 use crate::answers::{number, plain};
+use crate::documented::{push_documented, push_version};
 use crate::folder::Folder;
 use crate::nj_runs::{Ran, push_front, push_ran, push_status, run_of};
 use std::alloc::{AllocError, Global};
-use std::io;
+use std::path::PathBuf;
+use std::{fs, io};
 use tables::{unescaped, word};
 
-/// A folder, and whether rows that compare are passed over up to the next one.
+/// A folder, the one where pages lie, and whether rows that compare are passed over up to the next one.
 #[derive(Drop)]
 pub struct Rows<'a> {
     pub folder: Folder<'a>,
+    pages: PathBuf,
     passes_over: bool,
 }
 
 impl<'a> Rows<'a> {
-    pub fn new(folder: Folder<'a>) -> Rows<'a> {
+    pub fn new(folder: Folder<'a>, pages: PathBuf) -> Rows<'a> {
         Rows {
             folder,
+            pages,
             passes_over: false,
         }
     }
@@ -100,7 +104,29 @@ impl<'a> Rows<'a> {
             "refused" => push_refused(alloc, &run_of(&self.folder, None, rest)?, told),
             "help" => push_help(alloc, &run_of(&self.folder, None, "--help")?, rest, told),
             "same" => self.push_same(alloc, rest, told),
+            "documented" | "version" => self.push_page(alloc, first, rest, told),
             _ => self.push_file(alloc, first, rest, told),
+        }
+    }
+
+    /// `documented PAGE`: the options of the help, where the page has the same. `version PAGE`: the version of the help, where the page has
+    /// it.
+    fn push_page(
+        &self,
+        alloc: Global,
+        first: &str,
+        name: &str,
+        told: &mut String,
+    ) -> Result<(), AllocError> {
+        let pages = self.pages.display();
+        let path = format!(in alloc; "{pages}/{name}")?;
+        let help = run_of(&self.folder, None, "--help")?.out;
+        match fs::read_to_string(self.folder.rt, path.as_str()) {
+            Ok(page) if first == "version" => {
+                push_version(alloc, help.as_str(), page.as_str(), told)
+            }
+            Ok(page) => push_documented(alloc, help.as_str(), name, page.as_str(), told),
+            Err(_) => told.push_str("no page"),
         }
     }
 

@@ -9,7 +9,7 @@ use std::alloc::{AllocError, Global};
 use text::{Items, Path, Text};
 
 /// A copy of the edges that the manifest declares. Pools and defaults are of no account for a clean build.
-pub fn texts(alloc: Global, manifest: &Manifest) -> Result<BuildGraph, AllocError> {
+pub fn graph_of(alloc: Global, manifest: &Manifest) -> Result<BuildGraph, AllocError> {
     let mut edges = Items::new(alloc);
     for place in 0..manifest.lines.len() {
         edges.push(edge(alloc, manifest, manifest.edge(place))?)?;

@@ -8,7 +8,7 @@ use crate::nj_rows::{Rows, is_told};
 use crate::script_rows::Scripts;
 use crate::toy_calls::Toys;
 use std::alloc::{AllocError, Global};
-use std::io;
+use std::{env, io};
 use tables::{Table, word};
 
 #[derive(Clone, Copy)]
@@ -42,13 +42,14 @@ pub struct Worlds<'a> {
 impl<'a> Worlds<'a> {
     pub fn new(rt: &'a HostRuntime) -> io::Result<Worlds<'a>> {
         let alloc = rt.alloc();
+        let pages = env::current_dir(rt)?;
         let folder = Folder::new(rt)?;
         Ok(Worlds {
             part: Part::Links,
             graphs: Graphs::new(alloc),
             toys: Toys::new(alloc),
             calls: Calls::new(rt),
-            runs: Rows::new(folder),
+            runs: Rows::new(folder, pages),
             scripts: Scripts::new(alloc),
             histories: Histories::new(alloc),
         })

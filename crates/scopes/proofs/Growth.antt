@@ -48,13 +48,7 @@ whole_texts text start now separator d (x ∷ xs) i some past begins reads =
     ∙ (ap (λ (l : List ℕ). l ++ flat_map (λ (next : Bor (List ℕ)). separator ++ next.now) xs) begins
     ∙ (append_assoc text x.now _ ∙ ap (λ (l : List ℕ). text ++ (x.now ++ l)) (sym (deref_pieces (λ (next : List ℕ). separator ++ next) xs)))))
 
--- the same where the pieces are all there is
-pub large_parts : {X : Type 0} (f : X → List ℕ) (now : List ℕ) (xs : List X) (i most : ℕ) (x : X) → i < length xs
-    → now ≡ flat_map f (take i xs) → x ≡ get_or xs i x → most < length (now ++ f x) → most < length (flat_map f xs)
-large_parts {X} f now xs i most x below reads ends large =
-    large_pieces f [] xs i most x below (subst (λ (y : X). most < length (flat_map f (take i xs) ++ f y)) ends (rw reads at large))
-
--- the same behind a front
+-- the same where the text reads as the front and the pieces so far
 pub large_front : {X : Type 0} (f : X → List ℕ) (front now : List ℕ) (xs : List X) (i most : ℕ) (x : X) → i < length xs
     → now ≡ front ++ flat_map f (take i xs) → x ≡ get_or xs i x → most < length (now ++ f x) → most < length (front ++ flat_map f xs)
 large_front {X} f front now xs i most x below reads ends large =

@@ -9,7 +9,7 @@ use Rattle.scopes.specs.declared.template.Rule.{Rule}
 use Rattle.scopes.specs.declared.scope.Scope.{Scope}
 use Rattle.scopes.specs.Maps.{variable_of, rule_of, IsNewScope}
 use Rattle.scopes.specs.Moves.{Move, Bind, DeclareRule, Enter, Leave, variable, rule_named, or_else, entered, open_scopes, scopes_from, begins_with, last_in, first_in}
-use Rattle.scopes.specs.Scopes.{variable_in, rule_in, scopes_around, IsLinked, IsScopesAt}
+use Rattle.scopes.specs.Scopes.{scopes_around, IsLinked, IsScopesAt}
 
 same_or_other : (i j : ℕ) → (j ≡ i) ⊎ (j ≢ i)
 same_or_other i j = elim (cases_Bool (j == i)) [
@@ -241,31 +241,6 @@ at_leave scopes present outer past last at within = record {
 
     found : scopes_from past last ≡ last ∷ reverse outer
     found = at_scope (slice_get scopes present) refl
-
-pub at_new : (scope : Scope) → IsNewScope scope 0 → IsScopesAt (scope ∷ []) 0 [] []
-at_new scope is = record {
-  lawful = tt;
-  number = refl;
-  opened = refl;
-  around = refl;
-  linked = first;
-  variables = said;
-  rules = declared;
-}
-  where
-    first : (s : ℕ) (found : Scope) → slice_get (scope ∷ []) s ≡ Some found → IsLinked [] s found
-    first zero found same =
-        let around : found.around ≡ 0 = sym (ap (λ (x : Scope). x.around) (some_is scope found same)) ∙ is.around_is in
-        record { lower = omega (arith, around); links = ap (λ (n : ℕ). 0 ∷ scopes_around [] n) (sym around) }
-    first (suc s) found same = absurd (some_none found same)
-
-    said : (s : ℕ) (q : List ℕ) → variable_in (scope ∷ []) s q ≡ None
-    said zero q = is.variables q
-    said (suc s) q = refl
-
-    declared : (s : ℕ) (q : List ℕ) → rule_in (scope ∷ []) s q ≡ None
-    declared zero q = is.rules q
-    declared (suc s) q = refl
 
 get_last : {X : Type 0} (front : List X) (x : X) → slice_get (front ++ x ∷ []) (length front) ≡ Some x
 get_last [] x = refl

@@ -1,5 +1,5 @@
 -- Names that stand for paths of the edge, by their first byte.
-use Rattle.std.proofs.Common.{◌≡◌, ◌==◌, ◌||◌, ◌&&◌, true, false, Bool, cond, ℕ, List, [], ◌∷◌, codes, map, Option, None, Some, unwrap_or, refl, sym, ap, ◌∙◌}
+use Rattle.std.proofs.Common.{◌≡◌, ◌||◌, true, false, Bool, cond, ℕ, List, [], ◌∷◌, codes, map, Option, None, Some, unwrap_or, refl, sym, ap}
 use Rattle.std.specs.Str.{bytes_eq}
 use Rattle.std.specs.Map.Iter.{deref}
 use Rattle.std.proofs.lemmas.Bool.{false≢true}
@@ -9,18 +9,6 @@ use Rattle.scopes.specs.Texts.{joined}
 use Rattle.scopes.specs.Moves.{Move}
 use Rattle.scopes.specs.Known.{known_value, other_value}
 use Rattle.scopes.specs.Use.{is_special, special_value}
-
-pub none_special : is_special [] ≡ false
-none_special = refl
-
-pub other_special : (name : List ℕ) (b : ℕ) (bytes : List ℕ) → name ≡ b ∷ bytes → (b == 105 || b == 111) ≡ false → is_special name ≡ false
-other_special name b bytes is first = ap is_special is ∙ by (b == 105) (b == 111) first
-  where
-    by : (i o : Bool) → (i || o) ≡ false
-        → (i && bytes_eq bytes (110 ∷ []) || (o && bytes_eq bytes (117 ∷ 116 ∷ []) || i && bytes_eq bytes (110 ∷ 95 ∷ 110 ∷ 101 ∷ 119 ∷ 108 ∷ 105 ∷ 110 ∷ 101 ∷ []))) ≡ false
-    by true o e = absurd (false≢true (sym e))
-    by false true e = absurd (false≢true (sym e))
-    by false false e = refl
 
 pub no_value : (paths : Paths) (name : List ℕ) → is_special name ≡ false → special_value paths name ≡ None
 no_value paths name none = by (bytes_eq name (codes "in")) (bytes_eq name (codes "out")) (bytes_eq name (codes "in_newline")) none

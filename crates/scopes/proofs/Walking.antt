@@ -12,7 +12,7 @@ use Rattle.scopes.specs.Texts.{names}
 use Rattle.scopes.specs.declared.usage.Use.{Use}
 use Rattle.scopes.specs.Block.{block_value}
 use Rattle.scopes.specs.Rule.{template_of}
-use Rattle.scopes.specs.Use.{opened, is_special, unless_bound, has, Names, Leads, Once, More, IsOnTheWay, HasCircle, Follows, IsOrder, IsOrderFrom}
+use Rattle.scopes.specs.Use.{opened, is_special, unless_bound, has, Names, Leads, Once, More, IsOnTheWay, HasCircle, Follows, IsOrder}
 use Rattle.scopes.specs.Walk.{IsNamedInTurn, IsWalkAt, is_unseen, count_names}
 use Rattle.scopes.specs.Steps.{IsReady, IsNext, AllDone, Waits, IsWaiting}
 
@@ -158,37 +158,6 @@ module _ (opens : List ℕ → Option Template) where
             | inr done ↦ or_right' (has front asked) (has (order ++ last ∷ []) asked) (has_old order last asked done)
           ];
         }
-
-  -- a walk from a name
-  pub walk_none : (asked : List ℕ) → opens asked ≡ None → IsWalkAt opens asked [] []
-  walk_none asked none = record {
-    in_turn = tt;
-    opened = λ y h. absurd (false≢true h);
-    stacked = λ y h. absurd (false≢true h);
-    listed = λ y h. absurd (false≢true h);
-    ordered = tt;
-    begun = λ some. absurd (false≢true (sym (ap is_some none) ∙ some));
-  }
-
-  pub walk_one : (asked : List ℕ) → IsSome (opens asked) → IsWalkAt opens asked (asked ∷ []) []
-  walk_one asked some = record {
-    in_turn = tt;
-    opened = λ y h. subst (λ (n : List ℕ). IsSome (opens n)) (it y h) some;
-    stacked = λ y h. inl (it y h);
-    listed = λ y h. absurd (false≢true h);
-    ordered = tt;
-    begun = λ s. or_left (has (asked ∷ []) asked) false (or_left (bytes_eq asked asked) false (bytes_eq-same asked));
-  }
-    where
-      it : (y : List ℕ) → has (asked ∷ []) y ≡ true → asked ≡ y
-      it y h = elim (or_false (bytes_eq asked y) false h) [ inl same ↦ same_bytes asked y same | inr none ↦ absurd (false≢true none) ]
-
-  pub walk_done : (asked : List ℕ) (stack order : List (List ℕ)) → IsWalkAt opens asked stack order → stack ≡ [] → IsOrderFrom opens asked order
-  walk_done asked stack order at empty = record {
-    ordered = at.ordered;
-    all = λ some. sym (ap (λ (l : List (List ℕ)). has l asked || has order asked) empty) ∙ at.begun some;
-    on_the_way = at.listed;
-  }
 
   -- where all parts are done, the text follows
   pub all_done : (order : List (List ℕ)) (parts : List Part) → AllDone opens order parts → (other : List ℕ) → names parts other ≡ true → IsSome (opens other) → has order other ≡ true

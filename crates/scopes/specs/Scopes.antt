@@ -1,5 +1,5 @@
 -- What the maps of all scopes say of names, and which moves they stand for.
-use Rattle.std.specs.Prelude.{◌≡◌, ◌≤◌, ℕ, zero, suc, List, [], ◌∷◌, reverse, length, slice_get, Option, Some}
+use Rattle.std.specs.Prelude.{◌≡◌, ◌≤◌, ◌⊎◌, ℕ, zero, suc, List, [], ◌∷◌, reverse, length, slice_get, Option, None, Some, IsSome, codes}
 use Rattle.std.specs.Option.{option_and_then}
 use Rattle.scopes.specs.declared.template.Rule.{Rule}
 use Rattle.scopes.specs.declared.scope.Scope.{Scope}
@@ -36,3 +36,27 @@ pub record IsScopesAt (scopes : List Scope) (present : ℕ) (outer : List ℕ) (
 -- the scopes after these moves, the latest first
 abbrev pub IsScopesOf : Scopes → List Move → Type 0
 IsScopesOf scopes past = IsScopesAt scopes.scopes.items scopes.present scopes.outer.items past
+
+-- ---- what is so whatever was done to them
+
+abbrev pub Always : Scopes → (List Move → Type 0) → Type 0
+Always scopes Holds = (past : List Move) → IsScopesOf scopes past → Holds past
+
+-- one move was made
+abbrev pub WentOn : Scopes → Scopes → Move → Type 0
+WentOn old new move = Always old (λ past. IsScopesOf new (move ∷ past))
+
+-- no move was made
+abbrev pub AreSameScopes : Scopes → Scopes → Type 0
+AreSameScopes old new = Always old (λ past. IsScopesOf new past)
+
+-- the open scope itself has a rule of this name, or has none
+abbrev pub HaveRule : Scopes → List ℕ → Type 0
+HaveRule scopes name = Always scopes (λ past. IsSome (last_in (rule_named name) past scopes.present))
+
+abbrev pub HaveNoRule : Scopes → List ℕ → Type 0
+HaveNoRule scopes name = Always scopes (λ past. last_in (rule_named name) past scopes.present ≡ None)
+
+-- the open scope may declare no rule of this name
+abbrev pub IsTakenIn : Scopes → List ℕ → Type 0
+IsTakenIn scopes name = (name ≡ codes "phony") ⊎ HaveRule scopes name

@@ -28,11 +28,15 @@ special_value paths name =
     else (if bytes_eq name (codes "out") then Some (joined (32 ∷ []) (map deref paths.outputs.now))
     else (if bytes_eq name (codes "in_newline") then Some (joined (10 ∷ []) (map deref paths.inputs.now)) else None))
 
--- the text of the rule that the name stands for: where it stands for no paths, and the block does not bind it
+-- the text of the rule that a name stands for which stands for no paths: where the block does not bind it
 abbrev pub unless_bound : Option (List ℕ) → Option Template → Option Template
 unless_bound None template = template
 unless_bound (Some value) template = None
 
+abbrev pub rule_text : Use → List ℕ → Option Template
+rule_text at name = unless_bound (block_value at.block.now name) (template_of at.rule.now name)
+
+-- the same of a name that may stand for paths
 abbrev pub opened : Use → List ℕ → Option Template
 opened at name = if is_special name then None else unless_bound (block_value at.block.now name) (template_of at.rule.now name)
 

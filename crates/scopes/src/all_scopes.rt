@@ -25,10 +25,10 @@ pub struct Scopes {
 }
 
 impl Scopes {
-    ghost use Rattle.std.specs.Prelude.{◌≡◌, ◌≢◌, ◌++◌, ◌∷◌, [], List, None, codes, IfOk, IfErr, OnOk, OnErr, IsErrOf, IsSome, is_some, IsTrue, false, ◌⊎◌};
+    ghost use Rattle.std.specs.Prelude.{◌≡◌, ◌≢◌, ◌++◌, ◌∷◌, [], codes, IfOk, IfErr, OnOk, OnErr, IsErrOf, is_some, IsTrue, false};
     ghost use Rattle.std.specs.Option.{option_copied, option_map};
-    ghost use Rattle.scopes.specs.Moves.{Move, Bind, DeclareRule, Enter, Leave, value_at, rule_at, value_at_end, rule_at_end, last_in, rule_named};
-    ghost use Rattle.scopes.specs.Scopes.{IsScopesOf, rule_in};
+    ghost use Rattle.scopes.specs.Moves.{Bind, DeclareRule, Enter, Leave, value_at, rule_at, value_at_end, rule_at_end};
+    ghost use Rattle.scopes.specs.Scopes.{IsScopesOf, rule_in, Always, WentOn, AreSameScopes, HaveNoRule, IsTakenIn};
     ghost use Rattle.scopes.specs.declared.fault.DeclareFault.TheVariants.{Twice};
 
     /// One scope that is open, in which nothing was said.
@@ -46,8 +46,8 @@ impl Scopes {
 
     /// Gives a variable a value, which is expanded, in the scope that is open. Where memory is refused, nothing is changed.
     pub fn bind(&mut self, alloc: Global, name: &str, value: Text) -> Result<(), AllocError>
-        ensures ok { OnOk result ((past : List Move) → IsScopesOf self.old past → IsScopesOf self.new (Bind name.now value ∷ past)) }
-        ensures err { OnErr result ((past : List Move) → IsScopesOf self.old past → IsScopesOf self.new past) }
+        ensures ok { OnOk result (WentOn self.old self.new (Bind name.now value)) }
+        ensures err { OnErr result (AreSameScopes self.old self.new) }
         ensures present { self.new.present ≡ self.old.present }
         ensures outer { self.new.outer ≡ self.old.outer }
     {
@@ -66,11 +66,11 @@ impl Scopes {
         name: &str,
         rule: Rule,
     ) -> Result<(), DeclareFault>
-        ensures ok { OnOk result ((past : List Move) → IsScopesOf self.old past → IsScopesOf self.new (DeclareRule name.now rule ∷ past)) }
-        ensures err { OnErr result ((past : List Move) → IsScopesOf self.old past → IsScopesOf self.new past) }
-        ensures once { OnOk result ((past : List Move) → IsScopesOf self.old past → last_in (rule_named name.now) past self.old.present ≡ None) }
+        ensures ok { OnOk result (WentOn self.old self.new (DeclareRule name.now rule)) }
+        ensures err { OnErr result (AreSameScopes self.old self.new) }
+        ensures once { OnOk result (HaveNoRule self.old name.now) }
         ensures no_phony { OnOk result (name.now ≢ codes "phony") }
-        ensures twice { IsErrOf result Twice → (name.now ≡ codes "phony") ⊎ ((past : List Move) → IsScopesOf self.old past → IsSome (last_in (rule_named name.now) past self.old.present)) }
+        ensures twice { IsErrOf result Twice → IsTakenIn self.old name.now }
         ensures present { self.new.present ≡ self.old.present }
         ensures outer { self.new.outer ≡ self.old.outer }
     {
@@ -85,9 +85,9 @@ impl Scopes {
 
     /// Whether the open scope may declare no rule of this name: it has one itself, or the name is `phony`.
     pub fn is_taken(&self, name: &str) -> bool
-        ensures taken { IsTrue result → (name.now ≡ codes "phony") ⊎ ((past : List Move) → IsScopesOf self.now past → IsSome (last_in (rule_named name.now) past self.now.present)) }
+        ensures taken { IsTrue result → IsTakenIn self.now name.now }
         ensures no_phony { result ≡ false → name.now ≢ codes "phony" }
-        ensures once { result ≡ false → (past : List Move) → IsScopesOf self.now past → last_in (rule_named name.now) past self.now.present ≡ None }
+        ensures once { result ≡ false → HaveNoRule self.now name.now }
     {
         name == "phony" || self.has_rule(name)
     }
@@ -101,8 +101,8 @@ impl Scopes {
 
     /// Opens a scope that sees what the open one says and changes none of it. Where memory is refused, nothing is changed.
     pub fn enter(&mut self, alloc: Global) -> Result<(), AllocError>
-        ensures ok { OnOk result ((past : List Move) → IsScopesOf self.old past → IsScopesOf self.new (Enter ∷ past)) }
-        ensures err { OnErr result ((past : List Move) → IsScopesOf self.old past → IsScopesOf self.new past) }
+        ensures ok { OnOk result (WentOn self.old self.new Enter) }
+        ensures err { OnErr result (AreSameScopes self.old self.new) }
         ensures outer { OnOk result (self.new.outer.items ≡ self.old.outer.items ++ self.old.present ∷ []) }
     {
         self.outer.reserve(1)?;
@@ -115,7 +115,7 @@ impl Scopes {
     /// Leaves the open scope; the one in which it was entered is open again.
     pub fn leave(&mut self)
         requires entered { 0 < vec_len self.old.outer }
-        ensures left { (past : List Move) → IsScopesOf self.old past → IsScopesOf self.new (Leave ∷ past) }
+        ensures left { WentOn self.old self.new Leave }
         ensures outer { self.old.outer.items ≡ self.new.outer.items ++ self.new.present ∷ [] }
     {
         if let Some(around) = self.outer.pop() {
@@ -140,14 +140,14 @@ impl Scopes {
 
     /// The value of a variable at this place, where one was bound.
     pub fn lookup(&self, name: &str) -> Option<&str>
-        ensures { (past : List Move) → IsScopesOf self.now past → option_copied result ≡ value_at past name.now }
+        ensures { Always self.now (λ past. option_copied result ≡ value_at past name.now) }
     {
         self.lookup_in(self.present, name)
     }
 
     /// The rule of this name at this place.
     pub fn rule(&self, name: &str) -> Option<&Rc<Rule>>
-        ensures { (past : List Move) → IsScopesOf self.now past → option_map (λ found. found.now.value) result ≡ rule_at past name.now }
+        ensures { Always self.now (λ past. option_map (λ found. found.now.value) result ≡ rule_at past name.now) }
     {
         self.rule_in(self.present, name)
     }
@@ -156,7 +156,7 @@ impl Scopes {
     /// it is the value that a rule sees where it is used in that scope.
     pub fn lookup_in(&self, scope: usize, name: &str) -> Option<&str>
         requires { scope < vec_len self.now.scopes }
-        ensures { (past : List Move) → IsScopesOf self.now past → option_copied result ≡ value_at_end past scope name.now }
+        ensures { Always self.now (λ past. option_copied result ≡ value_at_end past scope name.now) }
     {
         let mut scopes = &self.scopes[..scope + 1];
         while let Some((inner, before)) = scopes.split_last() {
@@ -171,7 +171,7 @@ impl Scopes {
     /// The rule of this name in a scope as it stands by now, this scope and those around it.
     fn rule_in(&self, scope: usize, name: &str) -> Option<&Rc<Rule>>
         requires { scope < vec_len self.now.scopes }
-        ensures { (past : List Move) → IsScopesOf self.now past → option_map (λ found. found.now.value) result ≡ rule_at_end past scope name.now }
+        ensures { Always self.now (λ past. option_map (λ found. found.now.value) result ≡ rule_at_end past scope name.now) }
     {
         let mut scopes = &self.scopes[..scope + 1];
         while let Some((inner, before)) = scopes.split_last() {

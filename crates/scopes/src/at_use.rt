@@ -1,18 +1,17 @@
 //! Rule variables, expanded where their rule is used (manual: "Rules", "Evaluation and scoping").
 
-ghost use Rattle.std.specs.Prelude.{◌≡◌, ◌++◌, ◌<◌, ◌≤◌, ℕ, None, Some, Ok, List, [], OnOk, IfOk, IfSome, IsErrOf, IsTrue, false, length, string_bytes, unwrap_or, vec_len};
+ghost use Rattle.std.specs.Prelude.{◌≡◌, ◌<◌, ◌≤◌, ℕ, None, Ok, List, [], OnOk, IfOk, IfSome, IsErrOf, IsTrue, false, length, unwrap_or, vec_len};
 ghost use Rattle.std.specs.Option.{option_copied};
 ghost use Rattle.indexmap.specs.IndexMap.{get_by_text};
-ghost use Rattle.scopes.specs.Texts.{expansion, part_text, largest_value};
-ghost use Rattle.scopes.specs.Moves.{Move, value_at_end};
-ghost use Rattle.scopes.specs.Scopes.{IsScopesOf};
-ghost use Rattle.scopes.specs.Block.{block_value};
-ghost use Rattle.scopes.specs.Rule.{template_of};
-ghost use Rattle.scopes.specs.Use.{opened, fixed, is_special, paths_for, unless_bound, HasCircle, IsValueAtUse};
+ghost use Rattle.scopes.specs.Texts.{largest_value};
+ghost use Rattle.scopes.specs.Growing.{KeepsToSize};
+ghost use Rattle.scopes.specs.Moves.{value_at_end};
+ghost use Rattle.scopes.specs.Scopes.{Always};
+ghost use Rattle.scopes.specs.Use.{opened, rule_text, is_special, paths_for, HasCircle};
 ghost use Rattle.scopes.specs.Steps.{AllDone, IsDone};
-ghost use Rattle.scopes.specs.Large.{IsTooLargeAtUse};
-ghost use Rattle.scopes.specs.Known.{known_value, other_value, text_of, Learns};
-ghost use Rattle.scopes.specs.declared.template.Template.{Template};
+ghost use Rattle.scopes.specs.Large.{IsValueIn, IsTooLargeIn};
+ghost use Rattle.scopes.specs.Knowing.{IsKnownValue, IsLargeValue, IsOtherValue, IsTextOf, IsTextAt, IsLargeText, IsLargeTextAt, LearnsText};
+ghost use Rattle.scopes.specs.Knowing.{AddsName, AddsPart, AddsParts, IsTooMuchName, IsTooMuchPart, AreTooMuch};
 ghost use Rattle.scopes.specs.declared.fault.ExpandFault.TheVariants.{TooLarge as Larger};
 ghost use Rattle.scopes.specs.declared.fault.UseFault.TheVariants.{Circle, TooLarge};
 
@@ -43,10 +42,10 @@ pub fn expand_use(
     room: &mut String,
 ) -> Result<Text, UseFault>
     requires { at.now.scope < vec_len scopes.now.scopes }
-    ensures value { IfOk result (λ text. (past : List Move) → IsScopesOf scopes.now past → IsValueAtUse (opened at.now) (fixed at.now asked.now past) asked.now text) }
+    ensures value { IfOk result (λ text. IsValueIn scopes.now at.now asked.now text) }
     ensures size { IfOk result (λ text. length text ≤ largest_value) }
     ensures circle { IsErrOf result Circle → HasCircle (opened at.now) asked.now }
-    ensures large { IsErrOf result TooLarge → (past : List Move) → IsScopesOf scopes.now past → IsTooLargeAtUse (opened at.now) (fixed at.now asked.now past) asked.now }
+    ensures large { IsErrOf result TooLarge → IsTooLargeIn scopes.now at.now asked.now }
 {
     if begins_as_special(asked) {
         return expand_in_order(alloc, scopes, at, asked, room);
@@ -75,10 +74,10 @@ fn expand_in_order(
     room: &mut String,
 ) -> Result<Text, UseFault>
     requires { at.now.scope < vec_len scopes.now.scopes }
-    ensures value { IfOk result (λ text. (past : List Move) → IsScopesOf scopes.now past → IsValueAtUse (opened at.now) (fixed at.now asked.now past) asked.now text) }
+    ensures value { IfOk result (λ text. IsValueIn scopes.now at.now asked.now text) }
     ensures size { IfOk result (λ text. length text ≤ largest_value) }
     ensures circle { IsErrOf result Circle → HasCircle (opened at.now) asked.now }
-    ensures large { IsErrOf result TooLarge → (past : List Move) → IsScopesOf scopes.now past → IsTooLargeAtUse (opened at.now) (fixed at.now asked.now past) asked.now }
+    ensures large { IsErrOf result TooLarge → IsTooLargeIn scopes.now at.now asked.now }
 {
     let order = order_of(alloc, at, asked)?;
     let mut known = Known::new(alloc, scopes, at, asked);
@@ -95,7 +94,7 @@ fn expand_in_order(
 /// What a name stands for in a scope, where neither a block nor a rule binds it.
 fn in_scope<'a>(scopes: &'a Scopes, scope: usize, name: &str) -> &'a str
     requires { scope < vec_len scopes.now.scopes }
-    ensures { (past : List Move) → IsScopesOf scopes.now past → result.now ≡ unwrap_or (value_at_end past scope name.now) [] }
+    ensures { Always scopes.now (λ past. result.now ≡ unwrap_or (value_at_end past scope name.now) []) }
 {
     match scopes.lookup_in(scope, name) {
         Some(value) => value,
@@ -162,8 +161,8 @@ impl<'a> Known<'a> {
         ensures scopes { self.new.scopes ≡ self.old.scopes }
         ensures at { self.new.at ≡ self.old.at }
         ensures paths { self.new.paths ≡ self.old.paths }
-        ensures value { OnOk result ((template : Template) → opened self.old.at.now name.now ≡ Some template → (value : List ℕ) × Learns self.old self.new name.now value × ((past : List Move) → IsScopesOf self.old.scopes.now past → value ≡ text_of self.old past template)) }
-        ensures large { IsErrOf result TooLarge → (template : Template) → opened self.old.at.now name.now ≡ Some template → (past : List Move) → IsScopesOf self.old.scopes.now past → largest_value < length (text_of self.old past template) }
+        ensures value { OnOk result (LearnsText self.old self.new name.now) }
+        ensures large { IsErrOf result TooLarge → IsLargeTextAt self.old name.now }
         ensures no_circle { IsErrOf result Circle → ⊥ }
     {
         let value = self.expand(alloc, name, room)?;
@@ -174,9 +173,9 @@ impl<'a> Known<'a> {
     /// The text of the rule that this name stands for, expanded.
     fn expand(&self, alloc: Global, name: &str, room: &mut String) -> Result<Text, ExpandFault>
         requires { self.now.at.now.scope < vec_len self.now.scopes.now.scopes }
-        ensures value { IfOk result (λ text. (template : Template) → opened self.now.at.now name.now ≡ Some template → (past : List Move) → IsScopesOf self.now.scopes.now past → text ≡ text_of self.now past template) }
+        ensures value { IfOk result (λ text. IsTextAt self.now name.now text) }
         ensures size { IfOk result (λ text. length text ≤ largest_value) }
-        ensures large { IsErrOf result Larger → (template : Template) → opened self.now.at.now name.now ≡ Some template → (past : List Move) → IsScopesOf self.now.scopes.now past → largest_value < length (text_of self.now past template) }
+        ensures large { IsErrOf result Larger → IsLargeTextAt self.now name.now }
     {
         match self.at.template(name) {
             Some(template) => self.of_template(alloc, template, room),
@@ -192,9 +191,9 @@ impl<'a> Known<'a> {
         room: &mut String,
     ) -> Result<Text, ExpandFault>
         requires { self.now.at.now.scope < vec_len self.now.scopes.now.scopes }
-        ensures value { IfOk result (λ text. (past : List Move) → IsScopesOf self.now.scopes.now past → text ≡ text_of self.now past template.now) }
+        ensures value { IfOk result (λ text. IsTextOf self.now template.now text) }
         ensures size { IfOk result (λ text. length text ≤ largest_value) }
-        ensures large { IsErrOf result Larger → (past : List Move) → IsScopesOf self.now.scopes.now past → largest_value < length (text_of self.now past template.now) }
+        ensures large { IsErrOf result Larger → IsLargeText self.now template.now }
     {
         room.clear();
         self.append_parts(room, template.parts.as_slice())?;
@@ -204,9 +203,9 @@ impl<'a> Known<'a> {
     /// What a name stands for, as a value of its own.
     fn of_name(&self, alloc: Global, name: &str) -> Result<Text, ExpandFault>
         requires { self.now.at.now.scope < vec_len self.now.scopes.now.scopes }
-        ensures value { IfOk result (λ text. (past : List Move) → IsScopesOf self.now.scopes.now past → text ≡ known_value self.now past name.now) }
+        ensures value { IfOk result (λ text. IsKnownValue self.now name.now text) }
         ensures size { IfOk result (λ text. length text ≤ largest_value) }
-        ensures large { IsErrOf result Larger → (past : List Move) → IsScopesOf self.now.scopes.now past → largest_value < length (known_value self.now past name.now) }
+        ensures large { IsErrOf result Larger → IsLargeValue self.now name.now }
     {
         let mut text = String::new(alloc);
         self.append_name(&mut text, name)?;
@@ -218,8 +217,8 @@ impl<'a> Known<'a> {
         requires scope { self.now.at.now.scope < vec_len self.now.scopes.now.scopes }
         requires none { (name : List ℕ) → get_by_text self.now.values name ≡ None }
         ensures alone { IfOk result (λ alone. IsTrue alone → AllDone (opened self.now.at.now) [] parts.now) }
-        ensures value { IfOk result (λ alone. IsTrue alone → (past : List Move) → IsScopesOf self.now.scopes.now past → string_bytes text.new ≡ string_bytes text.old ++ expansion (known_value self.now past) parts.now) }
-        ensures size { length (string_bytes text.old) ≤ largest_value → length (string_bytes text.new) ≤ largest_value }
+        ensures value { IfOk result (λ alone. IsTrue alone → AddsParts self.now text.old text.new parts.now) }
+        ensures size { KeepsToSize text.old text.new }
         ensures memory { IsErrOf result Larger → ⊥ }
     {
         for part in parts {
@@ -234,8 +233,8 @@ impl<'a> Known<'a> {
         requires scope { self.now.at.now.scope < vec_len self.now.scopes.now.scopes }
         requires none { (name : List ℕ) → get_by_text self.now.values name ≡ None }
         ensures alone { IfOk result (λ alone. IsTrue alone → IsDone (opened self.now.at.now) [] part.now) }
-        ensures value { IfOk result (λ alone. IsTrue alone → (past : List Move) → IsScopesOf self.now.scopes.now past → string_bytes text.new ≡ string_bytes text.old ++ part_text (known_value self.now past) part.now) }
-        ensures size { length (string_bytes text.old) ≤ largest_value → length (string_bytes text.new) ≤ largest_value }
+        ensures value { IfOk result (λ alone. IsTrue alone → AddsPart self.now text.old text.new part.now) }
+        ensures size { KeepsToSize text.old text.new }
         ensures memory { IsErrOf result Larger → ⊥ }
     {
         match part {
@@ -248,8 +247,8 @@ impl<'a> Known<'a> {
         requires scope { self.now.at.now.scope < vec_len self.now.scopes.now.scopes }
         requires none { (name : List ℕ) → get_by_text self.now.values name ≡ None }
         ensures alone { IfOk result (λ alone. IsTrue alone → opened self.now.at.now name.now ≡ None) }
-        ensures value { IfOk result (λ alone. IsTrue alone → (past : List Move) → IsScopesOf self.now.scopes.now past → string_bytes text.new ≡ string_bytes text.old ++ known_value self.now past name.now) }
-        ensures size { length (string_bytes text.old) ≤ largest_value → length (string_bytes text.new) ≤ largest_value }
+        ensures value { IfOk result (λ alone. IsTrue alone → AddsName self.now text.old text.new name.now) }
+        ensures size { KeepsToSize text.old text.new }
         ensures memory { IsErrOf result Larger → ⊥ }
     {
         if !begins_as_special(name) {
@@ -270,8 +269,8 @@ impl<'a> Known<'a> {
         requires none { (name : List ℕ) → get_by_text self.now.values name ≡ None }
         requires plain { is_special name.now ≡ false }
         ensures alone { IfOk result (λ alone. IsTrue alone → opened self.now.at.now name.now ≡ None) }
-        ensures value { IfOk result (λ alone. IsTrue alone → (past : List Move) → IsScopesOf self.now.scopes.now past → string_bytes text.new ≡ string_bytes text.old ++ known_value self.now past name.now) }
-        ensures size { length (string_bytes text.old) ≤ largest_value → length (string_bytes text.new) ≤ largest_value }
+        ensures value { IfOk result (λ alone. IsTrue alone → AddsName self.now text.old text.new name.now) }
+        ensures size { KeepsToSize text.old text.new }
         ensures memory { IsErrOf result Larger → ⊥ }
     {
         match self.bound(name) {
@@ -285,8 +284,8 @@ impl<'a> Known<'a> {
     fn bound(&self, name: &str) -> Option<&str>
         requires scope { self.now.at.now.scope < vec_len self.now.scopes.now.scopes }
         requires none { (name : List ℕ) → get_by_text self.now.values name ≡ None }
-        ensures alone { IfSome result (λ _. unless_bound (block_value self.now.at.now.block.now name.now) (template_of self.now.at.now.rule.now name.now) ≡ None) }
-        ensures value { IfSome result (λ value. (past : List Move) → IsScopesOf self.now.scopes.now past → value.now ≡ other_value self.now past name.now) }
+        ensures alone { IfSome result (λ _. rule_text self.now.at.now name.now ≡ None) }
+        ensures value { IfSome result (λ value. IsOtherValue self.now name.now value.now) }
     {
         if let Some(value) = self.at.block.get(name) {
             return Some(value.as_str());
@@ -299,9 +298,9 @@ impl<'a> Known<'a> {
 
     fn append_parts(&self, text: &mut String, parts: &[Part]) -> Result<(), ExpandFault>
         requires { self.now.at.now.scope < vec_len self.now.scopes.now.scopes }
-        ensures value { OnOk result ((past : List Move) → IsScopesOf self.now.scopes.now past → string_bytes text.new ≡ string_bytes text.old ++ expansion (known_value self.now past) parts.now) }
-        ensures size { length (string_bytes text.old) ≤ largest_value → length (string_bytes text.new) ≤ largest_value }
-        ensures large { IsErrOf result Larger → (past : List Move) → IsScopesOf self.now.scopes.now past → largest_value < length (string_bytes text.old ++ expansion (known_value self.now past) parts.now) }
+        ensures value { OnOk result (AddsParts self.now text.old text.new parts.now) }
+        ensures size { KeepsToSize text.old text.new }
+        ensures large { IsErrOf result Larger → AreTooMuch self.now text.old parts.now }
     {
         for part in parts {
             self.append_part(text, part)?;
@@ -311,9 +310,9 @@ impl<'a> Known<'a> {
 
     fn append_part(&self, text: &mut String, part: &Part) -> Result<(), ExpandFault>
         requires { self.now.at.now.scope < vec_len self.now.scopes.now.scopes }
-        ensures value { OnOk result ((past : List Move) → IsScopesOf self.now.scopes.now past → string_bytes text.new ≡ string_bytes text.old ++ part_text (known_value self.now past) part.now) }
-        ensures size { length (string_bytes text.old) ≤ largest_value → length (string_bytes text.new) ≤ largest_value }
-        ensures large { IsErrOf result Larger → (past : List Move) → IsScopesOf self.now.scopes.now past → largest_value < length (string_bytes text.old ++ part_text (known_value self.now past) part.now) }
+        ensures value { OnOk result (AddsPart self.now text.old text.new part.now) }
+        ensures size { KeepsToSize text.old text.new }
+        ensures large { IsErrOf result Larger → IsTooMuchPart self.now text.old part.now }
     {
         match part {
             Part::Text(characters) => append(text, characters.as_str()),
@@ -324,9 +323,9 @@ impl<'a> Known<'a> {
     /// Puts what a name stands for at the end.
     fn append_name(&self, text: &mut String, name: &str) -> Result<(), ExpandFault>
         requires { self.now.at.now.scope < vec_len self.now.scopes.now.scopes }
-        ensures value { OnOk result ((past : List Move) → IsScopesOf self.now.scopes.now past → string_bytes text.new ≡ string_bytes text.old ++ known_value self.now past name.now) }
-        ensures size { length (string_bytes text.old) ≤ largest_value → length (string_bytes text.new) ≤ largest_value }
-        ensures large { IsErrOf result Larger → (past : List Move) → IsScopesOf self.now.scopes.now past → largest_value < length (string_bytes text.old ++ known_value self.now past name.now) }
+        ensures value { OnOk result (AddsName self.now text.old text.new name.now) }
+        ensures size { KeepsToSize text.old text.new }
+        ensures large { IsErrOf result Larger → IsTooMuchName self.now text.old name.now }
     {
         if !begins_as_special(name) {
             return append(text, self.value(name));
@@ -342,7 +341,7 @@ impl<'a> Known<'a> {
     /// What a name stands for that stands for no paths.
     fn value(&self, name: &str) -> &str
         requires { self.now.at.now.scope < vec_len self.now.scopes.now.scopes }
-        ensures { (past : List Move) → IsScopesOf self.now.scopes.now past → result.now ≡ other_value self.now past name.now }
+        ensures { IsOtherValue self.now name.now result.now }
     {
         if let Some(value) = self.at.block.get(name) {
             return value.as_str();

@@ -1,8 +1,8 @@
 //! What the block of a build statement binds.
 
-ghost use Rattle.std.specs.Prelude.{◌≡◌, ℕ, List, None, Some, OnOk, OnErr, if◌then◌else◌};
+ghost use Rattle.std.specs.Prelude.{◌≡◌, ℕ, List, None, OnOk, OnErr};
 ghost use Rattle.std.specs.Option.{option_copied};
-ghost use Rattle.std.specs.Str.{bytes_eq};
+ghost use Rattle.scopes.specs.Bindings.{IsBound, AreSameNames};
 ghost use Rattle.scopes.specs.Block.{block_value};
 
 use crate::names::value_of;
@@ -35,8 +35,8 @@ impl Block {
 
     /// Binds a name. Of two bindings of one name the last stands. Where memory is refused, the block stays as it was.
     pub fn bind(&mut self, alloc: Global, name: &str, value: Text) -> Result<(), AllocError>
-        ensures ok { OnOk result ((other : List ℕ) → block_value self.new other ≡ (if bytes_eq name.now other then Some value else block_value self.old other)) }
-        ensures err { OnErr result ((other : List ℕ) → block_value self.new other ≡ block_value self.old other) }
+        ensures ok { OnOk result (IsBound (block_value self.old) (block_value self.new) name.now value) }
+        ensures err { OnErr result (AreSameNames (block_value self.old) (block_value self.new)) }
     {
         let name = String::from_str(alloc, name)?;
         self.values.insert(name, value)?;

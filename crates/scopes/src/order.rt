@@ -1,9 +1,9 @@
 //! The order in which the texts of a rule are expanded, where they name each other.
 
-ghost use Rattle.std.specs.Prelude.{◌≡◌, true, false, ◌<◌, [], IfOk, IfErr, OnOk, IsErrOf, IsSome, length, MatchOption};
+ghost use Rattle.std.specs.Prelude.{◌≡◌, true, false, ◌<◌, [], IfOk, IfErr, OnOk, IsErrOf, length, MatchOption};
 ghost use Rattle.scopes.specs.Use.{opened, has, IsOrderFrom, HasCircle};
 ghost use Rattle.scopes.specs.Walk.{IsWalk, work};
-ghost use Rattle.scopes.specs.Steps.{IsReady, IsNext, IsDone, Waits, AllDone, IsWaiting};
+ghost use Rattle.scopes.specs.WalkSteps.{IsReadyIn, IsNextIn, IsDoneIn, WaitsIn, AllDoneIn, IsWaitingIn, IsListed, IsUnlisted};
 ghost use Rattle.scopes.specs.declared.fault.UseFault.TheVariants.{Circle, TooLarge};
 
 use crate::fault::UseFault;
@@ -96,7 +96,7 @@ impl<'a> Walk<'a> {
     fn next(&self) -> Option<&'a Text>
         requires walk { IsWalk self.now }
         requires some { 0 < length self.now.stack.items }
-        ensures { MatchOption result (IsReady (opened self.now.at.now) self.now.stack.items self.now.order.items) (λ next. IsNext (opened self.now.at.now) self.now.stack.items self.now.order.items next.now) }
+        ensures { MatchOption result (IsReadyIn self.now) (λ next. IsNextIn self.now next.now) }
     {
         let name = self.stack.last()?;
         let template = self.at.template(name.as_str())?;
@@ -105,7 +105,7 @@ impl<'a> Walk<'a> {
 
     /// The first name in this text that stands for a text which is not listed.
     fn first_unlisted(&self, template: &'a Template) -> Option<&'a Text>
-        ensures { MatchOption result (AllDone (opened self.now.at.now) self.now.order.items template.now.parts) (λ next. IsWaiting (opened self.now.at.now) self.now.order.items template.now.parts next.now) }
+        ensures { MatchOption result (AllDoneIn self.now template.now.parts) (λ next. IsWaitingIn self.now template.now.parts next.now) }
     {
         for part in template.parts.as_slice() {
             if let Some(next) = self.unlisted(part) {
@@ -117,7 +117,7 @@ impl<'a> Walk<'a> {
 
     /// The name of this part, where it stands for a text that is not listed.
     fn unlisted(&self, part: &'a Part) -> Option<&'a Text>
-        ensures { MatchOption result (IsDone (opened self.now.at.now) self.now.order.items part.now) (λ next. Waits (opened self.now.at.now) self.now.order.items part.now next.now) }
+        ensures { MatchOption result (IsDoneIn self.now part.now) (λ next. WaitsIn self.now part.now next.now) }
     {
         match part {
             Part::Name(name) if self.waits_for(name.as_str()) => Some(name),
@@ -127,8 +127,8 @@ impl<'a> Walk<'a> {
 
     /// Whether the name stands for a text that is not listed.
     fn waits_for(&self, name: &str) -> bool
-        ensures yes { result ≡ true → IsSome (opened self.now.at.now name.now) × (has self.now.order.items name.now ≡ false) }
-        ensures done { result ≡ false → IsSome (opened self.now.at.now name.now) → has self.now.order.items name.now ≡ true }
+        ensures yes { result ≡ true → IsUnlisted self.now name.now }
+        ensures done { result ≡ false → IsListed self.now name.now }
     {
         self.at.template(name).is_some() && !is_among(&self.order, name)
     }
@@ -136,7 +136,7 @@ impl<'a> Walk<'a> {
     /// Puts a text that the last one names on the stack.
     fn enter(&mut self, alloc: Global, next: &Text) -> Result<(), UseFault>
         requires walk { IsWalk self.old }
-        requires next { IsNext (opened self.old.at.now) self.old.stack.items self.old.order.items next.now }
+        requires next { IsNextIn self.old next.now }
         ensures walk { OnOk result (IsWalk self.new) }
         ensures at { self.new.at.now ≡ self.old.at.now }
         ensures asked { self.new.asked.now ≡ self.old.asked.now }
@@ -154,7 +154,7 @@ impl<'a> Walk<'a> {
     /// Lists the last text, which waits for no other.
     fn list(&mut self) -> Result<(), UseFault>
         requires walk { IsWalk self.old }
-        requires ready { IsReady (opened self.old.at.now) self.old.stack.items self.old.order.items }
+        requires ready { IsReadyIn self.old }
         ensures walk { OnOk result (IsWalk self.new) }
         ensures at { self.new.at.now ≡ self.old.at.now }
         ensures asked { self.new.asked.now ≡ self.old.asked.now }

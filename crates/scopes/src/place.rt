@@ -1,12 +1,11 @@
 //! Values and paths as they expand where they stand.
 
-ghost use Rattle.std.specs.Prelude.{◌≡◌, ◌++◌, ◌∷◌, [], ◌<◌, ◌≤◌, ℕ, List, None, OnOk, IfOk, IfSome, IsErrOf, length, string_bytes};
-ghost use denote.Ref.{Bor};
-ghost use Rattle.lexer.specs.declared.statement.Piece.TheVariants.{Text as PieceText};
-ghost use Rattle.scopes.specs.Texts.{piece_text, expansion_of_pieces, largest_value};
-ghost use Rattle.scopes.specs.Moves.{Move};
-ghost use Rattle.scopes.specs.Scopes.{IsScopesOf};
+ghost use Rattle.std.specs.Prelude.{◌≡◌, ◌≤◌, None, OnOk, IfOk, IfSome, IsErrOf, length};
+ghost use Rattle.scopes.specs.Expanding.{IsExpansion, IsLargeExpansion, IsTextAlone, IsLargeAlone, AddsPiece, IsTooMuchPiece};
+ghost use Rattle.scopes.specs.Growing.{KeepsToSize};
 ghost use Rattle.scopes.specs.Place.{value_of_name};
+ghost use Rattle.scopes.specs.Scopes.{Always};
+ghost use Rattle.scopes.specs.Texts.{largest_value};
 ghost use Rattle.scopes.specs.declared.fault.ExpandFault.TheVariants.{TooLarge};
 
 use crate::all_scopes::Scopes;
@@ -30,9 +29,9 @@ pub fn expand(
     block: &Block,
     value: &Value<'_>,
 ) -> Result<Text, ExpandFault>
-    ensures value { IfOk result (λ text. (past : List Move) → IsScopesOf scopes.now past → text ≡ expansion_of_pieces (value_of_name block.now past) value.now.pieces) }
+    ensures value { IfOk result (λ text. IsExpansion scopes.now block.now value.now.pieces text) }
     ensures size { IfOk result (λ text. length text ≤ largest_value) }
-    ensures large { IsErrOf result TooLarge → (past : List Move) → IsScopesOf scopes.now past → largest_value < length (expansion_of_pieces (value_of_name block.now past) value.now.pieces) }
+    ensures large { IsErrOf result TooLarge → IsLargeExpansion scopes.now block.now value.now.pieces }
 {
     let mut text = String::new(alloc);
     for piece in value.pieces.as_slice() {
@@ -44,9 +43,9 @@ pub fn expand(
 /// The characters of a value of one piece without names, which is not too large: it needs no memory of its own, as most
 /// paths.
 pub fn as_it_stands<'a>(value: &Value<'a>) -> Option<&'a str>
-    ensures value { IfSome result (λ text. (named : List ℕ → List ℕ) → text.now ≡ expansion_of_pieces named value.now.pieces) }
+    ensures value { IfSome result (λ text. IsTextAlone value.now.pieces text.now) }
     ensures size { IfSome result (λ text. length text.now ≤ largest_value) }
-    ensures none { result ≡ None → (text : Bor (List ℕ)) → value.now.pieces ≡ PieceText text ∷ [] → largest_value < length text.now }
+    ensures none { result ≡ None → IsLargeAlone value.now.pieces }
 {
     match value.pieces.as_slice() {
         [Piece::Text(text)] if text.len() <= LARGEST_VALUE => Some(*text),
@@ -60,9 +59,9 @@ fn append_piece(
     block: &Block,
     piece: &Piece<'_>,
 ) -> Result<(), ExpandFault>
-    ensures value { OnOk result ((past : List Move) → IsScopesOf scopes.now past → string_bytes text.new ≡ string_bytes text.old ++ piece_text (value_of_name block.now past) piece.now) }
-    ensures size { length (string_bytes text.old) ≤ largest_value → length (string_bytes text.new) ≤ largest_value }
-    ensures large { IsErrOf result TooLarge → (past : List Move) → IsScopesOf scopes.now past → largest_value < length (string_bytes text.old ++ piece_text (value_of_name block.now past) piece.now) }
+    ensures value { OnOk result (AddsPiece scopes.now block.now text.old text.new piece.now) }
+    ensures size { KeepsToSize text.old text.new }
+    ensures large { IsErrOf result TooLarge → IsTooMuchPiece scopes.now block.now text.old piece.now }
 {
     match *piece {
         Piece::Text(characters) => append(text, characters),
@@ -72,7 +71,7 @@ fn append_piece(
 
 /// What a name stands for at this place.
 fn value_here<'a>(scopes: &'a Scopes, block: &'a Block, name: &str) -> &'a str
-    ensures { (past : List Move) → IsScopesOf scopes.now past → result.now ≡ value_of_name block.now past name.now }
+    ensures { Always scopes.now (λ past. result.now ≡ value_of_name block.now past name.now) }
 {
     if let Some(value) = block.get(name) {
         return value.as_str();

@@ -1,10 +1,10 @@
 //! Rules: the values of their variables, not expanded.
 
-ghost use Rattle.std.specs.Prelude.{◌≡◌, ℕ, List, None, Some, IfOk, OnOk, OnErr, if◌then◌else◌};
+ghost use Rattle.std.specs.Prelude.{◌≡◌, ℕ, List, None, IfOk, OnOk, OnErr};
 ghost use Rattle.std.specs.List.{AllZip};
 ghost use Rattle.std.specs.Option.{option_copied};
-ghost use Rattle.std.specs.Str.{bytes_eq};
 ghost use Rattle.scopes.specs.Texts.{IsPartOf};
+ghost use Rattle.scopes.specs.Bindings.{IsBound, AreSameNames};
 ghost use Rattle.scopes.specs.Rule.{template_of};
 
 use crate::names::value_of;
@@ -77,8 +77,8 @@ impl Rule {
 
     /// Binds a variable. Of two bindings of one name the last stands. Where memory is refused, the rule stays as it was.
     pub fn bind(&mut self, alloc: Global, name: &str, template: Template) -> Result<(), AllocError>
-        ensures ok { OnOk result ((other : List ℕ) → template_of self.new other ≡ (if bytes_eq name.now other then Some template else template_of self.old other)) }
-        ensures err { OnErr result ((other : List ℕ) → template_of self.new other ≡ template_of self.old other) }
+        ensures ok { OnOk result (IsBound (template_of self.old) (template_of self.new) name.now template) }
+        ensures err { OnErr result (AreSameNames (template_of self.old) (template_of self.new)) }
     {
         let name = String::from_str(alloc, name)?;
         self.variables.insert(name, template)?;

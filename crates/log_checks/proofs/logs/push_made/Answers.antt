@@ -1,5 +1,0 @@
-use Rattle.log_checks.proofs.Once.{one_once}
-use Rattle.log_checks.proofs.logs.push_made.Goals as goal
-
-pub done_line-requires-clause-once : goal.done_line-requires-clause-once
-done_line-requires-clause-once c = one_once _

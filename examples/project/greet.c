@@ -1,0 +1,3 @@
+#include "greet.h"
+
+const char *name(void) { return "world"; }

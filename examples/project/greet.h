@@ -1,0 +1,3 @@
+#define GREETING "Hello"
+
+const char *name(void);
