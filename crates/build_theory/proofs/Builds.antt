@@ -1,6 +1,5 @@
 -- What a run has come to, in the words of one build.
 use Rattle.std.proofs.Common.{◌≡◌, ◌≢◌, ◌⊎◌, inl, inr, ℕ, ◌==◌, cond, Bool, true, false, IsTrue, List, [], ◌∷◌, ◌++◌, refl, sym, ◌∙◌, ap, subst, None}
-use Rattle.std.proofs.lemmas.List.{append-nil}
 use Rattle.std.proofs.lemmas.Bool.{false≢true, or_left, eq-eqb, false_from_ne_true}
 use Rattle.model.specs.declared.act.Act.{Act}
 use Rattle.model.specs.declared.graph.Edge.{Edge}
@@ -27,7 +26,7 @@ use Rattle.build_theory.proofs.Runs.{running_now}
 use Rattle.build_theory.proofs.Exit.{clean_where_explained, frame}
 use Rattle.model.specs.Phases.{NoLoadIsDue}
 use Rattle.build_theory.proofs.Loads.{one_phase}
-use Rattle.build_theory.proofs.Nothing.{recorded_alias, verdict_of_nothing, reads_where_settled}
+use Rattle.build_theory.proofs.Nothing.{verdict_of_nothing, reads_where_settled}
 
 -- ---- the schedule
 
@@ -45,22 +44,6 @@ module _ (tells : Bool) (own : OwnFiles) (asked : Asked) (store : Store) (steps 
       whole = whole;
       went_on = λ on. refl;
     }
-
-    -- a run that was not cut off may give any answer
-    abbrev pub scheduled_run : (answer : Answer) → IsLawful (task_of asked store) steps → IsRun tells own (task_of asked store) steps old now → IsScheduled B texts asked store steps old now answer
-    scheduled_run answer lawful run = record {
-      lawful = one_phase B.dyndep texts asked.declared (task_of asked store) store steps same none lawful;
-      first = run.events;
-      later = [];
-      grows = run.grows ∙ ap (λ (l : List Event). old.events ++ l) (sym (append-nil run.events));
-      of_steps = run.of_steps;
-      finishes = tt;
-      whole = λ fine. refl;
-      went_on = λ on. refl;
-    }
-
-  aliases : (i : ℕ) → (edge_at asked.graph.edges i).phony ≡ true → recorded_inputs store asked.graph.edges i ≡ []
-  aliases i phony = recorded_alias store asked.graph.edges i phony
 
   -- a run in which no command runs leaves the site idle
   pub idle_at_end : IsIdle old.events → IsRun tells own (task_of asked store) steps old now → running_in steps ≡ [] → IsIdle now.events
