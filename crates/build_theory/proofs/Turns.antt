@@ -1,4 +1,4 @@
--- What may come next, where one command runs at a time and none starts after a failed one; and what is settled at the end.
+-- What may start where nothing runs, and what is settled at the end.
 use Rattle.std.proofs.Common.{◌≡◌, ◌⊎◌, inl, inr, ℕ, zero, suc, ◌==◌, not, filter, length, Bool, true, false, List, [], ◌∷◌, ◌++◌, Some, refl, sym, ◌∙◌, ap, subst, arith, append_assoc}
 use Rattle.std.proofs.lemmas.Bool.{false≢true, or_left, eq-eqb, and_from, not_from_false}
 use Rattle.model.specs.declared.graph.Edge.{Edge}

@@ -84,7 +84,7 @@ inputs_of inputs =
 
 -- explicit, implicit and order-only inputs and validations, in this order
 abbrev pub Inputs : Grammar InputsForm
-Inputs = Then Paths (λ explicit. Then (Marked Bar) (λ implicit. Then (Marked DoubleBar) (λ order_only. Then (Marked BarAt) (λ validations. Give (inputs_form explicit implicit order_only validations)))))
+Inputs = Then Paths (λ explicit. Then (Marked Bar) (λ implicit. Then (Marked DoubleBar) (λ order_only. Then (Marked BarAt) (λ validations. Give (record { explicit = explicit; implicit = implicit; order_only = order_only; validations = validations })))))
 
 abbrev pub build_form : List Fragments × List Fragments → List ℕ → InputsForm → BuildForm
 build_form outputs rule_name inputs = record {
