@@ -45,9 +45,6 @@ times_none xs n absent =
 pub times_one : (n : ℕ) → times (n ∷ []) n ≡ 1
 times_one n = one_time n n (eq-eqb n n refl) []
 
-pub times_other : (m n : ℕ) → m ≢ n → times (m ∷ []) n ≡ 0
-times_other m n other = no_time m n (false_from_ne_true (m == n) (λ is. other (eqb-true m n is))) []
-
 pub once_left : (xs ys : List ℕ) → StandOnce (xs ++ ys) → StandOnce xs
 once_left xs ys once n = let sum = times-append xs ys n in let most = once n in omega (arith, sum, most)
 

@@ -1,7 +1,7 @@
 -- Paths that stand twice among outputs, and faults of edges in texts.
 use Rattle.std.proofs.Common.{◌≡◌, ◌≢◌, ◌⊎◌, inl, inr, ℕ, zero, suc, ◌+◌, ◌<◌, ◌≤◌, true, false, List, [], ◌∷◌, ◌++◌, Some, length, get_or, take, drop, refl, sym, ◌∙◌, ap, subst, bytes_eq, arith, append_assoc, drop-cons}
 use Rattle.std.specs.List.{AllByRecursion}
-use Rattle.std.proofs.lemmas.Bool.{or_cases, or_left, or_right, cases_Bool, false≢true, false_from_ne_true}
+use Rattle.std.proofs.lemmas.Bool.{or_cases, or_left, or_right, cases_Bool, false≢true}
 use Rattle.std.proofs.lemmas.List.{take-append-drop, get_or_default}
 use Rattle.model.specs.declared.graph.Edge.{Edge}
 use Rattle.model.specs.Graph.{has, edge_at, no_edge, inputs, outputs, all_outputs, StandsTwice, IsMadeTwice, IsMadeOnce}
@@ -113,9 +113,6 @@ distinct_of_copies xs few p twice = let some = copies_of_twice p xs twice in let
 
 -- ---- one more path
 
-pub distinct_nothing : AreDistinct []
-distinct_nothing = distinct_of_copies [] (λ p. omega arith)
-
 pub distinct_push : (xs : List (List ℕ)) (q : List ℕ) → AreDistinct xs → has xs q ≡ false → AreDistinct (xs ++ q ∷ [])
 distinct_push xs q distinct absent = distinct_of_copies (xs ++ q ∷ []) few
   where
@@ -133,27 +130,6 @@ distinct_push xs q distinct absent = distinct_of_copies (xs ++ q ∷ []) few
           omega arith
     ]
 
--- what stands in the first part of a list where no path stands twice is not in the rest
-pub apart_of_distinct : (xs ys : List (List ℕ)) (p : List ℕ) → AreDistinct (xs ++ ys) → has ys p ≡ true → has xs p ≡ false
-apart_of_distinct xs ys p distinct there = false_from_ne_true (has xs p) (λ here.
-    let parts = copies-append p xs ys in
-    let most = copies_of_distinct (xs ++ ys) distinct p in
-    let a = copies_of_has p xs here in
-    let b = copies_of_has p ys there in
-    omega arith)
-
-pub distinct_left : (xs ys : List (List ℕ)) → AreDistinct (xs ++ ys) → AreDistinct xs
-distinct_left xs ys distinct = distinct_of_copies xs (λ p.
-    let parts = copies-append p xs ys in
-    let most = copies_of_distinct (xs ++ ys) distinct p in
-    omega arith)
-
-pub distinct_right : (xs ys : List (List ℕ)) → AreDistinct (xs ++ ys) → AreDistinct ys
-distinct_right xs ys distinct = distinct_of_copies ys (λ p.
-    let parts = copies-append p xs ys in
-    let most = copies_of_distinct (xs ++ ys) distinct p in
-    omega arith)
-
 -- ---- the first that stands before already
 
 pub repeated_more : (xs ys : List (List ℕ)) (p : List ℕ) → IsFirstRepeated xs p → IsFirstRepeated (xs ++ ys) p
@@ -164,9 +140,6 @@ repeated_more xs ys p first = record {
   earlier = first.earlier;
   distinct = first.distinct;
 }
-
-pub repeated_here : (xs ys : List (List ℕ)) (p : List ℕ) → AreDistinct xs → has xs p ≡ true → IsFirstRepeated (xs ++ p ∷ ys) p
-repeated_here xs ys p distinct here = record { before = xs; after = ys; splits = refl; earlier = here; distinct = distinct }
 
 pub twice_of_repeated : (xs : List (List ℕ)) (p : List ℕ) → IsFirstRepeated xs p → StandsTwice xs p
 twice_of_repeated xs p first = record { before = first.before; after = first.after; splits = first.splits; earlier = first.earlier }

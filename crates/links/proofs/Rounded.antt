@@ -10,17 +10,6 @@ use Rattle.build_theory.proofs.Lists.{has_number-push, has_number-push_other}
 use Rattle.links.specs.Marked.{AreOfRound}
 use Rattle.links.proofs.Lists.{once_push}
 
-pub rounded_first : AreOfRound [] [] 1
-rounded_first = record { some = omega arith; past = λ p. omega arith; held = λ p. refl; once = λ n. omega arith }
-
-pub rounded_next : (paths rounds : List ℕ) (round : ℕ) → AreOfRound paths rounds round → AreOfRound [] rounds (round + 1)
-rounded_next paths rounds round are = record {
-  some = omega arith;
-  past = λ p. let below = are.past p in omega arith;
-  held = λ p. sym (ne_eqb (get_or rounds p 0) (round + 1) (λ e. let below = are.past p in omega arith));
-  once = λ n. omega arith;
-}
-
 -- where no round is another
 pub rounded_same : (paths rounds others : List ℕ) (round : ℕ) → AreOfRound paths rounds round → ((k : ℕ) → get_or others k 0 ≡ get_or rounds k 0) → AreOfRound paths others round
 rounded_same paths rounds others round are same = record {

@@ -1,5 +1,5 @@
 -- What stands after one more turn of a loop.
-use Rattle.std.proofs.Common.{◌≡◌, ◌≢◌, ◌⊎◌, inl, inr, ℕ, zero, suc, ◌+◌, ◌<◌, ◌==◌, ◌||◌, not, Bool, true, false, cond, nat_eq, nat_lt, List, [], ◌∷◌, ◌++◌, Option, Some, None, filter, length, get_or, take, drop, add-one, refl, sym, ◌∙◌, ap, subst, arith, append_assoc, bytes_eq}
+use Rattle.std.proofs.Common.{◌≡◌, ◌≢◌, ◌⊎◌, inl, inr, ℕ, zero, suc, ◌+◌, ◌<◌, ◌==◌, ◌||◌, Bool, true, false, cond, nat_eq, nat_lt, List, [], ◌∷◌, ◌++◌, Option, Some, None, length, get_or, take, drop, add-one, refl, sym, ◌∙◌, ap, subst, arith, append_assoc, bytes_eq}
 use Rattle.std.specs.Prelude.{option_to_list}
 use Rattle.std.specs.List.{AllByRecursion, flat_map}
 use Rattle.std.specs.Option.{is_some}
@@ -13,10 +13,9 @@ use Rattle.model.specs.declared.graph.Edge.{Edge}
 use Rattle.model.specs.Graph.{has, has_number, maker}
 use Rattle.build_theory.proofs.Lists.{same_bytes, bytes_same, has-left, has-right, has-cases, has_number-left, has_number-append, has_number-push, has_number-push_cases, has_number-push_other}
 use Rattle.paths.specs.declared.line.Line.{Line}
-use Rattle.paths.specs.Lists.{line_at, line_inputs, line_outputs}
+use Rattle.paths.specs.Lists.{line_at, line_inputs}
 use Rattle.paths.specs.Told.{text_at, texts_at}
 use Rattle.links.specs.Alias.{alias_at, aliases_of}
-use Rattle.links.specs.Free.{free_of}
 use Rattle.links.specs.Held.{list_at, times, StandOnce, maker_in, pushed}
 use Rattle.links.specs.Linked.{AreMakersOf}
 use Rattle.links.specs.Links.{Links}
@@ -78,36 +77,6 @@ pub needed_next : (lines : List Line) (k : ℕ) (now marks : List Bool) → k < 
 needed_next lines k now marks lt so_far here p =
     here p ∙ (ap (λ (b : Bool). b || has_number (line_inputs (line_at lines k)) p) (so_far p)
     ∙ sym (ap (λ (l : List ℕ). has_number l p) (flat_next line_inputs lines k lt) ∙ has_number-append (flat_map line_inputs (take k lines)) (line_inputs (line_at lines k)) p))
-
--- ---- free outputs
-
-filter-append : (f : ℕ → Bool) (xs ys : List ℕ) → filter f (xs ++ ys) ≡ filter f xs ++ filter f ys
-filter-append f [] ys = refl
-filter-append f (x ∷ xs) ys = elim (cases_Bool (f x)) [
-  | inl yes_free ↦
-      ap (λ (b : Bool). cond b (x ∷ filter f (xs ++ ys)) (filter f (xs ++ ys))) yes_free
-      ∙ (ap (λ (l : List ℕ). x ∷ l) (filter-append f xs ys) ∙ sym (ap (λ (b : Bool). (cond b (x ∷ filter f xs) (filter f xs)) ++ filter f ys) yes_free))
-  | inr not_free ↦
-      ap (λ (b : Bool). cond b (x ∷ filter f (xs ++ ys)) (filter f (xs ++ ys))) not_free
-      ∙ (filter-append f xs ys ∙ sym (ap (λ (b : Bool). (cond b (x ∷ filter f xs) (filter f xs)) ++ filter f ys) not_free))
-]
-
-pub free-append : (marks : List Bool) (xs ys : List ℕ) → free_of marks (xs ++ ys) ≡ free_of marks xs ++ free_of marks ys
-free-append marks xs ys = filter-append (λ p. not (get_or marks p false)) xs ys
-
-pub free_push : (marks : List Bool) (xs : List ℕ) (i n : ℕ) (first : List ℕ) → i < length xs → n ≡ get_or xs i n → get_or marks n false ≡ false → (first ++ free_of marks (take i xs)) ++ n ∷ [] ≡ first ++ free_of marks (take (i + 1) xs)
-free_push marks xs i n first lt is free =
-    append_assoc first (free_of marks (take i xs)) (n ∷ []) ∙ ap (λ (l : List ℕ). first ++ l)
-    (sym (ap (free_of marks) (take_next xs i n lt is) ∙ (free-append marks (take i xs) (n ∷ []) ∙ ap (λ (b : Bool). free_of marks (take i xs) ++ cond (not b) (n ∷ []) []) free)))
-
-pub free_skip : (marks : List Bool) (xs : List ℕ) (i n : ℕ) (first : List ℕ) → i < length xs → n ≡ get_or xs i n → get_or marks n false ≡ true → first ++ free_of marks (take i xs) ≡ first ++ free_of marks (take (i + 1) xs)
-free_skip marks xs i n first lt is marked =
-    ap (λ (l : List ℕ). first ++ l)
-    (sym (ap (free_of marks) (take_next xs i n lt is) ∙ (free-append marks (take i xs) (n ∷ []) ∙ (ap (λ (b : Bool). free_of marks (take i xs) ++ cond (not b) (n ∷ []) []) marked ∙ append-nil (free_of marks (take i xs))))))
-
-pub free_lines : (marks : List Bool) (lines : List Line) (k : ℕ) → k < length lines → free_of marks (flat_map line_outputs (take k lines)) ++ free_of marks (line_outputs (line_at lines k)) ≡ free_of marks (flat_map line_outputs (take (k + 1) lines))
-free_lines marks lines k lt =
-    sym (ap (free_of marks) (flat_next line_outputs lines k lt) ∙ free-append marks (flat_map line_outputs (take k lines)) (line_outputs (line_at lines k)))
 
 -- ---- sets
 

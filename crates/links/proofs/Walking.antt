@@ -7,7 +7,7 @@ use Rattle.model.specs.Graph.{has_number}
 use Rattle.links.specs.Links.{Links, needs_at}
 use Rattle.links.specs.declared.cone.Mark.{Mark}
 use Rattle.links.specs.declared.cone.Mark.TheVariants.{Unseen, Open, Listed}
-use Rattle.links.specs.Cone.{maker_at, validator_at, IsNeeded, Asked, Above, Beside, IsNextInput, Awaits, made_by, Follows, IsOrder, mark_at, is_listed, is_unseen, IsCone, maker_listed, maker_seen, IsWalkAt, IsLast, Keeps, Grows, HasSeenMakers, HasSeenValidators}
+use Rattle.links.specs.Cone.{maker_at, validator_at, IsNeeded, Asked, Above, Beside, Awaits, made_by, Follows, IsOrder, mark_at, is_listed, is_unseen, IsCone, maker_listed, maker_seen, IsWalkAt, IsLast, Keeps, HasSeenMakers, HasSeenValidators}
 
 has_number-push : (xs : List ℕ) (i j : ℕ) → has_number (xs ++ i ∷ []) j ≡ (has_number xs j || (i == j))
 has_number-push [] i j = or_nothing (i == j)
@@ -276,13 +276,6 @@ all_listed links requested order marks left stack at none e seen = by_mark (mark
     by_mark Open is h = let top = at.stacked e is in absurd (omega (arith, top.1, none))
     by_mark Listed is h = refl
 
--- what was seen stays so
-pub seen_set : (marks : List Mark) (e : ℕ) (m : Mark) → e < length marks → is_unseen m ≡ false → Keeps marks (set marks e m)
-seen_set marks e m lt is j seen = elim (same_or_other e j) [
-  | inl here ↦ subst (λ (n : ℕ). is_unseen (mark_at (set marks e m) n) ≡ false) (sym here) (ap is_unseen (mark_here marks e m lt) ∙ is)
-  | inr there ↦ ap is_unseen (mark_else marks e j m there) ∙ seen
-]
-
 pub needed_last : (links : Links) (requested order : List ℕ) (marks : List Mark) (left stack : List ℕ) (e : ℕ) → IsWalkAt links requested order marks left stack → IsLast stack e → IsNeeded links requested e
 needed_last links requested order marks left stack e at last =
     subst (IsNeeded links requested) last.is (at.needed (slice_index stack (length stack - 1)) (open_not_unseen (mark_at marks (slice_index stack (length stack - 1))) (at.opened (length stack - 1) (omega (arith, last.some)))))
@@ -293,31 +286,11 @@ needed_awaited links requested order marks left stack e d at last waits =
     Above e (slice_index left e - 1) d (needed_last links requested order marks left stack e at last)
     (omega (arith, waits.some, at.some_left e (last_within links requested order marks left stack at e last))) waits.made
 
--- an edge that the last open one waits for is waited for by each that is the last
-pub awaits_by_last : (links : Links) (left stack : List ℕ) (e d : ℕ) → IsLast stack e → Awaits links left e d → (last : ℕ) → IsLast stack last → Awaits links left last d
-awaits_by_last links left stack e d is_last waits last other = subst (λ (n : ℕ). Awaits links left n d) (sym is_last.is ∙ other.is) waits
-
--- the last open edge waits for the maker of its next input
-pub awaits_maker : (links : Links) (left : List ℕ) (e p d : ℕ) → IsNextInput links (slice_index left e) e p → Some d ≡ links.maker p → Awaits links left e d
-awaits_maker links left e p d next made = record { some = next.some; made = ap links.maker next.is ∙ sym made }
-
 pub needed_asked : (links other : Links) (requested others : List ℕ) (k : ℕ) → other ≡ links → others ≡ requested → k < length requested → IsNeeded other others (slice_index requested k)
 needed_asked links other requested others k same asked lt =
     subst (λ (l : Links). IsNeeded l others (slice_index requested k)) (sym {A = Links} same) (subst (λ (r : List ℕ). IsNeeded links r (slice_index requested k)) (sym {A = List ℕ} asked) (Asked k lt))
 
 -- ---- an order that grows
-
-pub grows_same : (xs : List ℕ) → Grows xs xs
-grows_same xs = record { longer = omega arith; same = λ k lt. refl }
-
-pub grows_push : (xs ys : List ℕ) (x : ℕ) → ys ≡ xs ++ x ∷ [] → Grows xs ys
-grows_push xs ys x is = subst (Grows xs) (sym {A = List ℕ} is) record { longer = omega (arith, length_push xs x); same = λ k lt. push_old xs x k lt }
-
-pub grows_on : (xs ys zs : List ℕ) → Grows xs ys → Grows ys zs → Grows xs zs
-grows_on xs ys zs first second = record {
-  longer = omega (arith, first.longer, second.longer);
-  same = λ k lt. second.same k (omega (arith, lt, first.longer)) ∙ first.same k lt;
-}
 
 -- ---- the makers of validations
 
@@ -331,22 +304,6 @@ makers_turn links marks next e k before keeps here j lt = elim (cases_lt j k) [
   | inl below ↦ seen_kept marks next keeps (validator_at links e j) (before j below)
   | inr above ↦ let same : k ≡ j = omega (arith, lt, above) in subst (λ (n : ℕ). maker_seen next (validator_at links e n)) same here
 ]
-
--- one more listed edge
-pub validators_turn : (links : Links) (marks next : List Mark) (order longer : List ℕ) (place e : ℕ) → HasSeenValidators links marks order place → place < length order → e ≡ slice_index order place → Keeps marks next → Grows order longer
-    → HasSeenMakers links next e (length (links.validations e)) → HasSeenValidators links next longer (place + 1)
-validators_turn links marks next order longer place e before within is keeps grows here j lt =
-    subst (λ (n : ℕ). HasSeenMakers links next n (length (links.validations n))) (sym (grows.same j in_order)) at
-  where
-    in_order : j < length order
-    in_order = omega (arith, lt, within)
-
-    at : HasSeenMakers links next (slice_index order j) (length (links.validations (slice_index order j)))
-    at = elim (cases_lt j place) [
-      | inl below ↦ λ k h. seen_kept marks next keeps (validator_at links (slice_index order j) k) (before j below k h)
-      | inr above ↦ let same : place ≡ j = omega (arith, lt, above) in
-          subst (λ (n : ℕ). HasSeenMakers links next n (length (links.validations n))) (is ∙ ap (slice_index order) same) here
-    ]
 
 pub needed_beside : (links other : Links) (requested others items : List ℕ) (e k m : ℕ) → other ≡ links → others ≡ requested → IsNeeded links requested e → items ≡ links.validations e → k < length items
     → Some m ≡ links.maker (slice_index items k) → IsNeeded other others m

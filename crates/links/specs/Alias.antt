@@ -1,6 +1,7 @@
 -- Phony edges by numbers.
 use Rattle.std.specs.Prelude.{ℕ, Bool, true, false, ◌||◌, if◌then◌else◌, List, [], ◌∷◌, ◌++◌, Option, Some, None, is_some, option_to_list}
-use Rattle.links.specs.Links.{Links}
+use Rattle.links.specs.declared.graph.Graph.{Graph}
+use Rattle.links.specs.Links.{Links, links_of}
 
 abbrev pub if_phony : Links → Option ℕ → Option ℕ
 if_phony links None = None
@@ -30,3 +31,7 @@ aliases_of links (p ∷ ps) = option_to_list (alias_at links p) ++ aliases_of li
 abbrev pub any_alias : Links → List ℕ → Bool
 any_alias links [] = false
 any_alias links (p ∷ ps) = is_some (alias_at links p) || any_alias links ps
+
+-- the phony edges that make regular inputs of the edge
+abbrev pub aliases_for : Graph → ℕ → List ℕ
+aliases_for graph e = aliases_of (links_of graph) ((links_of graph).regular e)

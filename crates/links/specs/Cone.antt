@@ -1,7 +1,8 @@
 -- The edges that a build needs, and walks from edges up to what they need.
-use Rattle.std.specs.Prelude.{◌≡◌, ◌≢◌, ℕ, suc, ◌+◌, ◌-◌, ◌*◌, ◌<◌, ◌≤◌, Bool, true, false, List, [], ◌∷◌, ◌++◌, length, slice_index, slice_index_or, count_by, sum, Option, Some, None}
+use Rattle.std.specs.Prelude.{◌≡◌, ◌≢◌, ℕ, suc, ◌+◌, ◌-◌, ◌*◌, ◌<◌, ◌≤◌, Bool, true, false, List, [], ◌∷◌, ◌++◌, length, map, slice_index, slice_index_or, EachIndex, count_by, sum, Option, Some, None}
 use Rattle.model.specs.Graph.{has_number}
 use Rattle.links.specs.declared.graph.Graph.{Graph}
+use Rattle.links.specs.declared.cone.Cone.{Cone}
 use Rattle.links.specs.declared.cone.Mark.{Mark}
 use Rattle.links.specs.declared.cone.Mark.TheVariants.{Unseen, Open, Listed}
 use Rattle.links.specs.declared.walk.Walk.{Walk}
@@ -71,6 +72,10 @@ pub record IsCone (links : Links) (requested order : List ℕ) (marks : List Mar
   pub validated : (e : ℕ) → has_number order e ≡ true → IsValidatedBy links order e
   pub needed : (e : ℕ) → has_number order e ≡ true → IsNeeded links requested e
   pub marked : (e : ℕ) → is_listed (mark_at marks e) ≡ has_number order e
+
+-- the cone of these edges of the graph
+abbrev pub IsConeFrom : Graph → List ℕ → Cone → Type 0
+IsConeFrom graph requested cone = IsCone (links_of graph) requested cone.order.items cone.marks.items
 
 -- ---- cycles
 
@@ -183,3 +188,49 @@ pub record IsLast (stack : List ℕ) (e : ℕ) : Type 0 where
 pub record IsNextInput (links : Links) (left e p : ℕ) : Type 0 where
   pub some : 0 < left
   pub is : slice_index (needs_at links e) (left - 1) ≡ p
+
+-- ---- the words of a walk
+
+-- all of these were seen
+abbrev pub AllSeen : List Mark → List ℕ → Type 0
+AllSeen marks edges = EachIndex edges (λ k. is_unseen (mark_at marks (slice_index edges k)) ≡ false)
+
+-- the makers of all of the edge's validations were seen
+abbrev pub HasSeenAll : Links → List Mark → ℕ → Type 0
+HasSeenAll links marks e = HasSeenMakers links marks e (length (links.validations e))
+
+-- the makers of the validations of all listed edges were seen
+abbrev pub HasValidated : Graph → Walk → Type 0
+HasValidated graph walk = HasSeenValidators (links_of graph) walk.marks.items walk.order.items (length walk.order.items)
+
+-- how many of the edge's inputs are left
+abbrev pub left_at : Walk → ℕ → ℕ
+left_at walk e = slice_index walk.left.items e
+
+-- the path is the last of the edge's inputs that are left
+abbrev pub IsNextAt : Walk → ℕ → ℕ → Type 0
+IsNextAt walk e p = IsNextInput (links_of walk.graph.now) (left_at walk e) e p
+
+-- nothing has to be done for the last of them: it is a source, or its maker is listed
+abbrev pub IsNextDone : Walk → ℕ → Type 0
+IsNextDone walk e = maker_listed walk.marks.items (maker_at (links_of walk.graph.now) e (left_at walk e - 1)) ≡ true
+
+-- edge e waits for a path that d makes
+abbrev pub WaitsFor : Walk → ℕ → ℕ → Type 0
+WaitsFor walk e d = Awaits (links_of walk.graph.now) walk.left.items e d
+
+-- each of these has an input that is left
+abbrev pub EachWaits : Walk → List ℕ → Type 0
+EachWaits walk edges = EachIndex edges (λ k. IsLeft (links_of walk.graph.now) walk.left.items (slice_index edges k))
+
+-- the path that an edge waits for
+abbrev pub awaited_in : Walk → ℕ → ℕ
+awaited_in walk = awaited (links_of walk.graph.now) walk.left.items
+
+-- what the last of these edges waits for, and then what each of them waits for
+abbrev pub paths_round : Walk → List ℕ → List ℕ
+paths_round walk edges = awaited_in walk (slice_index edges (length edges - 1)) ∷ map (awaited_in walk) edges
+
+-- for each edge up to where it needs what some edge makes
+abbrev pub AreMadeEnds : Links → List ℕ → Type 0
+AreMadeEnds links ends = EachIndex ends (λ e. IsMadeEnd links e (slice_index ends e))

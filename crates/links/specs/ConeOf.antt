@@ -4,7 +4,9 @@ use Rattle.model.specs.declared.graph.Edge.{Edge}
 use Rattle.model.specs.Graph.{targets_of}
 use Rattle.model.specs.Records.{Store, recorded_inputs}
 use Rattle.model.specs.SingleBuild.{Asked, declared_graph, IsShownCycle}
-use Rattle.links.specs.Links.{Links}
+use Rattle.links.specs.Links.{Links, links_of}
+use Rattle.links.specs.declared.cone.Cone.{Cone}
+use Rattle.links.specs.declared.graph.Graph.{Graph}
 use Rattle.links.specs.declared.cone.ConeFault.{ConeFault}
 use Rattle.links.specs.declared.cone.ConeFault.TheVariants.{Memory, Unknown, Cycle}
 use Rattle.links.specs.declared.cone.Mark.{Mark}
@@ -20,6 +22,10 @@ pub record StandFor (edges : List Edge) (recorded : ℕ → List (List ℕ)) (ta
 abbrev pub IsConeForEach : Links → List ℕ → List ℕ → List Mark → Type 0
 IsConeForEach links requested order marks =
     (edges : List Edge) (recorded : ℕ → List (List ℕ)) (targets : List (List ℕ)) → StandFor edges recorded targets links requested → IsConeOf edges recorded targets order marks
+
+-- whatever edges the numbers of the graph stand for, this is the cone of their targets
+abbrev pub IsConeForAll : Graph → List ℕ → Cone → Type 0
+IsConeForAll graph requested cone = IsConeForEach (links_of graph) requested cone.order.items cone.marks.items
 
 -- whatever was asked, where the numbers stand for it, the texts of these paths are a cycle as it is shown
 abbrev pub IsFaultForEach : Links → List ℕ → ConeFault → Type 0

@@ -1,5 +1,5 @@
 -- What a graph becomes by a dyndep file, and why one is refused.
-use Rattle.std.specs.Prelude.{◌≡◌, ◌⊎◌, ℕ, ◌<◌, ◌++◌, ◌∷◌, true, false, List, length, get_or, Option, Some}
+use Rattle.std.specs.Prelude.{◌≡◌, ◌⊎◌, ℕ, ◌<◌, ◌++◌, ◌∷◌, true, false, List, length, map, get_or, Option, Some}
 use Rattle.std.specs.List.{AllByRecursion}
 use Rattle.model.specs.declared.graph.Edge.{Edge}
 use Rattle.model.specs.Graph.{has, edge_at, outputs, first_output, all_outputs, Addition, IsMadeOnce, IsMadeTwice}
@@ -11,7 +11,7 @@ use Rattle.links.specs.declared.fault.ExtendFault.TheVariants.{Memory, Unfit, Ma
 use Rattle.links.specs.declared.graph.Graph.{Graph}
 use Rattle.links.specs.Held.{dyndep_of}
 use Rattle.links.specs.Linked.{IsFirstRepeated}
-use Rattle.links.specs.Told.{declared_by, recorded_by}
+use Rattle.links.specs.Told.{declared_by, recorded_by, path_text}
 
 -- a statement in the words of builds
 abbrev pub addition_of : Statement → Addition
@@ -97,3 +97,11 @@ abbrev pub IsRefusedLoad : Graph → List ℕ → List Addition → ExtendFault 
 IsRefusedLoad graph file additions Memory = Unit {0}
 IsRefusedLoad graph file additions (Unfit output) = IsUnfit (declared_by graph).edges file additions output
 IsRefusedLoad graph file additions (MadeTwice p) = IsRemadeBy (declared_by graph).edges file additions p
+
+-- ---- the same of the file with this number, whose statements these are
+
+abbrev pub HasTaken : Graph → Graph → ℕ → List Statement → Type 0
+HasTaken old new file told = HasLoaded old new (path_text old file) (map addition_of told)
+
+abbrev pub HasRefused : Graph → ℕ → List Statement → ExtendFault → Type 0
+HasRefused graph file told fault = IsRefusedLoad graph (path_text graph file) (map addition_of told) fault

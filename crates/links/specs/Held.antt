@@ -1,5 +1,5 @@
 -- What a graph keeps beside what build files declare, in numbers.
-use Rattle.std.specs.Prelude.{◌≡◌, ℕ, suc, ◌==◌, ◌<◌, ◌≤◌, true, if◌then◌else◌, List, [], ◌∷◌, ◌++◌, length, get_or, slice_set, Option, Some, None}
+use Rattle.std.specs.Prelude.{◌≡◌, ℕ, suc, ◌==◌, ◌<◌, ◌≤◌, ◌-◌, Bool, true, false, if◌then◌else◌, List, [], ◌∷◌, ◌++◌, length, take, get_or, slice_set, Option, Some, None}
 use Rattle.model.specs.Graph.{has_number}
 use Rattle.paths.specs.declared.manifest.Action.{Action}
 use Rattle.paths.specs.declared.manifest.Action.TheVariants.{Alias, Command}
@@ -39,6 +39,18 @@ abbrev pub DyndepsAreInputs : Manifest → Type 0
 DyndepsAreInputs manifest =
     (e p : ℕ) → dyndep_of (get_or manifest.actions e no_action) ≡ Some p → has_number (line_inputs (line_at manifest.lines e)) p ≡ true
 
+-- the dyndep file that the edge names
+abbrev pub dyndep_in : Manifest → ℕ → Option ℕ
+dyndep_in manifest e = dyndep_of (get_or manifest.actions e no_action)
+
+-- whether the path is an input of the edge
+abbrev pub is_input_in : Manifest → ℕ → ℕ → Bool
+is_input_in manifest e p = has_number (line_inputs (line_at manifest.lines e)) p
+
+-- the dyndep file that the edge names is one of its inputs
+abbrev pub DyndepIsInput : Manifest → ℕ → Type 0
+DyndepIsInput manifest e = (p : ℕ) → dyndep_in manifest e ≡ Some p → is_input_in manifest e p ≡ true
+
 -- the recorded inputs of each edge, each once
 pub record AreRecorded (manifest : Manifest) (recorded : List (List ℕ)) : Type 0 where
   pub fits : length recorded ≡ length manifest.lines
@@ -58,3 +70,11 @@ push_at users p e = slice_set users p (list_at users p ++ e ∷ [])
 abbrev pub pushed : List (List ℕ) → List ℕ → ℕ → List (List ℕ)
 pushed users [] e = users
 pushed users (p ∷ ps) e = pushed (push_at users p e) ps e
+
+-- the list at this place without its last number
+abbrev pub pop_at : List (List ℕ) → ℕ → List (List ℕ)
+pop_at lists k = slice_set lists k (take (length (list_at lists k) - 1) (list_at lists k))
+
+-- lists of others than these stay as they were
+abbrev pub OthersStay : List ℕ → List (List ℕ) → List (List ℕ) → Type 0
+OthersStay edges old new = (e : ℕ) → has_number edges e ≡ false → list_at new e ≡ list_at old e

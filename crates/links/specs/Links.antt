@@ -1,5 +1,5 @@
 -- The graph in numbers: what each edge names, and who makes it. Edges count from 0 here and in the code, and from 1 in messages, events and definitions.
-use Rattle.std.specs.Prelude.{ℕ, Bool, true, false, List, ◌++◌, length, get_or, Option}
+use Rattle.std.specs.Prelude.{ℕ, ◌<◌, Bool, true, false, List, ◌++◌, All, EachIndex, length, slice_index, get_or, Option}
 use Rattle.paths.specs.declared.manifest.Action.{Action}
 use Rattle.paths.specs.declared.manifest.Action.TheVariants.{Alias, Command}
 use Rattle.paths.specs.Lists.{line_at, line_outputs, line_regular_inputs, line_inputs}
@@ -45,3 +45,26 @@ links_of graph = record {
 -- the edges that name a path as one of their inputs or recorded inputs
 abbrev pub users_at : Graph → ℕ → List ℕ
 users_at graph p = list_at graph.users p
+
+-- what an edge of the graph waits for
+abbrev pub needs_of : Graph → ℕ → List ℕ
+needs_of graph e = needs_at (links_of graph) e
+
+abbrev pub need_at : Graph → ℕ → ℕ → ℕ
+need_at graph e k = slice_index (needs_of graph e) k
+
+-- what edges wait for are paths of the graph
+abbrev pub NeedsArePaths : Graph → Type 0
+NeedsArePaths graph = (e k : ℕ) → k < length (needs_of graph e) → need_at graph e k < length graph.manifest.paths
+
+-- all are numbers of its paths
+abbrev pub AllPaths : Graph → List ℕ → Type 0
+AllPaths graph numbers = All (λ p. p < length graph.manifest.paths) numbers
+
+-- all are numbers of its edges
+abbrev pub AllEdges : Graph → List ℕ → Type 0
+AllEdges graph numbers = All (λ e. e < length graph.manifest.lines) numbers
+
+-- at each place of the list stands one of its edges
+abbrev pub EachIsEdge : Graph → List ℕ → Type 0
+EachIsEdge graph edges = EachIndex edges (λ k. slice_index edges k < length graph.manifest.lines)

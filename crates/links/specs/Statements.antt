@@ -2,6 +2,7 @@
 use Rattle.std.specs.Prelude.{◌≡◌, ℕ, zero, suc, ◌<◌, ◌++◌, ◌||◌, ◌==◌, Bool, true, false, if◌then◌else◌, List, [], map, length, get_or, slice_get, slice_index_or, Option, Some, None, MatchOption, bytes_eq}
 use Rattle.model.specs.declared.graph.Edge.{Edge}
 use Rattle.model.specs.Graph.{has_number, edge_at, maker, all_outputs, Addition, IsMadeTwice}
+use Rattle.dyndep.specs.declared.addition.Addition.{Addition as Statement}
 use Rattle.paths.specs.declared.line.Line.{Line}
 use Rattle.paths.specs.declared.manifest.Action.{Action}
 use Rattle.paths.specs.declared.manifest.Action.TheVariants.{Alias, Command}
@@ -16,8 +17,8 @@ use Rattle.links.specs.declared.fault.GraphFault.TheVariants as graph
 use Rattle.links.specs.declared.graph.Graph.{Graph}
 use Rattle.links.specs.declared.loaded.Gain.{Gain}
 use Rattle.links.specs.Linked.{IsFirstRepeated}
-use Rattle.links.specs.Told.{declared_by}
-use Rattle.links.specs.Extended.{dyndep_at, IsUnfit}
+use Rattle.links.specs.Told.{declared_by, declared_edges, path_text}
+use Rattle.links.specs.Extended.{dyndep_at, addition_of, IsUnfit}
 
 -- whether it is this number
 abbrev pub is_place : Option ℕ → ℕ → Bool
@@ -41,6 +42,14 @@ owner_in edges file output = if_namer edges file (maker edges output)
 -- the edge of each statement
 abbrev pub owners_of : List Edge → List ℕ → List Addition → List (Option ℕ)
 owners_of edges file additions = map (λ (a : Addition). owner_in edges file a.output) additions
+
+-- the edge of the graph that makes the output, if it names the file with this number
+abbrev pub owner_for : Graph → ℕ → List ℕ → Option ℕ
+owner_for graph file output = owner_in (declared_edges graph) (path_text graph file) output
+
+-- the edge of each of these statements
+abbrev pub owners_for : Graph → ℕ → List Statement → List (Option ℕ)
+owners_for graph file told = owners_of (declared_edges graph) (path_text graph file) (map addition_of told)
 
 -- none of the first so many statements is of the edge
 abbrev pub NoneIsOf : List (Option ℕ) → ℕ → ℕ → Type 0
@@ -82,6 +91,10 @@ pub record LacksChoice (graph : Graph) (file : ℕ) (chosen : List (Option ℕ))
   pub names : dyndep_at graph e ≡ Some file
   pub none : slice_index_or chosen e None ≡ None
 
+-- each edge that names the file has its statement
+abbrev pub NoneLacks : Graph → ℕ → List (Option ℕ) → Type 0
+NoneLacks graph file chosen = (e : ℕ) → LacksChoice graph file chosen e → ⊥
+
 pub record IsLowestLacking (graph : Graph) (file : ℕ) (chosen : List (Option ℕ)) (e : ℕ) : Type 0 where
   pub lacks : LacksChoice graph file chosen e
   pub lowest : (k : ℕ) → k < e → LacksChoice graph file chosen k → ⊥
@@ -109,6 +122,10 @@ abbrev pub IsUnfitFault : List Edge → List ℕ → List Addition → ExtendFau
 IsUnfitFault edges file additions Memory = Unit {0}
 IsUnfitFault edges file additions (Unfit output) = IsUnfit edges file additions output
 IsUnfitFault edges file additions (MadeTwice p) = ⊥
+
+-- why these statements of the file with this number do not fit
+abbrev pub HasUnfit : Graph → ℕ → List Statement → ExtendFault → Type 0
+HasUnfit graph file told fault = IsUnfitFault (declared_edges graph) (path_text graph file) (map addition_of told) fault
 
 -- ---- what edges get
 

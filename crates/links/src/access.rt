@@ -1,13 +1,12 @@
 //! What a graph tells of its edges and paths.
 
-ghost use Rattle.std.specs.Prelude.{◌≡◌, ◌<◌, ◌++◌, ℕ, true, Some, IfSome, length, slice_get, slice_index, MatchOption};
+ghost use Rattle.std.specs.Prelude.{◌≡◌, ◌<◌, ◌++◌, ℕ, true, Some, IfSome, length, slice_get, MatchOption};
 ghost use Rattle.std.specs.Option.{option_map};
 ghost use Rattle.std.specs.Map.Iter.{deref};
-ghost use Rattle.model.specs.Graph.{has_number, maker, later_number};
-ghost use Rattle.paths.specs.Told.{text_at};
+ghost use Rattle.model.specs.Graph.{has_number, later_number};
 ghost use Rattle.links.specs.Held.{times};
-ghost use Rattle.links.specs.Links.{links_of, needs_at, users_at};
-ghost use Rattle.links.specs.Told.{declared_by};
+ghost use Rattle.links.specs.Links.{links_of, needs_of, need_at, users_at};
+ghost use Rattle.links.specs.Told.{path_text, declared_maker};
 ghost use Rattle.links.specs.Extended.{dyndep_at};
 
 use crate::graph::Graph;
@@ -31,7 +30,7 @@ impl Graph {
     /// The text of a path.
     pub fn text(&self, path: PathId) -> &str
         requires { path < length self.now.manifest.paths }
-        ensures { result.now ≡ text_at self.now.manifest.paths path }
+        ensures { result.now ≡ path_text self.now path }
     {
         self.manifest.paths.text(path)
     }
@@ -71,7 +70,7 @@ impl Graph {
     /// How many inputs and recorded inputs it waits for.
     pub fn need_count(&self, edge: EdgeId) -> usize
         requires { edge < length self.now.manifest.lines }
-        ensures { result ≡ length (needs_at (links_of self.now) edge) }
+        ensures { result ≡ length (needs_of self.now edge) }
     {
         self.inputs(edge).len() + self.recorded_inputs(edge).len()
     }
@@ -79,8 +78,8 @@ impl Graph {
     /// The input or recorded input at this place: the inputs come first.
     pub fn need(&self, edge: EdgeId, place: usize) -> PathId
         requires edge { edge < length self.now.manifest.lines }
-        requires place { place < length (needs_at (links_of self.now) edge) }
-        ensures { result ≡ slice_index (needs_at (links_of self.now) edge) place }
+        requires place { place < length (needs_of self.now edge) }
+        ensures { result ≡ need_at self.now edge place }
     {
         let inputs = self.inputs(edge);
         if place < inputs.len() {
@@ -126,7 +125,7 @@ impl Graph {
         ensures value { result ≡ (links_of self.now).maker path }
         ensures within { IfSome result (λ edge. edge < length self.now.manifest.lines) }
         ensures makes { IfSome result (λ edge. has_number ((links_of self.now).outputs edge) path ≡ true) }
-        ensures text { path < length self.now.manifest.paths → maker (declared_by self.now).edges (text_at self.now.manifest.paths path) ≡ later_number result }
+        ensures text { path < length self.now.manifest.paths → declared_maker self.now path ≡ later_number result }
     {
         self.stored_maker(path)
     }
@@ -141,7 +140,7 @@ impl Graph {
     pub fn users(&self, path: PathId) -> &[EdgeId]
         requires { path < length self.now.manifest.paths }
         ensures value { result.now ≡ users_at self.now path }
-        ensures counted { (edge : ℕ) → times result.now edge ≡ times (needs_at (links_of self.now) edge) path }
+        ensures counted { (edge : ℕ) → times result.now edge ≡ times (needs_of self.now edge) path }
     {
         self.users.at(path)
     }

@@ -1,9 +1,9 @@
 //! The edges that a build needs.
 
-ghost use Rattle.std.specs.Prelude.{◌≡◌, ◌<◌, All, IfOk, IfErr, vec_len, length, slice_index, EachIndex};
-ghost use Rattle.links.specs.Cone.{is_listed, mark_at, IsCone, IsConeFault};
-ghost use Rattle.links.specs.Links.{links_of};
-ghost use Rattle.links.specs.ConeOf.{IsConeForEach, IsFaultForEach};
+ghost use Rattle.std.specs.Prelude.{◌≡◌, ◌<◌, IfOk, IfErr, vec_len, length};
+ghost use Rattle.links.specs.Cone.{is_listed, mark_at, IsConeFrom, IsConeFault};
+ghost use Rattle.links.specs.Links.{links_of, AllEdges, EachIsEdge};
+ghost use Rattle.links.specs.ConeOf.{IsConeForAll, IsFaultForEach};
 
 use crate::graph::Graph;
 use crate::walk::Walk;
@@ -84,12 +84,12 @@ impl Cone {
         targets: Vec<PathId>,
         requested: &[EdgeId],
     ) -> Result<Cone, ConeFault>
-        requires { EachIndex requested.now (λ k. slice_index requested.now k < length graph.now.manifest.lines) }
-        ensures cone { IfOk result (λ cone. IsCone (links_of graph.now) requested.now cone.order.items cone.marks.items) }
+        requires { EachIsEdge graph.now requested.now }
+        ensures cone { IfOk result (λ cone. IsConeFrom graph.now requested.now cone) }
         ensures marks { IfOk result (λ cone. vec_len cone.marks ≡ length graph.now.manifest.lines) }
-        ensures within { IfOk result (λ cone. All (λ e. e < length graph.now.manifest.lines) cone.order.items) }
+        ensures within { IfOk result (λ cone. AllEdges graph.now cone.order.items) }
         ensures targets { IfOk result (λ cone. cone.targets ≡ targets) }
-        ensures cone_of { IfOk result (λ cone. IsConeForEach (links_of graph.now) requested.now cone.order.items cone.marks.items) }
+        ensures cone_of { IfOk result (λ cone. IsConeForAll graph.now requested.now cone) }
         ensures fault { IfErr result (IsConeFault (links_of graph.now) requested.now) }
         ensures shown { IfErr result (IsFaultForEach (links_of graph.now) requested.now) }
     {

@@ -1,13 +1,10 @@
 //! What is built where no target is named.
 
 ghost use Rattle.std.specs.Prelude.{◌≡◌, ◌<◌, ◌||◌, not, ℕ, false, List, [], ◌++◌, All, filter, length, get_or, EachIndex, IfOk, OnOk, vec_len};
-ghost use Rattle.std.specs.List.{flat_map};
 ghost use Rattle.model.specs.Graph.{has_number};
-ghost use Rattle.paths.specs.Lists.{line_inputs, line_outputs};
-ghost use Rattle.paths.specs.Told.{texts_at};
-ghost use Rattle.links.specs.Linked.{default_targets};
-ghost use Rattle.links.specs.Told.{declared_by};
-ghost use Rattle.links.specs.Free.{free_of};
+ghost use Rattle.links.specs.Links.{AllPaths};
+ghost use Rattle.links.specs.Targets.{AreDefaultPaths};
+ghost use Rattle.links.specs.Free.{free_of, AreMarked, input_numbers, output_numbers};
 
 use crate::graph::Graph;
 use paths::PathId;
@@ -17,8 +14,8 @@ impl Graph {
     /// The outputs that no edge names as an input, in reading order; all outputs, where there is no such one. What is
     /// recorded does not count.
     pub fn default_targets(&self, alloc: Global) -> Result<Vec<PathId>, AllocError>
-        ensures within { IfOk result (λ targets. All (λ p. p < length self.now.manifest.paths) targets.items) }
-        ensures targets { IfOk result (λ targets. texts_at self.now.manifest.paths targets.items ≡ default_targets (declared_by self.now).edges) }
+        ensures within { IfOk result (λ targets. AllPaths self.now targets.items) }
+        ensures targets { IfOk result (λ targets. AreDefaultPaths self.now targets.items) }
     {
         let needed = self.needed(alloc)?;
         let roots = self.outputs_but(alloc, &needed)?;
@@ -31,7 +28,7 @@ impl Graph {
 
     /// Whether some edge names the path of this number as an input.
     fn needed(&self, alloc: Global) -> Result<Vec<bool>, AllocError>
-        ensures { IfOk result (λ needed. (p : ℕ) → get_or needed.items p false ≡ has_number (flat_map line_inputs self.now.manifest.lines) p) }
+        ensures { IfOk result (λ needed. AreMarked needed.items (input_numbers self.now)) }
     {
         let mut needed = vec![in alloc; false; self.paths()]?;
         for place in 0..self.edges() {
@@ -42,7 +39,7 @@ impl Graph {
 
     /// All outputs in reading order, but for those that are marked as needed.
     fn outputs_but(&self, alloc: Global, needed: &[bool]) -> Result<Vec<PathId>, AllocError>
-        ensures { IfOk result (λ free. free.items ≡ free_of needed.now (flat_map line_outputs self.now.manifest.lines)) }
+        ensures { IfOk result (λ free. free.items ≡ free_of needed.now (output_numbers self.now)) }
     {
         let mut free = Vec::new(alloc);
         for place in 0..self.edges() {

@@ -1,9 +1,8 @@
 //! What a loaded dyndep file says joins the graph.
 
-ghost use Rattle.std.specs.Prelude.{◌≡◌, ◌<◌, map, length, IfOk, IfErr, OnOk, OnErr};
-ghost use Rattle.paths.specs.Told.{text_at};
+ghost use Rattle.std.specs.Prelude.{◌≡◌, ◌<◌, length, IfOk, IfErr, OnOk, OnErr};
 ghost use Rattle.links.specs.Back.{Undoes};
-ghost use Rattle.links.specs.Extended.{HasLoaded, IsRefusedLoad, addition_of};
+ghost use Rattle.links.specs.Extended.{HasTaken, HasRefused};
 
 use crate::back::{Before, loaded_edges};
 use crate::fault::ExtendFault;
@@ -30,9 +29,9 @@ impl Graph {
         file: PathId,
     ) -> Result<Before, ExtendFault>
         requires { file < length self.old.manifest.paths }
-        ensures loaded { OnOk result (HasLoaded self.old self.new (text_at self.old.manifest.paths file) (map addition_of additions.now)) }
+        ensures loaded { OnOk result (HasTaken self.old self.new file additions.now) }
         ensures before { IfOk result (λ before. Undoes self.old self.new file before) }
-        ensures fault { IfErr result (IsRefusedLoad self.old (text_at self.old.manifest.paths file) (map addition_of additions.now)) }
+        ensures fault { IfErr result (λ fault. HasRefused self.old file additions.now fault) }
         ensures err { OnErr result (self.new ≡ self.old) }
     {
         let chosen = self.statements(alloc, additions, file)?;

@@ -1,11 +1,9 @@
 //! Which edge makes each path.
 
-ghost use Rattle.std.specs.Prelude.{◌≡◌, ◌<◌, ◌≤◌, ◌++◌, ℕ, true, All, length, get_or, None, IfOk, IfErr, OnOk, IfSome, MatchOption};
+ghost use Rattle.std.specs.Prelude.{◌≡◌, ◌<◌, ◌≤◌, ◌++◌, All, length, None, IfOk, IfErr, OnOk, IfSome, MatchOption};
 ghost use Rattle.model.specs.Graph.{has_number};
-ghost use Rattle.paths.specs.Lists.{line_at, line_inputs};
-ghost use Rattle.paths.specs.Commands.{no_action};
 ghost use Rattle.paths.specs.Told.{graph_of, text_at};
-ghost use Rattle.links.specs.Held.{AreMakers, DyndepsAreInputs, dyndep_of};
+ghost use Rattle.links.specs.Held.{AreMakers, DyndepsAreInputs, DyndepIsInput};
 ghost use Rattle.links.specs.Linked.{IsFaultOf};
 ghost use Rattle.links.specs.Making.{IsFirstFlaw, HaveClaimed, IsClaimedTwice, IsOtherDyndep, IsFaultFor};
 
@@ -88,7 +86,7 @@ fn claim(makers: &mut [Option<EdgeId>], outputs: &[PathId], edge: EdgeId) -> Res
 /// `NoDyndepInput` where the edge names a dyndep file that is none of its inputs.
 fn check_dyndep(manifest: &Manifest, edge: EdgeId) -> Result<(), Flaw>
     requires { edge < length manifest.now.lines }
-    ensures ok { OnOk result ((p : ℕ) → dyndep_of (get_or manifest.now.actions edge no_action) ≡ Some p → has_number (line_inputs (line_at manifest.now.lines edge)) p ≡ true) }
+    ensures ok { OnOk result (DyndepIsInput manifest.now edge) }
     ensures flaw { IfErr result (λ flaw. IsOtherDyndep manifest.now edge flaw) }
 {
     if let Action::Command(command) = manifest.action(edge) {

@@ -3,7 +3,7 @@
 ghost use Rattle.std.specs.Prelude.{◌≡◌, ◌<◌, ℕ, suc, true, false, List, Some, IfSome, IfOk, OnOk, length, nat_eq};
 ghost use Rattle.indexmap.specs.IndexSet.{insert_all};
 ghost use Rattle.links.specs.Links.{links_of};
-ghost use Rattle.links.specs.Alias.{alias_at, counts_if_present, aliases_of, any_alias};
+ghost use Rattle.links.specs.Alias.{alias_at, counts_if_present, aliases_for, any_alias};
 ghost use Rattle.links.specs.ReadingOf.{edges_in, IsReadingOf};
 
 use crate::graph::Graph;
@@ -45,7 +45,7 @@ impl Graph {
     /// Adds the phony edges that make regular inputs of the edge.
     fn add_aliases(&self, edges: &mut IndexSet<EdgeId>, edge: EdgeId) -> Result<(), AllocError>
         requires { edge < length self.now.manifest.lines }
-        ensures { OnOk result (edges.new.keys ≡ insert_all nat_eq edges.old.keys (aliases_of (links_of self.now) ((links_of self.now).regular edge))) }
+        ensures { OnOk result (edges.new.keys ≡ insert_all nat_eq edges.old.keys (aliases_for self.now edge)) }
     {
         for path in self.regular_inputs(edge) {
             if let Some(alias) = self.alias(*path) {

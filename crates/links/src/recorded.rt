@@ -1,10 +1,9 @@
 //! The recorded inputs of each edge, in flat memory.
 
-ghost use Rattle.std.specs.Prelude.{◌≡◌, ◌<◌, ◌++◌, [], ℕ, false, Some, length, slice_get, slice_set, IfOk, OnOk, OnErr};
+ghost use Rattle.std.specs.Prelude.{◌≡◌, ◌<◌, [], length, slice_set, IfOk, OnOk, OnErr};
 ghost use Rattle.std.proofs.Math.ListN.{replicate};
-ghost use Rattle.model.specs.Graph.{has_number};
-ghost use Rattle.links.specs.Held.{list_at};
-ghost use Rattle.links.specs.LoadedEdges.{numbers_in};
+ghost use Rattle.links.specs.Held.{list_at, OthersStay};
+ghost use Rattle.links.specs.LoadedEdges.{numbers_in, EachLoaded};
 
 use crate::back::LoadedEdge;
 use crate::path_set::PathSet;
@@ -87,10 +86,10 @@ impl Recorded {
 
     /// Lets the recorded inputs of these edges go, which takes no memory.
     pub(crate) fn forget(&mut self, edges: &[LoadedEdge])
-        requires { (k : ℕ) (loaded : LoadedEdge) → slice_get edges.now k ≡ Some loaded → loaded.edge < length self.old }
+        requires { EachLoaded edges.now (λ edge. edge < length self.old) }
         ensures fits { length self.new ≡ length self.old }
-        ensures gone { (k : ℕ) (loaded : LoadedEdge) → slice_get edges.now k ≡ Some loaded → list_at self.new loaded.edge ≡ [] }
-        ensures others { (e : ℕ) → has_number (numbers_in edges.now) e ≡ false → list_at self.new e ≡ list_at self.old e }
+        ensures gone { EachLoaded edges.now (λ edge. list_at self.new edge ≡ []) }
+        ensures others { OthersStay (numbers_in edges.now) self.old self.new }
     {
         for loaded in edges {
             self.forget_one(loaded.edge);

@@ -1,11 +1,10 @@
 //! Which statement of a dyndep file is of which edge.
 
-ghost use Rattle.std.specs.Prelude.{◌≡◌, ◌<◌, ℕ, suc, if◌then◌else◌, Some, None, map, length, slice_index_or, is_some, IfOk, IfErr, IfSome, MatchOption};
-ghost use Rattle.model.specs.Graph.{edge_at, first_output, maker, later_number};
-ghost use Rattle.paths.specs.Told.{text_at};
-ghost use Rattle.links.specs.Told.{declared_by};
+ghost use Rattle.std.specs.Prelude.{◌≡◌, ◌<◌, ℕ, if◌then◌else◌, Some, None, map, length, slice_index_or, is_some, IfOk, IfErr, IfSome, MatchOption};
+ghost use Rattle.model.specs.Graph.{first_output, maker, later_number};
+ghost use Rattle.links.specs.Told.{declared_by, declared_edge};
 ghost use Rattle.links.specs.Extended.{dyndep_at, addition_of};
-ghost use Rattle.links.specs.Statements.{is_place, owner_in, owners_of, AreChosen, AreChoices, IsBadBelow, IsGiven, IsLowestLacking, LacksChoice, IsUnfitFault};
+ghost use Rattle.links.specs.Statements.{is_place, owner_for, owners_for, AreChosen, AreChoices, IsBadBelow, IsGiven, IsLowestLacking, NoneLacks, HasUnfit};
 
 use crate::fault::ExtendFault;
 use crate::graph::Graph;
@@ -27,7 +26,7 @@ impl Graph {
     ) -> Result<Vec<Option<usize>>, ExtendFault>
         requires { file < length self.now.manifest.paths }
         ensures chosen { IfOk result (λ chosen. AreChosen self.now file (map addition_of additions.now) chosen.items) }
-        ensures fault { IfErr result (IsUnfitFault (declared_by self.now).edges (text_at self.now.manifest.paths file) (map addition_of additions.now)) }
+        ensures fault { IfErr result (λ fault. HasUnfit self.now file additions.now fault) }
     {
         let mut chosen = vec![in alloc; None; self.edges()]?;
         let unfit = self.choose_all(additions, file, &mut chosen);
@@ -52,8 +51,8 @@ impl Graph {
         requires fits { length chosen.old ≡ length self.now.manifest.lines }
         requires none { (e : ℕ) → slice_index_or chosen.old e None ≡ None }
         ensures fits { length chosen.new ≡ length chosen.old }
-        ensures choices { AreChoices (owners_of (declared_by self.now).edges (text_at self.now.manifest.paths file) (map addition_of additions.now)) (length additions.now) chosen.new }
-        ensures bad { IsBadBelow (owners_of (declared_by self.now).edges (text_at self.now.manifest.paths file) (map addition_of additions.now)) (length additions.now) result }
+        ensures choices { AreChoices (owners_for self.now file additions.now) (length additions.now) chosen.new }
+        ensures bad { IsBadBelow (owners_for self.now file additions.now) (length additions.now) result }
     {
         let mut unfit = None;
         for (place, addition) in additions.iter().enumerate() {
@@ -74,7 +73,7 @@ impl Graph {
         requires file { file < length self.now.manifest.paths }
         requires fits { length chosen.old ≡ length self.now.manifest.lines }
         ensures fits { length chosen.new ≡ length chosen.old }
-        ensures given { IsGiven result (owner_in (declared_by self.now).edges (text_at self.now.manifest.paths file) addition.now.output) place chosen.old chosen.new }
+        ensures given { IsGiven result (owner_for self.now file addition.now.output) place chosen.old chosen.new }
     {
         let Some(edge) = self.namer_of(addition.output.as_str(), file) else {
             return false;
@@ -89,7 +88,7 @@ impl Graph {
     /// The edge that makes this output, if it names the file.
     fn namer_of(&self, output: &str, file: PathId) -> Option<EdgeId>
         requires { file < length self.now.manifest.paths }
-        ensures owner { later_number result ≡ owner_in (declared_by self.now).edges (text_at self.now.manifest.paths file) output.now }
+        ensures owner { later_number result ≡ owner_for self.now file output.now }
         ensures within { IfSome result (λ edge. edge < length self.now.manifest.lines) }
     {
         let edge = self.maker_of(output)?;
@@ -122,7 +121,7 @@ impl Graph {
     /// The lowest edge that names the file and has no statement.
     fn first_lacking(&self, file: PathId, chosen: &[Option<usize>]) -> Option<EdgeId>
         requires { length chosen.now ≡ length self.now.manifest.lines }
-        ensures { MatchOption result ((e : ℕ) → LacksChoice self.now file chosen.now e → ⊥) (IsLowestLacking self.now file chosen.now) }
+        ensures { MatchOption result (NoneLacks self.now file chosen.now) (IsLowestLacking self.now file chosen.now) }
     {
         for place in 0..self.edges() {
             let edge = self.manifest.edge(place);
@@ -136,7 +135,7 @@ impl Graph {
     /// The output that stands for the edge where one is shown; the empty path where it has none.
     fn first_output(&self, alloc: Global, edge: EdgeId) -> Result<Path, AllocError>
         requires { edge < length self.now.manifest.lines }
-        ensures { IfOk result (λ path. path ≡ first_output (edge_at (declared_by self.now).edges (suc edge))) }
+        ensures { IfOk result (λ path. path ≡ first_output (declared_edge self.now edge)) }
     {
         match self.outputs(edge).first() {
             Some(output) => Path::from_str(alloc, self.text(*output)),

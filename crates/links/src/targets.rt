@@ -1,14 +1,9 @@
 //! What is built, and the edges that make it.
 
-ghost use Rattle.std.specs.Prelude.{◌≡◌, ◌<◌, ℕ, true, List, All, map, IfOk, IfErr, vec_len, length};
-ghost use Rattle.std.specs.List.{AllByRecursion};
-ghost use Rattle.model.specs.Graph.{is_named, targets_of};
-ghost use Rattle.model.specs.Records.{Store, recorded_inputs};
-ghost use Rattle.model.specs.SingleBuild.{Asked, declared_graph};
-ghost use Rattle.paths.specs.Told.{texts_at};
-ghost use Rattle.links.specs.Linked.{AreMakersOf};
-ghost use Rattle.links.specs.Told.{declared_by, recorded_by, AreSameInputs};
-ghost use Rattle.links.specs.Targets.{IsOrdered, IsConeFor, IsConeOfNumbers, IsNoCone, IsNoConeAgain, IsUnknownIn};
+ghost use Rattle.std.specs.Prelude.{◌≡◌, IfOk, IfErr, vec_len, length};
+ghost use Rattle.links.specs.Links.{AllPaths, AllEdges};
+ghost use Rattle.links.specs.Told.{declared_by, path_texts};
+ghost use Rattle.links.specs.Targets.{IsOrdered, IsConeOfTargets, IsConeOfPaths, LackCone, LackConeAgain, IsUnknownIn, LinesName, AreTargetPaths, AreMakersIn};
 
 use crate::cone::{Cone, ConeFault};
 use crate::graph::Graph;
@@ -28,8 +23,8 @@ impl Graph {
     pub fn cone(&self, alloc: Global, targets: &[Path]) -> Result<Cone, ConeFault>
         ensures marks { IfOk result (λ cone. vec_len cone.marks ≡ length self.now.manifest.lines) }
         ensures ordered { IfOk result (IsOrdered self.now) }
-        ensures cone { IfOk result (λ cone. (recorded : ℕ → List (List ℕ)) → AreSameInputs recorded (recorded_by self.now) → IsConeFor self.now recorded targets.now cone) }
-        ensures fault { IfErr result (λ fault. (asked : Asked) (store : Store) → asked.declared ≡ asked.graph.edges → asked.graph ≡ declared_by self.now → asked.targets ≡ targets.now → AreSameInputs (recorded_inputs store asked.graph.edges) (recorded_by self.now) → IsNoCone asked store self.now.manifest.paths fault) }
+        ensures cone { IfOk result (λ cone. IsConeOfTargets self.now targets.now cone) }
+        ensures fault { IfErr result (λ fault. LackCone self.now targets.now fault) }
     {
         let numbers = self.targets(alloc, targets)?;
         let requested = self.makers_of(alloc, &numbers)?;
@@ -39,11 +34,11 @@ impl Graph {
     /// The cone of the same targets, as an earlier one has them in numbers, once a dyndep file was loaded. `Cycle` where edges
     /// of it need one another in a circle.
     pub fn cone_again(&self, alloc: Global, targets: Vec<PathId>) -> Result<Cone, ConeFault>
-        requires { All (λ p. p < length self.now.manifest.paths) targets.items }
+        requires { AllPaths self.now targets.items }
         ensures marks { IfOk result (λ cone. vec_len cone.marks ≡ length self.now.manifest.lines) }
         ensures ordered { IfOk result (IsOrdered self.now) }
-        ensures cone { IfOk result (λ cone. (recorded : ℕ → List (List ℕ)) → AreSameInputs recorded (recorded_by self.now) → IsConeOfNumbers self.now recorded targets.items cone) }
-        ensures fault { IfErr result (λ fault. (asked : Asked) (store : Store) → asked.graph ≡ declared_by self.now → targets_of (declared_graph asked) asked.targets ≡ texts_at self.now.manifest.paths targets.items → AreSameInputs (recorded_inputs store asked.graph.edges) (recorded_by self.now) → IsNoConeAgain asked store self.now.manifest.paths fault) }
+        ensures cone { IfOk result (λ cone. IsConeOfPaths self.now targets.items cone) }
+        ensures fault { IfErr result (λ fault. LackConeAgain self.now targets.items fault) }
     {
         let requested = self.makers_of(alloc, &targets)?;
         Cone::of(alloc, self, targets, &requested)
@@ -51,9 +46,9 @@ impl Graph {
 
     /// What is built where these targets are asked for.
     fn targets(&self, alloc: Global, asked: &[Path]) -> Result<Vec<PathId>, ConeFault>
-        ensures within { IfOk result (λ targets. All (λ p. p < length self.now.manifest.paths) targets.items) }
-        ensures targets { IfOk result (λ targets. texts_at self.now.manifest.paths targets.items ≡ targets_of (declared_by self.now) asked.now) }
-        ensures named { IfOk result (λ _. AllByRecursion (λ p. is_named (declared_by self.now).edges p ≡ true) asked.now) }
+        ensures within { IfOk result (λ targets. AllPaths self.now targets.items) }
+        ensures targets { IfOk result (λ targets. AreTargetPaths self.now asked.now targets.items) }
+        ensures named { IfOk result (λ _. LinesName self.now asked.now) }
         ensures fault { IfErr result (IsUnknownIn (declared_by self.now).edges asked.now) }
     {
         if !asked.is_empty() {
@@ -67,9 +62,9 @@ impl Graph {
 
     /// The numbers of these targets; `Unknown` for the first that no build line names.
     fn numbers_of(&self, alloc: Global, asked: &[Path]) -> Result<Vec<PathId>, ConeFault>
-        ensures within { IfOk result (λ targets. All (λ p. p < length self.now.manifest.paths) targets.items) }
-        ensures targets { IfOk result (λ targets. texts_at self.now.manifest.paths targets.items ≡ asked.now) }
-        ensures named { IfOk result (λ _. AllByRecursion (λ p. is_named (declared_by self.now).edges p ≡ true) asked.now) }
+        ensures within { IfOk result (λ targets. AllPaths self.now targets.items) }
+        ensures targets { IfOk result (λ targets. path_texts self.now targets.items ≡ asked.now) }
+        ensures named { IfOk result (λ _. LinesName self.now asked.now) }
         ensures fault { IfErr result (IsUnknownIn (declared_by self.now).edges asked.now) }
     {
         let mut numbers = Vec::new(alloc);
@@ -84,9 +79,9 @@ impl Graph {
 
     /// The edges that make these paths, once for each path; sources have none.
     fn makers_of(&self, alloc: Global, targets: &[PathId]) -> Result<Vec<EdgeId>, AllocError>
-        requires { All (λ p. p < length self.now.manifest.paths) targets.now }
-        ensures within { IfOk result (λ edges. All (λ e. e < length self.now.manifest.lines) edges.items) }
-        ensures makers { IfOk result (λ edges. AreMakersOf (declared_by self.now).edges (texts_at self.now.manifest.paths targets.now) edges.items) }
+        requires { AllPaths self.now targets.now }
+        ensures within { IfOk result (λ edges. AllEdges self.now edges.items) }
+        ensures makers { IfOk result (λ edges. AreMakersIn self.now targets.now edges.items) }
     {
         let mut edges = Vec::new(alloc);
         for target in targets {

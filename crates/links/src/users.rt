@@ -1,10 +1,10 @@
 //! For each path the edges that name it, in flat memory.
 
-ghost use Rattle.std.specs.Prelude.{◌≡◌, ◌<◌, ◌+◌, ◌++◌, ◌∷◌, ◌-◌, ◌≤◌, ℕ, List, All, [], length, take, drop, slice_set, IfOk, OnOk, OnErr};
+ghost use Rattle.std.specs.Prelude.{◌≡◌, ◌<◌, ◌+◌, ◌++◌, ◌∷◌, ◌-◌, ◌≤◌, ℕ, List, All, [], length, take, drop, IfOk, OnOk, OnErr};
 ghost use Rattle.std.proofs.Math.ListN.{replicate};
 ghost use Rattle.paths.specs.Lists.{between, Extends};
 ghost use Rattle.links.specs.Rooms.{IsMoved};
-ghost use Rattle.links.specs.Held.{list_at, push_at, pushed};
+ghost use Rattle.links.specs.Held.{list_at, push_at, pushed, pop_at};
 
 use paths::{EdgeId, PathId};
 use std::alloc::{AllocError, Global};
@@ -162,7 +162,7 @@ impl Users {
     /// Takes back the last edge of those that name the path, if there is one.
     fn pop(&mut self, path: PathId)
         requires { path < length self.old }
-        ensures { self.new ≡ slice_set self.old path (take (length (list_at self.old path) - 1) (list_at self.old path)) }
+        ensures { self.new ≡ pop_at self.old path }
     {
         let place = path.index();
         let room = self.rooms[place];

@@ -1,10 +1,10 @@
 //! Walks from edges up to what they need.
 
-ghost use Rattle.std.specs.Prelude.{◌≡◌, ℕ, ◌∷◌, true, false, map, ◌-◌, ◌*◌, ◌<◌, IfOk, IfErr, OnOk, vec_len, length, nat_lt, slice_index, EachIndex, MatchOption};
+ghost use Rattle.std.specs.Prelude.{◌≡◌, ℕ, false, ◌<◌, IfOk, IfErr, OnOk, vec_len, length, nat_lt, slice_index, MatchOption};
 ghost use Rattle.std.specs.List.{IsFirstBest};
 ghost use Rattle.links.specs.declared.cone.Mark;
-ghost use Rattle.links.specs.Links.{links_of, needs_at};
-ghost use Rattle.links.specs.Cone.{is_unseen, mark_at, maker_at, maker_listed, awaited, Awaits, IsLeft, Keeps, Grows, HasSeenMakers, HasSeenValidators, IsConeFault, IsMadeEnd, IsNeeded, IsRound, IsWalk, IsLast, IsNextInput, work};
+ghost use Rattle.links.specs.Links.{links_of, EachIsEdge};
+ghost use Rattle.links.specs.Cone.{is_unseen, mark_at, IsLeft, Keeps, Grows, IsConeFault, IsMadeEnd, IsNeeded, IsRound, IsWalk, IsLast, AllSeen, HasSeenAll, HasValidated, left_at, IsNextAt, IsNextDone, WaitsFor, EachWaits, awaited_in, paths_round, AreMadeEnds, work};
 
 use crate::cone::{ConeFault, Mark};
 use crate::graph::Graph;
@@ -52,10 +52,10 @@ impl<'a> Walk<'a> {
     pub fn list_requested(&mut self) -> Result<(), ConeFault>
         requires at { IsWalk self.old.graph.now self.old.requested.now self.old }
         requires none { length self.old.stack.items ≡ 0 }
-        requires within { EachIndex self.old.requested.now (λ k. slice_index self.old.requested.now k < length self.old.graph.now.manifest.lines) }
+        requires within { EachIsEdge self.old.graph.now self.old.requested.now }
         ensures walk { OnOk result (IsWalk self.old.graph.now self.old.requested.now self.new) }
         ensures stack { OnOk result (length self.new.stack.items ≡ 0) }
-        ensures seen { OnOk result (EachIndex self.old.requested.now (λ k. is_unseen (mark_at self.new.marks.items (slice_index self.old.requested.now k)) ≡ false)) }
+        ensures seen { OnOk result (AllSeen self.new.marks.items self.old.requested.now) }
         ensures fault { IfErr result (IsConeFault (links_of self.old.graph.now) self.old.requested.now) }
     {
         for edge in self.requested {
@@ -72,7 +72,7 @@ impl<'a> Walk<'a> {
         ensures walk { OnOk result (IsWalk self.old.graph.now self.old.requested.now self.new) }
         ensures stack { OnOk result (length self.new.stack.items ≡ 0) }
         ensures keeps { OnOk result (Keeps self.old.marks.items self.new.marks.items) }
-        ensures validated { OnOk result (HasSeenValidators (links_of self.old.graph.now) self.new.marks.items self.new.order.items (length self.new.order.items)) }
+        ensures validated { OnOk result (HasValidated self.old.graph.now self.new) }
         ensures fault { IfErr result (IsConeFault (links_of self.old.graph.now) self.old.requested.now) }
     {
         let mut place = 0;
@@ -94,7 +94,7 @@ impl<'a> Walk<'a> {
         ensures stack { OnOk result (length self.new.stack.items ≡ 0) }
         ensures keeps { OnOk result (Keeps self.old.marks.items self.new.marks.items) }
         ensures grows { OnOk result (Grows self.old.order.items self.new.order.items) }
-        ensures seen { OnOk result (HasSeenMakers (links_of self.old.graph.now) self.new.marks.items edge (length ((links_of self.old.graph.now).validations edge))) }
+        ensures seen { OnOk result (HasSeenAll (links_of self.old.graph.now) self.new.marks.items edge) }
         ensures fault { IfErr result (IsConeFault (links_of self.old.graph.now) self.old.requested.now) }
     {
         let graph = self.graph;
@@ -146,7 +146,7 @@ impl<'a> Walk<'a> {
         requires within { edge < length self.old.graph.now.manifest.lines }
         requires needed { IsNeeded (links_of self.old.graph.now) self.old.requested.now edge }
         requires unseen { mark_at self.old.marks.items edge ≡ Mark.Unseen }
-        requires awaited { (last : ℕ) → IsLast self.old.stack.items last → Awaits (links_of self.old.graph.now) self.old.left.items last edge }
+        requires awaited { (last : ℕ) → IsLast self.old.stack.items last → WaitsFor self.old last edge }
         ensures walk { OnOk result (IsWalk self.old.graph.now self.old.requested.now self.new) }
         ensures keeps { OnOk result (Keeps self.old.marks.items self.new.marks.items) }
         ensures grows { OnOk result (Grows self.old.order.items self.new.order.items) }
@@ -193,7 +193,7 @@ impl<'a> Walk<'a> {
     fn next_input(&self, edge: EdgeId) -> Option<PathId>
         requires at { IsWalk self.now.graph.now self.now.requested.now self.now }
         requires within { edge < length self.now.graph.now.manifest.lines }
-        ensures { MatchOption result (slice_index self.now.left.items edge ≡ 0) (IsNextInput (links_of self.now.graph.now) (slice_index self.now.left.items edge) edge) }
+        ensures { MatchOption result (left_at self.now edge ≡ 0) (λ path. IsNextAt self.now edge path) }
     {
         let left = self.left[edge.index()];
         if left == 0 {
@@ -207,7 +207,7 @@ impl<'a> Walk<'a> {
     fn look(&mut self, edge: EdgeId, path: PathId) -> Result<(), ConeFault>
         requires at { IsWalk self.old.graph.now self.old.requested.now self.old }
         requires last { IsLast self.old.stack.items edge }
-        requires next { IsNextInput (links_of self.old.graph.now) (slice_index self.old.left.items edge) edge path }
+        requires next { IsNextAt self.old edge path }
         ensures walk { OnOk result (IsWalk self.old.graph.now self.old.requested.now self.new) }
         ensures keeps { OnOk result (Keeps self.old.marks.items self.new.marks.items) }
         ensures grows { OnOk result (Grows self.old.order.items self.new.order.items) }
@@ -229,7 +229,7 @@ impl<'a> Walk<'a> {
         requires at { IsWalk self.old.graph.now self.old.requested.now self.old }
         requires last { IsLast self.old.stack.items edge }
         requires within { maker < length self.old.graph.now.manifest.lines }
-        requires awaits { Awaits (links_of self.old.graph.now) self.old.left.items edge maker }
+        requires awaits { WaitsFor self.old edge maker }
         ensures walk { OnOk result (IsWalk self.old.graph.now self.old.requested.now self.new) }
         ensures keeps { OnOk result (Keeps self.old.marks.items self.new.marks.items) }
         ensures grows { OnOk result (Grows self.old.order.items self.new.order.items) }
@@ -250,8 +250,8 @@ impl<'a> Walk<'a> {
     fn pass(&mut self, edge: EdgeId)
         requires at { IsWalk self.old.graph.now self.old.requested.now self.old }
         requires last { IsLast self.old.stack.items edge }
-        requires left { 0 < slice_index self.old.left.items edge }
-        requires done { maker_listed self.old.marks.items (maker_at (links_of self.old.graph.now) edge (slice_index self.old.left.items edge - 1)) ≡ true }
+        requires left { 0 < left_at self.old edge }
+        requires done { IsNextDone self.old edge }
         ensures walk { IsWalk self.old.graph.now self.old.requested.now self.new }
         ensures keeps { Keeps self.old.marks.items self.new.marks.items }
         ensures grows { Grows self.old.order.items self.new.order.items }
@@ -264,7 +264,7 @@ impl<'a> Walk<'a> {
     fn list(&mut self, edge: EdgeId) -> Result<(), AllocError>
         requires at { IsWalk self.old.graph.now self.old.requested.now self.old }
         requires last { IsLast self.old.stack.items edge }
-        requires all { slice_index self.old.left.items edge ≡ 0 }
+        requires all { left_at self.old edge ≡ 0 }
         ensures walk { OnOk result (IsWalk self.old.graph.now self.old.requested.now self.new) }
         ensures keeps { OnOk result (Keeps self.old.marks.items self.new.marks.items) }
         ensures grows { OnOk result (Grows self.old.order.items self.new.order.items) }
@@ -280,7 +280,7 @@ impl<'a> Walk<'a> {
     fn round(&self, last: EdgeId, edge: EdgeId) -> Result<Items<PathId>, AllocError>
         requires at { IsWalk self.now.graph.now self.now.requested.now self.now }
         requires last { IsLast self.now.stack.items last }
-        requires awaits { Awaits (links_of self.now.graph.now) self.now.left.items last edge }
+        requires awaits { WaitsFor self.now last edge }
         requires open { mark_at self.now.marks.items edge ≡ Mark.Open }
         ensures { IfOk result (IsRound (links_of self.now.graph.now) self.now.requested.now) }
     {
@@ -304,10 +304,10 @@ impl<'a> Walk<'a> {
     /// one waits for, and what each of them waits for.
     fn paths_round(&self, edges: &[EdgeId]) -> Result<Items<PathId>, AllocError>
         requires some { 0 < length edges.now }
-        requires within { EachIndex edges.now (λ k. slice_index edges.now k < length self.now.graph.now.manifest.lines) }
+        requires within { EachIsEdge self.now.graph.now edges.now }
         requires lefts { vec_len self.now.left ≡ length self.now.graph.now.manifest.lines }
-        requires left { EachIndex edges.now (λ k. IsLeft (links_of self.now.graph.now) self.now.left.items (slice_index edges.now k)) }
-        ensures { IfOk result (λ paths. paths ≡ awaited (links_of self.now.graph.now) self.now.left.items (slice_index edges.now (length edges.now - 1)) ∷ map (awaited (links_of self.now.graph.now) self.now.left.items) edges.now) }
+        requires left { EachWaits self.now edges.now }
+        ensures { IfOk result (λ paths. paths ≡ paths_round self.now edges.now) }
     {
         let mut paths = Items::new(self.alloc);
         paths.push(self.awaited(edges[edges.len() - 1]))?;
@@ -322,7 +322,7 @@ impl<'a> Walk<'a> {
         requires within { edge < length self.now.graph.now.manifest.lines }
         requires lefts { vec_len self.now.left ≡ length self.now.graph.now.manifest.lines }
         requires left { IsLeft (links_of self.now.graph.now) self.now.left.items edge }
-        ensures { result ≡ awaited (links_of self.now.graph.now) self.now.left.items edge }
+        ensures { result ≡ awaited_in self.now edge }
     {
         self.graph.need(edge, self.left[edge.index()] - 1)
     }
@@ -331,7 +331,7 @@ impl<'a> Walk<'a> {
 /// Up to where each edge needs what some edge makes. Behind that stand sources, as nearly all recorded inputs are.
 fn made_ends(alloc: Global, graph: &Graph) -> Result<Vec<usize>, AllocError>
     ensures fits { IfOk result (λ ends. vec_len ends ≡ length graph.now.manifest.lines) }
-    ensures ends { IfOk result (λ ends. EachIndex ends.items (λ e. IsMadeEnd (links_of graph.now) e (slice_index ends.items e))) }
+    ensures ends { IfOk result (λ ends. AreMadeEnds (links_of graph.now) ends.items) }
 {
     let mut ends = Vec::new(alloc);
     for place in 0..graph.edges() {
