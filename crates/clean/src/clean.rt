@@ -1,9 +1,8 @@
 //! The clean build, one round after another.
 
-ghost use Rattle.std.specs.Prelude.{◌≡◌, ℕ, None, List, map, IfOk, OnOk};
+ghost use Rattle.std.specs.Prelude.{◌≡◌, ◌++◌, ◌∷◌, [], None, map, IfOk, OnOk};
 ghost use Rattle.model.specs.World.{view_of};
-ghost use Rattle.model.specs.Clean.{clean_build};
-ghost use Rattle.clean.specs.Made.{behaviour, command_of, given_by, overwritten};
+ghost use Rattle.clean.specs.Made.{behaviour, given_round, AreWritten, AreBuilt};
 
 use crate::depfiles::Depfiles;
 use crate::made::{give_at, made_paths};
@@ -26,19 +25,38 @@ pub fn clean_build<C: Commands, D: Depfiles>(
     graph: &BuildGraph,
     files: History,
 ) -> Result<History, AllocError>
-    ensures { IfOk result (λ built. (p : List ℕ) → view_of built p ≡ clean_build (behaviour C.outcome D.inputs) graph.now.edges (view_of files) p) }
+    ensures { IfOk result (AreBuilt (behaviour C.outcome D.inputs) graph.now.edges files) }
 {
-    let edges = graph.edges.as_slice();
-    let made = made_paths(alloc, edges)?;
     let mut files = files;
-    write_all(removals(alloc, &made)?, &mut files)?;
+    build_anew(
+        alloc,
+        commands,
+        depfiles,
+        graph.edges.as_slice(),
+        &mut files,
+    )?;
+    Ok(files)
+}
+
+/// What commands make is removed, and made in as many rounds as there are edges.
+fn build_anew<C: Commands, D: Depfiles>(
+    alloc: Global,
+    commands: &C,
+    depfiles: &D,
+    edges: &[Edge],
+    files: &mut History,
+) -> Result<(), AllocError>
+    ensures { OnOk result (AreBuilt (behaviour C.outcome D.inputs) edges.now files.old files.new) }
+{
+    let made = made_paths(alloc, edges)?;
+    write_all(removals(alloc, &made)?, files)?;
     for _ in edges {
         write_all(
-            round(alloc, commands, depfiles, edges, &made, &files)?,
-            &mut files,
+            round(alloc, commands, depfiles, edges, &made, files)?,
+            files,
         )?;
     }
-    Ok(files)
+    Ok(())
 }
 
 /// No content for any of the paths.
@@ -48,7 +66,7 @@ fn removals(alloc: Global, made: &[&Path]) -> Result<Vec<(Path, Option<Bytes>)>,
     let mut contents = Vec::new(alloc);
     for path in made {
         let path: &Path = path;
-        contents.push((path.clone()?, None))?;
+        push(&mut contents, path, None)?;
     }
     Ok(contents)
 }
@@ -62,20 +80,33 @@ fn round<C: Commands, D: Depfiles>(
     made: &[&Path],
     files: &History,
 ) -> Result<Vec<(Path, Option<Bytes>)>, AllocError>
-    ensures { IfOk result (λ contents. contents.items ≡ map (λ path. (path.now, given_by (behaviour C.outcome D.inputs) (view_of files.now) path.now (command_of edges.now path.now))) made.now) }
+    ensures { IfOk result (λ contents. contents.items ≡ given_round (behaviour C.outcome D.inputs) (view_of files.now) edges.now made.now) }
 {
     let mut contents = Vec::new(alloc);
     for path in made {
         let path: &Path = path;
         let content = give_at(alloc, commands, depfiles, edges, files, path.as_str())?;
-        contents.push((path.clone()?, content))?;
+        push(&mut contents, path, content)?;
     }
     Ok(contents)
 }
 
+/// Puts the content of the path behind the others.
+fn push(
+    contents: &mut Vec<(Path, Option<Bytes>)>,
+    path: &Path,
+    content: Option<Bytes>,
+) -> Result<(), AllocError>
+    ensures { OnOk result (contents.new.items ≡ contents.old.items ++ (path.now, content) ∷ []) }
+{
+    let path = path.clone()?;
+    contents.push((path, content))?;
+    Ok(())
+}
+
 /// Writes these contents, or deletes a file where there is none.
 fn write_all(contents: Vec<(Path, Option<Bytes>)>, files: &mut History) -> Result<(), AllocError>
-    ensures { OnOk result ((p : List ℕ) → view_of files.new p ≡ overwritten (view_of files.old) contents.items p) }
+    ensures { OnOk result (AreWritten contents.items files.old files.new) }
 {
     for (path, content) in contents {
         files.write(Writer::Program, path, content)?;

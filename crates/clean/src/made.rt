@@ -1,12 +1,11 @@
 //! Which command makes a path, and what it gives there.
 
-ghost use Rattle.std.specs.Prelude.{◌≡◌, ◌++◌, ◌&&◌, ℕ, None, List, option_copied, map, filter, is_some, IfOk, OnOk};
-ghost use Rattle.model.specs.World.{View, view_of};
-ghost use Rattle.model.specs.declared.act.Act.{Act};
-ghost use Rattle.model.specs.declared.outcome.Outcome.{Outcome};
+ghost use Rattle.std.specs.Prelude.{◌≡◌, ◌++◌, ◌&&◌, ℕ, None, List, option_copied, IfOk, OnOk};
+ghost use Rattle.model.specs.World.{view_of};
 ghost use Rattle.model.specs.Graph.{has};
-ghost use Rattle.model.specs.Outcome.{last_write, depfile_in, is_accepted, left, given};
-ghost use Rattle.clean.specs.Made.{behaviour, if_command, command_of, made_paths, given_by};
+ghost use Rattle.model.specs.Outcome.{last_write, given};
+ghost use Rattle.sim.specs.Toy.{texts_in};
+ghost use Rattle.clean.specs.Made.{behaviour, if_command, command_of, made_paths, made_among, given_at, IsWhetherRead};
 
 use crate::depfiles::Depfiles;
 use model::{Act, Edge, Outcome, Write};
@@ -65,7 +64,7 @@ fn is_read<D: Depfiles>(
     act: &Act,
     outcome: &Outcome,
 ) -> Result<bool, AllocError>
-    ensures { IfOk result (λ read. (gives : Act → View → Outcome) → read ≡ is_accepted (depfile_in (behaviour gives D.inputs) act.now (left outcome.now))) }
+    ensures { IfOk result (IsWhetherRead D.inputs act.now outcome.now) }
 {
     if act.depfile.is_empty() {
         return Ok(true);
@@ -109,7 +108,7 @@ pub(crate) fn give_at<C: Commands, D: Depfiles>(
     files: &History,
     path: &str,
 ) -> Result<Option<Bytes>, AllocError>
-    ensures { IfOk result (λ content. content ≡ given_by (behaviour C.outcome D.inputs) (view_of files.now) path.now (command_of edges.now path.now)) }
+    ensures { IfOk result (λ content. content ≡ given_at (behaviour C.outcome D.inputs) (view_of files.now) edges.now path.now) }
 {
     match command_of(edges, path) {
         Some(edge) => give(alloc, commands, depfiles, &edge.act, files, path),
@@ -119,7 +118,7 @@ pub(crate) fn give_at<C: Commands, D: Depfiles>(
 
 /// The paths that commands make.
 pub(crate) fn made_paths<'a>(alloc: Global, edges: &'a [Edge]) -> Result<Vec<&'a Path>, AllocError>
-    ensures { IfOk result (λ made. map (λ path. path.now) made.items ≡ made_paths edges.now) }
+    ensures { IfOk result (λ made. texts_in made.items ≡ made_paths edges.now) }
 {
     let mut made = Vec::new(alloc);
     for edge in edges {
@@ -135,7 +134,7 @@ fn push_made<'a>(
     outputs: &'a [Path],
     made: &mut Vec<&'a Path>,
 ) -> Result<(), AllocError>
-    ensures { OnOk result (map (λ path. path.now) made.new.items ≡ map (λ path. path.now) made.old.items ++ filter (λ path. is_some (command_of edges.now path)) outputs.now) }
+    ensures { OnOk result (texts_in made.new.items ≡ texts_in made.old.items ++ made_among edges.now outputs.now) }
 {
     for path in outputs {
         if command_of(edges, path.as_str()).is_some() {

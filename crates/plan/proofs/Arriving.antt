@@ -80,9 +80,6 @@ pub record IsTold (standings : List Standing) (users : List ℕ) (old new : List
   pub fits : length new ≡ length old
   pub told : (e : ℕ) → awaits (standing_at standings e) ≡ true → get_or new e 0 + times users e ≡ get_or old e 0
 
-pub told_none : (standings : List Standing) (left : List ℕ) → IsTold standings [] left left
-told_none standings left = record { fits = refl; told = λ e is. omega arith }
-
 pub told_next : (standings : List Standing) (users : List ℕ) (k : ℕ) (old left after : List ℕ) → k < length users → IsTold standings (take k users) old left
     → get_or users k 0 < length left → (awaits (standing_at standings (get_or users k 0)) ≡ true → 0 < get_or left (get_or users k 0) 0)
     → after ≡ cond (awaits (standing_at standings (get_or users k 0))) (lowered left (get_or users k 0)) left → IsTold standings (take (k + 1) users) old after
@@ -193,9 +190,6 @@ pub record HaveCome (paths : ℕ) (outputs : List ℕ) (old new : List Bool) : T
   pub made : (p : ℕ) → p < paths → has_number outputs p ≡ true → has new p ≡ true
   pub others : (p : ℕ) → has_number outputs p ≡ false → has new p ≡ has old p
 
-pub come_none : (paths : ℕ) (there : List Bool) → HaveCome paths [] there there
-come_none paths there = record { made = λ p lt is. absurd (false≢true is); others = λ p is. refl }
-
 listed_push : (xs : List ℕ) (x p : ℕ) → has_number (xs ++ x ∷ []) p ≡ (has_number xs p || (x == p))
 listed_push [] x p = or_none (x == p)
   where
@@ -232,6 +226,3 @@ come_next paths outputs k old there after lt fits is come =
     or_parts : (a b : Bool) → (a || b) ≡ false → (a ≡ false) × (b ≡ false)
     or_parts true b h = absurd (true≢false h)
     or_parts false b h = (refl, h)
-
-pub still_same : (a : Plan) → IsStill a a
-still_same a = record { standings = refl; queue = refl; changed = refl; loads = refl; running = refl; failed = refl; well = refl; jobs = refl; keep = refl }

@@ -7,14 +7,6 @@ use Rattle.std.proofs.lemmas.Bool.{cases_Bool}
 abbrev one_if : Bool → ℕ
 one_if b = cond b 1 0
 
--- where a write changes what passes
-pub count_gains : {X : Type 0} (p : X → Bool) (xs : List X) (i : ℕ) (y d : X) → i < length xs → p (get_or xs i d) ≡ false → p y ≡ true → count_by p (set xs i y) ≡ count_by p xs + 1
-count_gains {X = X} p xs i y d lt was is =
-    let e = sum_by-set (λ (x : X). one_if (p x)) xs i y d lt in
-    let a : one_if (p (get_or xs i d)) ≡ 0 = ap one_if was in
-    let b : one_if (p y) ≡ 1 = ap one_if is in
-    omega (arith, e, a, b)
-
 pub count_loses : {X : Type 0} (p : X → Bool) (xs : List X) (i : ℕ) (y d : X) → i < length xs → p (get_or xs i d) ≡ true → p y ≡ false → count_by p (set xs i y) + 1 ≡ count_by p xs
 count_loses {X = X} p xs i y d lt was is =
     let e = sum_by-set (λ (x : X). one_if (p x)) xs i y d lt in

@@ -1,5 +1,5 @@
 -- The load that a plan says is the one that is due.
-use Rattle.std.proofs.Common.{◌≡◌, ◌⊎◌, inl, inr, ℕ, zero, suc, ◌<◌, ◌==◌, ◌||◌, cond, Bool, true, false, List, [], ◌∷◌, ◌++◌, Option, None, Some, take, drop, length, get_or, refl, sym, ◌∙◌, ap, subst, arith}
+use Rattle.std.proofs.Common.{◌≡◌, ◌⊎◌, inl, inr, ℕ, zero, suc, ◌<◌, ◌==◌, Bool, true, false, List, [], ◌∷◌, ◌++◌, Option, None, Some, take, drop, length, get_or, refl, sym, ◌∙◌, ap, subst, arith}
 use Rattle.std.specs.Option.{option_map}
 use Rattle.std.specs.List.{AllByRecursion}
 use Rattle.std.proofs.lemmas.Bool.{false≢true, or_cases, eqb-true}
@@ -17,7 +17,7 @@ use Rattle.links.specs.declared.graph.Graph.{Graph}
 use Rattle.links.specs.Links.{links_of, needs_at}
 use Rattle.links.specs.Extended.{dyndep_at}
 use Rattle.plan.specs.declared.plan.Plan.{Plan}
-use Rattle.plan.specs.Standing.{standing_at, is_settled, maker_settled}
+use Rattle.plan.specs.Standing.{maker_settled}
 use Rattle.plan.specs.Loads.{IsWanted, IsFirstToName, LoadsBefore, BySource, ByEdge, AreInOrder, NoneIsThere, IsFirstThere}
 use Rattle.plan.specs.Planned.{IsPlanned, AreTaken}
 use Rattle.plan.proofs.Judging.{settled_stands}

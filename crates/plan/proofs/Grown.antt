@@ -1,18 +1,17 @@
 -- A plan goes on when a dyndep file is loaded: what is so of the edges as they were is so of them as they are.
-use Rattle.std.proofs.Common.{◌≡◌, ◌≢◌, ◌⊎◌, inl, inr, ℕ, zero, suc, ◌+◌, ◌<◌, ◌≤◌, cond, Bool, true, false, List, [], ◌∷◌, ◌++◌, Option, None, Some, filter, map, length, get_or, count_by, refl, sym, ◌∙◌, ap, subst, arith}
-use Rattle.std.proofs.lemmas.Bool.{false≢true, true≢false, cases_Bool}
+use Rattle.std.proofs.Common.{◌≡◌, ◌⊎◌, inl, inr, ℕ, zero, suc, ◌+◌, ◌<◌, ◌≤◌, cond, Bool, true, false, List, [], ◌∷◌, ◌++◌, Some, length, get_or, count_by, refl, sym, ◌∙◌, ap, subst, arith}
+use Rattle.std.proofs.lemmas.Bool.{false≢true, cases_Bool}
 use Rattle.std.proofs.lemmas.List.{length-append}
 use Rattle.std.proofs.lemmas.List.Sums.{sum_by-cons}
 use Rattle.model.specs.declared.graph.Edge.{Edge}
 use Rattle.model.specs.declared.graph.Pool.{Pool}
 use Rattle.model.specs.Graph.{has, has_number, edge_at, inputs, maker, no_edge, IsCommand, Addition}
 use Rattle.model.specs.Reading.{needs, IsInCone, Wanted, Needed, Validating}
-use Rattle.model.specs.Schedule.{Task, Step, Judged, Started, Ended, judged_in, done_in, IsSettled, Done}
-use Rattle.build_theory.specs.Order.{IsOrderly, IsOrderlyStep, IsOrderlyFrom}
+use Rattle.model.specs.Schedule.{Task, Step, Judged, Started, Ended, judged_in, done_in, Done}
+use Rattle.build_theory.specs.Order.{IsOrderlyStep, IsOrderlyFrom}
 use Rattle.build_theory.proofs.Lists.{has-left, has-right, has-cases}
 use Rattle.build_theory.proofs.Growth.{HasGrown, grown_by, cases_named, maker_still}
 use Rattle.build_theory.proofs.Settled.{settled_command}
-use Rattle.lowest.specs.Flags.{has as flagged}
 use Rattle.queue.specs.Turns.{Turns}
 use Rattle.paths.specs.declared.line.Line.{Line}
 use Rattle.paths.specs.declared.manifest.Action.{Action}
@@ -31,11 +30,11 @@ use Rattle.links.specs.Extended.{HasLoaded}
 use Rattle.plan.specs.declared.plan.Plan.{Plan}
 use Rattle.plan.specs.declared.step.Standing.{Standing}
 use Rattle.plan.specs.declared.step.Standing.TheVariants.{Outside, Unjudged, Clean, OutOfDate, Running, Well, Failed, Alias, Known}
-use Rattle.plan.specs.Standing.{standing_at, is_unjudged, is_out_of_date, is_running, is_failed, is_well, is_alias, is_outside, is_phony, is_settled, maker_settled}
+use Rattle.plan.specs.Standing.{standing_at, is_out_of_date, is_running, is_failed, is_well, is_outside, is_phony, is_settled}
 use Rattle.plan.specs.Pools.{place_in, pool_of, depths_of}
 use Rattle.plan.specs.Plan.{IsOver, IsWaiting, IsTallied, IsPooled, AreAllPooled}
 use Rattle.plan.specs.First.{first_of, first_at, AreCounts}
-use Rattle.plan.specs.Planned.{standing_in, IsPlanOver, IsPlanned, IsTaskOf, AreTaken}
+use Rattle.plan.specs.Planned.{IsPlanOver, IsPlanned, IsTaskOf, AreTaken}
 use Rattle.plan.specs.Growing.{grown_of, AreGrown, AreThere}
 use Rattle.plan.specs.Extended.{MayGoOn, IsGrownTask}
 use Rattle.plan.proofs.PlannedSteps.{fresh_unjudged}
@@ -126,13 +125,6 @@ grown_all links marks old new count fits all size each = record {
         ∙ sym (ap (λ (s : Standing). grown_of s (first_at links marks e)) (past_end old e Outside (omega (arith, all, past)))))
   ];
 }
-
--- flags that have grown are as they were, and not set behind these
-pub flags_all : (flags grown : List Bool) (count : ℕ) → length grown ≡ count → length flags ≤ count → ((p : ℕ) → p < count → flagged grown p ≡ flagged flags p) → (p : ℕ) → flagged grown p ≡ flagged flags p
-flags_all flags grown count fits few each p = elim (lower_or_past p count) [
-  | inl less ↦ each p less
-  | inr past ↦ past_end grown p false (omega (arith, fits, past)) ∙ sym (past_end flags p false (omega (arith, few, past)))
-]
 
 -- who makes a path is an edge of the graph
 pub maker_below : (graph : Graph) (p e : ℕ) → (links_of graph).maker p ≡ Some e → e < length graph.manifest.lines

@@ -1,11 +1,11 @@
 -- Which dyndep files are loaded, and in which order.
-use Rattle.std.proofs.Common.{◌≡◌, ◌≢◌, ◌⊎◌, inl, inr, ℕ, zero, suc, ◌+◌, ◌<◌, cond, Bool, true, false, List, [], ◌∷◌, ◌++◌, Option, None, Some, length, get_or, refl, sym, ◌∙◌, ap, subst, arith, append_assoc}
+use Rattle.std.proofs.Common.{◌≡◌, inl, inr, ℕ, zero, suc, ◌+◌, ◌<◌, Bool, true, false, List, [], ◌∷◌, ◌++◌, Option, None, Some, length, get_or, refl, sym, ◌∙◌, ap, subst, arith, append_assoc}
 use Rattle.std.specs.Option.{is_some}
 use Rattle.std.proofs.Math.ListN.{set}
-use Rattle.std.proofs.lemmas.List.{append-nil, length-set, get_or-set_same, get_or-set_other}
+use Rattle.std.proofs.lemmas.List.{length-set, get_or-set_same, get_or-set_other}
 use Rattle.std.proofs.lemmas.Bool.{false≢true, true≢false, cases_eq, cases_Bool}
 use Rattle.model.specs.Graph.{has_number}
-use Rattle.build_theory.proofs.Lists.{has_number-left, has_number-right, has_number-cases, has_number-one, has_number-push, has_number-push_cases, has_number-push_other, same_some, some_none}
+use Rattle.build_theory.proofs.Lists.{has_number-left, has_number-right, has_number-cases, has_number-one, has_number-push, has_number-push_cases, has_number-push_other, same_some}
 use Rattle.lowest.specs.Flags.{has}
 use Rattle.paths.specs.declared.manifest.Action.{Action}
 use Rattle.paths.specs.declared.manifest.Action.TheVariants as action
@@ -16,7 +16,7 @@ use Rattle.links.specs.Links.{links_of}
 use Rattle.links.specs.Extended.{dyndep_at}
 use Rattle.plan.specs.declared.step.Standing.{Standing}
 use Rattle.plan.specs.Standing.{standing_at, is_outside}
-use Rattle.plan.specs.Loads.{named_by, IsWanted, NoneIsWanted, AreWanted, IsTaken, NoneIsTaken, IsFirstToName, IsNamedBefore, AreNamedInOrder, HavePushed, LoadsBefore, BySource, ByEdge, AreInOrder, AreLoads}
+use Rattle.plan.specs.Loads.{IsWanted, NoneIsWanted, AreWanted, IsTaken, NoneIsTaken, IsFirstToName, IsNamedBefore, AreNamedInOrder, HavePushed, BySource, ByEdge, AreInOrder, AreLoads}
 
 -- ---- edges that name files
 
@@ -39,71 +39,11 @@ file_within graph e file names = let below = graph.manifest.dyndeps e in omega (
 
 -- ---- edges of the cone that name files
 
-inside_named : (graph : Graph) (s : Standing) (e : ℕ) → is_outside s ≡ false → named_by graph s e ≡ dyndep_at graph e
-inside_named graph s e inside = ap (λ (b : Bool). cond b None (dyndep_at graph e)) inside
-
-named_inside : (graph : Graph) (s : Standing) (e file : ℕ) → named_by graph s e ≡ Some file → (is_outside s ≡ false) × (dyndep_at graph e ≡ Some file)
-named_inside graph s e file is = by (is_outside s) refl is
-  where
-    by : (b : Bool) → is_outside s ≡ b → cond b None (dyndep_at graph e) ≡ Some file → (is_outside s ≡ false) × (dyndep_at graph e ≡ Some file)
-    by true outside some = absurd (some_none file (sym some))
-    by false inside some = (inside, some)
-
--- none of the first edges names a file
-pub nothing_next : (graph : Graph) (standings : List Standing) (k : ℕ) → named_by graph (standing_at standings k) k ≡ None → ((e : ℕ) → e < k → named_by graph (standing_at standings e) e ≡ None)
-    → (e : ℕ) → e < k + 1 → named_by graph (standing_at standings e) e ≡ None
-nothing_next graph standings k here before e lt = elim (cases_eq e k) [
-  | inl same ↦ subst (λ (n : ℕ). named_by graph (standing_at standings n) n ≡ None) (sym same) here
-  | inr other ↦ before e (omega (arith, lt, other))
-]
-
-pub nothing_wanted : (graph : Graph) (standings : List Standing) (count : ℕ) → count ≡ length graph.manifest.lines → ((e : ℕ) → e < count → named_by graph (standing_at standings e) e ≡ None) → NoneIsWanted graph standings
-nothing_wanted graph standings count all none file wanted =
-    let low = namer_within graph wanted.edge file wanted.names in
-    some_none file (sym wanted.names ∙ (sym (inside_named graph (standing_at standings wanted.edge) wanted.edge wanted.inside) ∙ none wanted.edge (omega (arith, low, all))))
-
 -- the flags of just the files that the first edges name are set
 pub record AreWantedBy (graph : Graph) (standings : List Standing) (flags : List Bool) (count : ℕ) : Type 0 where
   pub fits : length flags ≡ length graph.manifest.paths
   pub named : (file : ℕ) → has flags file ≡ true → IsWanted graph standings file
   pub all : (e file : ℕ) → e < count → is_outside (standing_at standings e) ≡ false → dyndep_at graph e ≡ Some file → has flags file ≡ true
-
-pub wanted_same : (graph : Graph) (standings : List Standing) (flags : List Bool) (k : ℕ) → named_by graph (standing_at standings k) k ≡ None → AreWantedBy graph standings flags k → AreWantedBy graph standings flags (k + 1)
-wanted_same graph standings flags k none before = record {
-  fits = before.fits;
-  named = before.named;
-  all = λ e file lt inside names. elim (cases_eq e k) [
-    | inl same ↦ absurd (some_none file (sym names ∙ (sym (inside_named graph (standing_at standings e) e inside) ∙ subst (λ (n : ℕ). named_by graph (standing_at standings n) n ≡ None) (sym same) none)))
-    | inr other ↦ before.all e file (omega (arith, lt, other)) inside names
-  ];
-}
-
-pub wanted_next : (graph : Graph) (standings : List Standing) (flags new : List Bool) (k file : ℕ) → named_by graph (standing_at standings k) k ≡ Some file → new ≡ set flags file true
-    → AreWantedBy graph standings flags k → AreWantedBy graph standings new (k + 1)
-wanted_next graph standings flags new k file is set_is before = subst (λ (fs : List Bool). AreWantedBy graph standings fs (k + 1)) (sym set_is) record {
-  fits = length-set flags file true ∙ before.fits;
-  named = λ other h. elim (cases_eq other file) [
-    | inl same ↦ record { edge = k; inside = mine.0; names = mine.1 ∙ ap (λ (n : ℕ). Some n) (sym same) }
-    | inr differ ↦ before.named other (sym (get_or-set_other flags file other true false differ) ∙ h)
-  ];
-  all = λ e other lt inside names. elim (cases_eq other file) [
-    | inl same ↦ ap (has (set flags file true)) same ∙ get_or-set_same flags file true false (let low = file_within graph k file mine.1 in omega (arith, low, before.fits))
-    | inr differ ↦ get_or-set_other flags file other true false differ ∙ elim (cases_eq e k) [
-      | inl here ↦ absurd (differ (same_some other file (sym names ∙ (ap (dyndep_at graph) here ∙ mine.1))))
-      | inr elsewhere ↦ before.all e other (omega (arith, lt, elsewhere)) inside names
-    ]
-  ];
-}
-  where
-    mine : (is_outside (standing_at standings k) ≡ false) × (dyndep_at graph k ≡ Some file)
-    mine = named_inside graph (standing_at standings k) k file is
-
-pub wanted_all : (graph : Graph) (standings : List Standing) (flags : List Bool) (count : ℕ) → count ≡ length graph.manifest.lines → AreWantedBy graph standings flags count → AreWanted graph standings flags
-wanted_all graph standings flags count whole by = record {
-  fits = by.fits;
-  named = by.named;
-  all = λ e file inside names. by.all e file (let low = namer_within graph e file names in omega (arith, low, whole)) inside names;
-}
 
 -- ---- files in the order in which they are named
 
@@ -133,19 +73,6 @@ pub record HavePushedBy (graph : Graph) (made : Bool) (flags left : List Bool) (
   pub ordered : AreNamedInOrder graph added
   pub rest : (file : ℕ) → has_number added file ≡ false → has left file ≡ has flags file
   pub gone : (file : ℕ) → has_number added file ≡ true → has left file ≡ false
-
-pub pushed_none : (graph : Graph) (made : Bool) (flags : List Bool) (before : List ℕ) → HavePushedBy graph made flags flags before before 0
-pushed_none graph made flags before = record {
-  added = [];
-  fits = refl;
-  splits = sym (append-nil before);
-  each = λ file h. absurd (false≢true h);
-  first = λ file h. absurd (false≢true h);
-  all = λ e file lt taken. absurd (omega (arith, lt));
-  ordered = tt;
-  rest = λ file h. refl;
-  gone = λ file h. absurd (false≢true h);
-}
 
 module _ (graph : Graph) (made : Bool) (flags left : List Bool) (before after : List ℕ) (k : ℕ) (so_far : HavePushedBy graph made flags left before after k) where
   first_next : (file : ℕ) → has_number so_far.added file ≡ true → (d : ℕ) × IsFirstToName graph file d × (d < k + 1)
@@ -213,19 +140,6 @@ module _ (graph : Graph) (made : Bool) (flags left : List Bool) (before after : 
         | inr differ ↦ get_or-set_other left file other false false differ ∙ so_far.gone other (sym (has_number-push_other so_far.added file other (λ is. differ (sym is))) ∙ h)
       ];
     }
-
-pub pushed_all : (graph : Graph) (made : Bool) (flags left : List Bool) (before after : List ℕ) (count : ℕ) → count ≡ length graph.manifest.lines → HavePushedBy graph made flags left before after count → HavePushed graph made flags left before after
-pushed_all graph made flags left before after count whole by = record {
-  added = by.added;
-  splits = by.splits;
-  each = by.each;
-  all = λ e file taken. by.all e file (let low = namer_within graph e file taken.names in omega (arith, low, whole)) taken;
-  ordered = by.ordered;
-  others = λ file other. elim (cases_Bool (has_number by.added file)) [
-    | inl there ↦ absurd (other (by.each file there).1)
-    | inr missing ↦ by.rest file missing
-  ];
-}
 
 -- ---- sources, then what is made
 

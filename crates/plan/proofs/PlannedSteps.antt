@@ -9,7 +9,7 @@ use Rattle.build_theory.proofs.Makers.{command_within}
 use Rattle.build_theory.proofs.Orderly.{IsKept, kept_orderly}
 use Rattle.build_theory.proofs.Steps.{Appends, in_push, in_right, running_is, running_parts, clean-append, out_of_date-append, started-append, well-append, failed-append}
 use Rattle.plan.specs.declared.step.Standing.{Standing}
-use Rattle.plan.specs.declared.step.Standing.TheVariants.{Outside, Unjudged, Clean, OutOfDate, Running, Well, Failed}
+use Rattle.plan.specs.declared.step.Standing.TheVariants.{Unjudged, Clean, OutOfDate, Running, Well, Failed}
 use Rattle.plan.specs.Standing.{is_unjudged, is_out_of_date, is_running, is_failed, is_well}
 use Rattle.plan.specs.Planned.{standing_in, AreTaken}
 use Rattle.plan.specs.Steps.{edge_of}
@@ -26,14 +26,6 @@ same_stands {w} {v} {f} {g} {s} {t} {o} {p} {c} {d} a b i j k =
     ∙ (ap (λ (x : Bool). stands v g x o c) i
     ∙ (ap (λ (x : Bool). stands v g t x c) j
     ∙ ap (λ (x : Bool). stands v g t p x) k)))
-
-not_outside : (w f s o c : Bool) → stands w f s o c ≡ Outside → ⊥
-not_outside true f s o c h = cc
-not_outside false true s o c h = cc
-not_outside false false true o c h = cc
-not_outside false false false true c h = cc
-not_outside false false false false true h = cc
-not_outside false false false false false h = cc
 
 unjudged_flags : (w f s o c : Bool) → is_unjudged (stands w f s o c) ≡ true → (c || o) ≡ false
 unjudged_flags true f s o c h = absurd (false≢true h)
@@ -122,9 +114,6 @@ ended_is (Ended j false ∷ steps) i = ap (λ (b : Bool). (j == i) || b) (ended_
     swap false b c = refl
 
 -- ---- what a standing says of the steps, and the steps of it
-
-pub never_outside : (steps : List Step) (i : ℕ) → standing_in steps i ≡ Outside → ⊥
-never_outside steps i h = not_outside (has_number (well_in steps) i) (has_number (failed_in steps) i) (has_number (started_in steps) i) (has_number (out_of_date_in steps) i) (has_number (clean_in steps) i) h
 
 pub unjudged_fresh : (steps : List Step) (i : ℕ) → is_unjudged (standing_in steps i) ≡ true → has_number (judged_in steps) i ≡ false
 unjudged_fresh steps i h =

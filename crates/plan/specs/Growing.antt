@@ -2,7 +2,8 @@
 use Rattle.std.specs.Prelude.{◌≡◌, ℕ, ◌<◌, Bool, List, length}
 use Rattle.lowest.specs.Flags.{has}
 use Rattle.links.specs.declared.cone.Mark.{Mark}
-use Rattle.links.specs.Links.{Links}
+use Rattle.links.specs.declared.graph.Graph.{Graph}
+use Rattle.links.specs.Links.{Links, links_of}
 use Rattle.plan.specs.declared.step.Standing.{Standing}
 use Rattle.plan.specs.declared.step.Standing.TheVariants.{Outside, Alias, Known}
 use Rattle.plan.specs.Standing.{standing_at, maker_settled}
@@ -24,3 +25,7 @@ pub record AreGrown (links : Links) (marks : List Mark) (old new : List Standing
 pub record AreThere (links : Links) (paths : ℕ) (standings : List Standing) (there : List Bool) : Type 0 where
   pub fits : length there ≡ paths
   pub each : (p : ℕ) → p < paths → has there p ≡ maker_settled standings (links.maker p)
+
+-- just the sources, and what settled edges make, are there of the paths of the graph
+abbrev pub AreThereIn : Graph → List Standing → List Bool → Type 0
+AreThereIn graph standings there = AreThere (links_of graph) (length graph.manifest.paths) standings there

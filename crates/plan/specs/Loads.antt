@@ -1,5 +1,5 @@
 -- Which dyndep files are loaded, and in which order, by numbers.
-use Rattle.std.specs.Prelude.{◌≡◌, ℕ, ◌<◌, Bool, true, false, if◌then◌else◌, List, [], ◌∷◌, ◌++◌, length, Option, None, Some, is_some}
+use Rattle.std.specs.Prelude.{◌≡◌, ℕ, ◌<◌, Bool, true, false, if◌then◌else◌, List, [], ◌∷◌, ◌++◌, length, Option, None, Some, is_some, MatchOption}
 use Rattle.std.specs.List.{AllByRecursion}
 use Rattle.model.specs.Graph.{has_number}
 use Rattle.lowest.specs.Flags.{has}
@@ -99,3 +99,7 @@ pub record IsFirstThere (there : List Bool) (paths : List ℕ) (p : ℕ) : Type 
   pub splits : paths ≡ before ++ p ∷ after
   pub earlier : NoneIsThere there before
   pub is : has there p ≡ true
+
+-- the next of these paths to be loaded: the first that is there
+abbrev pub IsNextLoad : List Bool → List ℕ → Option ℕ → Type 0
+IsNextLoad there paths next = MatchOption next (NoneIsThere there paths) (IsFirstThere there paths)

@@ -1,7 +1,7 @@
 -- What is settled once an edge is.
-use Rattle.std.specs.Prelude.{◌≡◌, ◌⊎◌, ℕ, suc, ◌==◌, ◌<◌, ◌-◌, if◌then◌else◌, slice_set, Bool, true, List, length, slice_index, count_by, Some}
+use Rattle.std.specs.Prelude.{◌≡◌, ◌⊎◌, ℕ, suc, ◌==◌, ◌<◌, ◌-◌, if◌then◌else◌, slice_set, Bool, true, false, List, length, slice_index, count_by, Some}
 use Rattle.model.specs.declared.graph.Edge.{Edge}
-use Rattle.model.specs.Graph.{edge_at}
+use Rattle.model.specs.Graph.{edge_at, has_number}
 use Rattle.model.specs.Schedule.{Task, IsSettled}
 use Rattle.lowest.specs.Flags.{has}
 use Rattle.links.specs.declared.graph.Graph.{Graph}
@@ -19,6 +19,18 @@ pub record IsCounted (links : Links) (paths : ℕ) (standings : List Standing) (
   pub known : length there ≡ paths
   pub counts : (e : ℕ) → awaits (standing_at standings e) ≡ true → slice_index left e ≡ count_by (is_missing there) (needs_at links e)
 
+-- what the edge makes
+abbrev pub outputs_in : Graph → ℕ → List ℕ
+outputs_in graph edge = (links_of graph).outputs edge
+
+-- of the first so many paths these are there
+abbrev pub AreAllThere : ℕ → List ℕ → List Bool → Type 0
+AreAllThere count paths there = (p : ℕ) → p < count → has_number paths p ≡ true → has there p ≡ true
+
+-- each other path is there where it was
+abbrev pub OthersAreAsBefore : List ℕ → List Bool → List Bool → Type 0
+OthersAreAsBefore paths old new = (p : ℕ) → has_number paths p ≡ false → has new p ≡ has old p
+
 -- so are those that the plan keeps
 abbrev pub IsCountedIn : Graph → Plan → Type 0
 IsCountedIn graph plan = IsCounted (links_of graph) (length graph.manifest.paths) plan.standings.items plan.left.items plan.there.items
@@ -26,6 +38,10 @@ IsCountedIn graph plan = IsCounted (links_of graph) (length graph.manifest.paths
 -- one less is left of the edge
 abbrev pub lowered : List ℕ → ℕ → List ℕ
 lowered left e = slice_set left e (slice_index left e - 1)
+
+-- one less is left of an edge that waits
+abbrev pub lowered_for : Standing → List ℕ → ℕ → List ℕ
+lowered_for standing left e = if awaits standing then lowered left e else left
 
 -- the edge is in the set where no more than one was left
 abbrev pub raised : List Bool → List ℕ → ℕ → List Bool

@@ -14,7 +14,7 @@ pub struct Places {
 
 impl Places {
     ghost use Rattle.std.specs.Prelude.{◌≡◌, ℕ, List, if◌then◌else◌, bytes_eq, IfOk, OnOk};
-    ghost use Rattle.plan.specs.Places.{place_by, ArePlaces};
+    ghost use Rattle.plan.specs.Places.{place_by, ArePlaces, IsPlaced};
 
     /// The places of these pools; of those with one name that of the first.
     pub fn of(alloc: Global, pools: &[Pool]) -> Result<Places, AllocError>
@@ -33,7 +33,7 @@ impl Places {
 
     /// Gives the name this place.
     fn put(&mut self, alloc: Global, name: &str, place: Option<usize>) -> Result<(), AllocError>
-        ensures { OnOk result ((other : List ℕ) → place_by self.new other ≡ (if bytes_eq name.now other then place else place_by self.old other)) }
+        ensures { OnOk result (IsPlaced name.now place self.old self.new) }
     {
         let name = String::from_str(alloc, name)?;
         self.by_name.insert(name, place)?;

@@ -5,7 +5,7 @@ ghost use Rattle.lowest.specs.Flags.{has};
 ghost use Rattle.links.specs.Links.{links_of};
 ghost use Rattle.plan.specs.Standing.{is_settled, maker_settled};
 ghost use Rattle.plan.specs.First.{first_at};
-ghost use Rattle.plan.specs.Growing.{grown_of, AreGrown, AreThere};
+ghost use Rattle.plan.specs.Growing.{grown_of, AreGrown, AreThereIn};
 
 use crate::first::{first_counts, first_ready, first_standing, maker_of};
 use crate::loads::loads_of;
@@ -90,7 +90,7 @@ fn settled_paths(
     standings: &[Standing],
 ) -> Result<Vec<bool>, AllocError>
     requires { length standings.now ≡ length graph.now.manifest.lines }
-    ensures { IfOk result (λ there. AreThere (links_of graph.now) (length graph.now.manifest.paths) standings.now there.items) }
+    ensures { IfOk result (λ there. AreThereIn graph.now standings.now there.items) }
 {
     let mut there = Vec::with_capacity(alloc, graph.paths())?;
     for place in 0..graph.paths() {

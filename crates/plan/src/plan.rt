@@ -52,7 +52,7 @@ pub struct Plan {
 }
 
 impl Plan {
-    ghost use Rattle.std.specs.Prelude.{◌≡◌, ◌<◌, ℕ, suc, true, false, length, vec_len, slice_set, IfOk, MatchOption};
+    ghost use Rattle.std.specs.Prelude.{◌≡◌, ◌<◌, ℕ, suc, true, false, length, vec_len, slice_set, IfOk};
     ghost use Rattle.model.specs.Schedule.{Judged, Started, Ended as Finished, well_in, running_in, failed_in};
     ghost use Rattle.lowest.specs.Flags.{has};
     ghost use Rattle.queue.specs.Turns.{may};
@@ -61,7 +61,8 @@ impl Plan {
     ghost use Rattle.plan.specs.Standing.{standing_at};
     ghost use Rattle.plan.specs.Plan.{standing_by, standing_after, has_limits, IsSettling, AreFlagged};
     ghost use Rattle.plan.specs.First.{IsBegun};
-    ghost use Rattle.plan.specs.Loads.{NoneIsThere, IsFirstThere};
+    ghost use Rattle.plan.specs.Loads.{IsNextLoad};
+    ghost use Rattle.plan.specs.Settling.{outputs_in};
     ghost use Rattle.plan.specs.Planned.{IsPlanOver, IsFirstPlan, TakesStep, IsCountIn, IsLawfulNext, IsDueNext, IsOffered, is_stale};
 
     /// A plan in which no edge of the cone is judged. At most `jobs` commands run at once, and after `keep` failures none is
@@ -190,10 +191,10 @@ impl Plan {
     pub fn finished(&mut self, graph: &Graph, edge: EdgeId, ok: bool, changed: &[bool])
         requires over { IsPlanOver graph.now self.old }
         requires running { standing_at self.old.standings.items edge ≡ Standing.Running }
-        requires flags { length changed.now ≡ length ((links_of graph.now).outputs edge) }
+        requires flags { length changed.now ≡ length (outputs_in graph.now edge) }
         ensures over { IsPlanOver graph.now self.new }
         ensures stands { IsSettling self.old.standings.items self.new.standings.items edge (standing_after ok) }
-        ensures flags { AreFlagged self.old.changed.items self.new.changed.items ((links_of graph.now).outputs edge) changed.now }
+        ensures flags { AreFlagged self.old.changed.items self.new.changed.items (outputs_in graph.now edge) changed.now }
         ensures planned { TakesStep graph.now self.old self.new (Finished (suc edge) ok) }
     {
         let place = edge.index();
@@ -251,7 +252,7 @@ impl Plan {
 
     /// The first dyndep file, in the order of loads, that is there.
     fn next_load(&self) -> Option<PathId>
-        ensures { MatchOption result (NoneIsThere self.now.there.items self.now.loads.items) (IsFirstThere self.now.there.items self.now.loads.items) }
+        ensures { IsNextLoad self.now.there.items self.now.loads.items result }
     {
         for file in &self.loads {
             if is_there(&self.there, *file) {

@@ -16,7 +16,7 @@ impl Plan {
     ghost use Rattle.links.specs.Links.{links_of};
     ghost use Rattle.plan.specs.Standing.{standing_at, awaits, is_settled};
     ghost use Rattle.plan.specs.Planned.{IsOverIn};
-    ghost use Rattle.plan.specs.Settling.{IsCountedIn, lowered, IsStill, SettlesAliases, KeepsSound, IsAhead};
+    ghost use Rattle.plan.specs.Settling.{IsCountedIn, outputs_in, AreAllThere, OthersAreAsBefore, lowered_for, IsStill, SettlesAliases, KeepsSound, IsAhead};
 
     /// What the edge makes is there, and what aliases make that waited for nothing else.
     pub fn settle(&mut self, graph: &Graph, edge: EdgeId)
@@ -52,8 +52,8 @@ impl Plan {
         requires counted { IsCountedIn graph.now self.old }
         requires within { edge < vec_len self.old.standings }
         ensures counted { IsCountedIn graph.now self.new }
-        ensures made { (p : ℕ) → p < length graph.now.manifest.paths → has_number ((links_of graph.now).outputs edge) p ≡ true → has self.new.there.items p ≡ true }
-        ensures others { (p : ℕ) → has_number ((links_of graph.now).outputs edge) p ≡ false → has self.new.there.items p ≡ has self.old.there.items p }
+        ensures made { AreAllThere (length graph.now.manifest.paths) (outputs_in graph.now edge) self.new.there.items }
+        ensures others { OthersAreAsBefore (outputs_in graph.now edge) self.old.there.items self.new.there.items }
         ensures rest { IsStill self.old self.new }
     {
         for path in graph.outputs(edge) {
@@ -82,7 +82,7 @@ impl Plan {
     fn count_down(&mut self, user: usize)
         requires within { user < vec_len self.old.standings }
         requires some { awaits (standing_at self.old.standings.items user) ≡ true → 0 < slice_index self.old.left.items user }
-        ensures left { self.new.left.items ≡ (if awaits (standing_at self.old.standings.items user) then lowered self.old.left.items user else self.old.left.items) }
+        ensures left { self.new.left.items ≡ lowered_for (standing_at self.old.standings.items user) self.old.left.items user }
         ensures there { self.new.there.items ≡ self.old.there.items }
         ensures rest { IsStill self.old self.new }
     {

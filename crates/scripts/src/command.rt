@@ -75,54 +75,99 @@ impl<'a> Line<'a> {
 impl<'a> Command<'a> {
     fn parse(line: &'a [u8]) -> Option<Command<'a>> {
         let (word, rest) = first_word(line);
-        match (str::from_utf8(word).ok()?, rest) {
-            ("build", None) => Some(Command::Build { targets: None }),
-            ("build", Some(rest)) => Some(Command::Build {
-                targets: Some(words(rest)?),
-            }),
-            ("lines", None) => Some(Command::Lines),
-            ("-j", Some(rest)) => Some(Command::Jobs(number(rest)?)),
-            ("-k", Some(rest)) => Some(Command::Keep(number(rest)?)),
-            ("file", Some(rest)) => Some(Command::File {
-                path: lone_path(rest)?,
-            }),
-            ("write", Some(rest)) => {
-                let (word, text) = first_word(rest);
-                let path = lone_path(word)?;
-                Some(Command::Write { path, text })
-            }
-            ("delete", Some(rest)) => Some(Command::Delete {
-                path: lone_path(rest)?,
-            }),
-            ("show", Some(rest)) => Some(Command::Show {
-                path: lone_path(rest)?,
-            }),
-            (word, rest) => Command::parse_site(word, rest),
+        let word = str::from_utf8(word).ok()?;
+        match rest {
+            None => Command::alone(word),
+            Some(rest) => Command::followed(word, rest),
         }
     }
 
-    /// Reads a line that says how the site goes on.
-    fn parse_site(word: &str, rest: Option<&[u8]>) -> Option<Command<'a>> {
-        match (word, rest) {
-            ("finish", Some(b"first")) => Some(Command::Finish(Order::First)),
-            ("finish", Some(b"last")) => Some(Command::Finish(Order::Last)),
-            ("early", None) => Some(Command::Writes(Timing::Early)),
-            ("late", None) => Some(Command::Writes(Timing::Late)),
-            ("gate", Some(rest)) => Some(Command::Gate(number(rest)?)),
-            ("fault", Some(rest)) => match call_and_number(rest)? {
-                (call, number, None) => Some(Command::Fault { call, number }),
-                _ => None,
-            },
-            ("stop", Some(rest)) => {
-                let (call, at, bytes) = call_and_number(rest)?;
-                Some(Command::Stop {
-                    call,
-                    number: at,
-                    bytes: number_or_zero(bytes)?,
-                })
-            }
+    /// What a word asks for that stands alone.
+    fn alone(word: &str) -> Option<Command<'a>> {
+        match word {
+            "build" => Some(Command::Build { targets: None }),
+            "lines" => Some(Command::Lines),
+            "early" => Some(Command::Writes(Timing::Early)),
+            "late" => Some(Command::Writes(Timing::Late)),
             _ => None,
         }
+    }
+
+    /// What a word asks for with more behind it.
+    fn followed(word: &str, rest: &'a [u8]) -> Option<Command<'a>> {
+        match word {
+            "build" => Some(Command::Build {
+                targets: Some(words(rest)?),
+            }),
+            "write" => Command::write(rest),
+            "file" | "delete" | "show" => Command::of_path(word, lone_path(rest)?),
+            "-j" | "-k" => Command::of_limit(word, number(rest)?),
+            _ => Command::of_site(word, rest),
+        }
+    }
+
+    /// The path to write, and the text, where there is one.
+    fn write(rest: &'a [u8]) -> Option<Command<'a>> {
+        let (path, text) = first_word(rest);
+        Some(Command::Write {
+            path: lone_path(path)?,
+            text,
+        })
+    }
+
+    /// What a word asks for with a lone path behind it.
+    fn of_path(word: &str, path: &'a str) -> Option<Command<'a>> {
+        match word {
+            "file" => Some(Command::File { path }),
+            "delete" => Some(Command::Delete { path }),
+            "show" => Some(Command::Show { path }),
+            _ => None,
+        }
+    }
+
+    /// What a word asks for with a number behind it, of which 0 is no limit.
+    fn of_limit(word: &str, limit: u32) -> Option<Command<'a>> {
+        match word {
+            "-j" => Some(Command::Jobs(limit)),
+            "-k" => Some(Command::Keep(limit)),
+            _ => None,
+        }
+    }
+
+    /// What a word asks for that says how the site goes on, with more behind it.
+    fn of_site(word: &str, rest: &[u8]) -> Option<Command<'a>> {
+        match word {
+            "finish" => Some(Command::Finish(order_of(rest)?)),
+            "gate" => Some(Command::Gate(number(rest)?)),
+            "fault" => Command::fault(rest),
+            "stop" => Command::stop(rest),
+            _ => None,
+        }
+    }
+
+    fn fault(rest: &[u8]) -> Option<Command<'a>> {
+        match call_and_number(rest)? {
+            (call, number, None) => Some(Command::Fault { call, number }),
+            _ => None,
+        }
+    }
+
+    fn stop(rest: &[u8]) -> Option<Command<'a>> {
+        let (call, at, bytes) = call_and_number(rest)?;
+        Some(Command::Stop {
+            call,
+            number: at,
+            bytes: number_or_zero(bytes)?,
+        })
+    }
+}
+
+/// Which of the running commands is to end next.
+fn order_of(word: &[u8]) -> Option<Order> {
+    match word {
+        b"first" => Some(Order::First),
+        b"last" => Some(Order::Last),
+        _ => None,
     }
 }
 

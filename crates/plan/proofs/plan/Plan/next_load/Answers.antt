@@ -1,4 +1,4 @@
-use Rattle.std.proofs.Common.{◌≡◌, ◌∙◌, ◌<◌, ℕ, List, Bool, take, length, get_or, refl, sym, ap, subst}
+use Rattle.std.proofs.Common.{◌≡◌, ◌∙◌, ℕ, List, Bool, take, get_or, refl, sym, ap, subst}
 use Rattle.lowest.specs.Flags.{has}
 use Rattle.plan.specs.Loads.{NoneIsThere, IsFirstThere}
 use Rattle.plan.proofs.Arriving.{read_number}

@@ -2,7 +2,7 @@ use Rattle.std.proofs.Common.{◌≡◌, ℕ, List}
 use Rattle.model.specs.World.{view_of}
 use Rattle.model.specs.Clean.{rounds, sources_of}
 use Rattle.clean.specs.Made.{behaviour}
-use Rattle.clean.proofs.clean.clean_build.Given as goal
+use Rattle.clean.proofs.clean.build_anew.Given as goal
 
 abbrev pub invariant-loop : goal.invariant-loop
 invariant-loop g l =
