@@ -7,12 +7,12 @@ use Rattle.std.proofs.lemmas.Bool.{cases_eq, cases_Bool}
 use Rattle.std.proofs.lemmas.Bool.Decides.{nat_tests}
 use Rattle.text.specs.Marks.{Lacks}
 use Rattle.text.specs.Fronts.{IsNext, HasNoNext}
-use Rattle.build_log.specs.Line.{field_text, field_and_tab, escaped, line_text, AreTexts, SpellsNothing}
-use Rattle.build_log.specs.Form.{Form, record_line, HasLine, HaveLines, lines_text, IsRecordOrNone}
+use Rattle.build_log.specs.Line.{field_text, field_and_tab, escaped, line_text, AreTexts, IsNoLine, SpellsNothing}
+use Rattle.build_log.specs.Form.{Form, record_line, HasLine, HaveLines, lines_text, IsRecordOrNone, AreNoLinesOf}
 use Rattle.build_log.proofs.Bytes.{has_mark}
 use Rattle.build_log.proofs.Escapes.{AnyByte, all_fit, one_escape, escaped-plain, not_utf8}
-use Rattle.build_log.proofs.Lines.{IsNoLine, front_field, next_field, dot_ends, no_dot, one_line}
-use Rattle.build_log.proofs.Reading.{AreApart, AreNoLines, front_line, next_record}
+use Rattle.build_log.proofs.Lines.{front_field, next_field, dot_ends, no_dot, one_line}
+use Rattle.build_log.proofs.Reading.{AreApart, front_line, next_record}
 
 -- ---- marks
 
@@ -218,5 +218,5 @@ module _ {R : Type 0} (form : Form R) (apart : AreApart form) (decided : (fields
   ]
 
   -- the records whose lines these are, or that they are no records' lines
-  pub records_of_lines : (lines : List ℕ) → ((records : List R) × (lines ≡ lines_text form records) × HaveLines form records) ⊎ AreNoLines form lines
+  pub records_of_lines : (lines : List ℕ) → ((records : List R) × (lines ≡ lines_text form records) × HaveLines form records) ⊎ AreNoLinesOf form lines
   records_of_lines lines = items_of (record_line form) (HasLine form) record_next (suc (length lines)) lines (omega arith)

@@ -87,10 +87,6 @@ once_push (x ∷ ps) q once h =
 pub distinct_push : (ps : List (List ℕ)) (q : List ℕ) → AreDistinct ps → has ps q ≡ false → AreDistinct (ps ++ q ∷ [])
 distinct_push ps q distinct h = distinct_of_once (ps ++ q ∷ []) (once_push ps q (once_of_distinct ps distinct) h)
 
--- one that stands there already makes the list one with a path twice
-pub twice_push : (ps rest : List (List ℕ)) (q : List ℕ) → has ps q ≡ true → AreDistinct (ps ++ q ∷ rest) → ⊥
-twice_push ps rest q h distinct = distinct q (record { before = ps; after = rest; splits = refl; earlier = h })
-
 -- what passes a test stands once
 has-filter : (test : List ℕ → Bool) (ps : List (List ℕ)) (p : List ℕ) → has ps p ≡ false → has (filter test ps) p ≡ false
 has-filter test [] p h = refl

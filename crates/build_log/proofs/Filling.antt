@@ -17,9 +17,6 @@ has_number-push (x ∷ ps) p n = ap (λ (b : Bool). eqb x n || b) (has_number-pu
     go true = refl
     go false = refl
 
-pub filled_none : (slots : List (Option ℕ)) (value : Option ℕ) → IsFilled slots [] value slots
-filled_none slots value = record { len = refl; at = λ n lt. refl }
-
 length_set : (xs : List (Option ℕ)) (i : ℕ) (x : Option ℕ) → length (set xs i x) ≡ length xs
 length_set [] i x = refl
 length_set (y ∷ xs) zero x = refl

@@ -1,5 +1,5 @@
 -- What is in force in the build log, in the words of the model.
-use Rattle.std.proofs.Common.{◌≡◌, ◌<◌, ◌≤◌, ◌+◌, ℕ, zero, suc, Bool, true, false, cond, List, [], ◌∷◌, ◌++◌, length, map, Option, Some, None, slice_get, refl, sym, ap, ◌∙◌, subst, arith, append_assoc, append-nil}
+use Rattle.std.proofs.Common.{◌≡◌, ◌<◌, ◌+◌, ℕ, zero, suc, Bool, true, false, cond, List, [], ◌∷◌, ◌++◌, length, map, Option, Some, None, slice_get, refl, sym, ap, ◌∙◌, subst, arith, append_assoc, append-nil}
 use Rattle.std.specs.Option.{option_map, option_and_then}
 use Rattle.std.proofs.lemmas.List.{map-append}
 use Rattle.std.proofs.lemmas.List.Concat.{flat_map-append}
@@ -11,11 +11,11 @@ use Rattle.build_log.specs.declared.done.Done.{Done}
 use Rattle.build_log.specs.declared.form.Version.TheVariants.{Two}
 use Rattle.build_log.specs.Form.{record_line, lines_text, HaveLines, IsAppended}
 use Rattle.build_log.specs.Text.{header}
-use Rattle.build_log.specs.Kept.{Saying, Telling, tellings, told_from, told_of, place_of, left_to, outputs_at, some_of, in_force_of, Table, IsTableOf}
+use Rattle.build_log.specs.Kept.{Saying, Telling, tellings, tolds, told_from, told_of, place_of, left_to, outputs_at, some_of, Table, IsTableOf}
 use Rattle.build_log.specs.Record.{forms, outputs_of}
 use Rattle.build_log.specs.Log.{made_of, saying, done_record, Keeps, makings, IsLog}
 use Rattle.build_log.specs.Written.{left_of, written_of, IsWritten}
-use Rattle.build_log.proofs.Lookups.{got, tolds, told_place, first_in_force, first_next, first_all}
+use Rattle.build_log.proofs.Lookups.{got, told_place, first_in_force, first_next}
 use Rattle.build_log.proofs.LawLemmas.{HaveLines-append}
 
 map-cond : (b : Bool) (x y : Option Done) → option_map made_of (cond b x y) ≡ cond b (option_map made_of x) (option_map made_of y)
@@ -76,20 +76,6 @@ wrote all n outputs done old new at e lt appended =
       fit = subst (HaveLines (forms Two)) (sym is) (appended.has, tt);
     }
 
-nothing : (all : List (Saying Done)) (n : ℕ) (old : List ℕ) → written_of all n ≡ [] → IsWritten all n old old
-nothing all n old is = record {
-  text = sym (append-nil old) ∙ ap (λ (xs : List ℕ). old ++ xs) (sym (ap (lines_text (forms Two)) is));
-  fit = subst (HaveLines (forms Two)) (sym is) tt;
-}
-
--- nothing was written
-pub wrote_none : (all : List (Saying Done)) (n : ℕ) (found : Option Done) (outputs : List (List ℕ)) (old : List ℕ) → found ≡ slice_get (tolds all) n → outputs ≡ left_to all n (outputs_at (tellings all) n) → outputs ≡ [] → IsWritten all n old old
-wrote_none all n None outputs old at e none = nothing all n old (ap (left_of all n) (sym at))
-wrote_none all n (Some done) outputs old at e none = nothing all n old (ap (left_of all n) (sym at) ∙ ap (λ (os : List (List ℕ)). map done_record (some_of os done)) (sym e ∙ none))
-
-pub wrote_past : (all : List (Saying Done)) (n : ℕ) (old : List ℕ) → None ≡ slice_get (tolds all) n → IsWritten all n old old
-wrote_past all n old at = nothing all n old (ap (left_of all n) (sym at))
-
 -- the text so far is the log of the first records in force
 abbrev pub IsBegun : List (Saying Done) → ℕ → List ℕ → Type 0
 IsBegun all n text = IsLog text (map done_record (first_in_force all n))
@@ -104,6 +90,3 @@ next_written all n old new lt log step =
       lines = step.text ∙ (ap (λ (xs : List ℕ). xs ++ lines_text (forms Two) (written_of all n)) log.lines ∙ (append_assoc (header (forms Two)) (lines_text (forms Two) records) (lines_text (forms Two) (written_of all n)) ∙ ap (λ (xs : List ℕ). header (forms Two) ++ xs) (sym (ap (lines_text (forms Two)) more ∙ flat_map-append (record_line (forms Two)) records (written_of all n)))));
       fit = subst (HaveLines (forms Two)) (sym more) (HaveLines-append (forms Two) records (written_of all n) log.fit step.fit);
     }
-
-pub all_written : (all : List (Saying Done)) (n : ℕ) (text : List ℕ) → length (tellings all) ≤ n → IsBegun all n text → IsLog text (map done_record (in_force_of all))
-all_written all n text le log = subst (λ (l : List (Telling Done)). IsLog text (map done_record l)) (first_all all n le) log

@@ -2,7 +2,7 @@
 use Rattle.std.proofs.Common.{◌≡◌, ◌+◌, ℕ, zero, suc, Bool, true, false, cond, ◌||◌, ◌⊎◌, eqb, List, [], ◌∷◌, ◌++◌, length, Option, Some, None, slice_get, refl, sym, ap, ◌∙◌, subst, inl, inr, arith, String, string_bytes}
 use Rattle.std.specs.List.{AllByRecursion, list_any, find}
 use Rattle.std.specs.Str.{bytes_eq}
-use Rattle.std.proofs.lemmas.List.{length-append, map-append, append-nil, append_assoc}
+use Rattle.std.proofs.lemmas.List.{length-append, map-append, append_assoc}
 use Rattle.std.proofs.lemmas.Option.{slice_get_within, slice_get_past}
 use Rattle.std.proofs.lemmas.Bool.{false≢true, cases_Bool, or_cases, or_parts, false_from_ne_true, eqb-true, eq-eqb}
 use Rattle.model.specs.Graph.{has, has_number}
@@ -28,13 +28,6 @@ numbers_push xs [] [] n t are is = (is, tt)
 numbers_push xs [] (u ∷ ts) n t are is = absurd are
 numbers_push xs (m ∷ ns) [] n t are is = absurd are
 numbers_push xs (m ∷ ns) (u ∷ ts) n t are is = (are.0, numbers_push xs ns ts n t are.1 is)
-
--- the texts are the old ones and more
-pub grown_none : {T : Type 0} (table : Table T) → IsGrown table table
-grown_none table = record { more = []; outputs = sym (append-nil table.outputs) }
-
-pub grown_by_none : {T : Type 0} (old new : Table T) → new.outputs ≡ old.outputs → IsGrown old new
-grown_by_none old new same = record { more = []; outputs = same ∙ sym (append-nil old.outputs) }
 
 pub grown_more : {T : Type 0} {old mid new : Table T} → IsGrown old mid → IsGrown mid new → IsGrown old new
 grown_more {old = old} first then = record {

@@ -7,7 +7,7 @@ use Rattle.std.specs.Str.{IsUtf8}
 use Rattle.text.specs.Marks.{Lacks}
 use Rattle.text.specs.Fronts.{IsFront, IsNext}
 use Rattle.text.proofs.Fronts.{front_none, front_more, front_stops, front_all}
-use Rattle.build_log.specs.Line.{field_text, field_and_tab, escaped, line_text, AreTexts, SpellsNothing, counted}
+use Rattle.build_log.specs.Line.{field_text, field_and_tab, escaped, line_text, IsNoLine, SpellsNothing, counted}
 use Rattle.build_log.proofs.Bytes.{Lacks-append, has_mark, one_cut}
 use Rattle.build_log.proofs.Escapes.{one_text}
 
@@ -79,9 +79,6 @@ dot_ends (x ∷ a) (y ∷ b) e =
     let inner = dot_ends a b cc in
     let heads : x ≡ y = cc in
     rw (heads, inner) refl
-
-abbrev pub IsNoLine : List ℕ → Type 0
-IsNoLine line = (texts : List (List ℕ)) → AreTexts texts → line ≡ line_text texts → ⊥
 
 -- where the first field spells no text, the line is none
 pub stops_at_field : (line front : List ℕ) (fields : List (List ℕ)) (rest field after : List ℕ) → line ≡ front ++ 46 ∷ [] → IsParted front fields rest → rest ≡ field ++ 9 ∷ after → Lacks 9 field → SpellsNothing field → IsNoLine line

@@ -5,7 +5,7 @@ use Rattle.std.specs.Prelude.{IfOk}
 use Rattle.std.proofs.lemmas.List.{length-append, append-nil, take_all}
 use Rattle.std.proofs.lemmas.Bool.{cases_Bool}
 use Rattle.model.specs.Graph.{has}
-use Rattle.build_log.specs.Kept.{Saying, Telling, AreDistinct, texts_at, if_some, tellings, told_from, told_of, place_from, place_of, is_place, left_to, outputs_at, some_of, in_force_from, in_force_of, Table, joined, AreNumbersOf, AreTold, IsTableOf}
+use Rattle.build_log.specs.Kept.{Saying, Telling, AreDistinct, texts_at, if_some, tellings, tolds, is_left, told_from, told_of, place_from, place_of, is_place, left_to, outputs_at, some_of, in_force_from, in_force_of, Table, joined, AreNumbersOf, AreTold, IsTableOf}
 use Rattle.build_log.specs.Found.{texts_in, IsNamed}
 use Rattle.build_log.proofs.Bytes.{take_more}
 use Rattle.build_log.proofs.Distinct.{distinct_of_once, distinct-filter}
@@ -31,9 +31,6 @@ some_named (o ∷ os) some = omega arith
 abbrev pub got : {T : Type 0} → List T → Option ℕ → Option T
 got xs None = None
 got xs (Some n) = slice_get xs n
-
-abbrev pub tolds : {T : Type 0} → List (Saying T) → List T
-tolds all = map (λ t. t.1) (tellings all)
 
 filter_push : (p : List ℕ → Bool) (xs : List (List ℕ)) (x : List ℕ) → filter p (xs ++ x ∷ []) ≡ filter p xs ++ cond (p x) (x ∷ []) []
 filter_push p [] x = refl
@@ -133,9 +130,7 @@ module _ {T : Type 0} where
       ap (λ (p : Option ℕ). is_place place p || list_any (λ n. is_place place (joined (slice_get table.in_force n))) ns) (is.place n o are.0)
       ∙ ap (λ (b : Bool). is_place place (place_of all o) || b) (any_from all table place ns os is are.1)
 
-  -- whether a record is in force
-  abbrev pub is_left : List (Saying T) → ℕ → Bool
-  is_left all place = list_any (λ o. is_place place (place_of all o)) (outputs_at (tellings all) place)
+  -- ---- whether a record is in force
 
   pub left_at : (all : List (Saying T)) (table : Table T) (place : ℕ) (k : List ℕ × T) → IsTableOf all table → slice_get table.told place ≡ Some k → list_any (λ n. is_place place (joined (slice_get table.in_force n))) k.0 ≡ is_left all place
   left_at all table place k is e = any_from all table place k.0 (outputs_at (tellings all) place) is (outputs_told table.outputs table.told (tellings all) place k is.told e)

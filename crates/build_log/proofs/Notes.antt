@@ -1,25 +1,22 @@
 -- What is noted of texts, and fields that stand in front of bytes.
-use Rattle.std.proofs.Common.{◌≡◌, ◌≢◌, ◌⊎◌, inl, inr, ℕ, ◌+◌, ◌-◌, ◌<◌, ◌≤◌, ◌∷◌, ◌++◌, [], List, length, take, get_or, set, Option, Some, None, slice_get, Bor, refl, sym, ap, ◌∙◌, subst, arith}
+use Rattle.std.proofs.Common.{◌≡◌, ◌≢◌, inl, inr, ℕ, ◌+◌, ◌-◌, ◌<◌, ◌≤◌, ◌∷◌, ◌++◌, [], List, length, take, get_or, set, Option, Some, None, slice_get, Bor, refl, sym, ap, ◌∙◌, subst, arith}
 use Rattle.std.specs.Prelude.{IfSome, IfNone, MatchOption}
-use Rattle.std.specs.List.{flat_map, AllByRecursion}
+use Rattle.std.specs.List.{flat_map}
 use Rattle.std.specs.Str.{IsUtf8}
 use Rattle.std.proofs.lemmas.Bool.Decides.{eqb_tells}
 use Rattle.std.proofs.Math.Seq.{take-append_seam}
 use Rattle.std.proofs.lemmas.List.{length-append, length-set, get_or-set_same, get_or-set_other, append-nil, append_assoc}
 use Rattle.std.proofs.lemmas.List.Concat.{flat_map-append}
 use Rattle.std.proofs.lemmas.Option.{slice_get_within, slice_get-get_or, slice_get_read, get_or_from_slice_get}
-use Rattle.build_log.specs.Line.{field_text, field_and_tab, IsPlain, AreTexts}
+use Rattle.build_log.specs.Line.{field_and_tab, IsPlain, AreTexts}
 use Rattle.build_log.specs.Kept.{AreNumbersOf}
-use Rattle.build_log.specs.Noted.{IsPlainAt, IsNumberOf, IsGuessIn, IsNoteIn, AreNotesOf, AreRunsOf}
+use Rattle.build_log.specs.Noted.{IsPlainAt, IsGuessIn, IsNoteIn, AreNotesOf, AreRunsOf}
 use Rattle.build_log.specs.Taken.{AreTakenFrom, IsTakenBehind}
 use Rattle.build_log.specs.declared.texts.Note.{Note}
 use Rattle.build_log.specs.declared.texts.Guess.{Guess}
 use Rattle.build_log.specs.declared.texts.Run.{Run}
 use Rattle.build_log.proofs.Escapes.{field_text-plain}
 use Rattle.build_log.proofs.Keeping.{get_grown, get_push, numbers_push, numbers_grown}
-
-pub notes_none : (texts : List (List ℕ)) → AreNotesOf texts []
-notes_none texts n note at = absurd (let clash : None ≡ Some note = at in cc)
 
 plain_grown : (texts more : List (List ℕ)) (n : ℕ) → IsPlainAt texts n → IsPlainAt (texts ++ more) n
 plain_grown texts more n is = (is.0, get_grown texts more n is.0 is.1, is.2)
@@ -31,10 +28,6 @@ guess_grown texts more (Some guess) is = plain_grown texts more guess.number is
 pub guess_made : (texts : List (List ℕ)) (guess : Option Guess) (number : ℕ) → IfSome guess (λ g. g.number ≡ number) → IsPlainAt texts number → IsGuessIn texts guess
 guess_made texts None number e is = tt
 guess_made texts (Some guess) number e is = subst (IsPlainAt texts) (sym e) is
-
-pub guess_named : (texts : List (List ℕ)) (guess : Option Guess) (number : ℕ) → IsGuessIn texts guess → IsNumberOf guess number → IsPlainAt texts number
-guess_named texts None number is e = absurd e
-guess_named texts (Some guess) number is e = subst (IsPlainAt texts) e is
 
 pub same_some : (a b : List ℕ) → Some a ≡ Some b → a ≡ b
 same_some a b e = cc
@@ -179,9 +172,6 @@ front_taken known bytes count numbers after front are e =
       many = are.many;
       numbered = are.numbered;
     }
-
-pub runs_none : (texts : List (List ℕ)) → AreRunsOf texts []
-runs_none texts n run at = absurd (let clash : None ≡ Some run = at in cc)
 
 pub runs_grown : (texts more : List (List ℕ)) (runs : List Run) → AreRunsOf texts runs → AreRunsOf (texts ++ more) runs
 runs_grown texts more runs are n run at = taken_grown texts more run.bytes (length run.numbers) run.numbers [] (are n run at)

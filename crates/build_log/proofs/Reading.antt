@@ -1,11 +1,12 @@
 -- Lines of records, one after another.
 use Rattle.std.proofs.Common.{◌≡◌, ◌≢◌, ℕ, Bool, List, [], ◌∷◌, ◌++◌, refl, sym, ap, ◌∙◌, subst, append_assoc, Result, Ok, Err}
-use Rattle.std.specs.Prelude.{IfOk, IsTrue, IsFalse}
+use Rattle.build_log.specs.Answered.{IfYes, IfNo}
+use Rattle.build_log.specs.Keeping.{Keeping, KeepsSame, PutsFields, PutsLine}
 use Rattle.text.specs.Marks.{Lacks}
 use Rattle.text.specs.Fronts.{IsFront, IsNext}
 use Rattle.text.proofs.Fronts.{front_none, front_more, front_stops, front_all}
 use Rattle.build_log.specs.Line.{line_text, AreTexts}
-use Rattle.build_log.specs.Form.{Form, record_line, HasLine, HaveLines, lines_text}
+use Rattle.build_log.specs.Form.{Form, record_line, HasLine, lines_text, AreNoRecord, IsNoLineOf, AreNoLinesOf}
 use Rattle.build_log.proofs.Bytes.{one_cut, has_mark}
 use Rattle.build_log.proofs.Lines.{one_line, Lacks-line_text}
 
@@ -16,13 +17,6 @@ AreApart {R} form = (r s : R) → form.Fits r → form.Fits s → form.fields r 
 -- how far the lines are read: rest is left
 abbrev pub AreRead : {R : Type 0} → Form R → List ℕ → List R → List ℕ → Type 0
 AreRead form = IsFront (record_line form) (HasLine form)
-
-abbrev pub AreNoLines : {R : Type 0} → Form R → List ℕ → Type 0
-AreNoLines {R} form lines = (records : List R) → HaveLines form records → lines ≡ lines_text form records → ⊥
-
--- the line is no record's
-abbrev pub IsNoLine : {R : Type 0} → Form R → List ℕ → Type 0
-IsNoLine {R} form line = (r : R) → HasLine form r → line ≡ line_text (form.fields r) → ⊥
 
 some_line : (rest line after : List ℕ) → rest ≡ line ++ 10 ∷ after → rest ≢ []
 some_line rest [] after e f = let clash : 10 ∷ after ≡ [] = sym e ∙ f in cc
@@ -56,12 +50,12 @@ module _ {R : Type 0} (form : Form R) where
   one_more apart lines rs rest line after r read e is has =
       front_more (record_line form) (HasLine form) lines rs rest r after read (some_line rest line after e) (next_record apart rest line after r e is has)
 
-  pub stops_at_line : (lines : List ℕ) (rs : List R) (rest line after : List ℕ) → AreRead form lines rs rest → rest ≡ line ++ 10 ∷ after → Lacks 10 line → IsNoLine form line → AreNoLines form lines
+  pub stops_at_line : (lines : List ℕ) (rs : List R) (rest line after : List ℕ) → AreRead form lines rs rest → rest ≡ line ++ 10 ∷ after → Lacks 10 line → IsNoLineOf form line → AreNoLinesOf form lines
   stops_at_line lines rs rest line after read e lacks none =
       front_stops (record_line form) (HasLine form) lines rs rest read (some_line rest line after e) (λ r others has f. none r has (front_line rest line after r others e lacks f).0)
 
   -- without a line feed nothing may be left
-  pub stops_at_end : (lines : List ℕ) (rs : List R) (rest : List ℕ) → AreRead form lines rs rest → Lacks 10 rest → rest ≢ [] → AreNoLines form lines
+  pub stops_at_end : (lines : List ℕ) (rs : List R) (rest : List ℕ) → AreRead form lines rs rest → Lacks 10 rest → rest ≢ [] → AreNoLinesOf form lines
   stops_at_end lines rs rest read lacks some =
       front_stops (record_line form) (HasLine form) lines rs rest read some (λ r others has f. has_mark 10 (line_text (form.fields r)) others (subst (Lacks 10) (f ∙ append_assoc (line_text (form.fields r)) (10 ∷ []) others) lacks))
 
@@ -69,15 +63,15 @@ module _ {R : Type 0} (form : Form R) where
   all_read lines rs rest read e = front_all (record_line form) (HasLine form) lines rs rest read e
 
 -- fields that are no record's are in no record's line
-pub no_line : {R E : Type 0} (form : Form R) (found : Result Bool E) (line : List ℕ) (fields : List (List ℕ)) → line ≡ line_text fields → IfOk found (λ is_put. IsFalse is_put → (r : R) → form.Fits r → fields ≡ form.fields r → ⊥)
-    → IfOk found (λ is_put. IsFalse is_put → IsNoLine form line)
+pub no_line : {R E : Type 0} (form : Form R) (found : Result Bool E) (line : List ℕ) (fields : List (List ℕ)) → line ≡ line_text fields → IfNo found (AreNoRecord form fields)
+    → IfNo found (IsNoLineOf form line)
 no_line form (Ok b) line fields e none = λ no r has f. none no r has.fits (one_line fields (form.fields r) (sym e ∙ f))
 no_line form (Err x) line fields e none = tt
 
 -- fields that are a record's are put behind what was put before, which stands for the same as at first
-pub put_behind : {R L E : Type 0} (form : Form R) (Keeps : List R → L → Type 0) (found : Result Bool E) (line : List ℕ) (fields : List (List ℕ)) (old mid new : L) → line ≡ line_text fields → AreTexts fields → ((records : List R) → Keeps records old → Keeps records mid)
-    → IfOk found (λ is_put. IsTrue is_put → (r : R) × (fields ≡ form.fields r) × form.Fits r × ((records : List R) → Keeps records mid → Keeps (records ++ r ∷ []) new))
-    → IfOk found (λ is_put. IsTrue is_put → (r : R) × (line ≡ line_text (form.fields r)) × HasLine form r × ((records : List R) → Keeps records old → Keeps (records ++ r ∷ []) new))
+pub put_behind : {R L E : Type 0} (form : Form R) (Keeps : Keeping R L) (found : Result Bool E) (line : List ℕ) (fields : List (List ℕ)) (old mid new : L) → line ≡ line_text fields → AreTexts fields → KeepsSame Keeps old mid
+    → IfYes found (PutsFields form Keeps fields mid new)
+    → IfYes found (PutsLine form Keeps line old new)
 put_behind form Keeps (Ok b) line fields old mid new e texts same put = λ yes.
     let p = put yes in
     (p.0, e ∙ ap line_text p.1, record { fits = p.2; texts = subst AreTexts p.1 texts }, λ records keeps. p.3 records (same records keeps))

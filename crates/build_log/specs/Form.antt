@@ -27,6 +27,18 @@ lines_text form records = flat_map (record_line form) records
 abbrev pub HaveLines : {R : Type 0} → Form R → List R → Type 0
 HaveLines form = AllByRecursion (HasLine form)
 
+-- the fields are no record's
+abbrev pub AreNoRecord : {R : Type 0} → Form R → List (List ℕ) → Type 0
+AreNoRecord {R} form fields = (r : R) → form.Fits r → fields ≡ form.fields r → ⊥
+
+-- the line is no record's
+abbrev pub IsNoLineOf : {R : Type 0} → Form R → List ℕ → Type 0
+IsNoLineOf {R} form line = (r : R) → HasLine form r → line ≡ line_text (form.fields r) → ⊥
+
+-- the lines are no records'
+abbrev pub AreNoLinesOf : {R : Type 0} → Form R → List ℕ → Type 0
+AreNoLinesOf {R} form lines = (records : List R) → HaveLines form records → lines ≡ lines_text form records → ⊥
+
 -- these bytes are the line of this record, which has one
 pub record IsLineOf {R : Type 0} (form : Form R) (r : R) (line : List ℕ) : Type 0 where
   pub spelled : line ≡ record_line form r
@@ -39,7 +51,7 @@ pub record IsAppended {R : Type 0} (form : Form R) (r : R) (old new : List ℕ) 
 
 -- the fields are those of a record that has a line, or of none
 abbrev pub IsRecordOrNone : {R : Type 0} → Form R → List (List ℕ) → Type 0
-IsRecordOrNone {R} form fields = ((r : R) × (fields ≡ form.fields r) × form.Fits r) ⊎ ((r : R) → form.Fits r → fields ≡ form.fields r → ⊥)
+IsRecordOrNone {R} form fields = ((r : R) × (fields ≡ form.fields r) × form.Fits r) ⊎ AreNoRecord form fields
 
 -- what makes texts of both versions readable in one way: a line is of one record, the first line tells the version, and of any
 -- fields it can be told whether they are a record's

@@ -1,6 +1,6 @@
 -- What is kept of the records of a log: which one is in force for each output.
 use Rattle.std.specs.Prelude.{◌≡◌, ℕ, zero, suc, ◌+◌, ◌*◌, ◌<◌, ◌≤◌, ◌==◌, Bool, false, if◌then◌else◌, List, [], ◌∷◌, ◌++◌, Option, Some, None, map, filter, length, slice_get, string_bytes, String}
-use Rattle.std.specs.List.{AllByRecursion}
+use Rattle.std.specs.List.{AllByRecursion, list_any}
 use Rattle.model.specs.Graph.{has, StandsTwice}
 
 -- what a record says of its outputs; None where from here on nothing is in force for them
@@ -29,6 +29,10 @@ tellings [] = []
 tellings ((outputs, None) ∷ rest) = tellings rest
 tellings ((outputs, Some told) ∷ rest) = (outputs, told) ∷ tellings rest
 
+-- what they tell, in order
+abbrev pub tolds : {T : Type 0} → List (Saying T) → List T
+tolds all = map (λ t. t.1) (tellings all)
+
 abbrev pub place_from : {T : Type 0} → List ℕ → Option ℕ → ℕ → List (Saying T) → Option ℕ
 place_from o held n [] = held
 place_from o held n ((outputs, None) ∷ rest) = place_from o (if has outputs o then None else held) n rest
@@ -51,6 +55,14 @@ abbrev pub outputs_at : {T : Type 0} → List (Telling T) → ℕ → List (List
 outputs_at [] n = []
 outputs_at (t ∷ rest) zero = t.0
 outputs_at (t ∷ rest) (suc n) = outputs_at rest n
+
+-- those of its outputs for which the record with this number is in force
+abbrev pub outputs_left : {T : Type 0} → List (Saying T) → ℕ → List (List ℕ)
+outputs_left all n = left_to all n (outputs_at (tellings all) n)
+
+-- whether it is in force for one of them
+abbrev pub is_left : {T : Type 0} → List (Saying T) → ℕ → Bool
+is_left all n = list_any (λ o. is_place n (place_of all o)) (outputs_at (tellings all) n)
 
 abbrev pub some_of : {T : Type 0} → List (List ℕ) → T → List (Telling T)
 some_of [] told = []
@@ -116,6 +128,10 @@ pub record IsTableOf {T : Type 0} (all : List (Saying T)) (table : Table T) : Ty
   pub absent : (o : List ℕ) → has table.outputs o ≡ false → place_of all o ≡ None
   pub told : AreTold table.outputs table.told (tellings all)
   pub count : table.records ≡ length all
+
+-- the number of the record in force for the output with this number
+abbrev pub place_at : {T : Type 0} → Table T → ℕ → Option ℕ
+place_at table number = joined (slice_get table.in_force number)
 
 -- a log is to be compacted where it has at least 100 records, and more than half of them are not in force
 pub record WantsCompaction (records in_force : ℕ) : Type 0 where

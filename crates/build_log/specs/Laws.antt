@@ -1,13 +1,13 @@
 -- What holds of the text of each log.
-use Rattle.std.specs.Prelude.{◌≡◌, ◌<◌, ◌^◌, ℕ, List, ◌∷◌, [], ◌++◌, ◌⊎◌, Option, Some, None, length, decimal}
+use Rattle.std.specs.Prelude.{◌≡◌, ◌<◌, ◌^◌, ℕ, List, ◌∷◌, [], ◌++◌, ◌⊎◌, Option, Some, None, decimal}
 use Rattle.build_log.specs.declared.form.Version.{Version}
 use Rattle.build_log.specs.declared.tail.Tail.{Tail}
 use Rattle.build_log.specs.declared.tail.Tail.TheVariants.{Whole, Old, Torn, Damaged}
-use Rattle.build_log.specs.Line.{field_text, line_text, counted}
+use Rattle.build_log.specs.Line.{field_text, line_text, HaveSomeListFirst, HaveNoListFirst}
 use Rattle.build_log.specs.Form.{Form, lines_text, HaveLines, IsLineOf}
 use Rattle.build_log.specs.Text.{IsLogOf, IsEnded, IsTornOf, IsRead, EndsLine}
 use Rattle.build_log.specs.Kept.{AreDistinct}
-use Rattle.build_log.specs.Record.{output_fields, HasRoomFor}
+use Rattle.build_log.specs.Record.{HaveSomeOutputsFirst, HaveNoOutputsFirst}
 
 -- bytes are read in one way
 abbrev pub OneReading : {R : Type 0} → (Version → Form R) → Type 0
@@ -45,13 +45,11 @@ IsNumberOrNone text = ((n : ℕ) × (n < 2 ^ 64) × (text ≡ decimal n)) ⊎ ((
 
 -- the counted list that the fields begin with, or that they begin with none
 abbrev pub AreCountedOrNone : List (List ℕ) → Type 0
-AreCountedOrNone fields =
-    ((texts : List (List ℕ)) × (after : List (List ℕ)) × (fields ≡ counted texts ++ after) × (length texts < 2 ^ 64)) ⊎ ((texts after : List (List ℕ)) → length texts < 2 ^ 64 → fields ≡ counted texts ++ after → ⊥)
+AreCountedOrNone fields = HaveSomeListFirst fields ⊎ HaveNoListFirst fields
 
 -- the outputs that the fields begin with, or that they begin with none
 abbrev pub AreOutputsOrNone : Version → List (List ℕ) → Type 0
-AreOutputsOrNone version fields =
-    ((outputs : List (List ℕ)) × (after : List (List ℕ)) × (fields ≡ output_fields version outputs ++ after) × HasRoomFor version outputs) ⊎ ((outputs after : List (List ℕ)) → HasRoomFor version outputs → fields ≡ output_fields version outputs ++ after → ⊥)
+AreOutputsOrNone version fields = HaveSomeOutputsFirst version fields ⊎ HaveNoOutputsFirst version fields
 
 -- what parts of records stand in fields can be told
 pub record PartsAreDecided : Type 0 where

@@ -2,11 +2,13 @@ pub mod Spelled
 pub mod Line
 pub mod Form
 pub mod Text
+pub mod Answered
 pub mod Taken
 pub mod Noted
 pub mod Laws
 pub mod Kept
 pub mod Found
+pub mod Keeping
 pub mod Steps
 pub mod Record
 pub mod Log

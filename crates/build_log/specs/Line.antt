@@ -1,5 +1,5 @@
 -- A line of a log: fields with a tab behind each, and a dot.
-use Rattle.std.specs.Prelude.{◌≡◌, ◌<◌, ℕ, List, [], ◌∷◌, ◌++◌, ◌==◌, if◌then◌else◌, decimal, length}
+use Rattle.std.specs.Prelude.{◌≡◌, ◌<◌, ◌^◌, ℕ, List, [], ◌∷◌, ◌++◌, ◌==◌, if◌then◌else◌, decimal, length}
 use Rattle.std.specs.List.{flat_map, AllByRecursion}
 use Rattle.std.specs.Str.{IsUtf8}
 use Rattle.text.specs.Marks.{Lacks}
@@ -21,6 +21,10 @@ field_and_tab text = field_text text ++ 9 ∷ []
 abbrev pub line_text : List (List ℕ) → List ℕ
 line_text fields = flat_map field_and_tab fields ++ 46 ∷ []
 
+-- the fields, and the tab behind each
+abbrev pub fields_text : List (List ℕ) → List ℕ
+fields_text fields = flat_map field_and_tab fields
+
 -- the fields of a list: how many there are, and each
 abbrev pub counted : List (List ℕ) → List (List ℕ)
 counted texts = decimal (length texts) ∷ texts
@@ -35,6 +39,26 @@ IsPlain text = Lacks 92 text × Lacks 9 text × Lacks 10 text
 -- the bytes are no text's field
 abbrev pub SpellsNothing : List ℕ → Type 0
 SpellsNothing field = (text : List ℕ) → IsUtf8 text → field ≡ field_text text → ⊥
+
+-- the line is no texts'
+abbrev pub IsNoLine : List ℕ → Type 0
+IsNoLine line = (texts : List (List ℕ)) → AreTexts texts → line ≡ line_text texts → ⊥
+
+-- the bytes begin with nothing that a byte is written as
+abbrev pub IsNoEscape : List ℕ → Type 0
+IsNoEscape bytes = (byte : ℕ) (after : List ℕ) → bytes ≡ escaped byte ++ after → ⊥
+
+-- the fields are those of this list, and others behind them
+abbrev pub HaveListFirst : List (List ℕ) → List (List ℕ) → List (List ℕ) → Type 0
+HaveListFirst texts fields after = (fields ≡ counted texts ++ after) × (length texts < 2 ^ 64)
+
+abbrev pub HaveSomeListFirst : List (List ℕ) → Type 0
+HaveSomeListFirst fields =
+    (texts : List (List ℕ)) × (after : List (List ℕ)) × (fields ≡ counted texts ++ after) × (length texts < 2 ^ 64)
+
+-- the fields begin with no list
+abbrev pub HaveNoListFirst : List (List ℕ) → Type 0
+HaveNoListFirst fields = (texts after : List (List ℕ)) → length texts < 2 ^ 64 → fields ≡ counted texts ++ after → ⊥
 
 -- the text begins with a digit from 1 to 9
 abbrev pub Leads : List ℕ → Type 0

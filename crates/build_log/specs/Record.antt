@@ -32,6 +32,18 @@ abbrev pub HasRoomFor : Version → List (List ℕ) → Type 0
 HasRoomFor One outputs = length outputs ≡ 1
 HasRoomFor Two outputs = (0 < length outputs) × (length outputs < 2 ^ 64)
 
+-- the fields are those of these outputs, and others behind them
+abbrev pub HaveOutputsFirst : Version → List (List ℕ) → List (List ℕ) → List (List ℕ) → Type 0
+HaveOutputsFirst v outputs fields after = (fields ≡ output_fields v outputs ++ after) × HasRoomFor v outputs
+
+abbrev pub HaveSomeOutputsFirst : Version → List (List ℕ) → Type 0
+HaveSomeOutputsFirst v fields =
+    (os : List (List ℕ)) × (after : List (List ℕ)) × (fields ≡ output_fields v os ++ after) × HasRoomFor v os
+
+-- the fields begin with no outputs
+abbrev pub HaveNoOutputsFirst : Version → List (List ℕ) → Type 0
+HaveNoOutputsFirst v fields = (os after : List (List ℕ)) → HasRoomFor v os → fields ≡ output_fields v os ++ after → ⊥
+
 -- a start is a number below 2 to the 64
 abbrev pub HasStart : Record → Type 0
 HasStart (Begun outputs) = Unit {0}
@@ -53,6 +65,14 @@ forms version = record { first = first_line version; fields = fields_of version;
 -- a start and an act as fields
 abbrev pub done_fields : DoneData → List (List ℕ)
 done_fields done = decimal done.start ∷ act_fields done.act
+
+-- these are its fields, and the start has room
+abbrev pub AreDone : DoneData → List (List ℕ) → Type 0
+AreDone done fields = (fields ≡ done_fields done) × (done.start < 2 ^ 64)
+
+-- the fields are no start and act
+abbrev pub AreNotDone : List (List ℕ) → Type 0
+AreNotDone fields = (done : DoneData) → done.start < 2 ^ 64 → fields ≡ done_fields done → ⊥
 
 -- the fields are no record's
 abbrev pub IsNoRecord : Version → List (List ℕ) → Type 0

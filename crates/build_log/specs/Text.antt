@@ -55,6 +55,14 @@ IsRead forms bytes records Old = IsLogOf (forms One) bytes records
 IsRead forms bytes records Torn = IsTorn forms bytes records
 IsRead forms bytes records Damaged = (records ≡ []) × IsDamaged forms bytes
 
+-- of each log of this form
+abbrev pub OfLogs : {R : Type 0} → Form R → (List ℕ → List R → Type 0) → Type 0
+OfLogs {R} form P = (text : List ℕ) (records : List R) → IsLogOf form text records → P text records
+
+-- how each log of this version ends with these bytes behind it
+abbrev pub EndsBehind : {R : Type 0} → (Version → Form R) → Version → List ℕ → Tail → Type 0
+EndsBehind forms version rest tail = OfLogs (forms version) (λ text records. IsRead forms (text ++ rest) records tail)
+
 -- whole lines
 abbrev pub EndsLine : List ℕ → Type 0
 EndsLine bytes = (bytes ≡ []) ⊎ ((front : List ℕ) × (bytes ≡ front ++ 10 ∷ []))

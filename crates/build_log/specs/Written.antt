@@ -4,17 +4,17 @@ use Rattle.model.specs.declared.record.Record.{Record}
 use Rattle.build_log.specs.declared.done.Done.{Done}
 use Rattle.build_log.specs.declared.form.Version.TheVariants.{Two}
 use Rattle.build_log.specs.Form.{lines_text, HaveLines}
-use Rattle.build_log.specs.Kept.{Saying, tellings, left_to, outputs_at, some_of}
+use Rattle.build_log.specs.Kept.{Saying, tolds, outputs_left, some_of}
 use Rattle.build_log.specs.Record.{forms}
 use Rattle.build_log.specs.Log.{done_record}
 
 -- what the record with this number has in force, if there is one
 abbrev pub left_of : List (Saying Done) → ℕ → Option Done → List Record
 left_of all n None = []
-left_of all n (Some done) = map done_record (some_of (left_to all n (outputs_at (tellings all) n)) done)
+left_of all n (Some done) = map done_record (some_of (outputs_left all n) done)
 
 abbrev pub written_of : List (Saying Done) → ℕ → List Record
-written_of all n = left_of all n (slice_get (map (λ t. t.1) (tellings all)) n)
+written_of all n = left_of all n (slice_get (tolds all) n)
 
 -- its line was written behind the old text
 pub record IsWritten (all : List (Saying Done)) (n : ℕ) (old new : List ℕ) : Type 0 where

@@ -3,7 +3,8 @@
 ghost use Rattle.std.specs.Prelude.{◌≡◌, ◌∷◌, ◌++◌, List, ℕ, OnOk, IfOk, IfSome, IfNone, IsTrue, string_bytes};
 ghost use Rattle.std.specs.Str.{IsUtf8};
 ghost use Rattle.text.specs.Marks.{Lacks};
-ghost use Rattle.build_log.specs.Line.{field_text, escaped, IsPlain, SpellsNothing};
+ghost use Rattle.build_log.specs.Line.{field_text, escaped, IsPlain, IsNoEscape, SpellsNothing};
+ghost use Rattle.build_log.specs.Answered.{IfFound, IfMissing};
 
 use bstr::ByteSlice;
 use memchr::memchr3;
@@ -138,9 +139,9 @@ pub(crate) fn field_of<'a>(
     requires tab { Lacks 9 field.now }
     requires line_feed { Lacks 10 field.now }
     requires plain { IsTrue is_plain → Lacks 92 field.now }
-    ensures found { IfOk result (λ found. IfSome found (λ text. field.now ≡ field_text text)) }
-    ensures utf8 { IfOk result (λ found. IfSome found IsUtf8) }
-    ensures none { IfOk result (λ found. IfNone found (SpellsNothing field.now)) }
+    ensures found { IfFound result (λ text. field.now ≡ field_text text) }
+    ensures utf8 { IfFound result IsUtf8 }
+    ensures none { IfMissing result (SpellsNothing field.now) }
 {
     if is_plain {
         return Ok(plain_of(field));
@@ -168,9 +169,9 @@ fn plain_of<'a>(field: &'a [u8]) -> Option<Field<'a>>
 fn unescaped_of<'a>(alloc: Global, field: &'a [u8]) -> Result<Option<Field<'a>>, AllocError>
     requires tab { Lacks 9 field.now }
     requires line_feed { Lacks 10 field.now }
-    ensures found { IfOk result (λ found. IfSome found (λ text. field.now ≡ field_text text)) }
-    ensures utf8 { IfOk result (λ found. IfSome found IsUtf8) }
-    ensures none { IfOk result (λ found. IfNone found (SpellsNothing field.now)) }
+    ensures found { IfFound result (λ text. field.now ≡ field_text text) }
+    ensures utf8 { IfFound result IsUtf8 }
+    ensures none { IfMissing result (SpellsNothing field.now) }
 {
     let mut text = Vec::with_capacity(alloc, field.len())?;
     let mut rest = field;
@@ -192,7 +193,7 @@ fn unescaped_of<'a>(alloc: Global, field: &'a [u8]) -> Result<Option<Field<'a>>,
 /// The byte that a backslash stands for with the letter behind it, and what stands behind that.
 fn escape_of(escape: &[u8]) -> Option<(u8, &[u8])>
     ensures found { IfSome result (λ first. 92 ∷ escape.now ≡ escaped first.0 ++ first.1.now) }
-    ensures none { IfNone result ((byte : ℕ) (after : List ℕ) → 92 ∷ escape.now ≡ escaped byte ++ after → ⊥) }
+    ensures none { IfNone result (IsNoEscape (92 ∷ escape.now)) }
 {
     match escape {
         [b'\\', after @ ..] => Some((b'\\', after)),

@@ -1,13 +1,12 @@
 //! What makes a log: how its records are written in either version, and what is kept of them.
 
-ghost use Rattle.std.specs.Prelude.{◌≡◌, ◌↔◌, [], ◌∷◌, ◌++◌, List, ℕ, Option, IfOk, IsTrue, IsFalse, length, slice_get};
-ghost use Rattle.std.specs.Option.{option_and_then};
+ghost use Rattle.std.specs.Prelude.{◌≡◌, ◌↔◌, [], List, ℕ, Option, IfOk, IsTrue, length};
 ghost use Rattle.build_log.specs.declared.form.Version.TheVariants.{Two};
 ghost use Rattle.text.specs.Marks.{Lacks};
-ghost use Rattle.build_log.specs.Line.{line_text};
-ghost use Rattle.build_log.specs.Form.{Form, HasLine, IsReadable};
+ghost use Rattle.build_log.specs.Form.{Form, AreNoRecord, IsReadable};
 ghost use Rattle.build_log.specs.Text.{IsLogOf};
-ghost use Rattle.build_log.specs.Kept.{WantsCompaction};
+ghost use Rattle.build_log.specs.Answered.{IfYes, IfNo};
+ghost use Rattle.build_log.specs.Keeping.{OfKept, KeepsSame, PutsFields, PutsLine, at_number, IsToCompact};
 ghost use Rattle.build_log.specs.Laws.{KeepsInForce};
 
 use crate::field::Field;
@@ -63,8 +62,8 @@ pub trait Records: Sized + Drop {
         version: Version,
         fields: &[Field<'_>],
     ) -> Result<bool, AllocError>
-        ensures put { IfOk result (λ is_put. IsTrue is_put → (r : Self.Record) × (fields.now ≡ (forms version).fields r) × (forms version).Fits r × ((records : List Self.Record) → Keeps records self.old → Keeps (records ++ r ∷ []) self.new)) }
-        ensures none { IfOk result (λ is_put. IsFalse is_put → (r : Self.Record) → (forms version).Fits r → fields.now ≡ (forms version).fields r → ⊥) };
+        ensures put { IfYes result (PutsFields (forms version) Keeps fields.now self.old self.new) }
+        ensures none { IfNo result (AreNoRecord (forms version) fields.now) };
 
     /// Puts the record of a line, which is handed in without its line feed, at the end where it is read in a short way, and
     /// says whether it did. Where it did not, what is kept stands for the same records as before. Where memory is refused,
@@ -76,26 +75,26 @@ pub trait Records: Sized + Drop {
         line: &[u8],
     ) -> Result<bool, AllocError>
         requires line_feed { Lacks 10 line.now }
-        ensures put { IfOk result (λ is_put. IsTrue is_put → (r : Self.Record) × (line.now ≡ line_text ((forms version).fields r)) × HasLine (forms version) r × ((records : List Self.Record) → Keeps records self.old → Keeps (records ++ r ∷ []) self.new)) }
-        ensures none { IfOk result (λ is_put. IsFalse is_put → (records : List Self.Record) → Keeps records self.old → Keeps records self.new) };
+        ensures put { IfYes result (PutsLine (forms version) Keeps line.now self.old self.new) }
+        ensures none { IfNo result (KeepsSame Keeps self.old self.new) };
 
     /// The number of the record in force for an output. It takes no memory.
     fn find(&self, output: &str) -> Option<usize>
-        ensures { (records : List Self.Record) → Keeps records self.now → option_and_then (slice_get (told records)) result ≡ in_force records output.now };
+        ensures { OfKept Keeps self.now (λ all. at_number (told all) result ≡ in_force all output.now) };
 
     /// How many records there were.
     fn records(&self) -> u64
-        ensures { (records : List Self.Record) → Keeps records self.now → result ≡ length records };
+        ensures { OfKept Keeps self.now (λ all. result ≡ length all) };
 
     /// Whether the log is to be compacted before something is appended: where it has at least 100 records, and more than
     /// half of them are not in force.
     fn wants_compaction(&self) -> bool
-        ensures { (records : List Self.Record) → Keeps records self.now → IsTrue result ↔ WantsCompaction (length records) (length (compaction records)) };
+        ensures { OfKept Keeps self.now (λ all. IsTrue result ↔ IsToCompact all (compaction all)) };
 
     /// The text of a log, in version 2, with the records in force in their order, each with those of its outputs for
     /// which it is in force, and no others.
     fn compacted(&self, alloc: Global) -> Result<Vec<u8>, AllocError>
-        ensures { IfOk result (λ text. (records : List Self.Record) → Keeps records self.now → IsLogOf (forms Two) text.items (compaction records)) };
+        ensures { IfOk result (λ text. OfKept Keeps self.now (λ all. IsLogOf (forms Two) text.items (compaction all))) };
 
     /// A compaction keeps what is in force. It does nothing: its contract is a law.
     fn keeps_in_force()

@@ -1,16 +1,15 @@
 //! What is kept of the records of a log: outputs by number, and for each the record in force.
 
-ghost use Rattle.std.specs.Prelude.{◌≡◌, ◌<◌, ◌≤◌, ◌↔◌, ◌*◌, ◌-◌, [], ◌∷◌, ◌++◌, List, ℕ, Option, Some, None, IsTrue, IfOk, IfSome, IfNone, OnOk, OnErr, length, take, slice_get, map, if◌then◌else◌};
-ghost use Rattle.std.specs.List.{list_any, AllByRecursion};
-ghost use Rattle.std.specs.Option.{option_and_then, option_copied, option_map};
-ghost use Rattle.model.specs.Graph.{has, has_number};
-ghost use Rattle.build_log.specs.Kept.{Saying, IsTableOf, AreDistinct, AreNumbersOf, told_of, place_of, is_place, tellings, in_force_of, left_to, outputs_at, some_of, texts_at, if_some, joined, WantsCompaction};
-ghost use Rattle.build_log.specs.Found.{tellings_in, IsNamed};
+ghost use Rattle.std.specs.Prelude.{◌≡◌, ◌<◌, ◌≤◌, ◌↔◌, ◌-◌, [], ◌++◌, Option, Some, IsTrue, IfOk, OnOk, OnErr, length, take, slice_get};
+ghost use Rattle.std.specs.List.{list_any};
+ghost use Rattle.std.specs.Option.{option_copied, option_map};
+ghost use Rattle.build_log.specs.Kept.{IsTableOf, AreDistinct, AreNumbersOf, told_of, tolds, place_of, place_at, is_place, is_left, tellings, in_force_of, outputs_left, texts_at, if_some};
+ghost use Rattle.build_log.specs.Keeping.{OfTable, KeepsSame, KeepsAlso, at_number, IsToCompact};
+ghost use Rattle.build_log.specs.Found.{texts_in, tellings_in, AreNamed, PutsFound, PutsLeft, Leaves};
 ghost use Rattle.build_log.specs.Steps.{IsFilled, IsGrown, IsSaid};
-ghost use Rattle.std.specs.Str.{IsUtf8};
 ghost use Rattle.text.specs.Marks.{Lacks};
-ghost use Rattle.build_log.specs.Line.{field_and_tab};
-ghost use Rattle.build_log.specs.Taken.{AreTakenFrom, IsTakenBehind};
+ghost use Rattle.build_log.specs.Answered.{IfFound};
+ghost use Rattle.build_log.specs.Taken.{AreTakenFrom, IsTaken, TakesSome};
 
 use crate::field::Field;
 use crate::line::plain_field;
@@ -81,8 +80,8 @@ impl<T: Drop> Kept<T> {
         said: Option<T>,
     ) -> Result<(), AllocError>
         requires { AreDistinct outputs.now }
-        ensures ok { OnOk result ((all : List (Saying T)) → IsTableOf all self.old → IsTableOf (all ++ (outputs.now, said) ∷ []) self.new) }
-        ensures err { OnErr result ((all : List (Saying T)) → IsTableOf all self.old → IsTableOf all self.new) }
+        ensures ok { OnOk result (KeepsAlso IsTableOf (outputs.now, said) self.old self.new) }
+        ensures err { OnErr result (KeepsSame IsTableOf self.old self.new) }
         ensures grown { IsGrown self.old self.new }
     {
         let records = self.records.checked_add(1).ok_or(AllocError)?;
@@ -99,7 +98,7 @@ impl<T: Drop> Kept<T> {
         alloc: Global,
         texts: &[Field<'_>],
     ) -> Result<Items<usize>, AllocError>
-        ensures same { (all : List (Saying T)) → IsTableOf all self.old → IsTableOf all self.new }
+        ensures same { KeepsSame IsTableOf self.old self.new }
         ensures records { self.new.records ≡ self.old.records }
         ensures grown { IsGrown self.old self.new }
         ensures numbers { IfOk result (λ numbers. AreNumbersOf self.new.outputs numbers texts.now) }
@@ -124,10 +123,10 @@ impl<T: Drop> Kept<T> {
         count: usize,
     ) -> Result<Option<(Items<usize>, &'a [u8])>, AllocError>
         requires { Lacks 10 bytes.now }
-        ensures same { (all : List (Saying T)) → IsTableOf all self.old → IsTableOf all self.new }
+        ensures same { KeepsSame IsTableOf self.old self.new }
         ensures records { self.new.records ≡ self.old.records }
         ensures grown { IsGrown self.old self.new }
-        ensures numbers { IfOk result (λ found. IfSome found (λ parts. AreTakenFrom self.new.outputs bytes.now count parts.0 parts.1.now)) }
+        ensures numbers { IfFound result (λ parts. AreTakenFrom self.new.outputs bytes.now count parts.0 parts.1.now) }
     {
         if bytes.len() < count {
             return Ok(None);
@@ -155,10 +154,10 @@ impl<T: Drop> Kept<T> {
     ) -> Result<Option<&'a [u8]>, AllocError>
         requires line_feed { Lacks 10 bytes.now }
         requires most { 0 < most }
-        ensures same { (all : List (Saying T)) → IsTableOf all self.old → IsTableOf all self.new }
+        ensures same { KeepsSame IsTableOf self.old self.new }
         ensures records { self.new.records ≡ self.old.records }
         ensures grown { IsGrown self.old self.new }
-        ensures taken { IfOk result (λ found. IfSome found (λ after. IsTakenBehind self.new.outputs numbers.old.items bytes.now most numbers.new.items after.now)) }
+        ensures taken { TakesSome result self.new.outputs bytes.now most numbers.old.items numbers.new.items }
     {
         let last = last_of(numbers.as_slice());
         if let Some((run, after)) = self.outputs.follow_run(last, bytes, most) {
@@ -180,10 +179,10 @@ impl<T: Drop> Kept<T> {
     ) -> Result<Option<&'a [u8]>, AllocError>
         requires line_feed { Lacks 10 bytes.now }
         requires most { 0 < most }
-        ensures same { (all : List (Saying T)) → IsTableOf all self.old → IsTableOf all self.new }
+        ensures same { KeepsSame IsTableOf self.old self.new }
         ensures records { self.new.records ≡ self.old.records }
         ensures grown { IsGrown self.old self.new }
-        ensures taken { IfOk result (λ found. IfSome found (λ after. IsTakenBehind self.new.outputs numbers.old.items bytes.now most numbers.new.items after.now)) }
+        ensures taken { TakesSome result self.new.outputs bytes.now most numbers.old.items numbers.new.items }
     {
         if self.outputs.follow(last, bytes).is_none() {
             let found = self.push_unknown(alloc, last, bytes, numbers)?;
@@ -208,10 +207,10 @@ impl<T: Drop> Kept<T> {
         numbers: &mut Vec<usize>,
     ) -> Result<Option<&'a [u8]>, AllocError>
         requires { Lacks 10 bytes.now }
-        ensures same { (all : List (Saying T)) → IsTableOf all self.old → IsTableOf all self.new }
+        ensures same { KeepsSame IsTableOf self.old self.new }
         ensures records { self.new.records ≡ self.old.records }
         ensures grown { IsGrown self.old self.new }
-        ensures taken { IfOk result (λ found. IfSome found (λ after. IsTakenBehind self.new.outputs numbers.old.items bytes.now 1 numbers.new.items after.now)) }
+        ensures taken { TakesSome result self.new.outputs bytes.now 1 numbers.old.items numbers.new.items }
     {
         let Some((number, after)) = self.take_unknown(alloc, last, bytes)? else {
             return Ok(None);
@@ -229,10 +228,10 @@ impl<T: Drop> Kept<T> {
         bytes: &'a [u8],
     ) -> Result<Option<(usize, &'a [u8])>, AllocError>
         requires { Lacks 10 bytes.now }
-        ensures same { (all : List (Saying T)) → IsTableOf all self.old → IsTableOf all self.new }
+        ensures same { KeepsSame IsTableOf self.old self.new }
         ensures records { self.new.records ≡ self.old.records }
         ensures grown { IsGrown self.old self.new }
-        ensures number { IfOk result (λ found. IfSome found (λ parts. (text : List ℕ) × (slice_get self.new.outputs parts.0 ≡ Some text) × IsUtf8 text × (bytes.now ≡ field_and_tab text ++ parts.1.now))) }
+        ensures number { IfFound result (λ parts. IsTaken self.new.outputs bytes.now parts.0 parts.1.now) }
     {
         let Some((text, after)) = plain_field(bytes) else {
             return Ok(None);
@@ -244,7 +243,7 @@ impl<T: Drop> Kept<T> {
 
     /// The number of an output; if it has none, it gets one.
     fn number(&mut self, alloc: Global, output: &str) -> Result<usize, AllocError>
-        ensures same { (all : List (Saying T)) → IsTableOf all self.old → IsTableOf all self.new }
+        ensures same { KeepsSame IsTableOf self.old self.new }
         ensures records { self.new.records ≡ self.old.records }
         ensures grown { IsGrown self.old self.new }
         ensures number { IfOk result (λ number. slice_get self.new.outputs number ≡ Some output.now) }
@@ -293,8 +292,8 @@ impl<T: Drop> Kept<T> {
 
     /// The number of the record in force for an output. It takes no memory.
     pub fn find(&self, output: &str) -> Option<usize>
-        ensures place { (all : List (Saying T)) → IsTableOf all self.now → result ≡ place_of all output.now }
-        ensures told { (all : List (Saying T)) → IsTableOf all self.now → option_and_then (slice_get (map (λ t. t.1) (tellings all))) result ≡ told_of all output.now }
+        ensures place { OfTable self.now (λ all. result ≡ place_of all output.now) }
+        ensures told { OfTable self.now (λ all. at_number (tolds all) result ≡ told_of all output.now) }
     {
         let number = self.outputs.find(output)?;
         self.place(number)
@@ -302,7 +301,7 @@ impl<T: Drop> Kept<T> {
 
     /// What the record with this number tells. It takes no memory.
     pub fn at(&self, place: usize) -> Option<&T>
-        ensures { (all : List (Saying T)) → IsTableOf all self.now → option_copied result ≡ slice_get (map (λ t. t.1) (tellings all)) place }
+        ensures { OfTable self.now (λ all. option_copied result ≡ slice_get (tolds all) place) }
     {
         let told = self.telling(place)?;
         Some(&told.told)
@@ -310,28 +309,28 @@ impl<T: Drop> Kept<T> {
 
     /// What is in force for an output. It takes no memory.
     pub fn lookup(&self, output: &str) -> Option<&T>
-        ensures { (all : List (Saying T)) → IsTableOf all self.now → option_copied result ≡ told_of all output.now }
+        ensures { OfTable self.now (λ all. option_copied result ≡ told_of all output.now) }
     {
         self.at(self.find(output)?)
     }
 
     /// How many records there were.
     pub fn records(&self) -> u64
-        ensures { (all : List (Saying T)) → IsTableOf all self.now → result ≡ length all }
+        ensures { OfTable self.now (λ all. result ≡ length all) }
     {
         self.records
     }
 
     /// How many records tell something: their numbers are those below.
     pub fn tellings(&self) -> usize
-        ensures { (all : List (Saying T)) → IsTableOf all self.now → result ≡ length (tellings all) }
+        ensures { OfTable self.now (λ all. result ≡ length (tellings all)) }
     {
         self.told.len()
     }
 
     /// How many records are in force, each for one of its outputs at least.
     pub fn records_in_force(&self) -> usize
-        ensures { (all : List (Saying T)) → IsTableOf all self.now → result ≡ length (in_force_of all) }
+        ensures { OfTable self.now (λ all. result ≡ length (in_force_of all)) }
     {
         let mut count = 0usize;
         for place in 0..self.tellings() {
@@ -345,7 +344,7 @@ impl<T: Drop> Kept<T> {
     /// Whether a log of these records is to be compacted: where it has at least 100 records, and more than half of them
     /// are not in force.
     pub fn wants_compaction(&self) -> bool
-        ensures { (all : List (Saying T)) → IsTableOf all self.now → IsTrue result ↔ WantsCompaction (length all) (length (in_force_of all)) }
+        ensures { OfTable self.now (λ all. IsTrue result ↔ IsToCompact all (in_force_of all)) }
     {
         let in_force = self.records_in_force() as u64;
         self.records >= 100 && in_force < self.records.saturating_sub(in_force)
@@ -353,8 +352,8 @@ impl<T: Drop> Kept<T> {
 
     /// The outputs for which the record with this number is in force, in its order.
     pub fn outputs_in_force(&self, alloc: Global, place: usize) -> Result<Vec<&str>, AllocError>
-        ensures left { IfOk result (λ left. (all : List (Saying T)) → IsTableOf all self.now → map (λ o. o.now) left.items ≡ left_to all place (outputs_at (tellings all) place)) }
-        ensures once { IfOk result (λ left. (all : List (Saying T)) → IsTableOf all self.now → AreDistinct (map (λ o. o.now) left.items)) }
+        ensures left { IfOk result (λ left. OfTable self.now (λ all. texts_in left.items ≡ outputs_left all place)) }
+        ensures once { IfOk result (λ left. OfTable self.now (λ all. AreDistinct (texts_in left.items))) }
     {
         match self.telling(place) {
             Some(told) => self.texts_in_force(alloc, place, told.outputs.as_slice()),
@@ -364,8 +363,8 @@ impl<T: Drop> Kept<T> {
 
     /// The records in force in their order: the outputs for which each is in force, one at least, and what it tells.
     pub fn in_force(&self, alloc: Global) -> Result<Vec<InForce<'_, T>>, AllocError>
-        ensures found { IfOk result (λ found. (all : List (Saying T)) → IsTableOf all self.now → tellings_in found.items ≡ in_force_of all) }
-        ensures named { IfOk result (λ found. (all : List (Saying T)) → IsTableOf all self.now → AllByRecursion IsNamed found.items) }
+        ensures found { IfOk result (λ found. OfTable self.now (λ all. tellings_in found.items ≡ in_force_of all)) }
+        ensures named { IfOk result (λ found. OfTable self.now (λ all. AreNamed found.items)) }
     {
         let mut found = Vec::new(alloc);
         for place in 0..self.tellings() {
@@ -381,8 +380,8 @@ impl<T: Drop> Kept<T> {
         found: &mut Vec<InForce<'a, T>>,
         place: usize,
     ) -> Result<(), AllocError>
-        ensures found { OnOk result ((all : List (Saying T)) (told : T) → IsTableOf all self.now → slice_get (map (λ t. t.1) (tellings all)) place ≡ Some told → tellings_in found.new.items ≡ tellings_in found.old.items ++ some_of (left_to all place (outputs_at (tellings all) place)) told) }
-        ensures named { OnOk result ((all : List (Saying T)) → IsTableOf all self.now → AllByRecursion IsNamed found.old.items → AllByRecursion IsNamed found.new.items) }
+        ensures found { OnOk result (PutsFound self.now place found.old.items found.new.items) }
+        ensures named { OnOk result (OfTable self.now (λ all. AreNamed found.old.items → AreNamed found.new.items)) }
     {
         let outputs = self.outputs_in_force(alloc, place)?;
         match self.at(place) {
@@ -394,7 +393,7 @@ impl<T: Drop> Kept<T> {
 
     /// The texts with these numbers.
     pub fn texts(&self, alloc: Global, numbers: &[usize]) -> Result<Vec<&str>, AllocError>
-        ensures { IfOk result (λ texts. map (λ o. o.now) texts.items ≡ texts_at self.now.outputs numbers.now) }
+        ensures { IfOk result (λ texts. texts_in texts.items ≡ texts_at self.now.outputs numbers.now) }
     {
         let mut texts = Vec::with_capacity(alloc, numbers.len())?;
         for number in numbers {
@@ -405,7 +404,7 @@ impl<T: Drop> Kept<T> {
 
     /// Puts the text with this number at the end, if there is one.
     fn push_text<'a>(&'a self, texts: &mut Vec<&'a str>, number: usize) -> Result<(), AllocError>
-        ensures { OnOk result (map (λ o. o.now) texts.new.items ≡ map (λ o. o.now) texts.old.items ++ if_some (slice_get self.now.outputs number)) }
+        ensures { OnOk result (texts_in texts.new.items ≡ texts_in texts.old.items ++ if_some (slice_get self.now.outputs number)) }
     {
         if let Some(text) = self.text(number) {
             texts.push(text)?;
@@ -420,7 +419,7 @@ impl<T: Drop> Kept<T> {
         place: usize,
         outputs: &[usize],
     ) -> Result<Vec<&str>, AllocError>
-        ensures { IfOk result (λ left. (all : List (Saying T)) (os : List (List ℕ)) → IsTableOf all self.now → AreNumbersOf self.now.outputs outputs.now os → map (λ o. o.now) left.items ≡ left_to all place os) }
+        ensures { IfOk result (λ left. Leaves self.now place outputs.now left.items) }
     {
         let mut left = Vec::new(alloc);
         for number in outputs {
@@ -436,7 +435,7 @@ impl<T: Drop> Kept<T> {
         place: usize,
         number: usize,
     ) -> Result<(), AllocError>
-        ensures { OnOk result ((o : List ℕ) → slice_get self.now.outputs number ≡ Some o → map (λ o. o.now) left.new.items ≡ map (λ o. o.now) left.old.items ++ (if is_place place (joined (slice_get self.now.in_force number)) then o ∷ [] else [])) }
+        ensures { OnOk result (PutsLeft self.now place number left.old.items left.new.items) }
     {
         if !self.is_place(place, number) {
             return Ok(());
@@ -449,7 +448,7 @@ impl<T: Drop> Kept<T> {
 
     /// Whether the record with this number is in force for one of its outputs.
     fn is_in_force(&self, place: usize) -> bool
-        ensures { (all : List (Saying T)) → IsTableOf all self.now → result ≡ list_any (λ o. is_place place (place_of all o)) (outputs_at (tellings all) place) }
+        ensures { OfTable self.now (λ all. result ≡ is_left all place) }
     {
         match self.telling(place) {
             Some(told) => self.has_in_force(place, told.outputs.as_slice()),
@@ -459,14 +458,14 @@ impl<T: Drop> Kept<T> {
 
     /// Whether the record with this number is in force for one of the outputs with these numbers.
     fn has_in_force(&self, place: usize, outputs: &[usize]) -> bool
-        ensures { result ≡ list_any (λ n. is_place place (joined (slice_get self.now.in_force n))) outputs.now }
+        ensures { result ≡ list_any (λ n. is_place place (place_at self.now n)) outputs.now }
     {
         outputs.iter().any(|number| self.is_place(place, *number))
     }
 
     /// Whether the record is in force for the output with this number.
     fn is_place(&self, place: usize, number: usize) -> bool
-        ensures { result ≡ is_place place (joined (slice_get self.now.in_force number)) }
+        ensures { result ≡ is_place place (place_at self.now number) }
     {
         self.place(number) == Some(place)
     }
@@ -486,7 +485,7 @@ impl<T: Drop> Kept<T> {
 
     /// The number of the record in force for the output with this number.
     fn place(&self, number: usize) -> Option<usize>
-        ensures { result ≡ joined (slice_get self.now.in_force number) }
+        ensures { result ≡ place_at self.now number }
     {
         *self.in_force.get(number)?
     }

@@ -1,10 +1,11 @@
 //! Lines of fields.
 
-ghost use Rattle.std.specs.Prelude.{◌≡◌, [], ◌∷◌, ◌++◌, List, ℕ, IfOk, OnOk, IfSome, IfNone, IsTrue, IsFalse, map, decimal};
-ghost use Rattle.std.specs.List.{flat_map};
+ghost use Rattle.std.specs.Prelude.{◌≡◌, [], ◌∷◌, ◌++◌, List, ℕ, OnOk, IfSome, IfNone, decimal};
 ghost use Rattle.std.specs.Str.{IsUtf8};
 ghost use Rattle.text.specs.Marks.{Lacks};
-ghost use Rattle.build_log.specs.Line.{field_and_tab, line_text, AreTexts, counted, IsPlain};
+ghost use Rattle.build_log.specs.Line.{field_and_tab, fields_text, line_text, AreTexts, counted, IsPlain, IsNoLine};
+ghost use Rattle.build_log.specs.Found.{texts_in};
+ghost use Rattle.build_log.specs.Answered.{IfFound, IfMissing, IfYes, IfNo};
 
 use crate::field::{Field, field_of, is_plain, push_field};
 use itoa::Buffer;
@@ -19,9 +20,9 @@ const USUAL_FIELDS: usize = 8;
 /// borrow from the line, but for those of fields with escapes.
 pub fn fields<'a>(alloc: Global, line: &'a [u8]) -> Result<Option<Vec<Field<'a>>>, AllocError>
     requires { Lacks 10 line.now }
-    ensures found { IfOk result (λ found. IfSome found (λ fields. line.now ≡ line_text fields.items)) }
-    ensures texts { IfOk result (λ found. IfSome found (λ fields. AreTexts fields.items)) }
-    ensures none { IfOk result (λ found. IfNone found ((texts : List (List ℕ)) → AreTexts texts → line.now ≡ line_text texts → ⊥)) }
+    ensures found { IfFound result (λ fields. line.now ≡ line_text fields.items) }
+    ensures texts { IfFound result (λ fields. AreTexts fields.items) }
+    ensures none { IfMissing result (IsNoLine line.now) }
 {
     let mut fields = room_for_fields(alloc)?;
     if take_fields(alloc, line, &mut fields)? {
@@ -44,9 +45,9 @@ pub(crate) fn take_fields<'a>(
     fields: &mut Vec<Field<'a>>,
 ) -> Result<bool, AllocError>
     requires { Lacks 10 line.now }
-    ensures found { IfOk result (λ is_line. IsTrue is_line → line.now ≡ line_text fields.new.items) }
-    ensures texts { IfOk result (λ is_line. IsTrue is_line → AreTexts fields.new.items) }
-    ensures none { IfOk result (λ is_line. IsFalse is_line → (texts : List (List ℕ)) → AreTexts texts → line.now ≡ line_text texts → ⊥) }
+    ensures found { IfYes result (line.now ≡ line_text fields.new.items) }
+    ensures texts { IfYes result (AreTexts fields.new.items) }
+    ensures none { IfNo result (IsNoLine line.now) }
 {
     let Some(front) = without_dot(line) else {
         return Ok(false);
@@ -116,8 +117,8 @@ pub fn push_number(line: &mut Vec<u8>, n: u64) -> Result<(), AllocError>
 /// Writes the fields of how many texts there are, and of each, at the end of a line. Where memory is refused, a part of
 /// it may stand there.
 pub fn push_list(line: &mut Vec<u8>, texts: &[&str]) -> Result<(), AllocError>
-    ensures field { OnOk result (line.new.items ≡ line.old.items ++ flat_map field_and_tab (counted (map (λ text. text.now) texts.now))) }
-    ensures utf8 { OnOk result (AreTexts (counted (map (λ text. text.now) texts.now))) }
+    ensures field { OnOk result (line.new.items ≡ line.old.items ++ fields_text (counted (texts_in texts.now))) }
+    ensures utf8 { OnOk result (AreTexts (counted (texts_in texts.now))) }
 {
     push_number(line, texts.len() as u64)?;
     for text in texts {

@@ -1,14 +1,13 @@
 //! What is kept of the build log.
 
-ghost use Rattle.std.specs.Prelude.{◌≡◌, ◌↔◌, [], ◌∷◌, ◌++◌, List, ℕ, Option, IfOk, IsTrue, OnOk, OnErr, length, slice_get};
-ghost use Rattle.std.specs.Option.{option_map, option_copied, option_and_then};
+ghost use Rattle.std.specs.Prelude.{◌≡◌, List, IfOk, OnOk, OnErr, length, slice_get};
 ghost use Rattle.model.specs.Records.{in_force};
 ghost use Rattle.build_log.specs.declared.form.Version.TheVariants.{Two};
-ghost use Rattle.build_log.specs.Kept.{Saying, IsTableOf, AreDistinct, WantsCompaction};
+ghost use Rattle.build_log.specs.Kept.{IsTableOf, AreDistinct};
+ghost use Rattle.build_log.specs.Keeping.{OfKept, OfTable, KeepsSame, KeepsAlso, IsParsed};
 ghost use Rattle.build_log.specs.Written.{IsWritten};
-ghost use Rattle.build_log.specs.Text.{IsRead};
 ghost use Rattle.build_log.specs.Record.{IsRecord, forms};
-ghost use Rattle.build_log.specs.Log.{Keeps, IsLog, compaction, made_of, makings};
+ghost use Rattle.build_log.specs.Log.{Keeps, compaction, made_in, makings};
 
 use crate::done::Done;
 use crate::field::{Field, plain_fields};
@@ -124,7 +123,7 @@ impl Log {
     ///
     /// Each byte is looked at a fixed number of times. An output is copied once, and each text of an act once.
     pub fn parse(alloc: Global, bytes: &[u8]) -> Result<(Log, Tail), AllocError>
-        ensures { IfOk result (λ read. (records : List Record) × IsRead forms bytes.now records read.1 × Keeps records read.0) }
+        ensures { IfOk result (λ read. IsParsed forms Keeps bytes.now read.0 read.1) }
     {
         crate::read::parse::<Log>(alloc, bytes)
     }
@@ -132,8 +131,8 @@ impl Log {
     /// Puts a record at the end. Where memory is refused, the log stands for the same records as before.
     pub fn apply(&mut self, alloc: Global, added: Record) -> Result<(), AllocError>
         requires { IsRecord Two added }
-        ensures ok { OnOk result ((records : List Record) → Keeps records self.old → Keeps (records ++ added ∷ []) self.new) }
-        ensures err { OnErr result ((records : List Record) → Keeps records self.old → Keeps records self.new) }
+        ensures ok { OnOk result (KeepsAlso Keeps added self.old self.new) }
+        ensures err { OnErr result (KeepsSame Keeps self.old self.new) }
     {
         match added {
             Record::Begun { outputs } => self.put(alloc, outputs.as_slice(), None),
@@ -147,8 +146,8 @@ impl Log {
 
     fn put(&mut self, alloc: Global, outputs: &[Path], said: Option<Done>) -> Result<(), AllocError>
         requires { AreDistinct outputs.now }
-        ensures ok { OnOk result ((all : List (Saying Done)) → IsTableOf all self.old → IsTableOf (all ++ (outputs.now, said) ∷ []) self.new) }
-        ensures err { OnErr result ((all : List (Saying Done)) → IsTableOf all self.old → IsTableOf all self.new) }
+        ensures ok { OnOk result (KeepsAlso IsTableOf (outputs.now, said) self.old self.new) }
+        ensures err { OnErr result (KeepsSame IsTableOf self.old self.new) }
     {
         let fields = plain_fields(alloc, outputs)?;
         self.kept.put(alloc, fields.as_slice(), said)
@@ -156,21 +155,21 @@ impl Log {
 
     /// The record in force for an output. It takes no memory.
     pub fn lookup(&self, output: &str) -> Option<&Done>
-        ensures { (records : List Record) → Keeps records self.now → option_map made_of (option_copied result) ≡ in_force records output.now }
+        ensures { OfKept Keeps self.now (λ all. made_in result ≡ in_force all output.now) }
     {
         self.kept.lookup(output)
     }
 
     /// What the done record with this number tells: they are counted from 0. It takes no memory.
     pub fn done_at(&self, number: usize) -> Option<&Done>
-        ensures { (records : List Record) → Keeps records self.now → option_map made_of (option_copied result) ≡ slice_get (makings records) number }
+        ensures { OfKept Keeps self.now (λ all. made_in result ≡ slice_get (makings all) number) }
     {
         self.kept.at(number)
     }
 
     /// How many records are in force, each for one of its outputs at least.
     pub fn records_in_force(&self) -> usize
-        ensures { (records : List Record) → Keeps records self.now → result ≡ length (compaction records) }
+        ensures { OfKept Keeps self.now (λ all. result ≡ length (compaction all)) }
     {
         self.kept.records_in_force()
     }
@@ -183,7 +182,7 @@ impl Log {
         text: &mut Vec<u8>,
         number: usize,
     ) -> Result<(), AllocError>
-        ensures { OnOk result ((all : List (Saying Done)) → IsTableOf all self.now → IsWritten all number text.old.items text.new.items) }
+        ensures { OnOk result (OfTable self.now (λ all. IsWritten all number text.old.items text.new.items)) }
     {
         let outputs = self.kept.outputs_in_force(alloc, number)?;
         match self.kept.at(number) {

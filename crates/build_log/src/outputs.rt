@@ -1,9 +1,10 @@
 //! Lists of texts among the fields of a record, and the outputs that it names.
 
-ghost use Rattle.std.specs.Prelude.{◌≡◌, ◌<◌, ◌^◌, ◌++◌, IfOk, IfSome, IfNone, IsTrue, IsFalse, List, ℕ, length};
+ghost use Rattle.std.specs.Prelude.{◌≡◌, ◌<◌, ◌++◌, IfSome, IfNone, length};
 ghost use Rattle.build_log.specs.declared.form.Version.TheVariants.{Two};
-ghost use Rattle.build_log.specs.Line.{counted};
-ghost use Rattle.build_log.specs.Record.{output_fields, HasRoomFor};
+ghost use Rattle.build_log.specs.Answered.{IfYes, IfNo};
+ghost use Rattle.build_log.specs.Line.{HaveListFirst, HaveNoListFirst};
+ghost use Rattle.build_log.specs.Record.{HaveOutputsFirst, HaveNoOutputsFirst};
 ghost use Rattle.build_log.specs.Kept.{AreDistinct};
 
 use crate::field::Field;
@@ -17,8 +18,8 @@ pub fn split_outputs<'f, 'a>(
     version: Version,
     fields: &'f [Field<'a>],
 ) -> Option<(&'f [Field<'a>], &'f [Field<'a>])>
-    ensures found { IfSome result (λ parts. (fields.now ≡ output_fields version parts.0.now ++ parts.1.now) × HasRoomFor version parts.0.now) }
-    ensures none { IfNone result ((outputs after : List (List ℕ)) → HasRoomFor version outputs → fields.now ≡ output_fields version outputs ++ after → ⊥) }
+    ensures found { IfSome result (λ parts. HaveOutputsFirst version parts.0.now fields.now parts.1.now) }
+    ensures none { IfNone result (HaveNoOutputsFirst version fields.now) }
 {
     match version {
         Version::One => split_front(fields, 1),
@@ -28,8 +29,8 @@ pub fn split_outputs<'f, 'a>(
 
 /// The outputs that these fields begin with behind their number, which is not 0, and the fields behind them.
 fn split_some<'f, 'a>(fields: &'f [Field<'a>]) -> Option<(&'f [Field<'a>], &'f [Field<'a>])>
-    ensures found { IfSome result (λ parts. (fields.now ≡ counted parts.0.now ++ parts.1.now) × HasRoomFor Two parts.0.now) }
-    ensures none { IfNone result ((outputs after : List (List ℕ)) → HasRoomFor Two outputs → fields.now ≡ counted outputs ++ after → ⊥) }
+    ensures found { IfSome result (λ parts. HaveOutputsFirst Two parts.0.now fields.now parts.1.now) }
+    ensures none { IfNone result (HaveNoOutputsFirst Two fields.now) }
 {
     let (outputs, after) = split_counted(fields)?;
     if outputs.is_empty() {
@@ -40,8 +41,8 @@ fn split_some<'f, 'a>(fields: &'f [Field<'a>]) -> Option<(&'f [Field<'a>], &'f [
 
 /// As many fields as the first of them says, and the fields behind them.
 pub fn split_counted<'f, 'a>(fields: &'f [Field<'a>]) -> Option<(&'f [Field<'a>], &'f [Field<'a>])>
-    ensures found { IfSome result (λ parts. (fields.now ≡ counted parts.0.now ++ parts.1.now) × (length parts.0.now < 2 ^ 64)) }
-    ensures none { IfNone result ((texts after : List (List ℕ)) → length texts < 2 ^ 64 → fields.now ≡ counted texts ++ after → ⊥) }
+    ensures found { IfSome result (λ parts. HaveListFirst parts.0.now fields.now parts.1.now) }
+    ensures none { IfNone result (HaveNoListFirst fields.now) }
 {
     let (first, rest) = fields.split_first()?;
     let count = number_of(first.as_str())?;
@@ -64,8 +65,8 @@ fn split_front<'f, 'a>(
 
 /// Whether no output stands twice among these. One alone takes no memory.
 pub fn are_distinct(alloc: Global, outputs: &[Field<'_>]) -> Result<bool, AllocError>
-    ensures distinct { IfOk result (λ are. IsTrue are → AreDistinct outputs.now) }
-    ensures twice { IfOk result (λ are. IsFalse are → AreDistinct outputs.now → ⊥) }
+    ensures distinct { IfYes result (AreDistinct outputs.now) }
+    ensures twice { IfNo result (AreDistinct outputs.now → ⊥) }
 {
     if outputs.len() < 2 {
         return Ok(true);

@@ -1,10 +1,10 @@
 //! Reading the text of a log.
 
-ghost use Rattle.std.specs.Prelude.{◌≡◌, [], ◌∷◌, ◌++◌, List, IfOk, IfSome, IfNone, IsTrue, IsFalse};
+ghost use Rattle.std.specs.Prelude.{◌≡◌, [], IfOk, IfSome, IfNone};
 ghost use Rattle.text.specs.Marks.{Lacks};
-ghost use Rattle.build_log.specs.Line.{line_text};
-ghost use Rattle.build_log.specs.Form.{HasLine, HaveLines, lines_text};
-ghost use Rattle.build_log.specs.Text.{IsRead};
+ghost use Rattle.build_log.specs.Answered.{IfYes, IfNo};
+ghost use Rattle.build_log.specs.Form.{IsNoLineOf, AreNoLinesOf};
+ghost use Rattle.build_log.specs.Keeping.{IsParsed, KeepsLines, PutsLine};
 
 use crate::field::Field;
 use crate::form::{Records, Version};
@@ -17,7 +17,7 @@ use text::cut;
 ///
 /// Each byte is looked at a fixed number of times.
 pub fn parse<L: Records>(alloc: Global, bytes: &[u8]) -> Result<(L, Tail), AllocError>
-    ensures { IfOk result (λ read. (records : List L.Record) × IsRead L.forms bytes.now records read.1 × L.Keeps records read.0) }
+    ensures { IfOk result (λ read. IsParsed L.forms L.Keeps bytes.now read.0 read.1) }
 {
     L::are_readable();
     let (whole, rest) = split_tail(bytes);
@@ -56,8 +56,8 @@ fn put_lines<L: Records>(
     log: &mut L,
 ) -> Result<bool, AllocError>
     requires { L.Keeps [] log.old }
-    ensures put { IfOk result (λ are. IsTrue are → (records : List L.Record) × (lines.now ≡ lines_text (L.forms version) records) × HaveLines (L.forms version) records × L.Keeps records log.new) }
-    ensures none { IfOk result (λ are. IsFalse are → (records : List L.Record) → HaveLines (L.forms version) records → lines.now ≡ lines_text (L.forms version) records → ⊥) }
+    ensures put { IfYes result (KeepsLines (L.forms version) L.Keeps lines.now log.new) }
+    ensures none { IfNo result (AreNoLinesOf (L.forms version) lines.now) }
 {
     L::are_readable();
     let mut fields = room_for_fields(alloc)?;
@@ -81,8 +81,8 @@ fn put_line<'a, L: Records>(
     log: &mut L,
 ) -> Result<bool, AllocError>
     requires { Lacks 10 line.now }
-    ensures put { IfOk result (λ is_put. IsTrue is_put → (r : L.Record) × (line.now ≡ line_text ((L.forms version).fields r)) × HasLine (L.forms version) r × ((records : List L.Record) → L.Keeps records log.old → L.Keeps (records ++ r ∷ []) log.new)) }
-    ensures none { IfOk result (λ is_put. IsFalse is_put → (r : L.Record) → HasLine (L.forms version) r → line.now ≡ line_text ((L.forms version).fields r) → ⊥) }
+    ensures put { IfYes result (PutsLine (L.forms version) L.Keeps line.now log.old log.new) }
+    ensures none { IfNo result (IsNoLineOf (L.forms version) line.now) }
 {
     if log.put_plain(alloc, version, line)? {
         return Ok(true);

@@ -1,13 +1,12 @@
 //! The records of the build log and their lines.
 
-ghost use Rattle.std.specs.Prelude.{◌≡◌, ◌<◌, ◌^◌, [], ◌∷◌, ◌++◌, IfOk, OnOk, IfSome, IfNone, IsTrue, IsFalse, List, ℕ, map, length};
-ghost use Rattle.build_log.specs.declared.form.Version.TheVariants.{Two};
-ghost use Rattle.build_log.specs.Form.{IsAppended};
+ghost use Rattle.std.specs.Prelude.{◌≡◌, ◌<◌, ◌++◌, OnOk, length};
+ghost use Rattle.build_log.specs.Answered.{IfFound, IfMissing};
 ghost use Rattle.build_log.specs.Kept.{AreDistinct};
-ghost use Rattle.std.specs.List.{flat_map};
-ghost use Rattle.build_log.specs.Line.{field_and_tab, AreTexts};
-ghost use Rattle.build_log.specs.Record.{act_fields, done_fields, IsRecord, IsNoRecord, fields_of, forms};
-ghost use Rattle.build_log.specs.Log.{saying};
+ghost use Rattle.build_log.specs.Found.{texts_in};
+ghost use Rattle.build_log.specs.Line.{fields_text, AreTexts};
+ghost use Rattle.build_log.specs.Record.{act_fields, AreDone, AreNotDone, IsNoRecord};
+ghost use Rattle.build_log.specs.Log.{AreSaid, Appends, done_record};
 
 use crate::done::Done;
 use crate::field::Field;
@@ -28,8 +27,8 @@ pub(crate) fn said_by<'f, 'a>(
     version: Version,
     fields: &'f [Field<'a>],
 ) -> Result<Option<Said<'f, 'a>>, AllocError>
-    ensures found { IfOk result (λ found. IfSome found (λ said. (r : Record) × (fields.now ≡ fields_of version r) × IsRecord version r × (saying r ≡ (said.0.now, said.1)))) }
-    ensures none { IfOk result (λ found. IfNone found (IsNoRecord version fields.now)) }
+    ensures found { IfFound result (λ said. AreSaid version fields.now said.0.now said.1) }
+    ensures none { IfMissing result (IsNoRecord version fields.now) }
 {
     let Some((kind, rest)) = fields.split_first() else {
         return Ok(None);
@@ -54,8 +53,8 @@ pub(crate) fn said_by<'f, 'a>(
 
 /// What the fields behind the outputs tell of a command that finished well.
 fn done_of(alloc: Global, fields: &[Field<'_>]) -> Result<Option<Done>, AllocError>
-    ensures found { IfOk result (λ found. IfSome found (λ done. (fields.now ≡ done_fields done) × (done.start < 2 ^ 64))) }
-    ensures none { IfOk result (λ found. IfNone found ((done : Done) → done.start < 2 ^ 64 → fields.now ≡ done_fields done → ⊥)) }
+    ensures found { IfFound result (λ done. AreDone done fields.now) }
+    ensures none { IfMissing result (AreNotDone fields.now) }
 {
     let Some((start, act)) = fields.split_first() else {
         return Ok(None);
@@ -71,8 +70,8 @@ fn done_of(alloc: Global, fields: &[Field<'_>]) -> Result<Option<Done>, AllocErr
 
 /// The act of these fields, if they are four. Each text is copied once.
 fn act_of(alloc: Global, fields: &[Field<'_>]) -> Result<Option<Act>, AllocError>
-    ensures found { IfOk result (λ found. IfSome found (λ act. fields.now ≡ act_fields act)) }
-    ensures none { IfOk result (λ found. IfNone found ((act : Act) → fields.now ≡ act_fields act → ⊥)) }
+    ensures found { IfFound result (λ act. fields.now ≡ act_fields act) }
+    ensures none { IfMissing result ((act : Act) → fields.now ≡ act_fields act → ⊥) }
 {
     match fields {
         [command, depfile, response_path, response_content] => Ok(Some(Act {
@@ -89,8 +88,8 @@ fn act_of(alloc: Global, fields: &[Field<'_>]) -> Result<Option<Act>, AllocError
 /// the end of a text. Where memory is refused, a part of it may stand there.
 pub fn begun_line(text: &mut Vec<u8>, outputs: &[&str]) -> Result<(), AllocError>
     requires some { 0 < length outputs.now }
-    requires once { AreDistinct (map (λ output. output.now) outputs.now) }
-    ensures { OnOk result (IsAppended (forms Two) (Record.Begun (map (λ output. output.now) outputs.now)) text.old.items text.new.items) }
+    requires once { AreDistinct (texts_in outputs.now) }
+    ensures { OnOk result (Appends (Record.Begun (texts_in outputs.now)) text.old.items text.new.items) }
 {
     push_text(text, "b")?;
     push_list(text, outputs)?;
@@ -101,8 +100,8 @@ pub fn begun_line(text: &mut Vec<u8>, outputs: &[&str]) -> Result<(), AllocError
 /// of a text. Where memory is refused, a part of it may stand there.
 pub fn done_line(text: &mut Vec<u8>, outputs: &[&str], done: &Done) -> Result<(), AllocError>
     requires some { 0 < length outputs.now }
-    requires once { AreDistinct (map (λ output. output.now) outputs.now) }
-    ensures { OnOk result (IsAppended (forms Two) (Record.Done (map (λ output. output.now) outputs.now) done.now.start done.now.act) text.old.items text.new.items) }
+    requires once { AreDistinct (texts_in outputs.now) }
+    ensures { OnOk result (Appends (done_record (texts_in outputs.now, done.now)) text.old.items text.new.items) }
 {
     made_line(text, outputs, done.start, &done.act)
 }
@@ -115,8 +114,8 @@ pub fn made_line(
     act: &Act,
 ) -> Result<(), AllocError>
     requires some { 0 < length outputs.now }
-    requires once { AreDistinct (map (λ output. output.now) outputs.now) }
-    ensures { OnOk result (IsAppended (forms Two) (Record.Done (map (λ output. output.now) outputs.now) start act.now) text.old.items text.new.items) }
+    requires once { AreDistinct (texts_in outputs.now) }
+    ensures { OnOk result (Appends (Record.Done (texts_in outputs.now) start act.now) text.old.items text.new.items) }
 {
     push_text(text, "d")?;
     push_list(text, outputs)?;
@@ -127,7 +126,7 @@ pub fn made_line(
 
 /// Writes the fields of an act at the end of a line. Where memory is refused, a part of them may stand there.
 fn push_act(line: &mut Vec<u8>, act: &Act) -> Result<(), AllocError>
-    ensures fields { OnOk result (line.new.items ≡ line.old.items ++ flat_map field_and_tab (act_fields act.now)) }
+    ensures fields { OnOk result (line.new.items ≡ line.old.items ++ fields_text (act_fields act.now)) }
     ensures utf8 { OnOk result (AreTexts (act_fields act.now)) }
 {
     push_text(line, act.command.as_str())?;

@@ -1,8 +1,8 @@
 //! How the text of a log ends.
 
-ghost use Rattle.std.specs.Prelude.{◌≡◌, ◌++◌, [], ℕ, List, IfOk, IfSome, IfNone, IsTrue, IsFalse};
+ghost use Rattle.std.specs.Prelude.{◌≡◌, ◌++◌, [], ℕ, List, IsTrue, IsFalse};
 ghost use Rattle.text.specs.Marks.{Lacks};
-ghost use Rattle.build_log.specs.Text.{EndsLine, IsRead, IsLogOf, header};
+ghost use Rattle.build_log.specs.Text.{EndsLine, EndsBehind, IsRead, header};
 
 use crate::form::{Records, Version};
 use bstr::ByteSlice;
@@ -58,7 +58,7 @@ fn begins_header<L: Records>(version: Version, bytes: &[u8]) -> bool
 /// How a log of this version ends, with these bytes behind its whole lines.
 pub(crate) fn tail_behind<L: Records>(version: Version, rest: &[u8]) -> Tail
     requires { Lacks 10 rest.now }
-    ensures { (whole : List ℕ) (records : List L.Record) → IsLogOf (L.forms version) whole records → IsRead L.forms (whole ++ rest.now) records result }
+    ensures { EndsBehind L.forms version rest.now result }
 {
     if !rest.is_empty() {
         return Tail::Torn;

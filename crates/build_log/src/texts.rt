@@ -6,7 +6,7 @@ ghost use Rattle.std.specs.Str.{IsUtf8};
 ghost use Rattle.model.specs.Graph.{has};
 ghost use Rattle.build_log.specs.Line.{field_and_tab, IsPlain};
 ghost use Rattle.build_log.specs.Noted.{IsPlainAt, IsNumberOf, IsRunFrom};
-ghost use Rattle.build_log.specs.Taken.{AreTakenFrom};
+ghost use Rattle.build_log.specs.Taken.{AreTaken, IsTaken};
 
 use bstr::ByteSlice;
 use indexmap::IndexSet;
@@ -130,7 +130,7 @@ impl Texts {
     /// The number of the text whose field stands in front, and what stands behind the field and its tab, where it is a text
     /// that came behind `last` before.
     pub(crate) fn follow<'a>(&self, last: usize, bytes: &'a [u8]) -> Option<(usize, &'a [u8])>
-        ensures { IfSome result (λ parts. (text : List ℕ) × (slice_get self.now parts.0 ≡ Some text) × IsUtf8 text × (bytes.now ≡ field_and_tab text ++ parts.1.now)) }
+        ensures { IfSome result (λ parts. IsTaken self.now bytes.now parts.0 parts.1.now) }
     {
         let number = self.guess(last, bytes)?;
         let after = self.behind(number, bytes)?;
@@ -151,7 +151,7 @@ impl Texts {
     /// What stands behind the field of the text with this number and its tab, where they stand in front.
     fn behind<'a>(&self, number: usize, bytes: &'a [u8]) -> Option<&'a [u8]>
         requires { IsPlainAt self.now number }
-        ensures { IfSome result (λ after. (text : List ℕ) × (slice_get self.now number ≡ Some text) × IsUtf8 text × (bytes.now ≡ field_and_tab text ++ after.now)) }
+        ensures { IfSome result (λ after. IsTaken self.now bytes.now number after.now) }
     {
         let text = self.at(number)?;
         let after = behind_text(text, bytes)?;
@@ -181,7 +181,7 @@ impl Texts {
         bytes: &'a [u8],
         most: usize,
     ) -> Result<(Vec<usize>, &'a [u8]), AllocError>
-        ensures taken { IfOk result (λ parts. AreTakenFrom self.now bytes.now (length parts.0.items) parts.0.items parts.1.now) }
+        ensures taken { IfOk result (λ parts. AreTaken self.now bytes.now parts.0.items parts.1.now) }
         ensures most { IfOk result (λ parts. length parts.0.items ≤ most) }
     {
         let count = run_len(most);
@@ -245,7 +245,7 @@ impl Texts {
         numbers: &[usize],
         bytes: &[u8],
     ) -> Result<(), AllocError>
-        requires { AreTakenFrom self.old bytes.now (length numbers.now) numbers.now [] }
+        requires { AreTaken self.old bytes.now numbers.now [] }
         ensures { self.new ≡ self.old }
     {
         if self.notes.len() <= last {

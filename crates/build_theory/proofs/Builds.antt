@@ -1,6 +1,5 @@
 -- What a run has come to, in the words of one build.
-use Rattle.std.proofs.Common.{◌≡◌, ◌≢◌, ◌⊎◌, inl, inr, ℕ, ◌==◌, cond, Bool, true, false, IsTrue, List, [], ◌∷◌, ◌++◌, Some, refl, sym, ◌∙◌, ap, subst, None}
-use Rattle.std.proofs.lemmas.List.{append-nil}
+use Rattle.std.proofs.Common.{◌≡◌, ◌≢◌, ◌⊎◌, inl, inr, ℕ, ◌==◌, cond, Bool, true, false, IsTrue, List, [], ◌∷◌, ◌++◌, refl, sym, ◌∙◌, ap, subst, None}
 use Rattle.std.proofs.lemmas.Bool.{false≢true, or_left, eq-eqb, false_from_ne_true}
 use Rattle.model.specs.declared.act.Act.{Act}
 use Rattle.model.specs.declared.graph.Edge.{Edge}
@@ -9,14 +8,14 @@ use Rattle.model.specs.declared.event.Event.TheVariants.{Start, Finish}
 use Rattle.model.specs.declared.event.Moment.{Moment}
 use Rattle.model.specs.declared.event.Moment.TheVariants.{Happened}
 use Rattle.model.specs.World.{World, View, view_of, runs, IsIdle}
-use Rattle.model.specs.Graph.{has, has_number, edge_at, maker, outputs, inputs, IsMadeOnce, IsCommand}
+use Rattle.model.specs.Graph.{has, has_number, edge_at, outputs, inputs, IsMadeOnce, IsCommand}
 use Rattle.model.specs.Outcome.{Behaviour, depfile_in, is_accepted}
 use Rattle.model.specs.Records.{Store, OwnFiles, recorded_inputs}
-use Rattle.model.specs.OutOfDate.{IsVerdict, IsDue, Stale}
+use Rattle.model.specs.OutOfDate.{IsVerdict}
 use Rattle.model.specs.Schedule.{Task, Step, Judged, Started, Ended, clean_in, ended_in, well_in, running_in, done_in, IsSettled, MayBeJudged, NoneMayBeJudged, NoneMayStart, IsLawful, AreEventsOf, AreFinishes}
 use Rattle.model.specs.Premises.{Matters, Premises, EndedAt}
 use Rattle.model.specs.SingleBuild.{Asked, Answer, is_fault, task_of, InCone, IsScheduled, HasEnded, IsJudged, IsFrame, IsCleanlyBuilt}
-use Rattle.build_theory.specs.Order.{AreReadFirst, no_records, AreMakersFirst}
+use Rattle.build_theory.specs.Order.{AreReadFirst, no_records}
 use Rattle.build_theory.specs.Run.{events_in, IsToldBy, IsRun, IsRunOrRest, AreStartsReady}
 use Rattle.build_theory.proofs.Orderly.{kept_orderly}
 use Rattle.build_theory.proofs.Lists.{same_rest, has-left, has_number-right}
@@ -25,10 +24,9 @@ use Rattle.build_theory.proofs.Events.{runs_push, runs_now}
 use Rattle.build_theory.proofs.Moments.{events_in-append}
 use Rattle.build_theory.proofs.Runs.{running_now}
 use Rattle.build_theory.proofs.Exit.{clean_where_explained, frame}
-use Rattle.build_theory.proofs.Turns.{settled_by_order, makers_within}
 use Rattle.model.specs.Phases.{NoLoadIsDue}
 use Rattle.build_theory.proofs.Loads.{one_phase}
-use Rattle.build_theory.proofs.Nothing.{recorded_alias, verdict_of_nothing, reads_where_settled, reads_of_commands}
+use Rattle.build_theory.proofs.Nothing.{verdict_of_nothing, reads_where_settled}
 
 -- ---- the schedule
 
@@ -46,22 +44,6 @@ module _ (tells : Bool) (own : OwnFiles) (asked : Asked) (store : Store) (steps 
       whole = whole;
       went_on = λ on. refl;
     }
-
-    -- a run that was not cut off may give any answer
-    abbrev pub scheduled_run : (answer : Answer) → IsLawful (task_of asked store) steps → IsRun tells own (task_of asked store) steps old now → IsScheduled B texts asked store steps old now answer
-    scheduled_run answer lawful run = record {
-      lawful = one_phase B.dyndep texts asked.declared (task_of asked store) store steps same none lawful;
-      first = run.events;
-      later = [];
-      grows = run.grows ∙ ap (λ (l : List Event). old.events ++ l) (sym (append-nil run.events));
-      of_steps = run.of_steps;
-      finishes = tt;
-      whole = λ fine. refl;
-      went_on = λ on. refl;
-    }
-
-  aliases : (i : ℕ) → (edge_at asked.graph.edges i).phony ≡ true → recorded_inputs store asked.graph.edges i ≡ []
-  aliases i phony = recorded_alias store asked.graph.edges i phony
 
   -- a run in which no command runs leaves the site idle
   pub idle_at_end : IsIdle old.events → IsRun tells own (task_of asked store) steps old now → running_in steps ≡ [] → IsIdle now.events
@@ -230,19 +212,3 @@ module _ (tells : Bool) (own : OwnFiles) (asked : Asked) (steps : List Step) (ol
     well = λ i at ended well. accepts_none B (edge_at asked.graph.edges i).act (view_of at) (no_depfiles i ((kept_orderly asked.graph.edges steps rest.orderly).well i well));
     depfiles = λ i at ended has unmet. depfiles_of_none tells own (task_of asked no_records) steps old now idle rest tell B i at (no_depfiles i has) ended has;
   }
-
--- without records, a command with an output is due, if the cone can be listed with makers first
-pub due_of_nothing : (edges : List Edge) (files : List Moment) (order : List ℕ) → AreMakersFirst edges (recorded_inputs no_records edges) [] order
-    → (i : ℕ) → has_number order i ≡ true → IsCommand edges i → outputs (edge_at edges i) ≢ [] → IsDue edges no_records [] files i
-due_of_nothing edges files order makers i within command some =
-    Stale i command refl (verdict_of_nothing edges [] files files i (reads_where_settled edges (view_of files) order i (λ q j input is. below q j input is)) some)
-  where
-    below : (q : List ℕ) (j : ℕ) → has (inputs (edge_at edges i)) q ≡ true → maker edges q ≡ Some j → IsSettled edges order j
-    below q j input is = settled_by_order edges (recorded_inputs no_records edges) order order makers (λ k h command. h) j
-        (makers_within edges (recorded_inputs no_records edges) [] order makers i within q j (has-left (inputs (edge_at edges i)) (recorded_inputs no_records edges i) q input) is)
-
--- or where every maker has a command
-pub due_of_commands : (edges : List Edge) (files : List Moment) → ((p : List ℕ) (j : ℕ) → maker edges p ≡ Some j → IsCommand edges j)
-    → (i : ℕ) → IsCommand edges i → outputs (edge_at edges i) ≢ [] → IsDue edges no_records [] files i
-due_of_commands edges files commands i command some =
-    Stale i command refl (verdict_of_nothing edges [] files files i (reads_of_commands edges (view_of files) commands i) some)

@@ -1,16 +1,15 @@
 -- What calls of a site leave, one after another.
-use Rattle.std.proofs.Common.{◌≡◌, inl, inr, ℕ, ◌≤◌, Bool, false, true, List, [], ◌∷◌, ◌++◌, Result, Ok, Err, IfErr, OnOk, OnErr, refl, sym, ◌∙◌, ap, subst, arith, append_assoc}
+use Rattle.std.proofs.Common.{◌≡◌, ◌≤◌, Bool, false, true, List, [], ◌∷◌, ◌++◌, Result, Ok, Err, IfErr, refl, sym, ◌∙◌, ap, subst, arith, append_assoc}
 use Rattle.std.specs.List.{AllByRecursion}
 use Rattle.std.proofs.lemmas.List.{append-nil}
 use Rattle.std.proofs.lemmas.Bool.{false≢true}
-use Rattle.model.specs.declared.act.Act.{Act}
 use Rattle.model.specs.declared.fault.SiteFault.{SiteFault}
 use Rattle.model.specs.declared.fault.SiteFault.TheVariants.{Device, Stopped, Memory}
 use Rattle.model.specs.declared.event.Event.{Event}
 use Rattle.model.specs.declared.event.Moment.{Moment}
 use Rattle.model.specs.World.{World, IsRunning}
-use Rattle.model.specs.Calls.{IsByOthers, OthersWrote, OnlyLooks, HasCause, TicksOrNot, Starts, StartsOrNot}
-use Rattle.build_theory.specs.Seen.{IsSeen, Unrefused, StartsUnrefused}
+use Rattle.model.specs.Calls.{IsByOthers, OthersWrote, OnlyLooks, HasCause}
+use Rattle.build_theory.specs.Seen.{IsSeen, Unrefused}
 
 all_append : (P : Moment → Type 0) (xs ys : List Moment) → AllByRecursion P xs → AllByRecursion P ys → AllByRecursion P (xs ++ ys)
 all_append P [] ys a b = b
@@ -78,20 +77,3 @@ cause_then a b c r first cause = record {
   after_stop = λ stopped. absurd (false≢true (sym first.began ∙ stopped));
   earlier = cause.earlier ∙ first.earlier;
 }
-
--- the events stay in a tick, whether it fails or not
-pub tick_events : (tells : Bool) (path : List ℕ) (old new : World) → TicksOrNot tells path old new → new.events ≡ old.events
-tick_events tells path old new (inl looks) = looks.events
-tick_events tells path old new (inr (stamp, ticks)) = ticks.events
-
--- a start that is shown by one more event, and one that is not
-pub start_shown : {E : Type 0} (r : Result (Unit {0}) E) (tells : Bool) (job : ℕ) (act : Act) (old new : World) → OnOk r (Starts tells job act old new) → OnErr r (StartsOrNot tells job act old new) → StartsOrNot tells job act old new
-start_shown (Ok x) tells job act old new ok err = inr ok
-start_shown (Err e) tells job act old new ok err = err
-
-pub starts_of_start : {E : Type 0} (r : Result (Unit {0}) E) (tells : Bool) (job : ℕ) (act : Act) (old new : World) → OnOk r (Starts tells job act old new) → OnErr r (StartsOrNot tells job act old new) → StartsUnrefused old new
-starts_of_start r tells job act old new ok err = by_start (start_shown r tells job act old new ok err)
-  where
-    by_start : StartsOrNot tells job act old new → StartsUnrefused old new
-    by_start (inl looks) = inl looks.at_start
-    by_start (inr starts) = inr starts.at_start

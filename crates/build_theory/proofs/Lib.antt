@@ -4,6 +4,7 @@ pub mod Settled
 pub mod Rounds
 pub mod Steps
 pub mod Orderly
+pub mod Settling
 pub mod Growth
 pub mod Phased
 pub mod Walked

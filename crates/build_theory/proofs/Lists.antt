@@ -212,11 +212,6 @@ has_number-filter test (x ∷ xs) i = by_test (has_number-filter test xs i) (tes
         ap (λ (b : Bool). has_number (cond b (x ∷ filter test xs) (filter test xs)) i) is
         ∙ (rest ∙ ap (λ (b : Bool). (b || has_number xs i) && test i) (sym other))
 
--- a list that has no number is empty
-pub empty_list : (xs : List ℕ) → ((i : ℕ) → has_number xs i ≡ false) → xs ≡ []
-empty_list [] none = refl
-empty_list (x ∷ xs) none = absurd (false≢true (sym (none x) ∙ or_left (x == x) (has_number xs x) (eq-eqb x x refl)))
-
 -- ---- one item of two lists
 
 -- an item of two lists is in the first, or in the second

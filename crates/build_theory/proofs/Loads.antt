@@ -2,16 +2,11 @@
 use Rattle.std.proofs.Common.{◌≡◌, inl, ℕ, List, [], ◌∷◌, ◌++◌, Option, Some, None, refl, sym, ◌∙◌, subst}
 use Rattle.std.proofs.lemmas.List.{append-nil}
 use Rattle.model.specs.declared.graph.Edge.{Edge}
-use Rattle.model.specs.World.{View, view_of}
-use Rattle.model.specs.Graph.{edge_at, maker, IsMadeOnce, Addition}
-use Rattle.model.specs.Records.{Store, OwnFiles}
+use Rattle.model.specs.World.{View}
+use Rattle.model.specs.Graph.{edge_at, IsMadeOnce, Addition}
+use Rattle.model.specs.Records.{Store}
 use Rattle.model.specs.Schedule.{Task, Step, Judged, Started, Ended, IsLawful}
 use Rattle.model.specs.Phases.{Phase, NoLoadIsDue, AreUnloadedFrom, task_with, steps_of, next_edges, ArePhasesFrom, IsLawfulBuild}
-use Rattle.model.specs.declared.event.Moment.{Moment}
-use Rattle.model.specs.Outcome.{Behaviour, depfile_in, listed}
-use Rattle.model.specs.Reading.{needs, IsAbove, Direct, Further}
-use Rattle.model.specs.Premises.{IsFromAbove, ReportsComeFromAbove, IsKnown, IsKnownAbove, ByOne, ByMore, DyndepOutputsAreReadBelow}
-use Rattle.build_theory.proofs.Lists.{all_has}
 use Rattle.build_theory.specs.Order.{IsOrderlyStep, IsOrderlyFrom, IsOrderly}
 use Rattle.build_theory.proofs.Orderly.{orderly_from}
 use Rattle.build_theory.proofs.Growth.{HasGrown, grown_same, grown_further, grown_by, once_back}
@@ -86,22 +81,3 @@ module _ (reading : List ℕ → Option (List Addition)) (texts : View) (declare
       (taken_in_orderly task.graph.edges Any (steps_of build.earlier ++ build.last) build.taken_in build.rest)))
 
 -- ---- the premise without dyndep files
-
-known_of_none : (edges : List Edge) (recorded : ℕ → List (List ℕ)) (e : ℕ) (p : List ℕ) → IsKnown edges edges recorded e p
-known_of_none edges recorded e p j file made none names = absurd (none_some j (sym none ∙ made))
-  where
-    none_some : (k : ℕ) → None ≡ Some k → ⊥
-    none_some k is = cc
-
-known_chain : (edges : List Edge) (recorded : ℕ → List (List ℕ)) (f e : ℕ) → IsAbove (needs edges recorded) (maker edges) f e → IsKnownAbove edges edges recorded f e
-known_chain edges recorded f e (Direct _ _ p need made) = ByOne f e p need made (known_of_none edges recorded e p)
-known_chain edges recorded f e (Further _ d _ first second) = ByMore f d e (known_chain edges recorded f d first) (known_chain edges recorded d e second)
-
--- where the build files name all outputs, it follows from 'reports come from above'
-pub read_below_none : (B : Behaviour) (own : OwnFiles) (edges : List Edge) (recorded : ℕ → List (List ℕ)) (steps : List Step) (old new : List Moment)
-    → ReportsComeFromAbove B own edges recorded steps old new → DyndepOutputsAreReadBelow B edges edges recorded steps old new
-read_below_none B own edges recorded steps old new above = record {
-  inputs = λ i p command walked. known_of_none edges recorded i p;
-  reports = λ i j p reported made command. known_chain edges recorded j i
-      ((all_has (IsFromAbove own edges recorded i) (listed (depfile_in B (edge_at edges i).act (view_of reported.at))) p (above i reported.at reported.ended reported.well) reported.told).above j made command);
-}

@@ -8,23 +8,16 @@ use Rattle.model.specs.declared.graph.Edge.{Edge}
 use Rattle.model.specs.declared.reason.Reason.{Reason}
 use Rattle.model.specs.declared.reason.Reason.TheVariants.{OutputAbsent, NoRecord, OtherAct, InputAbsent, InputChanged, InputLater, OutputOlder, DepsUnknown}
 use Rattle.model.specs.World.{View, view_of}
-use Rattle.model.specs.Graph.{has, edge_at, maker, outputs, regular_inputs, inputs, IsCommand}
+use Rattle.model.specs.Graph.{has, edge_at, maker, outputs, regular_inputs, inputs}
 use Rattle.model.specs.Reading.{IsAlias, Counts, IsRead, Itself, Through}
-use Rattle.model.specs.Records.{Store, LogFormat, OwnFiles, read_log, store_in, recorded_of, recorded_inputs, all_paths_in, is_known, in_force, deps_in_force}
+use Rattle.model.specs.Records.{Store, recorded_of, recorded_inputs, all_paths_in, is_known, in_force, deps_in_force}
 use Rattle.model.specs.Judgement.{holds, all_reasons}
 use Rattle.model.specs.OutOfDate.{output_facts, facts_of, IsVerdict}
 use Rattle.model.specs.Schedule.{IsSettled, Done, Alias}
-use Rattle.model.specs.SingleBuild.{IsFromNothing}
 use Rattle.build_theory.specs.Order.{no_records}
 use Rattle.build_theory.proofs.Lists.{bytes_same, same_bytes, has-left, has-right, has-cases}
 
 -- ---- nothing is recorded
-
--- where the logs are absent, they tell nothing
-pub store_of_nothing : (format : LogFormat) (own : OwnFiles) (edges : List Edge) (files : View) → IsFromNothing own edges files → store_in format own files ≡ no_records
-store_of_nothing format own edges files from =
-    ap (λ (held : Option (List ℕ)). record { records = read_log format.records held; deps = read_log format.deps (files own.deps_log) }) from.build_log
-    ∙ ap (λ (held : Option (List ℕ)). record { records = []; deps = read_log format.deps held }) from.deps_log
 
 no_paths : (os : List (List ℕ)) → all_paths_in [] os ≡ []
 no_paths [] = refl
@@ -214,7 +207,3 @@ module _ (edges : List Edge) (view : View) where
   pub reads_where_settled : (done : List ℕ) (i : ℕ) → ((q : List ℕ) (j : ℕ) → has (inputs (edge_at edges i)) q ≡ true → maker edges q ≡ Some j → IsSettled edges done j) → ReadsAre edges view i
   reads_where_settled done i settled =
       reads_of i (λ q k h alias. settled_reads done k (settled q k (has-left (regular_inputs (edge_at edges i)) (edge_at edges i).order_only_inputs q h) alias.made) alias.phony)
-
-  -- and each edge, where every maker has a command
-  pub reads_of_commands : ((p : List ℕ) (j : ℕ) → maker edges p ≡ Some j → IsCommand edges j) → (i : ℕ) → ReadsAre edges view i
-  reads_of_commands commands i = reads_of i (λ q j h alias. absurd (true≢false (sym alias.phony ∙ commands q j alias.made)))

@@ -4,7 +4,7 @@ use Rattle.std.proofs.lemmas.List.{append-nil}
 use Rattle.std.proofs.lemmas.Bool.{false≢true, true≢false, false_from_ne_true, eqb-true, cases_Bool}
 use Rattle.model.specs.declared.graph.Edge.{Edge}
 use Rattle.model.specs.Graph.{has_number, IsCommand}
-use Rattle.model.specs.Schedule.{Task, Step, Judged, Started, Ended, judged_in, clean_in, out_of_date_in, started_in, ended_in, well_in, failed_in, running_in, IsLawfulStep, IsLawfulFrom, IsLawful}
+use Rattle.model.specs.Schedule.{Task, Step, Judged, Started, Ended, judged_in, clean_in, out_of_date_in, started_in, ended_in, well_in, failed_in, running_in, IsLawfulStep, IsLawfulFrom}
 use Rattle.build_theory.specs.Order.{settled_in, IsOrderlyStep, IsOrderlyFrom, IsOrderly, IsReadAfter, AreReadFirst, IsReadingOrder}
 use Rattle.build_theory.proofs.Lists.{has_number-cases, has_number-is, has_number-one, has_number-append}
 use Rattle.build_theory.proofs.Steps.{judged-append, clean-append, out_of_date-append, started-append, ended-append, well-append, failed-append, settled-append, Appends, in_either, in_left, in_right, settled_done, done_settled, running_is, running_parts}
@@ -18,9 +18,6 @@ orderly_step task before (Ended i w) lawful = lawful.0
 pub orderly_from : (task : Task) (before steps : List Step) → IsLawfulFrom task before steps → IsOrderlyFrom task.graph.edges before steps
 orderly_from task before [] lawful = tt
 orderly_from task before (step ∷ steps) lawful = (orderly_step task before step lawful.0, orderly_from task (before ++ step ∷ []) steps lawful.1)
-
-pub orderly_of : (task : Task) (steps : List Step) → IsLawful task steps → IsOrderly task.graph.edges steps
-orderly_of task steps lawful = orderly_from task [] steps lawful
 
 -- ---- orderly steps grow
 
@@ -293,21 +290,22 @@ module _ (edges : List Edge) where
       by_step (Ended i w) lawful =
           end_step (has_number (started_in steps) j) (has_number (ended_in steps) j) (i == j) ∙ ap (λ (b : Bool). cond (i == j) false b) (sym (running_is steps j))
 
--- ---- the order of settling
-
-module _ (edges : List Edge) (Reads : ℕ → List ℕ → Type 0) where
-  not_settled_yet : (steps : List Step) (i : ℕ) → IsKept edges steps → has_number (running_in steps) i ≡ true → has_number (settled_in steps) i ≡ false
+  -- what runs, and what was not judged, is not settled
+  pub not_settled_yet : (steps : List Step) (i : ℕ) → IsKept edges steps → has_number (running_in steps) i ≡ true → has_number (settled_in steps) i ≡ false
   not_settled_yet steps i kept runs = false_from_ne_true (has_number (settled_in steps) i) (λ h. elim (has_number-cases (clean_in steps) (well_in steps) i (settled_done steps i h)) [
     | inl clean ↦ kept.apart i clean (kept.started i (running_parts steps i runs).0)
     | inr well ↦ false≢true (sym (running_parts steps i runs).1 ∙ kept.well i well)
   ])
 
-  not_judged_yet : (steps : List Step) (i : ℕ) → IsKept edges steps → has_number (judged_in steps) i ≡ false → has_number (settled_in steps) i ≡ false
+  pub not_judged_yet : (steps : List Step) (i : ℕ) → IsKept edges steps → has_number (judged_in steps) i ≡ false → has_number (settled_in steps) i ≡ false
   not_judged_yet steps i kept fresh = false_from_ne_true (has_number (settled_in steps) i) (λ h. elim (has_number-cases (clean_in steps) (well_in steps) i (settled_done steps i h)) [
     | inl clean ↦ false≢true (sym fresh ∙ kept.clean i clean)
     | inr well ↦ false≢true (sym fresh ∙ kept.out_of_date i (kept.started i (kept.ended i (kept.well i well))))
   ])
 
+-- ---- the order of settling
+
+module _ (edges : List Edge) (Reads : ℕ → List ℕ → Type 0) where
   abbrev AreReadBy : List Step → Type 0
   AreReadBy steps = (i : ℕ) → has_number (judged_in steps) i ≡ true → IsReadAfter edges Reads (settled_in steps) i
 
@@ -336,7 +334,7 @@ module _ (edges : List Edge) (Reads : ℕ → List ℕ → Type 0) where
   order_from before (Judged i false ∷ steps) kept orderly first was = (
     record {
       command = orderly.0.0;
-      fresh = not_judged_yet before i kept orderly.0.1;
+      fresh = not_judged_yet edges before i kept orderly.0.1;
       reads = λ p j reads made command. done_settled before j (first before steps i false refl p j reads made command);
     },
     subst (λ (l : List ℕ). IsReadingOrder edges Reads l (settled_in steps)) (settled-append before (Judged i false ∷ []))
@@ -349,7 +347,7 @@ module _ (edges : List Edge) (Reads : ℕ → List ℕ → Type 0) where
       (subst (λ (l : List Step). AreReadFirst edges Reads l) (sym (append_assoc before (Started i ∷ []) steps)) first) (read_push before (Started i) steps first was))
   order_from before (Ended i true ∷ steps) kept orderly first was =
       let judged = kept.out_of_date i (kept.started i (running_parts before i orderly.0).0) in (
-        record { command = kept.judged i judged; fresh = not_settled_yet before i kept orderly.0; reads = was i judged },
+        record { command = kept.judged i judged; fresh = not_settled_yet edges before i kept orderly.0; reads = was i judged },
         subst (λ (l : List ℕ). IsReadingOrder edges Reads l (settled_in steps)) (settled-append before (Ended i true ∷ []))
             (order_from (before ++ Ended i true ∷ []) steps (kept_push edges before (Ended i true) kept orderly.0) orderly.1
             (subst (λ (l : List Step). AreReadFirst edges Reads l) (sym (append_assoc before (Ended i true ∷ []) steps)) first) (read_push before (Ended i true) steps first was)),

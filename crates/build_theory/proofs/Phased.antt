@@ -112,9 +112,6 @@ module _ (declared last : List Edge) (store : Store) (task : Task) (done : List 
   abbrev Within : ℕ → Type 0
   Within e = IsInCone task.graph.edges task.recorded task.targets e
 
-  abbrev Good : ℕ → Type 0
-  Good k = IsGood last task.graph.edges done k
-
   abbrev needed : ℕ → List (List ℕ)
   needed e = needs last (recorded_inputs store last) e
 

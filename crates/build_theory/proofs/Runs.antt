@@ -1,5 +1,5 @@
 -- A run goes on: a judgement, and each call of the site.
-use Rattle.std.proofs.Common.{◌≡◌, ◌⊎◌, inl, inr, ℕ, Bool, true, false, IsTrue, List, [], ◌∷◌, ◌++◌, length, Option, Some, refl, sym, ◌∙◌, ap, subst, append_assoc}
+use Rattle.std.proofs.Common.{◌≡◌, ℕ, Bool, true, false, IsTrue, List, [], ◌∷◌, ◌++◌, length, Option, refl, sym, ◌∙◌, ap, subst, append_assoc}
 use Rattle.std.proofs.lemmas.List.{append-nil}
 use Rattle.std.proofs.lemmas.Bool.{false≢true, false_from_ne_true}
 use Rattle.model.specs.declared.act.Act.{Act}
@@ -9,8 +9,8 @@ use Rattle.model.specs.declared.event.Event.TheVariants.{Start, Finish}
 use Rattle.model.specs.declared.event.Moment.{Moment}
 use Rattle.model.specs.declared.event.Moment.TheVariants.{Wrote, Happened}
 use Rattle.model.specs.declared.event.Writer.TheVariants.{Program}
-use Rattle.model.specs.World.{World, file_at, runs, IsRunning, IsIdle}
-use Rattle.model.specs.Calls.{AllByOthers, OnlyLooks, Adds, Ticks, TicksOrNot, Starts, StartsOrNot, Finishes, content_or_empty}
+use Rattle.model.specs.World.{World, runs, IsRunning, IsIdle}
+use Rattle.model.specs.Calls.{AllByOthers, OnlyLooks, Adds, Starts, Finishes}
 use Rattle.model.specs.Graph.{has_number, edge_at}
 use Rattle.model.specs.Records.{OwnFiles}
 use Rattle.model.specs.SingleBuild.{IsOwnWrite}
@@ -56,14 +56,6 @@ module _ (own : OwnFiles) (edges : List Edge) where
 
       same : events ++ events_in earlier ≡ events
       same = ap (λ (l : List Event). events ++ l) no_first ∙ append-nil events
-
-  told_ticks : (tells : Bool) (steps : List Step) (before events : List Event) (old : List Moment) (path : List ℕ) (stamp : ℕ) (now new : World) → own.files path ≡ true
-      → (IsTrue tells → IsToldBy own edges steps before events old now.history)
-      → now.events ≡ before ++ events → Ticks tells path stamp now new → IsTrue tells → IsToldBy own edges steps before events old new.history
-  told_ticks tells steps before events old path stamp now new mine told is ticks tell =
-      let call = ticks.history tell in
-      told_writes steps before events now.events old now.history new.history call.earlier call.later path (Some (content_or_empty (file_at (now.history ++ call.earlier) path))) stamp
-      (told tell) is (inl mine) call.grows call.all_earlier call.all_later
 
   told_adds : (tells : Bool) (steps : List Step) (before events : List Event) (old : List Moment) (event : Event) (now new : World) → (IsTrue tells → IsToldBy own edges steps before events old now.history)
       → now.events ≡ before ++ events → new.events ≡ now.events ++ event ∷ []
@@ -115,20 +107,6 @@ module _ (tells : Bool) (own : OwnFiles) (task : Task) (old : World) where
     history = told_looks own task.graph.edges tells steps old.events run.events old.history now new run.history run.grows looks;
   }
 
-  -- a tick of one of the program's own files
-  pub run_ticks : (steps : List Step) (now new : World) (path : List ℕ) (stamp : ℕ) → IsRun tells own task steps old now → own.files path ≡ true → Ticks tells path stamp now new → IsRun tells own task steps old new
-  run_ticks steps now new path stamp run mine ticks = record {
-    orderly = run.orderly;
-    events = run.events;
-    grows = ticks.events ∙ run.grows;
-    of_steps = run.of_steps;
-    history = told_ticks own task.graph.edges tells steps old.events run.events old.history path stamp now new mine run.history run.grows ticks;
-  }
-
-  pub run_ticks_or_not : (steps : List Step) (now new : World) (path : List ℕ) → IsRun tells own task steps old now → own.files path ≡ true → TicksOrNot tells path now new → IsRun tells own task steps old new
-  run_ticks_or_not steps now new path run mine (inl looks) = run_looks steps now new run looks
-  run_ticks_or_not steps now new path run mine (inr (stamp, ticks)) = run_ticks steps now new path stamp run mine ticks
-
   -- the program wrote or removed a file, where it may
   pub run_writes : (steps : List Step) (now new : World) (path : List ℕ) (content : Option (List ℕ)) (stamp : ℕ) → IsRun tells own task steps old now → IsOwnWrite own task.graph.edges steps path content
       → new.events ≡ now.events → (IsTrue tells → Adds (IsRunning now.events) (IsRunning now.events) (Wrote Program path content stamp) now.history new.history) → IsRun tells own task steps old new
@@ -157,12 +135,6 @@ module _ (tells : Bool) (own : OwnFiles) (task : Task) (old : World) where
     history = λ tell. told_more own task.graph.edges steps (steps ++ Started i ∷ []) (λ n k h. until_more steps (Started i ∷ []) n k h) old.events (run.events ++ Start i act now.ticked ∷ []) old.history new.history
         (told_adds own task.graph.edges tells steps old.events run.events old.history (Start i act now.ticked) now new run.history run.grows starts.events starts.history tell);
   }
-
-  -- a start that failed has started its command or has not
-  pub run_starts_or_not : (steps : List Step) (now new : World) (i : ℕ) (act : Act) → IsRun tells own task steps old now → IsOrderlyStep task.graph.edges steps (Started i) → act ≡ (edge_at task.graph.edges i).act
-      → StartsOrNot tells i act now new → IsRun tells own task steps old new ⊎ IsRun tells own task (steps ++ Started i ∷ []) old new
-  run_starts_or_not steps now new i act run next is (inl looks) = inl (run_looks steps now new run looks)
-  run_starts_or_not steps now new i act run next is (inr starts) = inr (run_starts steps now new i act run next is starts)
 
   -- a command that ran has ended
   pub run_finishes : (steps : List Step) (now new : World) (i : ℕ) (well ok : Bool) → IsRun tells own task steps old now → IsOrderlyStep task.graph.edges steps (Ended i well) → IsEndOf (edge_at task.graph.edges i) well ok

@@ -12,12 +12,11 @@ use Rattle.model.specs.declared.graph.Edge.{Edge}
 use Rattle.model.specs.World.{World, content_of, written, file_at, view_of, IsRunning}
 use Rattle.model.specs.Calls.{AllByOthers, OthersWrote, Adds, Starts}
 use Rattle.model.specs.Graph.{edge_at, IsCommand}
-use Rattle.model.specs.Outcome.{Behaviour, depfile_in, read_depfile}
 use Rattle.model.specs.Records.{OwnFiles}
 use Rattle.model.specs.Premises.{OwnFilesApart, FilesAreKept, AllSince, IsWithinEdge, IsNoEdit}
 use Rattle.model.specs.SingleBuild.{IsReadyFor}
 use Rattle.build_theory.specs.Run.{events_in, starts_in, AreStartsReady}
-use Rattle.build_theory.proofs.Lists.{same_rest, all_parts, all_append, place_in}
+use Rattle.build_theory.proofs.Lists.{same_rest, all_parts, place_in}
 use Rattle.build_theory.proofs.Events.{starts-append}
 use Rattle.build_theory.proofs.Files.{IsElsewhere, file_stays, others_elsewhere, write_stands}
 use Rattle.build_theory.proofs.Looks.{kept_before}
@@ -161,19 +160,9 @@ module _ (own : OwnFiles) (edges : List Edge) (old so_far now new : List Moment)
       ∙ holds (kept_before own edges old now new wrote.more wrote.grows files)
 
   module _ (m : Moment) (adds : Adds running running m now new) where
-    first_elsewhere : FilesAreKept own edges old new → AllByRecursion (IsElsewhere q) adds.earlier
-    first_elsewhere files = by_others adds.earlier (adds.earlier ++ m ∷ adds.later) adds.grows [] (m ∷ adds.later) refl adds.all_earlier files
-
     last_elsewhere : FilesAreKept own edges old new → AllByRecursion (IsElsewhere q) adds.later
     last_elsewhere files = by_others adds.later (adds.earlier ++ m ∷ adds.later) adds.grows (adds.earlier ++ m ∷ []) []
         (ap (λ (l : List Moment). adds.earlier ++ m ∷ l) (sym (append-nil adds.later)) ∙ sym (append_assoc adds.earlier (m ∷ []) (adds.later ++ []))) adds.all_later files
-
-    -- a call whose own moment is no write of it
-    pub private_passes : (held : Option (List ℕ)) → IsElsewhere q m → HoldsPrivately own edges old q held now → HoldsPrivately own edges old q held new
-    private_passes held elsewhere holds files =
-        ap content_of (ap (λ (h : List Moment). file_at h q) adds.grows
-        ∙ file_stays q now (adds.earlier ++ m ∷ adds.later) (all_append (IsElsewhere q) adds.earlier (m ∷ adds.later) (first_elsewhere files) (elsewhere, last_elsewhere files)))
-        ∙ holds (kept_before own edges old now new (adds.earlier ++ m ∷ adds.later) adds.grows files)
 
   -- the program wrote or removed it
   pub private_written : (content : Option (List ℕ)) (stamp : ℕ) → Adds running running (Wrote Program q content stamp) now new → HoldsPrivately own edges old q content new
@@ -212,8 +201,3 @@ start_ready own edges tells tell old so_far now new was i act command others is 
         adds.grows adds.all_earlier holds files
 
 -- ---- a depfile, from its command's end to when it is read
-
--- it is read as it was when its command ended
-pub depfile_same : (B : Behaviour) (act : Act) (old : List Moment) (ms : List Moment) → AllByRecursion (IsElsewhere act.depfile) ms → depfile_in B act (view_of (old ++ ms)) ≡ depfile_in B act (view_of old)
-depfile_same B act old ms all =
-    ap (λ (held : Option (List ℕ)). elim act.depfile [ [] ↦ Some [] | q ∷ qs ↦ read_depfile B.depfile held ]) (ap content_of (file_stays act.depfile old ms all))

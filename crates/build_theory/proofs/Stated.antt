@@ -1,5 +1,5 @@
 -- The statements of specs/Laws, proved.
-use Rattle.std.proofs.Common.{◌≡◌, inl, inr, true, List, Some, refl, ℕ, ◌+◌, [], ◌∷◌, length, sym, subst, ◌∙◌, ap}
+use Rattle.std.proofs.Common.{◌≡◌, inl, inr, true, List, Some, refl, ℕ, ◌+◌, [], ◌∷◌, length, sym, subst, ◌∙◌, ap, ◌++◌}
 use Rattle.model.specs.Schedule.{Started, running_in}
 use Rattle.std.proofs.lemmas.Bool.{cases_Bool}
 use Rattle.model.specs.Graph.{has, edge_at, inputs}
@@ -7,6 +7,8 @@ use Rattle.model.specs.SingleBuild.{task_of}
 use Rattle.build_theory.specs.Laws.{LoadsComeFirst, OnePhaseIsLawful, ReadsOr, SettledIsClean, SuccessIsClean, RunKeepsFrame, NothingToMakeReady, OrderlyStartsAreStale, OnePhaseAsksAtEntry, NothingIsUpToDate, EndIsSettled, ScheduleSettlesInOrder, StartsOnce, RunningIsAsTold}
 use Rattle.build_theory.proofs.Rounds as rounds
 use Rattle.build_theory.proofs.Steps as steps
+use Rattle.build_theory.proofs.Orderly as orderly
+use Rattle.build_theory.proofs.Settling as settling
 use Rattle.build_theory.proofs.Turns as turns
 use Rattle.build_theory.proofs.Runs as runs
 use Rattle.build_theory.proofs.Counts as counts
@@ -46,12 +48,12 @@ end_is_settled task steps order unjudged unstarted idle fine makers cone i h =
     turns.settled_at_end task steps unjudged unstarted idle fine order makers cone i h
 
 pub schedule_settles_in_order : ScheduleSettlesInOrder
-schedule_settles_in_order task s lawful = steps.settling_order task s lawful
+schedule_settles_in_order task s lawful = settling.settling_order task s lawful
 
 pub starts_once : StartsOnce
 starts_once task before after i lawful = (
   (steps.lawful_parts task [] before (Started i ∷ after) lawful).1.0.1.once,
-  steps.started_once_more task before after i lawful,
+  orderly.started_once_more task.graph.edges before after i (orderly.orderly_from task [] (before ++ Started i ∷ after) lawful),
 )
 
 pub running_is_as_told : RunningIsAsTold

@@ -1,5 +1,5 @@
--- What may come next, where one command runs at a time and none starts after a failed one; and what is settled at the end.
-use Rattle.std.proofs.Common.{◌≡◌, ◌⊎◌, inl, inr, ℕ, zero, suc, ◌<◌, ◌==◌, not, filter, length, Bool, true, false, List, [], ◌∷◌, ◌++◌, Some, refl, sym, ◌∙◌, ap, subst, arith, append_assoc}
+-- What may start where nothing runs, and what is settled at the end.
+use Rattle.std.proofs.Common.{◌≡◌, ◌⊎◌, inl, inr, ℕ, zero, suc, ◌==◌, not, filter, length, Bool, true, false, List, [], ◌∷◌, ◌++◌, Some, refl, sym, ◌∙◌, ap, subst, arith, append_assoc}
 use Rattle.std.proofs.lemmas.Bool.{false≢true, or_left, eq-eqb, and_from, not_from_false}
 use Rattle.model.specs.declared.graph.Edge.{Edge}
 use Rattle.model.specs.declared.graph.BuildGraph.{BuildGraph}
@@ -34,24 +34,6 @@ may_start_alone task steps i stale fresh idle fine = record {
   pool = room_alone task.graph steps i idle;
   keep = subst (λ (l : List ℕ). IsBelow (length l) task.keep) (sym fine) (below_limit task.keep);
 }
-
-some_length : (xs : List ℕ) (i : ℕ) → has_number xs i ≡ true → 0 < length xs
-some_length [] i h = absurd (false≢true h)
-some_length (x ∷ xs) i h = omega arith
-
-not_below_one : (n : ℕ) → 0 < n → IsBelow n 1 → ⊥
-not_below_one n some (inl none) = absurd (omega (arith, none))
-not_below_one n some (inr below) = absurd (omega (arith, some, below))
-
--- with one job, nothing may start while a command runs
-pub none_starts_beside : (task : Task) (steps : List Step) (j : ℕ) → task.jobs ≡ 1 → has_number (running_in steps) j ≡ true → NoneMayStart task steps
-none_starts_beside task steps j one runs i may =
-    not_below_one (length (running_in steps)) (some_length (running_in steps) j runs) (subst (λ (n : ℕ). IsBelow (length (running_in steps)) n) one may.job)
-
--- where the first failure counts, nothing may start after it
-pub none_starts_after_failure : (task : Task) (steps : List Step) (j : ℕ) → task.keep ≡ 1 → has_number (failed_in steps) j ≡ true → NoneMayStart task steps
-none_starts_after_failure task steps j one failed i may =
-    not_below_one (length (failed_in steps)) (some_length (failed_in steps) j failed) (subst (λ (n : ℕ). IsBelow (length (failed_in steps)) n) one may.keep)
 
 -- ---- settled by an order
 

@@ -11,7 +11,7 @@ use Rattle.model.specs.Records.{Store, recorded_inputs}
 use Rattle.model.specs.Schedule.{Task, Step, Judged, Started, Ended, judged_in, clean_in, well_in, done_in, IsLawfulFrom}
 use Rattle.model.specs.Phases.{Phase, AreUnloadedFrom, AreTakenIn, task_with, steps_of, next_edges, ArePhasesFrom, IsLawfulBuild}
 use Rattle.model.specs.Premises.{Matters, DyndepOutputsAreReadBelow}
-use Rattle.build_theory.specs.Order.{settled_in, IsOrderlyStep, IsOrderlyFrom, IsOrderly, IsReadAfter, AreReadFirst}
+use Rattle.build_theory.specs.Order.{settled_in, IsOrderlyStep, IsOrderlyFrom, IsReadAfter, AreReadFirst}
 use Rattle.build_theory.proofs.Lists.{has_number-right, has_number-cases, has_number-is}
 use Rattle.build_theory.proofs.Steps.{judged-append, settled-append, in_either, in_left, in_right, settled_done, done_settled}
 use Rattle.build_theory.proofs.Orderly.{IsKept, kept_nothing, kept_push, orderly_step}
@@ -275,12 +275,6 @@ module _ (reading : List ℕ → Option (List Addition)) (texts : View) (declare
     in_last : WalksTo task.graph.edges (steps_of build.earlier) build.last
     in_last = phase_walks declared task.graph.edges store B all old new premise once once_last inputs_named task grown_build (grown_same task.graph.edges) once_last recorded_is
         (steps_of build.earlier) build.last up_to.kept build.lawful.lawful build.lawful.unloaded up_to.right
-
-    pub build_orderly : IsOrderly task.graph.edges steps
-    build_orderly = subst (λ (l : List Step). IsOrderly task.graph.edges l) (sym build.whole)
-        (orderly_join task.graph.edges (Matters B task.graph.edges (recorded_inputs store task.graph.edges) all old new) [] (steps_of build.earlier) (build.last ++ build.taken_in) up_to.orderly
-        (orderly_join task.graph.edges (Matters B task.graph.edges (recorded_inputs store task.graph.edges) all old new) (steps_of build.earlier) build.last build.taken_in in_last.orderly
-        (taken_in_orderly task.graph.edges (Matters B task.graph.edges (recorded_inputs store task.graph.edges) all old new) (steps_of build.earlier ++ build.last) build.taken_in build.rest)))
 
     pub build_reads_first : AreReadFirst task.graph.edges (Matters B task.graph.edges (recorded_inputs store task.graph.edges) all old new) steps
     build_reads_first = subst (λ (l : List Step). AreReadFirst task.graph.edges (Matters B task.graph.edges (recorded_inputs store task.graph.edges) all old new) l) (sym build.whole)

@@ -16,10 +16,6 @@ use Rattle.model.specs.Reading.{IsInCone, IsRead}
 use Rattle.build_theory.specs.Order.{settled_in, IsSettlingOrder, AreMakersFirst, IsExplained, no_records, AreReadFirst, IsReadingOrder, IsOrderly}
 use Rattle.build_theory.specs.Run.{IsRun, IsRunOrRest, AreStartsReady}
 
--- the recorded inputs in use of a phony edge are none
-abbrev pub AreOfCommands : List Edge → (ℕ → List (List ℕ)) → Type 0
-AreOfCommands edges recorded = (i : ℕ) → (edge_at edges i).phony ≡ true → recorded i ≡ []
-
 -- what an edge reads: its reading set, and these paths
 abbrev pub ReadsOr : List Edge → View → (ℕ → List (List ℕ)) → ℕ → List ℕ → Type 0
 ReadsOr edges files others i p = IsRead edges files i p ⊎ (has (others i) p ≡ true)

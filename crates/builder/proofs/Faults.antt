@@ -34,10 +34,6 @@ faulted_then a b c fault first second = record {
   };
 }
 
-pub stop_then : (a b c : World) (stopped : Stop) → GoesWell a b → IsStopOf b c stopped → IsStopOf a c stopped
-stop_then a b c (stop.Refused refusal) first second = well_then a b c first second
-stop_then a b c (stop.Fault fault) first second = faulted_then a b c fault first second
-
 -- ---- a fault between two calls of a run
 
 -- the site has stopped exactly where this is the fault

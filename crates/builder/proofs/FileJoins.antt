@@ -8,8 +8,6 @@ use Rattle.std.proofs.lemmas.Option.{slice_get-get_or}
 use Rattle.model.specs.declared.graph.BuildGraph.{BuildGraph}
 use Rattle.model.specs.declared.graph.Edge.{Edge}
 use Rattle.model.specs.declared.graph.Pool.{Pool}
-use Rattle.model.specs.declared.record.Record.{Record}
-use Rattle.model.specs.declared.record.DepsRecord.{DepsRecord}
 use Rattle.model.specs.Graph.{has, has_number, edge_at, targets_of, IsMadeOnce, Addition}
 use Rattle.model.specs.Phases.{IsGrownBy}
 use Rattle.model.specs.Records.{Store, recorded_of, recorded_inputs}
@@ -31,13 +29,11 @@ use Rattle.links.specs.Statements.{is_place}
 use Rattle.links.specs.Told.{declared_by, recorded_by, AreSameInputs}
 use Rattle.plan.specs.Extended.{MayGoOn}
 use Rattle.plan.proofs.Loaded.{file_within, namer_within}
-use Rattle.records.specs.declared.records.Records.{Records}
-use Rattle.records.specs.Known.{AreKnown}
 use Rattle.runner.specs.declared.state.State.{State}
 use Rattle.builder.specs.declared.report.Refusal.{Refusal}
-use Rattle.builder.specs.Joined.{MayJoin, HasJoinedFile, IsCircle, IsUnfitBy, IsUnjoined, StayKnown}
-use Rattle.builder.specs.Recorded.{HasMorePaths, AreToJoin, HasJoinedOf}
-use Rattle.builder.proofs.Joining.{recorded_kept, known_more, nothing_of}
+use Rattle.builder.specs.Joined.{MayJoin, HasJoinedFile, IsCircle, IsUnjoined}
+use Rattle.builder.specs.Recorded.{AreToJoin, HasJoinedOf}
+use Rattle.builder.proofs.Joining.{recorded_kept, nothing_of}
 use Rattle.builder.proofs.Telling.{edge_is}
 
 -- ---- the dyndep file of an edge
@@ -104,7 +100,7 @@ same_graph b pools defaults builddir one two three =
 
 -- ---- the file joins
 
-module _ (asked : Asked) (store : Store) (graph : Graph) (cone : Cone) (state : State) (file : ℕ) (may : MayJoin asked store graph cone state file) where
+module _ {asked : Asked} {store : Store} {graph : Graph} {cone : Cone} {state : State} {file : ℕ} (may : MayJoin asked store graph cone state file) where
   abbrev path : List ℕ
   path = text_at graph.manifest.paths file
 
@@ -118,11 +114,7 @@ module _ (asked : Asked) (store : Store) (graph : Graph) (cone : Cone) (state : 
   none_recorded e names p there =
       none_unloaded (edge_at old (suc e)).phony (edge_at old (suc e)).dyndep path (recorded_of store (edge_at old (suc e))) p (names_it graph e file names) (was_recorded (suc e) p ∙ there)
 
-  -- why it does not fit
-  pub unfit_by : (additions : List Addition) (refusal : Refusal) → IsUnfitBy old path additions refusal → IsUnjoined asked store path additions refusal
-  unfit_by additions refusal unfit = inl (subst (λ (b : BuildGraph). IsUnfitBy b.edges path additions refusal) (sym {A = BuildGraph} may.same) unfit)
-
-  module _ (before : Before) (loaded : Graph) (additions : List Addition) (undoes : Undoes graph loaded file before) (has_it : HasLoaded graph loaded path additions) where
+  module _ {before : Before} {loaded : Graph} {additions : List Addition} (undoes : Undoes graph loaded file before) (has_it : HasLoaded graph loaded path additions) where
     abbrev numbers : List ℕ
     numbers = numbers_in before.edges.items
 
@@ -137,7 +129,7 @@ module _ (asked : Asked) (store : Store) (graph : Graph) (cone : Cone) (state : 
     pub to_join : AreToJoin numbers loaded store.records store.deps
     to_join e there p is = absurd (none_recorded e (sym (undoes.edges e) ∙ there) p (ap (λ (l : List (List ℕ)). has l p) (sym (has_it.recorded (suc e))) ∙ is))
 
-    module _ (grown : Graph) (joined : HasJoinedOf numbers loaded grown store.records store.deps) where
+    module _ {grown : Graph} (joined : HasJoinedOf numbers loaded grown store.records store.deps) where
       abbrev next : List Edge
       next = (declared_by grown).edges
 
@@ -234,7 +226,3 @@ module _ (asked : Asked) (store : Store) (graph : Graph) (cone : Cone) (state : 
         };
         none = λ e there. nothing_of graph.manifest.paths (list_at graph.recorded e) (nothing_in (recorded_by graph (suc e)) (none_recorded e (sym (undoes.edges e) ∙ there)));
       }
-
--- what is known of a graph is known of one that has more
-pub stay_known : (graph loaded grown : Graph) (before after : Records) → HasMorePaths loaded grown → ((rs : List Record) (ds : List DepsRecord) → AreKnown graph rs ds before → AreKnown loaded rs ds after) → StayKnown graph grown before after
-stay_known graph loaded grown before after more known rs ds was = known_more loaded grown more rs ds after (known rs ds was)

@@ -37,7 +37,7 @@ use Rattle.records.specs.declared.records.Records.{Records}
 use Rattle.records.specs.Known.{IsOf, IsOfDeps, AreKnown}
 use Rattle.verdict.specs.Facts.{AreKnownOf}
 use Rattle.builder.specs.Recorded.{are_known, is_in_use, HasMorePaths, HasOnlyMorePaths, AreNumbered, HaveJust, IsShared, IsJoined, MayBeJoined, HasJoinedOf, AreJoined, HasJoined, deps_place, named_by}
-use Rattle.builder.proofs.Numbering.{text_before, texts_more, more_none, more_then, has_both}
+use Rattle.builder.proofs.Numbering.{text_before, texts_more, more_then, has_both}
 use Rattle.builder.proofs.Telling.{edge_is, outputs_are, length_edges}
 
 -- ---- places
@@ -123,10 +123,6 @@ module _ (paths : List (List ℕ)) (rs : List Record) (ds : List DepsRecord) (ac
 
   pub known_not : (n : ℕ) → n ≡ get_or numbers k n → is_known_at n ≡ false → are_known rs ds act (texts_at paths numbers) ≡ false
   known_not n at other = known_so_far numbers ∙ list_all_at is_known_at numbers k n lt (ap is_known_at (sym {A = ℕ} at) ∙ other)
-
-pub known_whole : (paths : List (List ℕ)) (rs : List Record) (ds : List DepsRecord) (act : Act) (numbers : List ℕ) (k : ℕ) → length numbers ≤ k → are_known rs ds act (texts_at paths (take k numbers)) ≡ true
-    → are_known rs ds act (texts_at paths numbers) ≡ true
-known_whole paths rs ds act numbers k past all = subst (λ (ns : List ℕ). are_known rs ds act (texts_at paths ns) ≡ true) (take_all k numbers past) all
 
 -- ---- what the records of several outputs name
 
@@ -329,9 +325,6 @@ joined_next old new rs ds place so_far more others here = record {
 }
 
 -- ---- the edges of a file that was loaded
-
-pub joined_nothing : (graph : Graph) (rs : List Record) (ds : List DepsRecord) → HasJoinedOf [] graph graph rs ds
-joined_nothing graph rs ds = record { grown = more_none graph; joined = λ e there. absurd (false≢true there); others = λ e absent. refl }
 
 -- the numbers of the first edges, and one more
 pub numbers_next : (edges : List LoadedEdge) (k : ℕ) (d : LoadedEdge) → k < length edges → numbers_in (take (k + 1) edges) ≡ numbers_in (take k edges) ++ (get_or edges k d).edge ∷ []

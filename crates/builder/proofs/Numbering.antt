@@ -128,12 +128,6 @@ numbered_too graph texts old new path number text there within named too are k n
 
 -- ---- lists of numbers that have just some paths
 
-pub just_none : (graph : Graph) → HaveJust graph [] []
-just_none graph = record { within = λ k n is. absurd (none k n is); same = λ p. refl }
-  where
-    none : (k n : ℕ) → slice_get {X = ℕ} [] k ≡ Some n → ⊥
-    none k n is = cc
-
 -- whether a path is in either list
 pub has_both : (ps qs : List (List ℕ)) (p : List ℕ) → has (ps ++ qs) p ≡ cond (has ps p) true (has qs p)
 has_both [] qs p = refl

@@ -1,16 +1,8 @@
 -- Lists, up to a place and from there on.
-use Rattle.std.proofs.Common.{◌≡◌, inl, inr, ◌==◌, ℕ, suc, ◌+◌, ◌<◌, true, List, [], ◌∷◌, ◌++◌, get_or, map, length, take, drop, Result, Ok, Err, IfOk, IfErr, refl, sym, ◌∙◌, ap, subst}
-use Rattle.std.specs.List.{AllByRecursion}
+use Rattle.std.proofs.Common.{◌≡◌, inl, inr, ◌==◌, ℕ, suc, ◌+◌, ◌<◌, true, List, [], ◌∷◌, ◌++◌, map, Result, Ok, Err, IfOk, refl, ◌∙◌, ap}
 use Rattle.std.proofs.lemmas.Bool.{eqb-true, eq-eqb, or_cases, or_left, false≢true}
-use Rattle.std.proofs.lemmas.List.{take-append-drop, take_more, drop_more}
 use Rattle.model.specs.Graph.{has_number}
-use Rattle.build_theory.proofs.Lists.{all_append, has_number-right}
-
-pub split_at : {X : Type 0} (xs : List X) (i : ℕ) (d : X) → i < length xs → xs ≡ take i xs ++ get_or xs i d ∷ drop (i + 1) xs
-split_at xs i d lt = sym (take-append-drop i xs) ∙ ap (λ (l : List _). take i xs ++ l) (drop_more xs i d lt)
-
-pub all_one_more : {X : Type 0} (P : X → Type 0) (xs : List X) (i : ℕ) (d : X) → i < length xs → AllByRecursion P (take i xs) → P (get_or xs i d) → AllByRecursion P (take (i + 1) xs)
-all_one_more P xs i d lt all one = subst (λ (l : List _). AllByRecursion P l) (sym (take_more xs i d lt)) (all_append P (take i xs) (get_or xs i d ∷ []) all (one, tt))
+use Rattle.build_theory.proofs.Lists.{has_number-right}
 
 pub if_ok_then : {T E : Type 0} {P Q : T → Type 0} (r : Result T E) → IfOk r P → ((x : T) → P x → Q x) → IfOk r Q
 if_ok_then (Ok x) p f = f x p
@@ -19,10 +11,6 @@ if_ok_then (Err e) p f = tt
 pub if_ok_and : {T E : Type 0} {P Q R : T → Type 0} (r : Result T E) → IfOk r P → IfOk r Q → ((x : T) → P x → Q x → R x) → IfOk r R
 if_ok_and (Ok x) p q f = f x p q
 if_ok_and (Err e) p q f = tt
-
-pub if_err_then : {T E : Type 0} {P Q : E → Type 0} (r : Result T E) → IfErr r P → ((e : E) → P e → Q e) → IfErr r Q
-if_err_then (Ok x) p f = tt
-if_err_then (Err e) p f = f e p
 
 pub suc_has : (xs : List ℕ) (i : ℕ) → has_number (map suc xs) i ≡ true → (e : ℕ) × (suc e ≡ i) × (has_number xs e ≡ true)
 suc_has [] i h = absurd (false≢true h)

@@ -1,7 +1,6 @@
 -- How a run of a graph is stopped: by a missing source, by a load that is refused, or by a fault; and what is taken in behind that.
 use Rattle.std.proofs.Common.{◌≡◌, inl, inr, ℕ, suc, Bool, List, [], ◌<◌, length, Vec, Global, MatchOption, Option, Some, None, refl, sym, ◌∙◌, ap, subst}
 use Rattle.model.specs.declared.event.Moment.{Moment}
-use Rattle.model.specs.declared.fault.SiteFault.{SiteFault}
 use Rattle.model.specs.declared.graph.Edge.{Edge}
 use Rattle.model.specs.World.{World}
 use Rattle.model.specs.Calls.{OnlyLooks}
@@ -172,20 +171,6 @@ lacking_stop tells graph records cone plan now new seen stopped looks (inl fault
 lacking_stop tells graph records cone plan now new seen stopped looks (inr lack) = subst (λ (s : Stop). IsStopOf now new s) (sym {A = Stop} lack.says) (well_looks tells now new looks lack.unrefused)
 
 -- ---- a load that is not made
-
--- where it is stopped, by what is so of a refusal and of a fault
-pub stopped_there : (tells : Bool) (tick : List ℕ) (course : Course) (grown : List Edge) (graph : Graph) (cone : Cone) (state : State) (now : World) (stopped : Stop) → IfRefused stopped (λ refusal. IsRefusedAt tells tick course grown graph cone state now refusal)
-    → IfFault stopped (λ fault. IsCutThere tells course grown state now) → StoppedThere tells tick course grown graph cone state now stopped
-stopped_there tells tick course grown graph cone state now (stop.Refused refusal) refused faulted = refused
-stopped_there tells tick course grown graph cone state now (stop.Fault fault) refused faulted = faulted
-
-pub if_refused_then : (stopped : Stop) (P Q : Refusal → Type 0) → ((refusal : Refusal) → P refusal → Q refusal) → IfRefused stopped P → IfRefused stopped Q
-if_refused_then (stop.Refused refusal) P Q f p = f refusal p
-if_refused_then (stop.Fault fault) P Q f p = tt
-
-pub if_fault_then : (stopped : Stop) (P Q : SiteFault → Type 0) → ((fault : SiteFault) → P fault → Q fault) → IfFault stopped P → IfFault stopped Q
-if_fault_then (stop.Refused refusal) P Q f p = tt
-if_fault_then (stop.Fault fault) P Q f p = f fault p
 
 -- the load is refused where the build stands
 pub load_refused : (tells : Bool) (tick : List ℕ) (course : Course) (edges : List Edge) (phases : List Phase) (graph grown : Graph) (cone next : Cone) (state after : State) (file : ℕ) (now new : World) (refusal : Refusal)

@@ -28,9 +28,6 @@ pub cut_behind_ascii : (test : ℕ → Bool) (bytes : List ℕ) (i : ℕ) → ((
 cut_behind_ascii test bytes zero ascii utf8 le all = IsCharBoundary-start bytes utf8
 cut_behind_ascii test bytes (suc j) ascii utf8 le all = rw (← add-one) (IsCharBoundary-after_ascii bytes j utf8 (omega arith) (ascii (get_or bytes j 0) (last_passes test bytes j (omega arith) all)))
 
-pub cut_behind_backslashes : (bytes : List ℕ) (i : ℕ) → IsUtf8 bytes → i ≤ length bytes → AllPass (is_of Backslash) (take i bytes) → IsCharBoundary bytes i
-cut_behind_backslashes bytes i utf8 le all = cut_behind_ascii (is_of Backslash) bytes i backslash_is_ascii utf8 le all
-
 pub cut_behind_run : (class : Class) (bytes : List ℕ) (i : ℕ) → IsUtf8 bytes → i < length bytes → AllPass (is_of class) (take i bytes) → is_of class (get_or bytes i 0) ≡ false → IsCharBoundary bytes i
 cut_behind_run Plain bytes i utf8 lt all e = IsCharBoundary-before_ascii bytes i lt (plain_ends_ascii (get_or bytes i 0) e)
 cut_behind_run Backslash bytes i utf8 lt all e = cut_behind_ascii (is_of Backslash) bytes i backslash_is_ascii utf8 (omega arith) all

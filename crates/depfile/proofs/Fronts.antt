@@ -143,9 +143,6 @@ pub record SpeltSoFar (text rest spelt : List ℕ) : Type 0 where
   pub all : AreOfWord word
   pub spelt_is : spelt ≡ spelled word
 
-pub nothing_spelt : (text spelt : List ℕ) → spelt ≡ [] → SpeltSoFar text text spelt
-nothing_spelt text spelt is = record { word = []; signs_are = refl; all = tt; spelt_is = is }
-
 pub spelt_goes_on : (text between rest old new : List ℕ) (piece : Piece) → SpeltSoFar text between old → IsPiece between piece rest → new ≡ old ++ spelled (signs_of piece) → SpeltSoFar text rest new
 spelt_goes_on text between rest old new piece far is pushed = record {
   word = far.word ++ signs_of piece;

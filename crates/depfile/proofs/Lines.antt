@@ -1,5 +1,5 @@
 -- What is left of a depfile behind each token.
-use Rattle.std.proofs.Common.{◌≡◌, ℕ, ◌<◌, ◌≤◌, Bool, true, false, cond, List, [], ◌∷◌, ◌++◌, length, filter, arith, ap, sym, ◌∙◌, refl, append_assoc, append-nil, Option, Some, None, inl, inr}
+use Rattle.std.proofs.Common.{◌≡◌, ℕ, ◌<◌, Bool, true, false, cond, List, [], ◌∷◌, ◌++◌, length, filter, arith, ap, sym, ◌∙◌, refl, append_assoc, append-nil, Option, Some, None, inl, inr}
 use Rattle.std.specs.List.{AllByRecursion, slice_split, onto_first}
 use Rattle.depfile.specs.declared.words.Word.{Word}
 use Rattle.depfile.specs.declared.words.Token.TheVariants.{RuleEnd, Name}
@@ -12,9 +12,6 @@ use Rattle.depfile.specs.Words.{IsWord, IsBehindBlanks, AreBlanks, EndsRule, IsT
 use Rattle.depfile.proofs.Fronts.{AreOfWord, front_behind, front_of_word, behind_ends}
 
 -- ---- blanks
-
-pub no_blanks : (text : List ℕ) → IsBehindBlanks text text
-no_blanks text = record { blanks = []; are = tt; signs_are = refl; shorter = omega arith }
 
 blanks-append : (blanks : List Sign) → AreBlanks blanks → AreBlanks (blanks ++ blank ∷ [])
 blanks-append [] are = (refl, tt)
@@ -157,9 +154,6 @@ lined (blank ∷ text) ends = by (slice_split is_newline text) refl
 lines_front : (word rest : List Sign) → is_some_word word ≡ true → AreOfWord word → (l : Lined rest) → slice_split is_newline (word ++ rest) ≡ (word ++ l.line) ∷ l.lines
 lines_front word rest some all l = split_front is_newline word rest some (no_newline_in word all) ∙ ap (onto_front word) l.are
 
-rule_of_words : (word : Signs) (words : List Signs) → inputs_of_rule (word ∷ words) ≡ cond (ends_with_colon word) (Some words) (behind_colon words)
-rule_of_words word words = refl
-
 behind_word_is : (rest : List Sign) (l : Lined rest) (b : Bool) → both (cond b (Some (words l.line)) (behind_colon (words l.line))) (inputs_of_rules l.lines) ≡ cond b (behind_targets rest) (among_targets true rest)
 behind_word_is rest l true = ap inputs_then (sym l.are)
 behind_word_is rest l false = ap targets_then (sym l.are)
@@ -227,23 +221,3 @@ end_behind text rest is =
 
 pub name_shorter : (text rest : List ℕ) (word : Word) → IsToken text (Name word) rest → length rest < length text
 name_shorter text rest word is = let here : IsWord is.start word rest = is.here in let a = here.shorter in let b = is.blanks.shorter in omega arith
-
-pub end_shorter : (text rest : List ℕ) → IsToken text RuleEnd rest → 0 < length text → length rest < length text
-end_shorter text rest is some = by is.here
-  where
-    before : length is.start ≤ length text
-    before = is.blanks.shorter
-
-    by : EndsRule is.start rest → length rest < length text
-    by (inl here) = let a = here.1 in omega arith
-    by (inr here) = let a : length rest ≡ 0 = ap length here.1 in omega arith
-
-pub end_no_longer : (text rest : List ℕ) → IsToken text RuleEnd rest → length rest ≤ length text
-end_no_longer text rest is = by is.here
-  where
-    before : length is.start ≤ length text
-    before = is.blanks.shorter
-
-    by : EndsRule is.start rest → length rest ≤ length text
-    by (inl here) = let a = here.1 in omega arith
-    by (inr here) = let a : length rest ≡ 0 = ap length here.1 in omega arith

@@ -10,13 +10,11 @@ use Rattle.lexer.specs.Path.{IsCanonical}
 use Rattle.depfile.specs.Signs.{signs, spelled}
 use Rattle.depfile.specs.declared.fault.DepFault.{DepFault}
 use Rattle.depfile.specs.declared.fault.DepFault.TheVariants.{NoColon, NotUtf8}
-use Rattle.depfile.specs.declared.fault.ReadError.{ReadError}
-use Rattle.depfile.specs.declared.fault.ReadError.TheVariants.{Memory, Fault}
 use Rattle.depfile.specs.declared.words.Word.{Word as Written}
 use Rattle.depfile.specs.declared.words.Token.TheVariants.{Name}
 use Rattle.depfile.specs.Depfile.{Word, both, inputs, firsts, IsRead}
 use Rattle.depfile.specs.Words.{IsWord, IsToken, front_word, behind_targets}
-use Rattle.depfile.specs.Kept.{AreKept, Adds, AddsPath, SaysInputs, RefusesText}
+use Rattle.depfile.specs.Kept.{AreKept, Adds, AddsPath}
 use Rattle.depfile.proofs.Lines.{both_both}
 
 same_answer : (a b : Bool) → (a ≡ true → b ≡ true) → (b ≡ true → a ≡ true) → a ≡ b
@@ -157,23 +155,9 @@ says_more text between rest old new far adds = let one = adds far.paths far.now 
   left_is = far.left_is ∙ ap (both (Some far.words)) one.left_is ∙ both_both far.words one.words (inputs (signs rest));
 }
 
-pub says_all : (text rest : List ℕ) (kept : List (String Global)) → SaidSoFar text rest kept → rest ≡ [] → SaysInputs text kept
-says_all text rest kept far none = record {
-  words = far.words;
-  said = far.left_is ∙ ap (λ (xs : List ℕ). both (Some far.words) (inputs (signs xs))) none ∙ ap Some (append-nil far.words);
-  inputs_are = record { all = far.paths; canonical = far.canonical; once = far.now };
-}
-
-pub refuses_all : (text rest : List ℕ) (kept : List (String Global)) (error : ReadError) → SaidSoFar text rest kept → RefusesText rest error → RefusesText text error
-refuses_all text rest kept Memory far refuses = tt
-refuses_all text rest kept (Fault fault) far refuses = (refuses.0, far.left_is ∙ ap (both (Some far.words)) refuses.1)
-
 -- a rule that is blank, and one that has inputs
 pub adds_rule : (text rest : List ℕ) (kept : List (String Global)) → inputs (signs text) ≡ inputs (signs rest) → (all : List (List ℕ)) → AreKept all kept → Adds (inputs (signs text)) rest all kept
 adds_rule text rest kept is all are = record { words = []; paths = []; canonical = tt; now = are ∙ ap firsts (sym (append-nil all)); left_is = is ∙ both_nothing (inputs (signs rest)) }
-
-pub adds_inputs : (text between rest : List ℕ) (all : List (List ℕ)) (kept : List (String Global)) → inputs (signs text) ≡ behind_targets (signs between) → Adds (behind_targets (signs between)) rest all kept → Adds (inputs (signs text)) rest all kept
-adds_inputs text between rest all kept is adds = record { words = adds.words; paths = adds.paths; canonical = adds.canonical; now = adds.now; left_is = is ∙ adds.left_is }
 
 -- ---- one answer
 

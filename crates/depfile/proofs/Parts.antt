@@ -1,5 +1,5 @@
 -- Which piece of a word stands first.
-use Rattle.std.proofs.Common.{◌≡◌, ℕ, ◌+◌, ◌-◌, ◌<◌, ◌≤◌, ◌/◌, ◌%◌, ◌==◌, cond, Bool, true, false, List, [], ◌∷◌, ◌++◌, length, map, take, drop, arith, ap, sym, ◌∙◌, refl, append_assoc, append-nil, length-append, length-take-le, length-drop, take-append-drop, inl, Option, Some, None, is_some, option_and_then, option_map, eqb-true, eq-eqb, Bor}
+use Rattle.std.proofs.Common.{◌≡◌, ℕ, ◌+◌, ◌-◌, ◌<◌, ◌≤◌, ◌/◌, ◌%◌, ◌==◌, cond, Bool, true, false, List, [], ◌∷◌, ◌++◌, length, map, take, drop, arith, ap, sym, ◌∙◌, refl, append_assoc, append-nil, length-append, length-take-le, length-drop, take-append-drop, Option, Some, None, is_some, option_and_then, option_map, eqb-true, eq-eqb, Bor}
 use Prim.Native.Nat.{suc}
 use Rattle.std.proofs.lemmas.List.{map-append, take-append-le, drop-append-le}
 use Rattle.std.specs.Option.{option_or}
@@ -7,7 +7,7 @@ use Rattle.depfile.specs.declared.pieces.Piece.{Piece}
 use Rattle.depfile.specs.declared.pieces.Piece.TheVariants.{Plain, Escaped, Colon}
 use Rattle.depfile.specs.Signs.{Sign, characters, backslashes, before_newline, is_escaped, behind_backslashes, signs_behind, signs}
 use Rattle.depfile.specs.Signs.Sign.{letter, blank, newline}
-use Rattle.depfile.specs.Pieces.{AllBackslashes, IsPiece, IsEscape, IsSeparated, NoWord, is_end, if_there, behind, newline_of, separator_of}
+use Rattle.depfile.specs.Pieces.{AllBackslashes, IsPiece, IsEscape, IsSeparated, if_there, behind, newline_of, separator_of}
 use Rattle.depfile.proofs.Escapes.{behind_is, not_behind, newline_characters, newline_shorter, characters_alone, characters_first, IsLone, lone_behind, run_signs, run_letters, front_letters, all_drop, spelled_letters, some_letters}
 
 -- ---- pieces
@@ -207,18 +207,6 @@ no_newline text apart = mapped (newline_of text) (or_none (if_there newline (new
 
 -- ---- separators
 
-pub blank_begins : (text rest : List ℕ) → behind 32 text ≡ Some rest → IsSeparated text blank rest
-blank_begins text rest e = let is = behind_is 32 text rest e in record {
-  signs_are = ap signs is ∙ ap (signs_behind 0) (characters_alone 32 rest refl refl);
-  shorter = rw is (omega arith);
-}
-
-pub tab_begins : (text rest : List ℕ) → behind 9 text ≡ Some rest → IsSeparated text blank rest
-tab_begins text rest e = let is = behind_is 9 text rest e in record {
-  signs_are = ap signs is ∙ ap (signs_behind 0) (characters_alone 9 rest refl refl);
-  shorter = rw is (omega arith);
-}
-
 pub newline_begins : (text rest : List ℕ) → newline_of text ≡ Some rest → IsSeparated text newline rest
 newline_begins text rest e = record {
   signs_are = ap (signs_behind 0) (newline_characters text rest e);
@@ -232,6 +220,3 @@ join_begins text more rest e f = let is = behind_is 92 text more e in let less =
 }
 
 -- ---- where no word stands
-
-pub end_of_nothing : (text : List ℕ) → text ≡ [] → NoWord text
-end_of_nothing text is = record { ends = ap is_end (ap signs is); why = inl is }

@@ -1,63 +1,22 @@
 -- A list of moves goes on by one visit, and by a restart before it where that was asked for.
 use Rattle.std.proofs.Common.{◌≡◌, ◌≢◌, inl, inr, ℕ, Bool, true, false, List, [], ◌∷◌, ◌++◌, append_assoc, refl, sym, ◌∙◌, ap, subst}
-use Rattle.model.specs.declared.graph.Edge.{Edge}
 use Rattle.model.specs.declared.moves.Move.{Move}
-use Rattle.model.specs.declared.moves.Move.TheVariants.{Write, Delete, Build}
 use Rattle.model.specs.World.{World}
 use Rattle.model.specs.Calls.{IsRestart}
 use Rattle.model.specs.Outcome.{Behaviour}
 use Rattle.model.specs.Records.{LogFormat}
 use Rattle.model.specs.Premises.{HaveEnded}
-use Rattle.model.specs.History.{Visit, Edited, Built, Unread, Restarted, IsHistory, EndsThese, entry_of, exit_of, last_edges}
-use Rattle.model.specs.Driven.{Reader, Does, CarriesOut, RestartsFrom, is_restart, asks_restart, asks_at_end, StartsAgain, HasLogs}
+use Rattle.model.specs.History.{Visit, Restarted, IsHistory, EndsThese, entry_of, exit_of, last_edges}
+use Rattle.model.specs.Driven.{Reader, Does, is_restart, asks_restart, asks_at_end, StartsAgain, HasLogs}
 use Rattle.build_theory.proofs.Lists.{all_append}
 use Rattle.log_theory.specs.Histories.{HasHeadline}
 use Rattle.log_theory.proofs.Over.{histories_grow}
+use Rattle.log_theory.proofs.Driving.{no_restart, ends_any, some_moves, carries_on, carries_one, restarts_on, asks_last}
 use Rattle.builder.specs.declared.asked.Limits.{Limits}
 use Rattle.builder.specs.declared.report.Report.{Report}
 use Rattle.drive.specs.Driven.{words_in, builds_in, words_of, ReportEach, HasFiles}
 use Rattle.drive.specs.Moves.{IsVisited, IsGone}
 use Rattle.drive.proofs.Saying.{reported_on}
-
-module _ (tells : Bool) (B : Behaviour) (format : LogFormat) (R : Reader) where
-  no_restart : (move : Move) (v : Visit tells B format) → Does R move v → is_restart v ≡ false
-  no_restart move (Edited path content old new edit) does = refl
-  no_restart move (Built asked old new answer build) does = refl
-  no_restart move (Unread old new answer cause) does = refl
-  no_restart (Write p text) (Restarted edges old new restart) does = absurd does
-  no_restart (Delete p) (Restarted edges old new restart) does = absurd does
-  no_restart (Build words) (Restarted edges old new restart) does = absurd does
-
-  ends_any : (move : Move) (v : Visit tells B format) → Does R move v → (edges : List Edge) → EndsThese edges v
-  ends_any move (Edited path content old new edit) does edges = tt
-  ends_any move (Built asked old new answer build) does edges = tt
-  ends_any move (Unread old new answer cause) does edges = tt
-  ends_any (Write p text) (Restarted others old new restart) does edges = absurd does
-  ends_any (Delete p) (Restarted others old new restart) does edges = absurd does
-  ends_any (Build words) (Restarted others old new restart) does edges = absurd does
-
-  -- a list to which one is put is not empty
-  some_moves : (moves : List Move) (move : Move) → moves ++ move ∷ [] ≢ []
-  some_moves [] move is = cc
-  some_moves (m ∷ moves) move is = cc
-
-  -- the next move is carried out by these visits: one, or one after a restart
-  carries_on : (moves : List Move) (vs next : List (Visit tells B format)) (move : Move) → CarriesOut R (move ∷ []) next → CarriesOut R moves vs → CarriesOut R (moves ++ move ∷ []) (vs ++ next)
-  carries_on moves [] next move does carries = subst (λ (l : List Move). CarriesOut R (l ++ move ∷ []) next) (sym carries) does
-  carries_on moves (w ∷ vs) next move does (inl (restart, some, carries)) = inl (restart, some_moves moves move, carries_on moves vs next move does carries)
-  carries_on moves (w ∷ vs) next move does (inr (m, rest, splits, done, carries)) =
-      inr (m, rest ++ move ∷ [], ap (λ (l : List Move). l ++ move ∷ []) splits, done, carries_on rest vs next move does carries)
-
-  carries_one : (move : Move) (v : Visit tells B format) → Does R move v → CarriesOut R (move ∷ []) (v ∷ [])
-  carries_one move v does = inr (move, [], refl, does, refl)
-
-  restarts_on : (asked : Bool) (vs next : List (Visit tells B format)) → RestartsFrom (asks_at_end asked vs) next → RestartsFrom asked vs → RestartsFrom asked (vs ++ next)
-  restarts_on asked [] next more fit = more
-  restarts_on asked (w ∷ vs) next more fit = (fit.0, restarts_on (asks_restart w) vs next more fit.1)
-
-  asks_last : (asked : Bool) (vs : List (Visit tells B format)) (v : Visit tells B format) → asks_at_end asked (vs ++ v ∷ []) ≡ asks_restart v
-  asks_last asked [] v = refl
-  asks_last asked (w ∷ vs) v = asks_last (asks_restart w) vs v
 
 module _ (tells : Bool) (B : Behaviour) (format : LogFormat) (name : List ℕ) (limits : Limits) where
   abbrev R : Reader

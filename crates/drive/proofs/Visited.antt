@@ -12,7 +12,7 @@ use Rattle.model.specs.declared.moves.Move.{Move}
 use Rattle.model.specs.declared.moves.Move.TheVariants.{Write, Delete, Build}
 use Rattle.model.specs.declared.outcome.Outcome.{Outcome}
 use Rattle.model.specs.Calls.{OnlyLooks, HasCause}
-use Rattle.model.specs.Driven.{IsCutEdit, IsCutNext}
+use Rattle.model.specs.Driven.{IsCutNext}
 use Rattle.model.specs.Graph.{Addition}
 use Rattle.model.specs.History.{Edited, Built, Unread, IsHeadline, IsNotRead}
 use Rattle.model.specs.Kept.{KeepsLogs}
@@ -210,10 +210,6 @@ if_ok_then : {T E : Type 0} {P Q : T → Type 0} (r : Result T E) → IfOk r P �
 if_ok_then (Ok x) p f = f x p
 if_ok_then (Err e) p f = tt
 
-on_err_then : {T E P Q : Type 0} (r : Result T E) → OnErr r P → (P → Q) → OnErr r Q
-on_err_then (Ok x) p f = tt
-on_err_then (Err e) p f = f p
-
 -- an edit that found no memory is one, whatever moves come behind it
 pub cut_before : (tells : Bool) (old new : World) (move : Move) (rest : List Move) → IsCutNext tells (move ∷ []) old new → IsCutNext tells (move ∷ rest) old new
 cut_before tells old new (Write path content) rest cut = cut
@@ -233,12 +229,6 @@ module _ (tells : Bool) (outcome : Act → View → Outcome) (name : List ℕ) (
       → IfOk r (λ again. IsCarried tells outcome name limits m again reports reports old new)
   delete_carried m path is idle r edited = if_ok_then r edited (λ again one. subst (λ (x : Move). IsCarried tells outcome name limits x again reports reports old new) (sym is)
       (told_nothing (Delete path) again (delete_done tells outcome name limits path again old new idle one)))
-
-  pub write_cut : {E : Type 0} (m : Move) (path content : List ℕ) → m ≡ Write path content → (r : Result Bool E) → OnErr r (IsCutEdit tells path (Some content) old new) → OnErr r (IsCutNext tells (m ∷ []) old new)
-  write_cut m path content is r cut = on_err_then r cut (λ one. subst (λ (x : Move). IsCutNext tells (x ∷ []) old new) (sym is) one)
-
-  pub delete_cut : {E : Type 0} (m : Move) (path : List ℕ) → m ≡ Delete path → (r : Result Bool E) → OnErr r (IsCutEdit tells path None old new) → OnErr r (IsCutNext tells (m ∷ []) old new)
-  delete_cut m path is r cut = on_err_then r cut (λ one. subst (λ (x : Move). IsCutNext tells (x ∷ []) old new) (sym is) one)
 
   pub build_carried : (m : Move) (words : List (List ℕ)) → m ≡ Build words → IsIdle old.events → HasFormat → HasReading → HasDyndeps → (again : Bool) (after : List Report)
       → IsReported tells outcome name limits words again reports after old new → IsCarried tells outcome name limits m again reports after old new

@@ -68,9 +68,6 @@ none_by false false false false true is = absurd (some_none false is)
 none_by false false false false false is = (refl, refl)
 
 module _ (edges : List Edge) (before : List Step) (kept : IsKept edges before) (i : ℕ) where
-  abbrev all_by : Standing
-  all_by = standing_by (has_number (well_in before) i) (has_number (failed_in before) i) (has_number (started_in before) i) (has_number (out_of_date_in before) i) (has_number (clean_in before) i)
-
   pub unjudged_by : was_due (standing_in before i) ≡ None → has_number (judged_in before) i ≡ false
   unjudged_by is =
       let none = none_by (has_number (well_in before) i) (has_number (failed_in before) i) (has_number (started_in before) i) (has_number (out_of_date_in before) i) (has_number (clean_in before) i) is in

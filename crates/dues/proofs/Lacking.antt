@@ -33,12 +33,6 @@ use Rattle.dues.proofs.Stays.{Follow, Stay, still_first, still_second, all_at}
 
 -- ---- one path
 
-pub missing_not : (edges : List Edge) (files : List Moment) (p : List ℕ) (e : ℕ) → maker edges p ≡ Some (suc e) → (false ≡ true) ↔ IsMissing edges files p
-missing_not edges files p e made = ((λ is. absurd (false≢true is)), (λ missing. absurd (differ (sym made ∙ missing.source))))
-  where
-    differ : Some (suc e) ≡ None → ⊥
-    differ is = cc
-
 pub missing_by : (edges : List Edge) (paths : List (List ℕ)) (files : List Moment) (p : ℕ) → maker edges (text_at paths p) ≡ None → (is : Bool) → is ≡ is_absent paths files p → (is ≡ true) ↔ IsMissing edges files (text_at paths p)
 missing_by edges paths files p source is seen = (
   (λ so. record { source = source; absent = none_there (file_at files (text_at paths p)) (sym seen ∙ so) }),
@@ -98,9 +92,6 @@ module _ (graph : Graph) (due : List Bool) (files : List Moment) where
   pub first_for : StandFor (declared_by graph).edges graph.manifest.paths (links_of graph) → (e : ℕ) → due_at due e ≡ true → (found : Option ℕ) → IsFirstIn graph ((links_of graph).inputs e) files found → IsFirstFor graph due e files found
   first_for stands e is_due None none = λ so. subst (NoneIsMissing (declared_by graph).edges files) (stands.inputs_are e) none
   first_for stands e is_due (Some p) first = (is_due, subst (λ (l : List (List ℕ)). IsFirstMissing (declared_by graph).edges files l (text_at graph.manifest.paths p)) (stands.inputs_are e) first)
-
-  pub none_for : (e : ℕ) → due_at due e ≡ false → IsFirstFor graph due e files None
-  none_for e not_due so = absurd (false≢true (sym not_due ∙ so))
 
   pub one_edge : (count : ℕ) → NoneBelow (declared_by graph).edges due files count → (found : Option ℕ) → found ≡ None → IsFirstFor graph due count files found → NoneBelow (declared_by graph).edges due files (count + 1)
   one_edge count below None none clear = below_more (λ e. due_at due e ≡ true → NoneIsMissing (declared_by graph).edges files (inputs (edge_at (declared_by graph).edges (suc e)))) count below clear

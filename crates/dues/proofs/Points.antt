@@ -11,8 +11,7 @@ use Rattle.model.specs.declared.event.Writer.TheVariants.{Program, Command, Some
 use Rattle.model.specs.declared.graph.Edge.{Edge}
 use Rattle.model.specs.World.{World, file_at, runs, IsIdle}
 use Rattle.model.specs.Graph.{has, has_number, edge_at, maker, outputs, IsCommand, IsMadeOnce}
-use Rattle.model.specs.OutOfDate.{NothingIsMissing}
-use Rattle.model.specs.Phases.{happened_in, IsPointAfter, IsNothingMissing}
+use Rattle.model.specs.Phases.{happened_in, IsPointAfter}
 use Rattle.model.specs.Premises.{FilesAreKept, OwnFilesApart, RecordedApart, IsWithinEdge, IsNoEdit}
 use Rattle.model.specs.Records.{OwnFiles, Store, recorded_inputs}
 use Rattle.model.specs.Schedule.{Task, Step, Judged, Started, Ended, judged_in, out_of_date_in, started_in, ended_in, running_in, AreEventsOf}
@@ -27,7 +26,6 @@ use Rattle.build_theory.proofs.Starting.{since}
 use Rattle.build_theory.proofs.Stated.{running_is_as_told}
 use Rattle.build_theory.proofs.Steps.{running_parts}
 use Rattle.dues.specs.Quiet.{HasPathsFor, AreAlike}
-use Rattle.dues.proofs.Callers.{nothing_missing}
 
 -- ---- which paths may be looked at
 
@@ -62,9 +60,6 @@ happened_is : (ms : List Moment) → happened_in ms ≡ length (events_in ms)
 happened_is [] = refl
 happened_is (Wrote by path content stamp ∷ ms) = happened_is ms
 happened_is (Happened event ∷ ms) = ap suc (happened_is ms)
-
-one_more : (n m k : ℕ) → n ≡ m + k → suc n ≡ m + suc k
-one_more n m k is = omega (arith, is)
 
 count_events : (edges : List Edge) (steps : List Step) (es : List Event) → AreEventsOf edges steps es → length es ≡ length (started_in steps) + length (ended_in steps)
 count_events edges [] [] all = refl
@@ -174,8 +169,3 @@ module _ (tells : Bool) (own : OwnFiles) (task : Task) (before : List Step) (old
       paths = λ p is. file_at_point p (spared p is) at point;
       depfiles = λ i command fresh named. file_at_point (edge_at edges i).act.depfile (depfile_spared i command fresh named) at point;
     }
-
-    -- so nothing was missing at each point of these steps, where that was found now
-    pub nothing_missing_so_far : (store : Store) (set : List ℕ → Bool) → ((p : List ℕ) → set p ≡ true → IsSpared own edges before p)
-        → ((at : List Moment) → AreAlike edges before set now.history at → NothingIsMissing edges store before at task.targets) → IsNothingMissing own task store before old.history now.history
-    nothing_missing_so_far store set spared found = nothing_missing own task store before set old.history now.history now.history found (λ apart. points_alike set spared)

@@ -2,7 +2,6 @@
 use Rattle.std.proofs.Common.{◌≡◌, ℕ, ◌+◌, ◌<◌, ◌||◌, zero, suc, Bool, true, false, IsTrue, List, [], ◌∷◌, ◌++◌, Option, Some, None, bytes_eq, get_or, length, take, refl, sym, ◌∙◌, ap, arith}
 use Rattle.std.specs.List.{AllByRecursion, list_any}
 use Rattle.std.specs.Option.{is_none}
-use Rattle.std.proofs.lemmas.List.{append-nil}
 use Rattle.std.proofs.lemmas.List.Folds.{list_any_at, list_any_more}
 use Rattle.model.specs.declared.event.Moment.{Moment}
 use Rattle.model.specs.declared.graph.Edge.{Edge}
@@ -11,14 +10,12 @@ use Rattle.model.specs.Calls.{OnlyLooks}
 use Rattle.model.specs.Graph.{edge_at}
 use Rattle.model.specs.Records.{Store}
 use Rattle.model.specs.Schedule.{Step}
-use Rattle.build_theory.proofs.Lists.{bytes_same, same_rest}
-use Rattle.paths.specs.Told.{text_at}
+use Rattle.build_theory.proofs.Lists.{bytes_same}
 use Rattle.links.specs.declared.graph.Graph.{Graph}
 use Rattle.links.specs.Told.{declared_by}
-use Rattle.looks.specs.declared.table.Look.{Look}
 use Rattle.looks.specs.declared.table.Looks.{Looks}
-use Rattle.looks.specs.Seen.{look_of, StaysAt, AreSeen, AreKept, AreSeenOf, IfKept, IsStampIn}
-use Rattle.looks.specs.Looking.{HasLooked, IfSeen, LooksFollow, FilesStay}
+use Rattle.looks.specs.Seen.{AreKept, IfKept, IsStampIn}
+use Rattle.looks.specs.Looking.{HasLooked, LooksFollow, FilesStay}
 use Rattle.dues.specs.Quiet.{HasPathsFor, KeepsDepfiles, AreSameOf, AreAlike, IfStill, IfQuiet}
 
 -- ---- several calls
@@ -84,10 +81,6 @@ module _ (follow : Follow) (stay : Stay) (tells : Bool) (graph : Graph) (a b c :
 -- ---- what is so at the paths of each set
 
 module _ (tells : Bool) (graph : Graph) (a b : World) (looks : Looks) where
-  pub still_both : (So To Both : (List ℕ → Bool) → List Moment → Type 0) → ((set : List ℕ → Bool) (files : List Moment) → So set files → To set files → Both set files)
-      → IfStill tells graph a b looks So → IfStill tells graph a b looks To → IfStill tells graph a b looks Both
-  still_both So To Both both so to told set kept seen files same = both set files (so told set kept seen files same) (to told set kept seen files same)
-
   -- a stamp is absent where its file is
   pub absent_still : (path : List ℕ) (stamp : Option ℕ) → IfKept tells graph.manifest.paths a b looks.seen.items (IsStampIn path stamp)
       → IfStill tells graph a b looks (λ set files. set path ≡ true → is_none stamp ≡ is_none (file_at files path))
@@ -142,36 +135,3 @@ pub none_found : {X : Type 0} (tells : Bool) (graph : Graph) (a b : World) (look
 none_found tells graph a b looks Fits test xs k none all told set kept seen files same fit = sym (none told set kept seen files same fit) ∙ ap (list_any (test files)) all
 
 -- ---- where all files stay, each set of paths keeps its files
-
-nothing_left : (xs ys : List Moment) → xs ++ ys ≡ [] → xs ≡ []
-nothing_left [] ys is = refl
-nothing_left (x ∷ xs) ys is = cc
-
-pub all_kept_of : (files : List Moment) (old new : World) → StaysAt files old new → (set : List ℕ → Bool) → AreKept set old.history new.history
-all_kept_of files old new stays set p is earlier later grows = ap (λ (l : List Moment). file_at l p) (ap (λ (l : List Moment). old.history ++ l) none ∙ append-nil old.history)
-  where
-    none : earlier ≡ []
-    none = nothing_left earlier later (same_rest old.history (earlier ++ later) [] (sym grows ∙ (stays.after ∙ (sym stays.before ∙ sym (append-nil old.history)))))
-
-pub seen_of_all : (paths : List (List ℕ)) (files history : List Moment) (seen : List Look) → history ≡ files → AreSeen paths files seen → AreSeenOf (λ p. true) paths history seen
-seen_of_all paths files history seen same are p asked is = are p asked ∙ ap (λ (h : List Moment). look_of (stamp_of (file_at h (text_at paths p)))) (sym same)
-
-pub all_seen : (paths : List (List ℕ)) (files history : List Moment) (seen : List Look) → history ≡ files → AreSeenOf (λ p. true) paths history seen → AreSeen paths files seen
-all_seen paths files history seen same are p asked = are p asked refl ∙ ap (λ (h : List Moment). look_of (stamp_of (file_at h (text_at paths p)))) same
-
--- so what is found is so of all files, and what was seen too
-pub where_all_stay : (tells : Bool) (graph : Graph) (store : Store) (targets : List (List ℕ)) (before : List Step) (old new : World) (looks : Looks) (So : List Moment → Type 0)
-    → IfQuiet tells graph store targets before old new looks So → IfSeen tells graph old new looks So
-where_all_stay tells graph store targets before old new looks So so told files stays seen =
-    so (λ i command fresh tell named. all_kept_of files old new stays (bytes_eq (edge_at (declared_by graph).edges i).act.depfile)) told (λ p. true) (all_kept_of files old new stays (λ p. true))
-    (seen_of_all graph.manifest.paths files old.history looks.seen.items stays.before seen) (record { made = λ i p out h. refl; named = λ i p h free. refl; recorded = λ i p h free. refl; requested = λ p h source. refl }) files
-    (record {
-      paths = λ p is. ap (λ (h : List Moment). file_at h p) (sym stays.after);
-      depfiles = λ i command fresh named. ap (λ (h : List Moment). file_at h (edge_at (declared_by graph).edges i).act.depfile) (sym stays.after);
-    })
-
-pub seen_where_all_stay : {tells : Bool} {graph : Graph} {a b : World} {first_looks second_looks : Looks} → HasLooked tells graph a b first_looks second_looks
-    → IfSeen tells graph a b first_looks (λ files. AreSeen graph.manifest.paths files second_looks.seen.items)
-seen_where_all_stay {tells} {graph} {a} {b} {first_looks} {second_looks} first told files stays seen =
-    all_seen graph.manifest.paths files b.history second_looks.seen.items stays.after
-    (first.seen told (λ p. true) (all_kept_of files a b stays (λ p. true)) (seen_of_all graph.manifest.paths files a.history first_looks.seen.items stays.before seen))

@@ -1,16 +1,15 @@
 -- Where one of two readings is taken.
-use Rattle.std.proofs.Common.{◌≡◌, ℕ, Bool, true, false, List, [], ◌++◌, ap, sym, arith, refl, ◌∙◌, append_assoc, subst, Option, Some, None}
+use Rattle.std.proofs.Common.{◌≡◌, ℕ, Bool, true, false, List, ◌++◌, ap, sym, arith, ◌∙◌, append_assoc, subst}
 use Rattle.lexer.specs.declared.cursor.Cursor.{Cursor}
 use Rattle.lexer.specs.declared.stop.Stop.{Stop}
 use Rattle.lexer.specs.declared.stop.Stop.TheVariants.{Memory, Found}
-use Rattle.lexer.specs.declared.tokens.Mark.{Mark}
-use Rattle.lexer.specs.Grammar.{Outcome, Is, Give, Either}
-use Rattle.lexer.specs.Grammar.Outcome.{Reached, Broken}
+use Rattle.lexer.specs.Grammar.{Outcome, Is, Either}
+use Rattle.lexer.specs.Grammar.Outcome.{Broken}
 use Rattle.lexer.specs.Places.{IsBehind, Breaks}
 use Rattle.lexer.specs.Said.{Fragments}
-use Rattle.lexer.specs.Tokens.{newline, begins_path, mark, is_mark}
-use Rattle.lexer.specs.Values.{OfPath, Paths}
-use Rattle.lexer.specs.Statements.{missing_path, SomePath, MarkedBy, Marked}
+use Rattle.lexer.specs.Tokens.{newline, begins_path}
+use Rattle.lexer.specs.Values.{OfPath}
+use Rattle.lexer.specs.Statements.{missing_path, SomePath}
 use Rattle.lexer.proofs.Places.{line_feeds-append, behind_none}
 
 -- what is stuck further on is stuck here, where the one reading is a part of the other
@@ -39,14 +38,3 @@ pub some_path_begins : (bytes : List ℕ) (outcome : Outcome Fragments) → begi
 some_path_begins bytes outcome e reads = either_first (begins_path bytes) OfPath (Is (λ place. missing_path place (newline place))) bytes outcome e reads
 
 -- ---- marks
-
-pub marked_here : (wanted found : Mark) (bytes after : List ℕ) (outcome : Outcome (List Fragments)) → Some (found, after) ≡ mark bytes → is_mark wanted found ≡ true → Paths after outcome → Marked wanted bytes outcome
-marked_here wanted found bytes after outcome e same reads =
-    subst (λ (m : Option (Mark × List ℕ)). MarkedBy wanted m bytes outcome) e (either_first (is_mark wanted found) (λ _. Paths after) (Give []) bytes outcome same reads)
-
-pub marked_by_other : (wanted found : Mark) (bytes after : List ℕ) → Some (found, after) ≡ mark bytes → is_mark wanted found ≡ false → Marked wanted bytes (Reached [] bytes)
-marked_by_other wanted found bytes after e other =
-    subst (λ (m : Option (Mark × List ℕ)). MarkedBy wanted m bytes (Reached [] bytes)) e (either_second (is_mark wanted found) (λ _. Paths after) (Give []) bytes (Reached [] bytes) other refl)
-
-pub not_marked : (wanted : Mark) (bytes : List ℕ) → None ≡ mark bytes → Marked wanted bytes (Reached [] bytes)
-not_marked wanted bytes e = subst (λ (m : Option (Mark × List ℕ)). MarkedBy wanted m bytes (Reached [] bytes)) e refl

@@ -83,16 +83,9 @@ pub none_of_both : (xs ys : List Value) (bytes : List ℕ) → xs ++ ys ≡ [] �
 none_of_both [] ys bytes none = none_of_paths ys bytes none
 none_of_both (x ∷ xs) ys bytes none = absurd (cc)
 
-pub both_none : {A : Type 0} (xs ys : List A) → xs ≡ [] → ys ≡ [] → xs ++ ys ≡ []
-both_none xs ys x y = rw (x, y) refl
-
 pub first_none : {A : Type 0} (xs ys : List A) → xs ++ ys ≡ [] → xs ≡ []
 first_none [] ys none = refl
 first_none (x ∷ xs) ys none = absurd (cc)
-
-pub second_none : {A : Type 0} (xs ys : List A) → xs ++ ys ≡ [] → ys ≡ []
-second_none [] ys none = none
-second_none (x ∷ xs) ys none = absurd (cc)
 
 -- ---- marks
 

@@ -1,18 +1,17 @@
 -- Pieces one behind another.
-use Rattle.std.proofs.Common.{◌≡◌, ℕ, Bool, true, false, not, List, [], ◌∷◌, ◌++◌, map, length, Option, Some, None, ap, sym, refl, ◌∙◌, append-nil, ◌<◌, ◌⊎◌, inl, inr}
-use Rattle.std.specs.Prelude.{◌==◌, ◌&&◌, option_map, is_none}
+use Rattle.std.proofs.Common.{◌≡◌, ℕ, true, false, not, List, [], ◌∷◌, ◌++◌, map, length, Option, Some, None, ap, sym, refl, ◌∙◌, append-nil, ◌<◌, ◌⊎◌, inl, inr}
+use Rattle.std.specs.Prelude.{◌==◌, option_map}
 use Rattle.std.specs.Option.{option_to_list}
 use Rattle.std.proofs.lemmas.Grind.{flat_map-append}
 use Rattle.std.proofs.lemmas.List.{map-append}
 use Rattle.lexer.specs.declared.characters.Class.{Class}
-use Rattle.lexer.specs.declared.characters.Class.TheVariants as class
 use Rattle.lexer.specs.declared.statement.Piece.{Piece}
 use Rattle.lexer.specs.declared.statement.Value.{Value}
 use Rattle.lexer.specs.Characters.{run_of, behind_run}
 use Rattle.lexer.specs.Grammar.{Outcome, Is, AreInRow, IsItem}
 use Rattle.lexer.specs.Grammar.Outcome.{Reached}
 use Rattle.lexer.specs.Said.{Fragment, Fragments, fragment_of, fragments_of, paths_of}
-use Rattle.lexer.specs.Tokens.{behind, escape, unexpected, piece_of, piece, ends, begins_path, join}
+use Rattle.lexer.specs.Tokens.{behind, escape, unexpected, piece_of, piece, ends, begins_path}
 use Rattle.lexer.specs.Values.{joined, PathAndBlanks, ends_paths}
 use Rattle.lexer.proofs.Places.{empty_run}
 use Rattle.lexer.proofs.Reading.{row_more}
@@ -63,13 +62,6 @@ must_be_shorter class start at (inl same) ended open_end = let clash : true ≡ 
 must_be_shorter class start at (inr less) ended open_end = less
 
 -- ---- paths
-
-pub begins_open : (bytes : List ℕ) → begins_path bytes ≡ true → ends class.Path bytes ≡ false
-begins_open bytes e = go (ends class.Path bytes) (is_none (join bytes)) refl e
-  where
-    go : (t u : Bool) → ends class.Path bytes ≡ t → (not t && u) ≡ true → t ≡ false
-    go true u f e = let clash : false ≡ true = e in absurd (cc)
-    go false u f e = refl
 
 pub paths_more : (paths : List Value) (path : Value) (start at after : List ℕ) → AreInRow (IsItem PathAndBlanks ends_paths) (paths_of paths) start at → begins_path at ≡ true → PathAndBlanks at (Reached (fragments_of path) after) → AreInRow (IsItem PathAndBlanks ends_paths) (paths_of (paths ++ path ∷ [])) start after
 paths_more paths path start at after row begins reads =

@@ -1,5 +1,5 @@
 -- The lines that were read so far.
-use Rattle.std.proofs.Common.{◌≡◌, ◌≢◌, ℕ, List, [], ◌∷◌, ◌++◌, Bool, false, map, Option, Some, None, option_map, refl, sym, ap, ◌∙◌, append-nil}
+use Rattle.std.proofs.Common.{◌≡◌, ◌≢◌, ℕ, List, [], ◌∷◌, ◌++◌, Bool, map, Option, Some, None, option_map, refl, sym, ap, ◌∙◌, append-nil}
 use Rattle.std.specs.List.{flat_map}
 use Rattle.std.specs.Option.{option_to_list}
 use Rattle.std.proofs.lemmas.Grind.{flat_map-append}
@@ -7,13 +7,11 @@ use Rattle.std.proofs.lemmas.List.{map-append}
 use Rattle.lexer.specs.declared.cursor.Cursor.{Cursor}
 use Rattle.lexer.specs.declared.statement.Line.{Line}
 use Rattle.lexer.specs.declared.statement.Statement.{Statement}
-use Rattle.lexer.specs.declared.stop.Stop.{Stop}
-use Rattle.lexer.specs.declared.stop.Stop.TheVariants.{Memory, Found}
 use Rattle.lexer.specs.Grammar.{AreInRow}
 use Rattle.lexer.specs.Grammar.Outcome.{Reached}
-use Rattle.lexer.specs.Places.{IsBehind, Breaks}
+use Rattle.lexer.specs.Places.{IsBehind}
 use Rattle.lexer.specs.Said.{Said, form_of, said_of}
-use Rattle.lexer.specs.Lines.{OfLine, inside_behind, Place, first_place, IsLine, AreLines, StopsReading}
+use Rattle.lexer.specs.Lines.{OfLine, inside_behind, Place, first_place, IsLine}
 use Rattle.lexer.proofs.Reading.{row_more}
 
 abbrev pub place_of : Cursor → Bool → Place
@@ -24,13 +22,6 @@ pub record AreSaid (text : List ℕ) (lines : List Line) (at : Cursor) (inside :
   pub all : List (Option Said)
   pub row : AreInRow IsLine all (first_place text) (place_of at inside)
   pub stands : map said_of lines ≡ flat_map option_to_list all
-
-pub said_none : (text : List ℕ) (at : Cursor) → at.rest.now ≡ text → at.line ≡ 1 → AreSaid text [] at false
-said_none text at rest line = record {
-  all = [];
-  row = ap (λ (t : List ℕ). record { number = 1; inside = false; text = t }) (sym rest) ∙ ap (λ (n : ℕ). record { number = n; inside = false; text = at.rest.now }) (sym line);
-  stands = refl;
-}
 
 -- what the line here says
 abbrev said_here : ℕ → Option Statement → Option Said
@@ -64,18 +55,3 @@ said_nothing text lines at after inside so_far begins reads behind = rw (← app
 pub said_more : (text : List ℕ) (lines : List Line) (at after : Cursor) (inside next : Bool) (statement : Statement) → AreSaid text lines at inside → at.rest.now ≢ [] → OfLine inside at.rest.now (Reached (Some (form_of statement)) after.rest.now) → IsBehind at after → next ≡ inside_behind inside (Some (form_of statement)) → AreSaid text (lines ++ record { number = at.line; statement = statement } ∷ []) after next
 said_more text lines at after inside next statement so_far begins reads behind opened =
     more text lines (record { number = at.line; statement = statement } ∷ []) at after inside next (Some statement) so_far begins reads behind opened refl
-
--- at the end of the text
-pub said_all : (text : List ℕ) (lines : List Line) (at : Cursor) (inside : Bool) → AreSaid text lines at inside → at.rest.now ≡ [] → AreLines text (map said_of lines) None
-said_all text lines at inside so_far ends = record { all = so_far.all; stop = place_of at inside; row = so_far.row; stops = ends; said_is = so_far.stands }
-
--- at a line with a fault
-pub said_up_to : (text : List ℕ) (lines : List Line) (at : Cursor) (inside : Bool) (stop : Stop) → AreSaid text lines at inside → at.rest.now ≢ [] → Breaks (OfLine inside) at stop → StopsReading text (map said_of lines) stop
-said_up_to text lines at inside Memory so_far begins stops = tt
-said_up_to text lines at inside (Found fault) so_far begins stops = record {
-  all = so_far.all;
-  stop = place_of at inside;
-  row = so_far.row;
-  stops = record { taken = stops.taken; rest = stops.rest; begins = begins; spelled = stops.spelled; reads = stops.reads; line_is = stops.line_is };
-  said_is = so_far.stands;
-}

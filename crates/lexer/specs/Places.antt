@@ -5,7 +5,7 @@ use Rattle.lexer.specs.declared.fault.Fault.{Fault}
 use Rattle.lexer.specs.declared.stop.Stop.{Stop}
 use Rattle.lexer.specs.declared.stop.Stop.TheVariants.{Memory, Found}
 use Rattle.lexer.specs.Grammar.{Outcome}
-use Rattle.lexer.specs.Grammar.Outcome.{Broken}
+use Rattle.lexer.specs.Grammar.Outcome.{Reached, Broken}
 
 abbrev pub line_feeds : List ℕ → ℕ
 line_feeds = count_by (λ b. b == 10)
@@ -15,6 +15,10 @@ pub record IsBehind (before after : Cursor) : Type 0 where
   pub taken : List ℕ
   pub spelled : before.rest.now ≡ taken ++ after.rest.now
   pub line_is : after.line ≡ before.line + line_feeds taken
+
+-- a grammar reads this value from one place up to the other
+abbrev pub Reaches : {X : Type 0} → (List ℕ → Outcome X → Type 0) → Cursor → X → Cursor → Type 0
+Reaches One before value after = One before.rest.now (Reached value after.rest.now)
 
 -- from here a grammar finds the fault, in the line of the place where it is stuck
 pub record IsStuck {X : Type 0} (One : List ℕ → Outcome X → Type 0) (before : Cursor) (fault : Fault) : Type 0 where
@@ -31,10 +35,3 @@ Breaks One before (Found fault) = IsStuck One before fault
 
 abbrev pub rest_of : Option Cursor → Option (List ℕ)
 rest_of = option_map (λ place. place.rest.now)
-
--- the number of a line of the text, from 1: that many line feeds, and one, stand before some place in it
-pub record IsLineOf (text : List ℕ) (number : ℕ) : Type 0 where
-  pub front : List ℕ
-  pub rest : List ℕ
-  pub spelled : text ≡ front ++ rest
-  pub number_is : number ≡ 1 + line_feeds front

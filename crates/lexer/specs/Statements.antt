@@ -1,6 +1,7 @@
 -- What a statement's line says (manual: "Variables", "Rules", "Build statements", "Build outputs", "Build dependencies",
 -- "Validations", "Default target statements", "Pools", "Evaluation and scoping").
 use Rattle.std.specs.Prelude.{ℕ, List, [], ◌∷◌, ◌++◌, Option, None, Some, codes, bytes_eq, cond}
+use Rattle.lexer.specs.declared.build_lines.InputPaths.{InputPaths}
 use Rattle.lexer.specs.declared.fault.FaultKind.TheVariants.{EmptyPath}
 use Rattle.lexer.specs.declared.tokens.Mark.{Mark}
 use Rattle.lexer.specs.declared.tokens.Mark.TheVariants.{Bar, DoubleBar, BarAt}
@@ -8,7 +9,7 @@ use Rattle.lexer.specs.declared.forms.Keyword.{Keyword}
 use Rattle.lexer.specs.declared.forms.Keyword.TheVariants as keyword
 use Rattle.lexer.specs.Grammar.{Outcome, Grammar, Is, Give, Then, Either}
 use Rattle.lexer.specs.Grammar.Outcome.{Reached, Broken}
-use Rattle.lexer.specs.Said.{Fragments, Form, BuildForm}
+use Rattle.lexer.specs.Said.{Fragments, Form, BuildForm, paths_of}
 use Rattle.lexer.specs.Said.Form.{binding, block_binding, rule, build, pool, defaults, includes, subninja}
 use Rattle.lexer.specs.Tokens.{newline, unexpected, one, line_end, name, begins_path, word_end, mark, is_mark}
 use Rattle.lexer.specs.Values.{Blanks, OfValue, OfPath, Paths}
@@ -71,6 +72,15 @@ pub record InputsForm : Type 0 where
   pub implicit : List Fragments
   pub order_only : List Fragments
   pub validations : List Fragments
+
+abbrev pub inputs_form : List Fragments → List Fragments → List Fragments → List Fragments → InputsForm
+inputs_form explicit implicit order_only validations =
+    record { explicit = explicit; implicit = implicit; order_only = order_only; validations = validations }
+
+-- what the lists say
+abbrev pub inputs_of : InputPaths → InputsForm
+inputs_of inputs =
+    inputs_form (paths_of inputs.explicit) (paths_of inputs.implicit) (paths_of inputs.order_only) (paths_of inputs.validations)
 
 -- explicit, implicit and order-only inputs and validations, in this order
 abbrev pub Inputs : Grammar InputsForm

@@ -1,10 +1,8 @@
 //! Names and values, and what stands alone in the rest of a line (manual: "Variables", "Rules", "Pools").
 
-ghost use Rattle.std.specs.Prelude.{ℕ, List, ◌≡◌, IfOk, IfErr};
-ghost use Rattle.lexer.specs.Grammar.{Is, Then, Give};
-ghost use Rattle.lexer.specs.Grammar.Outcome.{Reached};
-ghost use Rattle.lexer.specs.Places.{IsBehind, Breaks};
-ghost use Rattle.lexer.specs.Said.{Form, fragments_of};
+ghost use Rattle.std.specs.Prelude.{IfOk, IfErr};
+ghost use Rattle.lexer.specs.Places.{IsBehind, Breaks, Reaches};
+ghost use Rattle.lexer.specs.Said.{fragments_of};
 ghost use Rattle.lexer.specs.Statements.{Bound, NameAlone, LineRest, SomePath, PathAlone};
 
 use crate::characters::Class;
@@ -21,7 +19,7 @@ pub fn bound_value_at<'a>(
     alloc: Global,
     cursor: Cursor<'a>,
 ) -> Result<(Value<'a>, Cursor<'a>), Stop>
-    ensures reads { IfOk result (λ found. Bound cursor.entry.rest.now (Reached (fragments_of found.0) found.1.rest.now)) }
+    ensures reads { IfOk result (λ found. Reaches Bound cursor.entry (fragments_of found.0) found.1) }
     ensures behind { IfOk result (λ found. IsBehind cursor.entry found.1) }
     ensures fault { IfErr result (Breaks Bound cursor.entry) }
 {
@@ -35,7 +33,7 @@ pub fn bound_value_at<'a>(
 /// The place of the next line, where nothing but blanks stands before the line's end.
 #[tactic(auto, using(crate::proofs::Places::placing))]
 fn skip_line_rest<'a>(cursor: Cursor<'a>) -> Result<Cursor<'a>, Stop>
-    ensures reads { IfOk result (λ after. LineRest cursor.entry.rest.now (Reached tt after.rest.now)) }
+    ensures reads { IfOk result (λ after. Reaches LineRest cursor.entry tt after) }
     ensures behind { IfOk result (IsBehind cursor.entry) }
     ensures fault { IfErr result (Breaks LineRest cursor.entry) }
 {
@@ -47,7 +45,7 @@ fn skip_line_rest<'a>(cursor: Cursor<'a>) -> Result<Cursor<'a>, Stop>
 /// A name and no more, and the place of the next line.
 #[tactic(auto, using(crate::proofs::Places::placing))]
 pub fn name_alone_at<'a>(cursor: Cursor<'a>) -> Result<(&'a str, Cursor<'a>), Stop>
-    ensures reads { IfOk result (λ found. NameAlone cursor.entry.rest.now (Reached found.0.now found.1.rest.now)) }
+    ensures reads { IfOk result (λ found. Reaches NameAlone cursor.entry found.0.now found.1) }
     ensures behind { IfOk result (λ found. IsBehind cursor.entry found.1) }
     ensures fault { IfErr result (Breaks NameAlone cursor.entry) }
 {
@@ -60,7 +58,7 @@ pub fn name_alone_at<'a>(cursor: Cursor<'a>) -> Result<(&'a str, Cursor<'a>), St
 /// One path and no more, and the place of the next line.
 #[tactic(auto, using(crate::proofs::Places::placing))]
 pub fn path_alone_at<'a>(alloc: Global, cursor: Cursor<'a>) -> Result<(Value<'a>, Cursor<'a>), Stop>
-    ensures reads { IfOk result (λ found. PathAlone cursor.entry.rest.now (Reached (fragments_of found.0) found.1.rest.now)) }
+    ensures reads { IfOk result (λ found. Reaches PathAlone cursor.entry (fragments_of found.0) found.1) }
     ensures behind { IfOk result (λ found. IsBehind cursor.entry found.1) }
     ensures fault { IfErr result (Breaks PathAlone cursor.entry) }
 {
@@ -74,7 +72,7 @@ pub fn path_alone_at<'a>(alloc: Global, cursor: Cursor<'a>) -> Result<(Value<'a>
 /// The path that must stand here, where the end of the line is an empty one.
 #[tactic(auto, using(crate::proofs::Places::placing))]
 fn some_path_at<'a>(alloc: Global, cursor: Cursor<'a>) -> Result<(Value<'a>, Cursor<'a>), Stop>
-    ensures reads { IfOk result (λ found. SomePath cursor.entry.rest.now (Reached (fragments_of found.0) found.1.rest.now)) }
+    ensures reads { IfOk result (λ found. Reaches SomePath cursor.entry (fragments_of found.0) found.1) }
     ensures behind { IfOk result (λ found. IsBehind cursor.entry found.1) }
     ensures fault { IfErr result (Breaks SomePath cursor.entry) }
 {

@@ -1,11 +1,9 @@
 //! `build` and `default` lines (manual: "Build statements", "Default target statements").
 
-ghost use Rattle.std.specs.Prelude.{ℕ, List, ◌≡◌, ◌++◌, ◌↔◌, [], IsTrue, IfOk, IfErr};
-ghost use Rattle.lexer.specs.Grammar.{Is};
-ghost use Rattle.lexer.specs.Grammar.Outcome.{Reached};
-ghost use Rattle.lexer.specs.Places.{IsBehind, Breaks};
+ghost use Rattle.std.specs.Prelude.{◌≡◌, ◌++◌, ◌↔◌, [], IsTrue, IfOk, IfErr};
+ghost use Rattle.lexer.specs.Places.{IsBehind, Breaks, Reaches};
 ghost use Rattle.lexer.specs.Said.{build_of, paths_of};
-ghost use Rattle.lexer.specs.Statements.{DefaultPaths, BuildPaths, Marked, Outputs, OfRule, Inputs, InputsForm};
+ghost use Rattle.lexer.specs.Statements.{DefaultPaths, BuildPaths, Marked, Outputs, OfRule, Inputs, inputs_of};
 
 use crate::cursor::Cursor;
 use crate::paths::paths_at;
@@ -37,7 +35,7 @@ pub fn default_at<'a>(
     alloc: Global,
     cursor: Cursor<'a>,
 ) -> Result<(Items<Value<'a>>, Cursor<'a>), Stop>
-    ensures reads { IfOk result (λ found. DefaultPaths cursor.entry.rest.now (Reached (paths_of found.0) found.1.rest.now)) }
+    ensures reads { IfOk result (λ found. Reaches DefaultPaths cursor.entry (paths_of found.0) found.1) }
     ensures behind { IfOk result (λ found. IsBehind cursor.entry found.1) }
     ensures fault { IfErr result (Breaks DefaultPaths cursor.entry) }
 {
@@ -53,7 +51,7 @@ pub fn default_at<'a>(
 /// What stands behind the word `build`, and the place of the next line.
 #[tactic(auto, using(crate::proofs::Places::placing))]
 pub fn build_at<'a>(alloc: Global, cursor: Cursor<'a>) -> Result<(BuildLine<'a>, Cursor<'a>), Stop>
-    ensures reads { IfOk result (λ found. BuildPaths cursor.entry.rest.now (Reached (build_of found.0) found.1.rest.now)) }
+    ensures reads { IfOk result (λ found. Reaches BuildPaths cursor.entry (build_of found.0) found.1) }
     ensures behind { IfOk result (λ found. IsBehind cursor.entry found.1) }
     ensures fault { IfErr result (Breaks BuildPaths cursor.entry) }
 {
@@ -77,7 +75,7 @@ pub fn build_at<'a>(alloc: Global, cursor: Cursor<'a>) -> Result<(BuildLine<'a>,
 /// The outputs, of which there must be one of either kind.
 #[tactic(auto, using(crate::proofs::Places::placing))]
 fn outputs_at<'a>(alloc: Global, cursor: Cursor<'a>) -> Result<(OutputPaths<'a>, Cursor<'a>), Stop>
-    ensures reads { IfOk result (λ found. Outputs cursor.entry.rest.now (Reached (paths_of found.0.explicit, paths_of found.0.implicit) found.1.rest.now)) }
+    ensures reads { IfOk result (λ found. Reaches Outputs cursor.entry (paths_of found.0.explicit, paths_of found.0.implicit) found.1) }
     ensures behind { IfOk result (λ found. IsBehind cursor.entry found.1) }
     ensures fault { IfErr result (Breaks Outputs cursor.entry) }
 {
@@ -99,7 +97,7 @@ fn are_none(explicit: &Items<Value<'_>>, implicit: &Items<Value<'_>>) -> bool
 /// The colon and the rule's name.
 #[tactic(auto, using(crate::proofs::Places::placing))]
 fn rule_name_at<'a>(colon: Cursor<'a>) -> Result<(&'a str, Cursor<'a>), Stop>
-    ensures reads { IfOk result (λ found. OfRule colon.entry.rest.now (Reached found.0.now found.1.rest.now)) }
+    ensures reads { IfOk result (λ found. Reaches OfRule colon.entry found.0.now found.1) }
     ensures behind { IfOk result (λ found. IsBehind colon.entry found.1) }
     ensures fault { IfErr result (Breaks OfRule colon.entry) }
 {
@@ -113,7 +111,7 @@ fn rule_name_at<'a>(colon: Cursor<'a>) -> Result<(&'a str, Cursor<'a>), Stop>
 /// The inputs and validations.
 #[tactic(auto, using(crate::proofs::Places::placing))]
 fn inputs_at<'a>(alloc: Global, cursor: Cursor<'a>) -> Result<(InputPaths<'a>, Cursor<'a>), Stop>
-    ensures reads { IfOk result (λ found. Inputs cursor.entry.rest.now (Reached (record { explicit = paths_of found.0.explicit; implicit = paths_of found.0.implicit; order_only = paths_of found.0.order_only; validations = paths_of found.0.validations }) found.1.rest.now)) }
+    ensures reads { IfOk result (λ found. Reaches Inputs cursor.entry (inputs_of found.0) found.1) }
     ensures behind { IfOk result (λ found. IsBehind cursor.entry found.1) }
     ensures fault { IfErr result (Breaks Inputs cursor.entry) }
 {
@@ -137,7 +135,7 @@ fn marked_paths_at<'a>(
     cursor: Cursor<'a>,
     wanted: Mark,
 ) -> Result<(Items<Value<'a>>, Cursor<'a>), Stop>
-    ensures reads { IfOk result (λ found. Marked wanted cursor.entry.rest.now (Reached (paths_of found.0) found.1.rest.now)) }
+    ensures reads { IfOk result (λ found. Reaches (Marked wanted) cursor.entry (paths_of found.0) found.1) }
     ensures behind { IfOk result (λ found. IsBehind cursor.entry found.1) }
     ensures fault { IfErr result (Breaks (Marked wanted) cursor.entry) }
 {

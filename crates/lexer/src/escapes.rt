@@ -1,11 +1,9 @@
 //! What stands behind a dollar (manual: "Lexical syntax").
 
-ghost use Rattle.std.specs.Prelude.{◌≡◌, ◌∷◌, ◌≤◌, option_map, length, IfOk, IfErr};
-ghost use Rattle.lexer.specs.Grammar.Outcome.{Reached, Broken};
+ghost use Rattle.std.specs.Prelude.{◌≡◌, IfOk, IfErr};
+ghost use Rattle.lexer.specs.Escapes.{escape_from, braced_from, bare_from, IsPiece, IsBadEscape};
 ghost use Rattle.lexer.specs.Places.{IsBehind};
-ghost use Rattle.lexer.specs.Said.{fragment_of};
-ghost use Rattle.lexer.specs.Tokens.{escape, braced, bare, is_bad};
-ghost use Rattle.lexer.specs.Characters.{run_of, behind_run};
+ghost use Rattle.lexer.specs.Tokens.{is_bad};
 
 use crate::characters::{Class, split_quoted};
 use crate::cursor::Cursor;
@@ -19,9 +17,9 @@ pub fn escape_at<'a>(
     whole: Cursor<'a>,
     more: Cursor<'a>,
 ) -> Result<(Option<Piece<'a>>, Cursor<'a>), Fault>
-    ensures reads { IfOk result (λ found. escape whole.entry.rest.now more.entry.rest.now ≡ Reached (option_map fragment_of found.0) found.1.rest.now) }
+    ensures reads { IfOk result (λ found. IsPiece (escape_from whole.entry more.entry) found.0 found.1) }
     ensures behind { IfOk result (λ found. IsBehind more.entry found.1) }
-    ensures fault { IfErr result (λ fault. (fault ≡ record { line = whole.entry.line; kind = FaultKind.Escape }) × (escape whole.entry.rest.now more.entry.rest.now ≡ Broken FaultKind.Escape whole.entry.rest.now)) }
+    ensures fault { IfErr result (IsBadEscape (escape_from whole.entry more.entry) whole.entry) }
 {
     if let Some(next) = more.strip_newline() {
         return Ok((None, next.skip_spaces()));
@@ -42,9 +40,9 @@ fn braced_at<'a>(
     whole: Cursor<'a>,
     inside: Cursor<'a>,
 ) -> Result<(Option<Piece<'a>>, Cursor<'a>), Fault>
-    ensures reads { IfOk result (λ found. braced whole.entry.rest.now (run_of Class.Name inside.entry.rest.now) (behind_run Class.Name inside.entry.rest.now) ≡ Reached (option_map fragment_of found.0) found.1.rest.now) }
+    ensures reads { IfOk result (λ found. IsPiece (braced_from whole.entry inside.entry) found.0 found.1) }
     ensures behind { IfOk result (λ found. IsBehind inside.entry found.1) }
-    ensures fault { IfErr result (λ fault. (fault ≡ record { line = whole.entry.line; kind = FaultKind.Escape }) × (braced whole.entry.rest.now (run_of Class.Name inside.entry.rest.now) (behind_run Class.Name inside.entry.rest.now) ≡ Broken FaultKind.Escape whole.entry.rest.now)) }
+    ensures fault { IfErr result (IsBadEscape (braced_from whole.entry inside.entry) whole.entry) }
 {
     let (name, end) = inside.split_run(Class::Name);
     let fault = bad_escape(whole);
@@ -63,9 +61,9 @@ fn bare_at<'a>(
     whole: Cursor<'a>,
     more: Cursor<'a>,
 ) -> Result<(Option<Piece<'a>>, Cursor<'a>), Fault>
-    ensures reads { IfOk result (λ found. bare whole.entry.rest.now (run_of Class.BareName more.entry.rest.now) (behind_run Class.BareName more.entry.rest.now) ≡ Reached (option_map fragment_of found.0) found.1.rest.now) }
+    ensures reads { IfOk result (λ found. IsPiece (bare_from whole.entry more.entry) found.0 found.1) }
     ensures behind { IfOk result (λ found. IsBehind more.entry found.1) }
-    ensures fault { IfErr result (λ fault. (fault ≡ record { line = whole.entry.line; kind = FaultKind.Escape }) × (bare whole.entry.rest.now (run_of Class.BareName more.entry.rest.now) (behind_run Class.BareName more.entry.rest.now) ≡ Broken FaultKind.Escape whole.entry.rest.now)) }
+    ensures fault { IfErr result (IsBadEscape (bare_from whole.entry more.entry) whole.entry) }
 {
     let (name, after) = more.split_run(Class::BareName);
     if name.is_empty() {

@@ -1,8 +1,7 @@
 //! The statements, by the words with which they begin.
 
 ghost use Rattle.std.specs.Prelude.{◌≡◌, ◌<◌, length, IfOk, IfErr};
-ghost use Rattle.lexer.specs.Grammar.Outcome.{Reached};
-ghost use Rattle.lexer.specs.Places.{IsBehind, Breaks};
+ghost use Rattle.lexer.specs.Places.{IsBehind, Breaks, Reaches};
 ghost use Rattle.lexer.specs.Said.{form_of};
 ghost use Rattle.lexer.specs.Statements.{keyword_of, BehindWord, OfStatement, OfBlock};
 
@@ -47,7 +46,7 @@ pub fn statement_at<'a>(
     alloc: Global,
     cursor: Cursor<'a>,
 ) -> Result<(Statement<'a>, Cursor<'a>), Stop>
-    ensures reads { IfOk result (λ found. OfStatement cursor.entry.rest.now (Reached (form_of found.0) found.1.rest.now)) }
+    ensures reads { IfOk result (λ found. Reaches OfStatement cursor.entry (form_of found.0) found.1) }
     ensures behind { IfOk result (λ found. IsBehind cursor.entry found.1) }
     ensures shorter { IfOk result (λ found. length found.1.rest.now < length cursor.entry.rest.now) }
     ensures fault { IfErr result (Breaks OfStatement cursor.entry) }
@@ -64,7 +63,7 @@ fn behind_word<'a>(
     word: &'a str,
     cursor: Cursor<'a>,
 ) -> Result<(Statement<'a>, Cursor<'a>), Stop>
-    ensures reads { IfOk result (λ found. BehindWord (keyword_of word.now) word.now cursor.entry.rest.now (Reached (form_of found.0) found.1.rest.now)) }
+    ensures reads { IfOk result (λ found. Reaches (BehindWord (keyword_of word.now) word.now) cursor.entry (form_of found.0) found.1) }
     ensures behind { IfOk result (λ found. IsBehind cursor.entry found.1) }
     ensures fault { IfErr result (Breaks (BehindWord (keyword_of word.now) word.now) cursor.entry) }
 {
@@ -106,7 +105,7 @@ pub fn block_binding_at<'a>(
     alloc: Global,
     cursor: Cursor<'a>,
 ) -> Result<(Statement<'a>, Cursor<'a>), Stop>
-    ensures reads { IfOk result (λ found. OfBlock cursor.entry.rest.now (Reached (form_of found.0) found.1.rest.now)) }
+    ensures reads { IfOk result (λ found. Reaches OfBlock cursor.entry (form_of found.0) found.1) }
     ensures behind { IfOk result (λ found. IsBehind cursor.entry found.1) }
     ensures shorter { IfOk result (λ found. length found.1.rest.now < length cursor.entry.rest.now) }
     ensures fault { IfErr result (Breaks OfBlock cursor.entry) }

@@ -1,9 +1,7 @@
 //! The lines of a text.
 
 ghost use Rattle.std.specs.Prelude.{ℕ, List, ◌≡◌, ◌<◌, ◌≤◌, false, [], length, map, option_map, Option, None, Some, IfOk, IfErr, OnOk};
-ghost use Rattle.lexer.specs.Grammar.{AreInRow};
-ghost use Rattle.lexer.specs.Grammar.Outcome.{Reached};
-ghost use Rattle.lexer.specs.Places.{IsBehind, Breaks};
+ghost use Rattle.lexer.specs.Places.{IsBehind, Breaks, Reaches};
 ghost use Rattle.lexer.specs.Said.{Said, form_of, said_of};
 ghost use Rattle.lexer.specs.Lines.{IsRead, AreLines, OfLine, Content, begins_with_space, says_nothing, opens, Nothing, StopsReading};
 
@@ -91,7 +89,7 @@ fn line_at<'a>(
     inside: bool,
 ) -> Result<(Option<Statement<'a>>, Cursor<'a>), Stop>
     requires { 0 < length cursor.rest.now }
-    ensures reads { IfOk result (λ found. OfLine inside cursor.entry.rest.now (Reached (option_map form_of found.0) found.1.rest.now)) }
+    ensures reads { IfOk result (λ found. Reaches (OfLine inside) cursor.entry (option_map form_of found.0) found.1) }
     ensures behind { IfOk result (λ found. IsBehind cursor.entry found.1) }
     ensures shorter { IfOk result (λ found. length found.1.rest.now < length cursor.entry.rest.now) }
     ensures fault { IfErr result (Breaks (OfLine inside) cursor.entry) }
@@ -124,7 +122,7 @@ fn content_at<'a>(
     inside: bool,
     indented: bool,
 ) -> Result<(Option<Statement<'a>>, Cursor<'a>), Stop>
-    ensures reads { IfOk result (λ found. Content inside indented start.entry.rest.now (Reached (option_map form_of found.0) found.1.rest.now)) }
+    ensures reads { IfOk result (λ found. Reaches (Content inside indented) start.entry (option_map form_of found.0) found.1) }
     ensures behind { IfOk result (λ found. IsBehind start.entry found.1) }
     ensures shorter { IfOk result (λ found. 0 < length start.entry.rest.now → length found.1.rest.now < length start.entry.rest.now) }
     ensures fault { IfErr result (Breaks (Content inside indented) start.entry) }
@@ -147,7 +145,7 @@ fn content_at<'a>(
 /// The place behind a comment, of which there may be none, and the end of its line.
 #[tactic(auto, using(crate::proofs::Places::placing))]
 fn skip_comment<'a>(start: Cursor<'a>) -> Result<Cursor<'a>, Stop>
-    ensures reads { IfOk result (λ after. Nothing start.entry.rest.now (Reached None after.rest.now)) }
+    ensures reads { IfOk result (λ after. Reaches Nothing start.entry None after) }
     ensures behind { IfOk result (IsBehind start.entry) }
     ensures shorter { IfOk result (λ after. 0 < length start.entry.rest.now → length after.rest.now < length start.entry.rest.now) }
     ensures fault { IfErr result (Breaks Nothing start.entry) }

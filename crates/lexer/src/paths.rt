@@ -1,8 +1,7 @@
 //! Paths.
 
 ghost use Rattle.std.specs.Prelude.{◌≡◌, true, ◌<◌, length, IfOk, IfErr};
-ghost use Rattle.lexer.specs.Grammar.Outcome.{Reached};
-ghost use Rattle.lexer.specs.Places.{IsBehind, Breaks};
+ghost use Rattle.lexer.specs.Places.{IsBehind, Breaks, Reaches};
 ghost use Rattle.lexer.specs.Said.{fragments_of, paths_of};
 ghost use Rattle.lexer.specs.Tokens.{begins_path};
 ghost use Rattle.lexer.specs.Values.{Paths, PathAndBlanks};
@@ -21,7 +20,7 @@ pub fn paths_at<'a>(
     alloc: Global,
     cursor: Cursor<'a>,
 ) -> Result<(Items<Value<'a>>, Cursor<'a>), Stop>
-    ensures reads { IfOk result (λ found. Paths cursor.entry.rest.now (Reached (paths_of found.0) found.1.rest.now)) }
+    ensures reads { IfOk result (λ found. Reaches Paths cursor.entry (paths_of found.0) found.1) }
     ensures behind { IfOk result (λ found. IsBehind cursor.entry found.1) }
     ensures fault { IfErr result (Breaks Paths cursor.entry) }
 {
@@ -43,7 +42,7 @@ fn path_and_blanks_at<'a>(
     cursor: Cursor<'a>,
 ) -> Result<(Value<'a>, Cursor<'a>), Stop>
     requires { begins_path cursor.rest.now ≡ true }
-    ensures reads { IfOk result (λ found. PathAndBlanks cursor.entry.rest.now (Reached (fragments_of found.0) found.1.rest.now)) }
+    ensures reads { IfOk result (λ found. Reaches PathAndBlanks cursor.entry (fragments_of found.0) found.1) }
     ensures behind { IfOk result (λ found. IsBehind cursor.entry found.1) }
     ensures shorter { IfOk result (λ found. length found.1.rest.now < length cursor.entry.rest.now) }
     ensures fault { IfErr result (Breaks PathAndBlanks cursor.entry) }

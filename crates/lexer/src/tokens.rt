@@ -2,8 +2,7 @@
 
 ghost use Rattle.std.specs.Prelude.{◌≡◌, ◌<◌, length, option_map, IfOk, IfErr, IfSome};
 ghost use Rattle.lexer.specs.Grammar.{Is};
-ghost use Rattle.lexer.specs.Grammar.Outcome.{Reached};
-ghost use Rattle.lexer.specs.Places.{IsBehind, Breaks};
+ghost use Rattle.lexer.specs.Places.{IsBehind, Breaks, Reaches};
 ghost use Rattle.lexer.specs.Tokens.{fault_at, one, line_end, name, begins_path, word_end, mark, is_mark, ends};
 
 use crate::characters::{Class, is_of};
@@ -63,7 +62,7 @@ impl<'a> Cursor<'a> {
     /// The place behind this ASCII character, which must be the next.
     pub fn skip_one(self, wanted: u8) -> Result<Cursor<'a>, Stop>
         requires { wanted < 128 }
-        ensures reads { IfOk result (λ after. Is (one wanted) self.entry.rest.now (Reached tt after.rest.now)) }
+        ensures reads { IfOk result (λ after. Reaches (Is (one wanted)) self.entry tt after) }
         ensures behind { IfOk result (IsBehind self.entry) }
         ensures fault { IfErr result (Breaks (Is (one wanted)) self.entry) }
     {
@@ -75,7 +74,7 @@ impl<'a> Cursor<'a> {
 
     /// The place behind the end of the line, which must stand here: LF, CR LF or the end of the text.
     pub fn end_line(self) -> Result<Cursor<'a>, Stop>
-        ensures reads { IfOk result (λ after. Is line_end self.entry.rest.now (Reached tt after.rest.now)) }
+        ensures reads { IfOk result (λ after. Reaches (Is line_end) self.entry tt after) }
         ensures behind { IfOk result (IsBehind self.entry) }
         ensures shorter { IfOk result (λ after. 0 < length self.entry.rest.now → length after.rest.now < length self.entry.rest.now) }
         ensures fault { IfErr result (Breaks (Is line_end) self.entry) }
@@ -91,7 +90,7 @@ impl<'a> Cursor<'a> {
 
     /// The name that must stand here, and the place behind it.
     pub fn split_name(self) -> Result<(&'a str, Cursor<'a>), Stop>
-        ensures reads { IfOk result (λ found. Is name self.entry.rest.now (Reached found.0.now found.1.rest.now)) }
+        ensures reads { IfOk result (λ found. Reaches (Is name) self.entry found.0.now found.1) }
         ensures behind { IfOk result (λ found. IsBehind self.entry found.1) }
         ensures shorter { IfOk result (λ found. length found.1.rest.now < length self.entry.rest.now) }
         ensures fault { IfErr result (Breaks (Is name) self.entry) }
@@ -112,7 +111,7 @@ impl<'a> Cursor<'a> {
 
     /// Goes on only where no path begins here.
     pub fn end_word(self) -> Result<(), Stop>
-        ensures reads { IfOk result (λ _. Is word_end self.entry.rest.now (Reached tt self.entry.rest.now)) }
+        ensures reads { IfOk result (λ _. Reaches (Is word_end) self.entry tt self.entry) }
         ensures fault { IfErr result (Breaks (Is word_end) self.entry) }
     {
         if self.begins_path() {

@@ -2,8 +2,7 @@
 
 ghost use Rattle.std.specs.Prelude.{◌≡◌, ◌<◌, false, length, option_map, IfOk, IfErr};
 ghost use Rattle.lexer.specs.Grammar.{Is};
-ghost use Rattle.lexer.specs.Grammar.Outcome.{Reached};
-ghost use Rattle.lexer.specs.Places.{IsBehind, Breaks};
+ghost use Rattle.lexer.specs.Places.{IsBehind, Breaks, Reaches};
 ghost use Rattle.lexer.specs.Said.{fragment_of, fragments_of};
 ghost use Rattle.lexer.specs.Tokens.{piece, ends};
 ghost use Rattle.lexer.specs.Values.{Pieces};
@@ -24,7 +23,7 @@ pub fn pieces_at<'a>(
     cursor: Cursor<'a>,
     class: Class,
 ) -> Result<(Value<'a>, Cursor<'a>), Stop>
-    ensures reads { IfOk result (λ found. Pieces class cursor.entry.rest.now (Reached (fragments_of found.0) found.1.rest.now)) }
+    ensures reads { IfOk result (λ found. Reaches (Pieces class) cursor.entry (fragments_of found.0) found.1) }
     ensures behind { IfOk result (λ found. IsBehind cursor.entry found.1) }
     ensures shorter { ends class cursor.entry.rest.now ≡ false → IfOk result (λ found. length found.1.rest.now < length cursor.entry.rest.now) }
     ensures fault { IfErr result (Breaks (Pieces class) cursor.entry) }
@@ -45,7 +44,7 @@ pub fn pieces_at<'a>(
 /// The next piece, or none where two lines are joined.
 #[tactic(auto, using(crate::proofs::Places::placing))]
 fn piece_at<'a>(cursor: Cursor<'a>, class: Class) -> Result<(Option<Piece<'a>>, Cursor<'a>), Stop>
-    ensures reads { IfOk result (λ found. Is (piece class) cursor.entry.rest.now (Reached (option_map fragment_of found.0) found.1.rest.now)) }
+    ensures reads { IfOk result (λ found. Reaches (Is (piece class)) cursor.entry (option_map fragment_of found.0) found.1) }
     ensures behind { IfOk result (λ found. IsBehind cursor.entry found.1) }
     ensures shorter { IfOk result (λ found. length found.1.rest.now < length cursor.entry.rest.now) }
     ensures fault { IfErr result (Breaks (Is (piece class)) cursor.entry) }

@@ -1,5 +1,5 @@
 -- What a node says of those above it and below it.
-use Rattle.std.proofs.Common.{◌≡◌, inl, inr, ◌⊎◌, ℕ, zero, suc, ◌+◌, ◌*◌, ◌/◌, ◌^◌, ◌<◌, ◌≤◌, ◌||◌, Bool, true, false, List, [], ◌∷◌, ◌-◌, length, get_or, drop, refl, sym, ◌∙◌, ap, subst, arith}
+use Rattle.std.proofs.Common.{◌≡◌, inl, inr, ◌⊎◌, ℕ, zero, suc, ◌+◌, ◌*◌, ◌/◌, ◌^◌, ◌<◌, ◌≤◌, ◌||◌, Bool, true, false, List, [], ◌∷◌, length, get_or, drop, refl, sym, ◌∙◌, ap, subst, arith}
 use Rattle.std.proofs.Math.ListN.{set}
 use Rattle.std.proofs.Math.Nat.{pow-succ'}
 use Rattle.std.proofs.lemmas.Nat.{pow_pos, pow_below}
@@ -7,7 +7,7 @@ use Rattle.std.proofs.Math.Pow.{pow_mono}
 use Rattle.std.proofs.lemmas.List.{drop-set-lt, length-set, get_or-set_same, get_or-set_other, get_or-drop}
 use Rattle.std.proofs.lemmas.Bool.{false≢true, cases_Bool, cases_eq}
 use Rattle.lowest.specs.Tree.{node_at, IsJoined, AreJoined, AreJoinedBut, IsTree, IsFirstAt}
-use Rattle.lowest.specs.Flags.{has, IsFirst, AreNone}
+use Rattle.lowest.specs.Flags.{has, AreNone}
 
 -- ---- up from a leaf
 
@@ -34,15 +34,6 @@ module _ (tree : List Bool) (node : ℕ) (v : Bool) where
         same_joined i (but i low (omega (arith, fits, length-set tree node v)) not) not
         (λ e. other (omega (arith, e))) (λ e. other (omega (arith, e)))
   ]
-
-  -- a leaf that was written leaves only the node above it
-  pub joined_leaf : AreJoined tree → length tree ≤ 2 * node → AreJoinedBut (node / 2) (set tree node v)
-  joined_leaf all leaf i low fits other =
-      same_joined i (all i low (omega (arith, fits, length-set tree node v)))
-      (λ e. omega (arith, e, fits, leaf, length-set tree node v)) (λ e. other (omega (arith, e))) (λ e. other (omega (arith, e)))
-
-pub joined_all : (tree : List Bool) (node : ℕ) → AreJoinedBut node tree → node ≡ 0 → AreJoined tree
-joined_all tree node but none i low fits = but i low fits (λ e. omega (arith, e, none, low))
 
 -- ---- down from the root
 
@@ -117,12 +108,6 @@ level_none tree height (suc d) all size none le k from to =
 module _ (tree : List Bool) (leaves : ℕ) where
   pub leaf_at : (k : ℕ) → has (drop leaves tree) k ≡ node_at tree (leaves + k)
   leaf_at k = get_or-drop leaves tree k false
-
-  pub first_of : (node : ℕ) → IsFirstAt leaves tree node → IsFirst (drop leaves tree) (node - leaves)
-  first_of node first = record {
-    is = leaf_at (node - leaves) ∙ (ap (λ (n : ℕ). node_at tree n) (omega (arith, first.after)) ∙ first.is);
-    lowest = λ k lt. leaf_at k ∙ first.lowest (leaves + k) (omega arith) (omega (arith, lt));
-  }
 
 pub none_of : (height leaves : ℕ) (tree : List Bool) → IsTree height leaves tree → node_at tree 1 ≡ false → AreNone (drop leaves tree)
 none_of height leaves tree is none k = leaf_at tree leaves k ∙ elim (cases_Bool (node_at tree (leaves + k))) [

@@ -26,8 +26,9 @@ use Rattle.manifest.specs.declared.kept.Named.{Named}
 use Rattle.manifest.specs.declared.kept.ReadEdge.{ReadEdge}
 use Rattle.manifest.specs.Spelled.{EdgePaths}
 use Rattle.manifest.specs.Answer.{IsFaultOf}
-use Rattle.manifest.specs.Blocks.{BlockLine, BuildBlock, build_block}
-use Rattle.manifest.specs.Declarations.{is_phony, rule_here, RuleHere, PathsOf, OfBuild, IsTooMuch, build_here, most_edges, most_paths}
+use Rattle.manifest.specs.BuildParts.{block_of, made_of}
+use Rattle.manifest.specs.Blocks.{BlockLine, build_block}
+use Rattle.manifest.specs.Declarations.{is_phony, rule_here, RuleHere, PathsOf, OfBuild, IsTooMuch, most_edges, most_paths}
 use Rattle.manifest.specs.Held.{IsStateOf, IsBuildOf, IsLineFor, AreNamed, AreLinesFormed, ArePathsFormed, IsFormed, kept_of}
 use Rattle.manifest.specs.InNumbers.{IsLonger, AreKeys, AreAdded, numbers_of, IsWithin, paths_at, kept_line}
 use Rattle.manifest.specs.Keeping.{IsBlockOf, IsBlockRead}
@@ -75,13 +76,6 @@ pub record AreParts (place : Place) (form : BuildForm) (lines : List BlockLine) 
   pub block_read : IsBlockRead read place.file (build_block place.file state.past lines [])
   pub rule_read : RuleHere place state form.rule (Reached rule)
   pub paths_read : PathsOf place (value_of_name read.block state.past) form (Reached paths)
-
-abbrev pub block_of : Place → List BlockLine → State → BuildBlock
-block_of place lines state = build_block place.file state.past lines []
-
--- the build statement that they make
-abbrev pub made_of : Place → BuildForm → List BlockLine → State → Option Rule → EdgePaths → Build
-made_of place form lines state rule paths = build_here place form rule (block_of place lines state).bound paths state
 
 abbrev Limits : Place → BuildForm → List BlockLine → State → Option Rule → EdgePaths → Outcome State → Type 0
 Limits place form lines state rule paths =
@@ -181,9 +175,6 @@ keeps_build old new state edge build grown is_build is same_scopes same_pools sa
   paths = named_now;
 }
 
-pub edges_count : (old : Declared) (state : State) → IsStateOf old state → length old.edges.items ≡ length state.builds
-edges_count old state is = zip_length IsBuildOf old.edges.items state.builds is.edges
-
 -- ---- its paths
 
 -- a line that was read, and what is kept of it
@@ -237,16 +228,16 @@ keeps_formed old new edge formed within same_scopes grown lines = record {
 
 -- ---- from what the calls gave
 
-pub parts_from : (place : Place) (form : BuildForm) (lines : List BlockLine) (declared : Declared) (state : State) (read : BlockRead) (rule : Option Rule) (paths : EdgePaths)
-    (scopes : Scopes) (block : Block) → IsStateOf declared state → scopes ≡ declared.scopes → block ≡ read.block
+pub parts_from : (place : Place) (form : BuildForm) (lines : List BlockLine) (here : Scopes) (state : State) (read : BlockRead) (rule : Option Rule) (paths : EdgePaths)
+    (scopes : Scopes) (block : Block) → IsScopesOf here state.past → scopes ≡ here → block ≡ read.block
     → IsBlockRead read place.file (block_of place lines state) → RuleHere place state form.rule (Reached rule)
     → ((past : List Move) → IsScopesOf scopes past → PathsOf place (value_of_name block past) form (Reached paths))
     → AreParts place form lines state read rule paths
-parts_from place form lines declared state read rule paths scopes block is same_scopes same_block block_read rule_read paths_read = record {
+parts_from place form lines here state read rule paths scopes block is same_scopes same_block block_read rule_read paths_read = record {
   block_read = block_read;
   rule_read = rule_read;
   paths_read = subst (λ (b : Block). PathsOf place (value_of_name b state.past) form (Reached paths)) same_block
-      (paths_read state.past (subst (λ (s : Scopes). IsScopesOf s state.past) (sym same_scopes) is.scopes));
+      (paths_read state.past (subst (λ (s : Scopes). IsScopesOf s state.past) (sym same_scopes) is));
 }
 
 pub count_of : (before old table : List (List ℕ)) (line : Line) → AreAdded old table (numbers_of line) → AreKeys old before → length table ≡ different (before ++ all_of (paths_at table line))

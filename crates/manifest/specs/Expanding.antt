@@ -1,5 +1,6 @@
 -- What is made of build statements when all is read, whatever their scopes, pools and paths stand for.
-use Rattle.std.specs.Prelude.{◌≡◌, ℕ, List, [], Result, String}
+use Rattle.std.specs.Prelude.{◌≡◌, ℕ, List, [], map, Result, String}
+use Rattle.std.specs.Map.Iter.{deref}
 use Rattle.std.specs.List.{AllZip}
 use Rattle.std.specs.declared.alloc.Global.{Global}
 use Rattle.model.specs.declared.graph.Pool.{Pool}
@@ -7,12 +8,13 @@ use Rattle.paths.specs.declared.line.Line.{Line}
 use Rattle.paths.specs.declared.manifest.Action.{Action}
 use Rattle.paths.specs.declared.manifest.Action.TheVariants.{Command as OfCommand}
 use Rattle.paths.specs.declared.manifest.Command.{Command}
-use Rattle.paths.specs.Told.{edge_of}
+use Rattle.paths.specs.Told.{edge_of, texts_at}
 use Rattle.scopes.specs.declared.all_scopes.Scopes.{Scopes}
 use Rattle.scopes.specs.declared.template.Rule.{Rule}
 use Rattle.scopes.specs.declared.usage.Paths.{Paths}
 use Rattle.scopes.specs.Moves.{Move}
 use Rattle.scopes.specs.Scopes.{IsScopesOf}
+use Rattle.manifest.specs.declared.edges.Shown.{Shown}
 use Rattle.manifest.specs.declared.fault.ReadError.{ReadError}
 use Rattle.manifest.specs.declared.kept.ReadEdge.{ReadEdge}
 use Rattle.manifest.specs.declared.values.Values.{Values}
@@ -34,6 +36,11 @@ abbrev pub OnBuilds : Type 1
 OnBuilds = List Move → List Pool → List Build → Type 0
 
 -- ---- one statement
+
+-- these are the texts of the line's explicit inputs and outputs
+pub record IsShownOf (table : List (List ℕ)) (line : Line) (shown : Shown) : Type 0 where
+  pub inputs : map deref shown.inputs.items ≡ texts_at table line.explicit_inputs
+  pub outputs : map deref shown.outputs.items ≡ texts_at table line.explicit_outputs
 
 -- of each past of the scopes, with the pools that are kept, and each statement that the edge keeps
 abbrev pub IfKept : Scopes → KeptPools → ReadEdge → List Move → List Pool → Build → Type 0 → Type 0

@@ -19,6 +19,7 @@ pub mod InNumbers
 pub mod Held
 pub mod Made
 pub mod Statements
+pub mod BuildParts
 pub mod PathReading
 pub mod Expanding
 pub mod Naming

@@ -3,7 +3,8 @@
 ghost use Rattle.std.specs.Prelude.{◌≡◌, IfOk, OnOk};
 ghost use Rattle.lexer.specs.Said.{said_of, build_of};
 ghost use Rattle.scopes.specs.Scopes.{Always};
-ghost use Rattle.manifest.specs.Held.{KeepsScopes, IsFormed, HasOutput};
+ghost use Rattle.manifest.specs.BuildParts.{KeepsPaths, KeepsLines, block_in, rule_read};
+ghost use Rattle.manifest.specs.Held.{KeepsScopes, IsFormed, HasOutput, IsInScope};
 ghost use Rattle.manifest.specs.InNumbers.{with_line, kept_line};
 ghost use Rattle.manifest.specs.Keeping.{IsLineRead};
 ghost use Rattle.manifest.specs.Places.{place_of};
@@ -36,6 +37,14 @@ pub struct BlockRead {
     pub stop: Option<usize>,
 }
 
+/// A build statement as it is kept, but for its paths.
+#[derive(Drop)]
+pub struct BuildRead {
+    pub edge: ReadEdge,
+    /// The line of the first value of its block that is too large.
+    pub stop: Option<usize>,
+}
+
 impl Declared {
     /// Reads `build OUTPUTS: RULE INPUTS` with its block.
     pub fn read_build(
@@ -49,26 +58,42 @@ impl Declared {
         ensures scopes { OnOk result (KeepsScopes self.old self.new) }
         ensures formed { OnOk result (IsFormed self.old → HasOutput (build_of build.now) → IsFormed self.new) }
     {
-        let BlockRead { block, stop } = read_block(alloc, &self.scopes, block)?;
+        let read = self.edge(alloc, place, build, block)?;
+        self.paths
+            .read_line(alloc, &self.scopes, place, build, &read)?;
+        self.edges.push(read.edge)?;
+        Ok(())
+    }
+
+    /// The statement with its rule and its block.
+    fn edge(
+        &self,
+        alloc: Global,
+        place: &Place<'_>,
+        build: &BuildLine<'_>,
+        lines: &[TextLine<'_>],
+    ) -> Result<BuildRead, ReadError>
+        ensures file { IfOk result (λ read. read.edge.file.value ≡ place.now.file.now.value) }
+        ensures line { IfOk result (λ read. read.edge.line ≡ place.now.line) }
+        ensures scope { IfOk result (λ read. read.edge.scope ≡ self.now.scopes.present) }
+        ensures within { IfOk result (λ read. IsInScope self.now.scopes read.edge) }
+        ensures name { IfOk result (λ read. read.edge.rule_name ≡ build.now.rule.now) }
+        ensures rule { FindsRuleIn self.now (place_of place.now) build.now.rule.now (rule_read result) }
+        ensures block { IfOk result (λ read. Always self.now.scopes (λ past. IsReadFrom lines.now past (block_in read))) }
+    {
+        let rule_name = Text::from_str(alloc, build.rule)?;
+        let file = place.file.clone()?;
         let rule = self.rule(alloc, place, build.rule)?;
-        let reader = PathReader::new(&self.scopes, &block);
-        let paths = reader.line(alloc, &mut self.paths.table, place, build)?;
-        if self.edges.len() >= MOST_EDGES || self.paths.table.len() > MOST_PATHS {
-            return Err(place.too_large(alloc));
-        }
-        if let Some(line) = stop {
-            return Err(place.at_line(line).too_large(alloc));
-        }
-        self.paths.add_line(alloc, paths, rule.is_none())?;
-        self.edges.push(ReadEdge {
-            file: place.file.clone()?,
+        let BlockRead { block, stop } = read_block(alloc, &self.scopes, lines)?;
+        let edge = ReadEdge {
+            file,
             line: place.line,
             scope: self.scopes.present(),
-            rule_name: Text::from_str(alloc, build.rule)?,
+            rule_name,
             rule,
             block,
-        })?;
-        Ok(())
+        };
+        Ok(BuildRead { edge, stop })
     }
 
     /// The rule of this name at this place; none for `phony`.
@@ -136,6 +161,30 @@ fn read_line(
 }
 
 impl Named {
+    /// Reads the paths of a build statement and keeps them, unless there is too much.
+    fn read_line(
+        &mut self,
+        alloc: Global,
+        scopes: &Scopes,
+        place: &Place<'_>,
+        build: &BuildLine<'_>,
+        read: &BuildRead,
+    ) -> Result<(), ReadError>
+        ensures said { KeepsPaths result scopes.now self.old self.new (place_of place.now) (build_of build.now) read.now }
+        ensures formed { OnOk result (KeepsLines scopes.now self.old self.new (build_of build.now)) }
+    {
+        let reader = PathReader::new(scopes, &read.edge.block);
+        let paths = reader.line(alloc, &mut self.table, place, build)?;
+        if self.lines.len() >= MOST_EDGES || self.table.len() > MOST_PATHS {
+            return Err(place.too_large(alloc));
+        }
+        if let Some(line) = read.stop {
+            return Err(place.at_line(line).too_large(alloc));
+        }
+        self.add_line(alloc, paths, read.edge.rule.is_none())?;
+        Ok(())
+    }
+
     /// Keeps the paths of a build statement. An input of a `phony` one that is an output of its own is dropped.
     fn add_line(&mut self, alloc: Global, line: Line, is_phony: bool) -> Result<(), AllocError>
         ensures { OnOk result (self.new ≡ with_line (kept_line is_phony line) self.old) }

@@ -8,7 +8,7 @@ ghost use Rattle.paths.specs.Commands.{dyndep_stop};
 ghost use Rattle.paths.specs.Lists.{line_at};
 ghost use Rattle.paths.specs.Told.{texts_at};
 ghost use Rattle.manifest.specs.Expanding.{OfEach, OfEachUse, IsMadeFor, HasValues, Expands, AreQuoted};
-ghost use Rattle.manifest.specs.Expanding.{IsPoolChecked, AreDepsChecked};
+ghost use Rattle.manifest.specs.Expanding.{IsPoolChecked, AreDepsChecked, IsShownOf};
 ghost use Rattle.manifest.specs.Held.{IsBuildOf, IsUseRefused};
 ghost use Rattle.manifest.specs.Places.{place_of};
 ghost use Rattle.manifest.specs.InNumbers.{IsLonger, IsWithin};
@@ -26,6 +26,13 @@ use scopes::{Paths, Rule, Scopes, Use, UseFault, values_are_unique};
 use smallvec::SmallVec;
 use std::alloc::{AllocError, Global};
 use text::{Items, Path, Text};
+
+/// The explicit inputs and outputs of a line, as texts of the table.
+#[derive(Drop)]
+pub struct Shown<'a> {
+    pub inputs: SmallVec<&'a str, 8>,
+    pub outputs: SmallVec<&'a str, 8>,
+}
 
 impl ReadEdge {
     /// What the edge of the statement does, with its rule expanded. A dyndep file is put into the table.
@@ -50,11 +57,10 @@ impl ReadEdge {
             return Ok(Action::Alias);
         };
         let values = {
-            let inputs = texts(alloc, table, lines.explicit_inputs(edge))?;
-            let outputs = texts(alloc, table, lines.explicit_outputs(edge))?;
+            let shown = shown_of(alloc, table, lines, edge)?;
             let plain = Paths {
-                inputs: inputs.as_slice(),
-                outputs: outputs.as_slice(),
+                inputs: shown.inputs.as_slice(),
+                outputs: shown.outputs.as_slice(),
             };
             self.values(alloc, scopes, pools, rule, plain, room)?
         };
@@ -183,6 +189,22 @@ impl ReadEdge {
             line: self.line,
         }
     }
+}
+
+/// The paths of the line that a command shows.
+fn shown_of<'a>(
+    alloc: Global,
+    table: &'a Table,
+    lines: &Lines,
+    edge: EdgeId,
+) -> Result<Shown<'a>, AllocError>
+    requires edge { edge < length lines.now }
+    requires within { IsWithin table.now (line_at lines.now edge) }
+    ensures { IfOk result (λ shown. IsShownOf table.now (line_at lines.now edge) shown) }
+{
+    let inputs = texts(alloc, table, lines.explicit_inputs(edge))?;
+    let outputs = texts(alloc, table, lines.explicit_outputs(edge))?;
+    Ok(Shown { inputs, outputs })
 }
 
 /// The texts of paths of the table.

@@ -79,14 +79,6 @@ JudgedUntouched old new before (Judged i out_of_date) =
 JudgedUntouched old new before (Started i) = Unit {0}
 JudgedUntouched old new before (Ended i well) = Unit {0}
 
--- what is judged first is untouched then
-pub untouched_first : (old more : List Moment) (i : ℕ) (b : Bool) → JudgedUntouched old (old ++ more) [] (Judged i b)
-untouched_first old more i b = (
-  old,
-  record { so_far = []; later = more; is = sym (append-nil old); grows = refl; happened = refl; entry = λ none. refl; behind = tt },
-  λ p made. refl,
-)
-
 pub ready_scan : (files : View) → files (codes "b.d") ≡ None → IsReadyFor scan files
 ready_scan files none = record { depfile = λ some. none; response = λ some. absurd (some refl) }
 

@@ -1,5 +1,5 @@
 -- The build graph of texts that a manifest stands for.
-use Rattle.std.specs.Prelude.{◌≡◌, ℕ, true, false, List, [], ◌∷◌, map, Some, None, get_or, slice_get}
+use Rattle.std.specs.Prelude.{◌≡◌, ℕ, Bool, true, false, List, [], ◌∷◌, map, Some, None, get_or, slice_get}
 use Rattle.std.specs.Option.{option_map}
 use Rattle.model.specs.declared.graph.BuildGraph.{BuildGraph}
 use Rattle.model.specs.declared.graph.Edge.{Edge}
@@ -68,7 +68,10 @@ graph_of manifest = record {
 abbrev pub IsUnnamed : Manifest → List ℕ → Type 0
 IsUnnamed manifest path = is_named (graph_of manifest).edges path ≡ false
 
+-- whether an edge names the path with this number
+abbrev pub lines_name : Manifest → ℕ → Bool
+lines_name manifest number = has_number (all_paths manifest.lines) number
+
 -- the number is that of the path, and an edge names it
 abbrev pub IsNamedNumber : Manifest → List ℕ → ℕ → Type 0
-IsNamedNumber manifest path number =
-    (slice_get manifest.paths number ≡ Some path) × (has_number (all_paths manifest.lines) number ≡ true)
+IsNamedNumber manifest path number = (slice_get manifest.paths number ≡ Some path) × (lines_name manifest number ≡ true)

@@ -1,6 +1,6 @@
 -- How a plan begins.
 use Rattle.std.proofs.Common.{◌≡◌, inl, inr, ℕ, suc, ◌+◌, ◌<◌, ◌≤◌, ◌==◌, ◌||◌, Bool, true, false, List, [], ◌∷◌, ◌++◌, map, length, refl, sym, ◌∙◌, ap, arith}
-use Rattle.std.proofs.Math.ListN.{get_or-eq_default, get_or-append}
+use Rattle.std.proofs.Math.ListN.{get_or-append}
 use Rattle.std.proofs.Math.Seq.{get_or-append_seam}
 use Rattle.std.proofs.lemmas.Bool.{false≢true, true≢false, eq-eqb, eqb-true, cases_eq, false_from_ne_true}
 use Rattle.model.specs.Graph.{has_number}
@@ -8,7 +8,6 @@ use Rattle.model.specs.Reading.{IsInCone}
 use Rattle.model.specs.Schedule.{Task}
 use Rattle.links.specs.declared.graph.Graph.{Graph}
 use Rattle.links.specs.declared.cone.Mark.{Mark}
-use Rattle.links.specs.declared.cone.Mark.TheVariants.{Unseen}
 use Rattle.links.specs.Links.{links_of}
 use Rattle.links.specs.Cone.{is_listed, mark_at}
 use Rattle.links.specs.Linked.{IsConeOf}
@@ -26,10 +25,6 @@ pushed_first first standings s place fits each is k lt = elim (cases_eq k place)
       ap (standing_at (standings ++ s ∷ [])) (same ∙ sym fits) ∙ (get_or-append_seam standings s [] Outside ∙ (is ∙ ap first (sym same)))
   | inr other ↦ get_or-append standings (s ∷ []) Outside k (omega (arith, lt, other, fits)) ∙ each k (omega (arith, lt, other))
 ]
-
--- past the end no edge is in the cone
-pub first_past : (marks : List Mark) (standings : List Standing) (k : ℕ) (phony : Bool) → length standings ≤ k → length marks ≤ k → standing_at standings k ≡ first_standing (is_listed (mark_at marks k)) phony
-first_past marks standings k phony past none = get_or-eq_default standings Outside past ∙ sym (ap (λ (m : Mark). first_standing (is_listed m) phony) (get_or-eq_default marks Unseen none))
 
 -- ---- before the first step
 

@@ -1,5 +1,5 @@
 -- What an edge waits for, by the standings of edges.
-use Rattle.std.proofs.Common.{◌≡◌, inl, inr, ℕ, zero, suc, ◌<◌, ◌&&◌, Bool, true, false, List, [], ◌∷◌, ◌++◌, Option, Some, None, length, get_or, refl, sym, ◌∙◌, ap, subst, arith}
+use Rattle.std.proofs.Common.{◌≡◌, inl, inr, ℕ, zero, suc, ◌<◌, ◌&&◌, Bool, true, List, [], ◌∷◌, ◌++◌, Option, Some, None, length, get_or, refl, sym, ◌∙◌, ap, subst, arith}
 use Rattle.std.proofs.lemmas.Bool.{false≢true, cases_Bool, and_from}
 use Rattle.std.proofs.lemmas.List.Folds.{list_all_at}
 use Rattle.std.specs.List.{list_all}
@@ -8,18 +8,14 @@ use Rattle.model.specs.Graph.{has, edge_at, inputs, maker}
 use Rattle.model.specs.Reading.{needs}
 use Rattle.model.specs.Schedule.{Task, IsSettled, Alias as ByAlias}
 use Rattle.build_theory.proofs.Lists.{has-left}
-use Rattle.paths.specs.Commands.{no_action}
 use Rattle.paths.specs.Told.{text_at}
 use Rattle.links.specs.declared.graph.Graph.{Graph}
-use Rattle.links.specs.Held.{dyndep_of}
 use Rattle.links.specs.Links.{Links, links_of, needs_at}
 use Rattle.links.specs.Cone.{maker_at}
-use Rattle.links.specs.Extended.{dyndep_at}
 use Rattle.links.specs.Linked.{HasMaker}
 use Rattle.plan.specs.declared.step.Standing.{Standing}
 use Rattle.plan.specs.Standing.{standing_at, is_settled, maker_settled}
 use Rattle.plan.specs.Planned.{IsTaskOf}
-use Rattle.plan.proofs.Grown.{lower_or_past, past_end}
 use Rattle.plan_plain.specs.Scan.{is_there, waits_for_nothing}
 use Rattle.plan_plain.specs.Planned.{NamesNone, IsSound}
 
@@ -38,14 +34,6 @@ all_from p (x ∷ xs) each = and_from (p x) (list_all p xs) (each 0 (omega arith
 all_same : (p q : ℕ → Bool) (xs : List ℕ) → ((x : ℕ) → p x ≡ q x) → list_all p xs ≡ list_all q xs
 all_same p q [] same = refl
 all_same p q (x ∷ xs) same = ap (λ (b : Bool). b && list_all p xs) (same x) ∙ ap (λ (b : Bool). q x && b) (all_same p q xs same)
-
-pub all_append : (p : ℕ → Bool) (xs ys : List ℕ) → list_all p (xs ++ ys) ≡ (list_all p xs && list_all p ys)
-all_append p [] ys = refl
-all_append p (x ∷ xs) ys = ap (λ (b : Bool). p x && b) (all_append p xs ys) ∙ shift (p x) (list_all p xs) (list_all p ys)
-  where
-    shift : (a b c : Bool) → (a && (b && c)) ≡ ((a && b) && c)
-    shift true b c = refl
-    shift false b c = refl
 
 -- ---- what is waited for
 
@@ -85,9 +73,4 @@ pub none_named : (task : Task) (graph : Graph) → IsTaskOf task graph → Names
 none_named task graph stated none zero = refl
 none_named task graph stated none (suc e) = stated.files e ∙ ap (option_map (text_at graph.manifest.paths)) (none e)
 
--- none of the edges of a graph names a file
-pub none_of_edges : (graph : Graph) (count : ℕ) → count ≡ length graph.manifest.lines → ((e : ℕ) → e < count → dyndep_at graph e ≡ None) → NamesNone graph
-none_of_edges graph count whole none e = elim (lower_or_past e count) [
-  | inl less ↦ none e less
-  | inr past ↦ ap dyndep_of (past_end graph.manifest.actions e no_action (omega (arith, graph.manifest.fits, whole, past)))
 ]

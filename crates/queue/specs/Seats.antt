@@ -1,5 +1,5 @@
 -- The places of edges in their pools.
-use Rattle.std.specs.Prelude.{◌≡◌, ℕ, ◌<◌, ◌≤◌, Bool, List, [], ◌∷◌, ◌++◌, map, replicate, length, slice_index, slice_index_or, slice_set, Option, None, Some}
+use Rattle.std.specs.Prelude.{◌≡◌, ℕ, ◌<◌, ◌≤◌, List, [], ◌∷◌, ◌++◌, map, replicate, length, slice_index, slice_index_or, slice_set, Option, None, Some}
 use Rattle.lowest.specs.Flags.{AreNone}
 use Rattle.queue.specs.declared.pool.Pool.{Pool}
 
@@ -14,9 +14,6 @@ running_of pool = pool.running
 
 abbrev pub shown_of : Pool → Option ℕ
 shown_of pool = pool.shown
-
-abbrev pub waiting_of : Pool → List Bool
-waiting_of pool = pool.waiting
 
 -- the members of the pool of this place
 abbrev pub list_at : List (List ℕ) → ℕ → List ℕ

@@ -2,9 +2,8 @@
 
 ghost use Rattle.std.specs.Prelude.{◌<◌, length};
 
-use manifest::Manifest;
 use model::{Act, Deps};
-use paths::{Action, Command, EdgeId, PathId};
+use paths::{Action, Command, EdgeId, Manifest, PathId};
 use std::alloc::{AllocError, Global};
 use tables::push_word;
 

@@ -105,17 +105,26 @@ fn act_now(alloc: Global, row: &str) -> Result<Act, AllocError> {
 }
 
 fn judged(alloc: Global, row: &str) -> Result<Option<Reason>, AllocError> {
-    let gcc = has(row, "gcc");
-    let now = act_now(alloc, row)?;
-    let made = act(alloc, "cat", depfile_of(row), "x")?;
     let outputs = values(alloc, row, "out")?;
+    let made = act(alloc, "cat", depfile_of(row), "x")?;
     let records = records(alloc, outputs.as_slice(), &made)?;
+    judged_by(alloc, row, outputs.as_slice(), records.as_slice())
+}
+
+fn judged_by(
+    alloc: Global,
+    row: &str,
+    outputs: &[&str],
+    records: &[Done],
+) -> Result<Option<Reason>, AllocError> {
+    let now = act_now(alloc, row)?;
+    let gcc = has(row, "gcc");
     Ok(judge(&Facts {
         act: &now,
         restat: has(row, "restat"),
         deps: if gcc { Deps::Gcc } else { Deps::Unset },
         depfile: has(row, "depfile"),
-        outputs: all_outputs(&now, outputs.as_slice(), records.as_slice()),
+        outputs: all_outputs(&now, outputs, records),
         inputs: all_inputs(row),
     }))
 }

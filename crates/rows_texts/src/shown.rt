@@ -40,14 +40,18 @@ fn push_line_at(
     text: &str,
     told: &mut String,
 ) -> Result<(), AllocError> {
-    let bytes = unescaped(alloc, text)?;
-    let text = String::from_utf8_lossy(alloc, bytes.as_slice())?;
-    let pattern = match text.as_str() {
-        "DEFAULT" => Pattern::parse(alloc, Pattern::DEFAULT)?,
-        text => Pattern::parse(alloc, text)?,
-    };
+    let pattern = pattern(alloc, text)?;
     let line = line(alloc, &pattern, counts, "cat b a")?;
     push_bytes(alloc, line.as_slice(), told)
+}
+
+fn pattern(alloc: Global, text: &str) -> Result<Pattern, AllocError> {
+    if text == "DEFAULT" {
+        return Pattern::parse(alloc, Pattern::DEFAULT);
+    }
+    let bytes = unescaped(alloc, text)?;
+    let text = String::from_utf8_lossy(alloc, bytes.as_slice())?;
+    Pattern::parse(alloc, text.as_str())
 }
 
 fn push_bytes(alloc: Global, bytes: &[u8], told: &mut String) -> Result<(), AllocError> {
@@ -65,27 +69,58 @@ pub fn push_said_of(row: &str, told: &mut String) -> Result<(), AllocError> {
 /// `ending`.
 pub fn push_ending(alloc: Global, row: &str, told: &mut String) -> Result<(), AllocError> {
     let parts = row.split('|').collect::<Vec<&str>>(alloc)?;
-    let part = |place: usize| parts.get(place).copied().unwrap_or("");
-    let outputs = part(1).split(',').collect::<Vec<&str>>(alloc)?;
-    let depfile = (parts.len() > 3).then_some(DepfileFault {
-        path: part(3),
-        number: part(4).parse::<u32>().unwrap_or(0),
-        text: part(5),
-    });
-    let failure = (parts.len() > 1).then_some(Failure {
+    let output = unescaped(alloc, part(parts.as_slice(), 0))?;
+    push_ending_of(alloc, parts.as_slice(), output.as_slice(), told)
+}
+
+/// One of the parts of a row, or nothing.
+fn part<'a>(parts: &[&'a str], place: usize) -> &'a str {
+    match parts.get(place) {
+        Some(part) => part,
+        None => "",
+    }
+}
+
+fn push_ending_of(
+    alloc: Global,
+    parts: &[&str],
+    output: &[u8],
+    told: &mut String,
+) -> Result<(), AllocError> {
+    if parts.len() < 2 {
+        let ending = Ending {
+            failure: None,
+            output,
+        };
+        return push_ended(alloc, &ending, told);
+    }
+    let outputs = part(parts, 1).split(',').collect::<Vec<&str>>(alloc)?;
+    let failure = Failure {
         outputs: outputs.as_slice(),
-        command: part(2),
-        depfile,
-    });
-    let output = unescaped(alloc, part(0))?;
+        command: part(parts, 2),
+        depfile: depfile_fault(parts),
+    };
+    let ending = Ending {
+        failure: Some(failure),
+        output,
+    };
+    push_ended(alloc, &ending, told)
+}
+
+fn depfile_fault<'a>(parts: &[&'a str]) -> Option<DepfileFault<'a>> {
+    if parts.len() < 4 {
+        return None;
+    }
+    Some(DepfileFault {
+        path: part(parts, 3),
+        number: part(parts, 4).parse::<u32>().unwrap_or(0),
+        text: part(parts, 5),
+    })
+}
+
+fn push_ended(alloc: Global, ending: &Ending<'_>, told: &mut String) -> Result<(), AllocError> {
     let mut shown = Vec::from_slice(alloc, b"line\n")?;
-    status::push_ending(
-        &mut shown,
-        &Ending {
-            failure,
-            output: output.as_slice(),
-        },
-    )?;
+    status::push_ending(&mut shown, ending)?;
     push_bytes(alloc, shown.as_slice(), told)
 }
 

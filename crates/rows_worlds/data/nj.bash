@@ -16,7 +16,9 @@ _nj() {
     for ((place = 1; place < COMP_CWORD; place++)); do
         case ${COMP_WORDS[place]} in
             -C) folder=${COMP_WORDS[place + 1]} ;;
+            -C?*) folder=${COMP_WORDS[place]#-C} ;;
             -f) file=${COMP_WORDS[place + 1]} ;;
+            -f?*) file=${COMP_WORDS[place]#-f} ;;
         esac
     done
     mapfile -t COMPREPLY < <(compgen -W "$(sed -n 's/^build \([^:|$]*\).*:.*/\1/p' "$folder/$file" 2> /dev/null)" -- "$word")

@@ -1,5 +1,5 @@
 -- How many commands run.
-use Rattle.std.proofs.Common.{◌≡◌, ℕ, suc, ◌+◌, ◌-◌, ◌<◌, ◌≤◌, ◌==◌, ◌&&◌, ◌||◌, not, cond, filter, Bool, true, false, List, [], ◌∷◌, ◌++◌, length, refl, sym, ◌∙◌, ap, subst, arith}
+use Rattle.std.proofs.Common.{◌≡◌, ℕ, suc, ◌+◌, ◌-◌, ◌<◌, ◌≤◌, ◌==◌, ◌&&◌, ◌||◌, not, cond, filter, Bool, true, false, List, [], ◌∷◌, ◌++◌, length, refl, sym, ◌∙◌, ap, arith}
 use Rattle.std.proofs.lemmas.Bool.{false≢true, true≢false, eq-eqb, eqb-true, or_left}
 use Rattle.model.specs.declared.event.Event.{Event}
 use Rattle.model.specs.declared.event.Event.TheVariants.{Finish}
@@ -96,9 +96,6 @@ many_by_steps tells own task steps entry now count idle run is = record {
 
 -- ---- on the site
 
-pub many_same : (count : ℕ) (old new : List Event) → new ≡ old → SoManyRun count old → SoManyRun count new
-many_same count old new same many = subst (λ (l : List Event). SoManyRun count l) (sym same) many
-
 unequal : (j k : ℕ) (b : Bool) → (j == k) ≡ false → (k == j) ≡ b → b ≡ false
 unequal j k true other same = absurd (false≢true (sym other ∙ eq-eqb j k (sym (eqb-true k j same))))
 unequal j k false other same = refl
@@ -138,10 +135,3 @@ some_of_many count events many some = by_jobs many.jobs many.all (omega (arith, 
     by_jobs : (jobs : List ℕ) → ((job : ℕ) → runs job events ≡ has_number jobs job) → 0 < length jobs → (job : ℕ) × (runs job events ≡ true)
     by_jobs [] all lt = absurd (omega (arith, lt))
     by_jobs (x ∷ xs) all lt = (x, all x ∙ or_left (x == x) (has_number xs x) (eq-eqb x x refl))
-
-pub none_of_many : (count : ℕ) (events : List Event) → SoManyRun count events → count ≡ 0 → IsIdle events
-none_of_many count events many none = by_jobs many.jobs many.all (sym many.many ∙ none)
-  where
-    by_jobs : (jobs : List ℕ) → ((job : ℕ) → runs job events ≡ has_number jobs job) → length jobs ≡ 0 → IsIdle events
-    by_jobs [] all is = all
-    by_jobs (x ∷ xs) all is = absurd (omega (arith, is))

@@ -239,9 +239,6 @@ module _ (tells : Bool) (course : Course) (tick : List ℕ) (graph : Graph) (sui
   end_quiet : Quietly tells course graph on.steps now mid
   end_quiet = quiet_adds tells course.own (edges_of course) on.steps course.entry now mid (grown tells course graph on.steps None now on.carried) (run_by tells course graph on.steps None now on.carried) (by_rest mid cut_mid.run) (Finish (suc e) ok) finish.history
 
-  look_quiet : Quietly tells course graph on.steps mid new
-  look_quiet = quiet_looks tells course.own (edges_of course) on.steps course.entry mid new (λ tell. let told = cut_mid.run.history tell in (told.more, told.grows)) (by_rest mid cut_mid.run) looks
-
   rest_logging : LogStays → Logging tells course graph on.steps None new state.records.logs
   rest_logging stays =
       stays tells course.behaviour course.format course.own (edges_of course) on.steps on.steps None None course.store course.entry mid new state.records.logs (looks_leave tells course graph mid new looks)

@@ -13,7 +13,7 @@ use Rattle.model.specs.declared.event.Event.{Event}
 use Rattle.model.specs.declared.event.Event.TheVariants.{Start, Finish}
 use Rattle.model.specs.World.{runs}
 use Rattle.sim.specs.declared.jobs.Running.{Running}
-use Rattle.sim.specs.Jobs.{Told, running_at}
+use Rattle.sim.specs.Jobs.{Told, running_at, one_running, IsListed}
 use Rattle.sim.specs.declared.jobs.Order.{Order}
 use Rattle.sim.specs.declared.jobs.Order.TheVariants.{First, Last}
 use Rattle.sim.specs.Running.{act_of, IsEnd}
@@ -91,9 +91,6 @@ found_listed job found running events is listed live = ap is_some is ∙ listed_
 pub listed_live : (job : ℕ) (one : Running) (running : List (ℕ × Running)) (events : List Event) → running_at job running ≡ Some one → act_at job running ≡ act_of job events → runs job events ≡ true
 listed_live job one running events is listed = sym (listed_runs job running events listed) ∙ ap is_some is
 
-pub listed_act : (job : ℕ) (one : Running) (running : List (ℕ × Running)) (events : List Event) → running_at job running ≡ Some one → act_at job running ≡ act_of job events → act_of job events ≡ Some one.act
-listed_act job one running events is listed = sym listed ∙ ap (option_map (λ (r : Running). r.act)) is
-
 pub kept : (gone : Bool) (found new : Option Running) (one : Running) → new ≡ cond gone None found → new ≡ Some one → found ≡ Some one
 kept true found new one is some = let never : ⊥ = cc in absurd never
 kept false found new one is some = sym is ∙ some
@@ -118,10 +115,6 @@ not_below low high is = by_test (nat_lt high low) refl is
 pub ends_among : (order : Order) (job : ℕ) (these those : ℕ → Type 0) → ((other : ℕ) → those other → these other) → IsEnd order job these → IsEnd order job those
 ends_among First job these those within end = λ other among. end other (within other among)
 ends_among Last job these those within end = λ other among. end other (within other among)
-
-pub empty_none : (running : List (ℕ × Running)) → length running ≡ 0 → (job : ℕ) → running_at job running ≡ None
-empty_none [] none job = refl
-empty_none (entry ∷ running) none job = let never : ⊥ = omega (arith, none) in absurd never
 
 pub none_listed : (found : Option Running) → is_some found ≡ false → found ≡ None
 none_listed None none = refl
@@ -153,11 +146,17 @@ remove_inserted job one (entry ∷ running) none = by_order (nat_cmp job entry.0
         ∙ ap (λ (o : Ordering). cond (is_eq o) (insert_entry nat_cmp running job one) (entry ∷ remove_entry (is_at (nat_cmp job)) (insert_entry nat_cmp running job one))) e
         ∙ ap (λ (l : List (ℕ × Running)). entry ∷ l) (rest (sym (ap (λ (o : Ordering). cond (is_eq o) (Some entry.1) (running_at job running)) e) ∙ none))
 
+-- once a start is taken back the commands are as they were
+pub unlisted : (job : ℕ) (act : Act) (done : Option Bool) (events : List Event) (running listed after : List (ℕ × Running)) → act_at job running ≡ act_of job events → runs job events ≡ false
+    → IsListed job act done running listed → after ≡ remove_entry (is_at (nat_cmp job)) listed → after ≡ running
+unlisted job act done events running listed after told idle is removed =
+    removed ∙ ap (remove_entry (is_at (nat_cmp job))) is.entries
+    ∙ remove_inserted job (one_running act done) running (none_listed (running_at job running) (listed_runs job running events told ∙ idle))
+
 -- ---- room
 
-pub room_start : (n n' more m m' cap cap' : ℕ) (old : Bool) → n + more ≤ cap → more ≡ m + 2 → cap ≤ cap' → n' ≡ n + 1 → m' ≡ m + cond old 0 1 → n' + m' ≤ cap'
-room_start n n' more m m' cap cap' true room is grows one two = omega (arith, room, is, grows, one, two)
-room_start n n' more m m' cap cap' false room is grows one two = omega (arith, room, is, grows, one, two)
+pub room_listed : (n n' m cap cap' : ℕ) → n + (m + 1) ≤ cap → cap ≤ cap' → n' ≡ n + 1 → n' + m ≤ cap'
+room_listed n n' m cap cap' room grows one = omega (arith, room, grows, one)
 
 pub one_more : (events new : List Event) (event : Event) → new ≡ events ++ event ∷ [] → length new ≡ length events + 1
 one_more events new event is = ap length is ∙ length-append events (event ∷ [])

@@ -6,12 +6,12 @@ use Rattle.model.specs.declared.event.Event.{Event}
 use Rattle.model.specs.declared.event.Moment.{Moment}
 use Rattle.model.specs.declared.event.Moment.TheVariants.{Wrote, Happened}
 use Rattle.model.specs.declared.event.Writer.{Writer}
-use Rattle.model.specs.World.{File, written, file_after, file_from, file_at}
+use Rattle.model.specs.World.{File, file_after, file_from, file_at}
 use Rattle.sim.specs.declared.notes.Before.{Before}
 use Rattle.sim.specs.declared.notes.Last.{Last}
 use Rattle.sim.specs.declared.notes.Note.{Note}
 use Rattle.sim.specs.declared.notes.Note.TheVariants.{Change, Came}
-use Rattle.sim.specs.Notes.{Lasts, content_in, stamp_in, file_in, held_before, reverted, undone, all_undone, moment_of, told, IsWritten}
+use Rattle.sim.specs.Notes.{Lasts, content_in, stamp_in, file_in, reverted, undone, all_undone, moment_of, told, IsWritten}
 
 -- ---- one note more
 

@@ -1,5 +1,5 @@
 -- What a history holds once something has been added.
-use Rattle.std.proofs.Common.{◌≡◌, ℕ, ◌+◌, Bool, true, false, List, [], ◌∷◌, ◌++◌, Option, Some, None, refl, sym, ◌∙◌, ap, cond, bytes_eq, max, append_assoc, arith}
+use Rattle.std.proofs.Common.{◌≡◌, ℕ, ◌+◌, Bool, true, false, List, [], ◌∷◌, ◌++◌, Option, refl, sym, ◌∙◌, ap, cond, max, append_assoc, arith}
 use Rattle.std.proofs.lemmas.List.{append-nil}
 use Rattle.model.specs.declared.event.Event.{Event}
 use Rattle.model.specs.declared.event.Moment.{Moment}
@@ -7,31 +7,12 @@ use Rattle.model.specs.declared.event.Moment.TheVariants.{Wrote, Happened}
 use Rattle.model.specs.declared.event.Writer.{Writer}
 use Rattle.model.specs.declared.event.Writer.TheVariants.{Command}
 use Rattle.model.specs.declared.outcome.Write.{Write}
-use Rattle.model.specs.World.{File, written, file_after, file_from, file_at, content_of, view_of, latest, latest_from}
-use Rattle.model.specs.Calls.{content_or_empty}
+use Rattle.model.specs.World.{File, file_after, file_from, view_of, latest, latest_from}
 use Rattle.sim.specs.History.{is_skipped, with_write, with_writes, IsLonger}
 
 pub file_from-push : (p : List ℕ) (file : Option File) (h : List Moment) (m : Moment) → file_from p file (h ++ m ∷ []) ≡ file_after p (file_from p file h) m
 file_from-push p file [] m = refl
 file_from-push p file (x ∷ h) m = file_from-push p (file_after p file x) h m
-
--- the file at a path, seen from the last moment backwards
-pub file_at-last : (p : List ℕ) (moment : Moment) (front rest all : List Moment) → rest ≡ front ++ moment ∷ [] → file_at rest p ≡ file_at all p → file_after p (file_at front p) moment ≡ file_at all p
-file_at-last p moment front rest all last so_far = sym (file_from-push p None front moment) ∙ sym (ap (λ (h : List Moment). file_at h p) last) ∙ so_far
-
-pub at_write : (p : List ℕ) (by : Writer) (path : List ℕ) (content : Option (List ℕ)) (stamp : ℕ) (moment : Moment) (front rest all : List Moment) → bytes_eq path p ≡ true
-    → moment ≡ Wrote by path content stamp → rest ≡ front ++ moment ∷ [] → file_at rest p ≡ file_at all p → written content stamp ≡ file_at all p
-at_write p by path content stamp moment front rest all same is last so_far =
-    sym (ap (λ (b : Bool). cond b (written content stamp) (file_at front p)) same) ∙ sym (ap (file_after p (file_at front p)) is) ∙ file_at-last p moment front rest all last so_far
-
-pub before_other : (p : List ℕ) (by : Writer) (path : List ℕ) (content : Option (List ℕ)) (stamp : ℕ) (moment : Moment) (front rest all : List Moment) → bytes_eq path p ≡ false
-    → moment ≡ Wrote by path content stamp → rest ≡ front ++ moment ∷ [] → file_at rest p ≡ file_at all p → file_at front p ≡ file_at all p
-before_other p by path content stamp moment front rest all other is last so_far =
-    sym (ap (λ (b : Bool). cond b (written content stamp) (file_at front p)) other) ∙ sym (ap (file_after p (file_at front p)) is) ∙ file_at-last p moment front rest all last so_far
-
-pub before_event : (p : List ℕ) (event : Event) (moment : Moment) (front rest all : List Moment) → moment ≡ Happened event → rest ≡ front ++ moment ∷ [] → file_at rest p ≡ file_at all p → file_at front p ≡ file_at all p
-before_event p event moment front rest all is last so_far =
-    sym (ap (file_after p (file_at front p)) is) ∙ file_at-last p moment front rest all last so_far
 
 -- ---- what the history's own fields are once a moment has been added
 
@@ -67,16 +48,6 @@ pub longer_with : (job : ℕ) (write : Write) (start h new : List Moment) → Is
 longer_with job write start h new longer is =
     let one = with_write-longer job write h in
     (longer.0 ++ one.0, is ∙ one.1 ∙ ap (λ (l : List Moment). l ++ one.0) longer.1 ∙ append_assoc start longer.0 one.0)
-
--- ---- what a file holds
-
-pub holds_some : (file : Option File) (content : List ℕ) → Some content ≡ content_of file → content ≡ content_or_empty file
-holds_some None content is = let never : ⊥ = cc in absurd never
-holds_some (Some file) content is = cc
-
-pub holds_none : (file : Option File) → None ≡ content_of file → [] ≡ content_or_empty file
-holds_none None is = refl
-holds_none (Some file) is = let never : ⊥ = cc in absurd never
 
 pub clocked_append : (clock stamp : ℕ) (h new : List Moment) (by : Writer) (path : List ℕ) (content : Option (List ℕ)) → clock ≡ latest h → stamp ≡ clock + 1 → new ≡ h ++ Wrote by path content stamp ∷ [] → stamp ≡ latest new
 clocked_append clock stamp h new by path content clocked next is = clocked_wrote clock stamp h new by path content clocked next (is ∙ ap (λ (n : ℕ). h ++ Wrote by path content n ∷ []) next)

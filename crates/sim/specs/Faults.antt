@@ -20,6 +20,14 @@ place Start = 8
 place WaitAny = 9
 place Show = 10
 
+-- what is named where the device is to refuse a call
+abbrev pub refusal : Call → ℕ → Named
+refusal call number = record { call = call; left = number; trouble = Refused }
+
+-- what is named where the site is to stop in a call
+abbrev pub stop_in : Call → ℕ → ℕ → Named
+stop_in call number bytes = record { call = call; left = number; trouble = Stop bytes }
+
 abbrev pub is_next : Call → Named → Bool
 is_next call named = (place named.call == place call) && (named.left == 1)
 

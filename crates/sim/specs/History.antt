@@ -2,12 +2,16 @@
 use Rattle.std.specs.Prelude.{◌≡◌, ℕ, ◌+◌, Bool, if◌then◌else◌, List, [], ◌∷◌, ◌++◌, Option, Some, None, bytes_eq, ◌&&◌}
 use Rattle.std.specs.Option.{option_eq}
 use denote.Ref.{Bor}
+use Rattle.model.specs.declared.act.Act.{Act}
 use Rattle.model.specs.declared.event.Event.{Event}
+use Rattle.model.specs.declared.event.Event.TheVariants.{Start}
 use Rattle.model.specs.declared.event.Moment.{Moment}
 use Rattle.model.specs.declared.event.Moment.TheVariants.{Wrote, Happened}
+use Rattle.model.specs.declared.event.Writer.{Writer}
 use Rattle.model.specs.declared.event.Writer.TheVariants.{Command}
 use Rattle.model.specs.declared.outcome.Write.{Write}
-use Rattle.model.specs.World.{View, File, view_of, latest}
+use Rattle.model.specs.World.{View, File, view_of, file_at, latest}
+use Rattle.model.specs.Calls.{content_or_empty}
 
 -- a file whose content is borrowed
 abbrev pub file_seen : Bor (List ℕ) × ℕ → File
@@ -34,6 +38,26 @@ with_write job write history = if is_skipped (view_of history) write then histor
 abbrev pub with_writes : ℕ → List Write → List Moment → List Moment
 with_writes job [] history = history
 with_writes job (write ∷ writes) history = with_writes job writes (with_write job write history)
+
+-- the history with a write under this stamp
+abbrev pub with_change : Writer → List ℕ → Option (List ℕ) → ℕ → List Moment → List Moment
+with_change by path content stamp history = history ++ Wrote by path content stamp ∷ []
+
+-- the history with a write under the next stamp
+abbrev pub with_next : Writer → List ℕ → Option (List ℕ) → List Moment → List Moment
+with_next by path content history = with_change by path content (latest history + 1) history
+
+-- what the file at the path holds, which may be absent, and these bytes behind it
+abbrev pub longer_at : List ℕ → List ℕ → List Moment → Option (List ℕ)
+longer_at path bytes history = Some (content_or_empty (file_at history path) ++ bytes)
+
+-- the history once all that a command does in one call has happened: a start and an end only where there is one
+abbrev pub with_work : ℕ → Option Event → List Write → Option Event → List Moment → List Moment
+with_work job start writes end history = with_event end (with_writes job writes (with_event start history))
+
+-- the history once the job was started and has made the writes
+abbrev pub with_launch : ℕ → Act → ℕ → List Write → List Moment → List Moment
+with_launch job act stamp writes history = with_writes job writes (history ++ Happened (Start job act stamp) ∷ [])
 
 -- what the paths hold after a write
 abbrev pub after_write : View → Write → View

@@ -47,6 +47,10 @@ abbrev pub all_undone : List Note → Lasts → Lasts
 all_undone [] lasts = lasts
 all_undone (note ∷ notes) lasts = undone note (all_undone notes lasts)
 
+-- the path holds again what it held before this, and each other path what it held
+abbrev pub IsTakenBack : Before → List ℕ → Lasts → Lasts → Type 0
+IsTakenBack before path old new = (p : List ℕ) → new p ≡ (if bytes_eq path p then reverted before (old p) else old p)
+
 -- ---- what is told
 
 -- what a note tells, by what the paths held after it
@@ -70,6 +74,10 @@ pub record IsWritten (before : Before) (path : List ℕ) (last : Last) (old new 
 abbrev pub grown : List ℕ → ℕ → Option Last → Last
 grown bytes stamp last = record { content = Some (content_or_empty (file_in last) ++ bytes); stamp = stamp }
 
+-- a write has left what the file at the path held, which may be absent, and these bytes behind it
+abbrev pub IsAppended : Before → List ℕ → List ℕ → ℕ → Lasts → Lasts → Type 0
+IsAppended before path bytes stamp old new = IsWritten before path (grown bytes stamp (old path)) old new
+
 -- bytes were put behind the file, or there was none and nothing changed
 abbrev pub IsGrown : Option Before → List ℕ → ℕ → Last → Last → Type 0
 IsGrown None bytes stamp old new = (old.content ≡ None) × (new ≡ old)
@@ -78,4 +86,4 @@ IsGrown (Some before) bytes stamp old new = (new ≡ grown bytes stamp (Some old
 -- the same at a path
 abbrev pub IsExtended : Option Before → List ℕ → List ℕ → ℕ → Lasts → Lasts → Type 0
 IsExtended None path bytes stamp old new = (content_in (old path) ≡ None) × ((p : List ℕ) → new p ≡ old p)
-IsExtended (Some before) path bytes stamp old new = IsWritten before path (grown bytes stamp (old path)) old new
+IsExtended (Some before) path bytes stamp old new = IsAppended before path bytes stamp old new

@@ -1,17 +1,18 @@
 -- How the calls of a site in memory go.
-use Rattle.std.specs.Prelude.{◌≡◌, ◌⊎◌, ℕ, ◌+◌, ◌<◌, ◌≤◌, Bool, true, false, List, [], ◌∷◌, ◌++◌, length, Option, Some, None, Result, Ok, Err, map}
+use Rattle.std.specs.Prelude.{◌≡◌, ◌⊎◌, ℕ, ◌+◌, ◌<◌, ◌≤◌, Bool, true, false, List, [], ◌∷◌, ◌++◌, take, length, Option, Some, None, Result, Ok, Err, map}
 use Rattle.model.specs.declared.act.Act.{Act}
+use Rattle.model.specs.declared.event.Event.{Event}
 use Rattle.model.specs.declared.event.Event.TheVariants.{Start, Finish}
 use Rattle.model.specs.declared.event.Finished.{Finished}
 use Rattle.model.specs.declared.event.Moment.{Moment}
-use Rattle.model.specs.declared.event.Moment.TheVariants.{Wrote, Happened}
+use Rattle.model.specs.declared.event.Moment.TheVariants.{Happened}
 use Rattle.model.specs.declared.event.Writer.TheVariants.{Program}
 use Rattle.model.specs.declared.fault.SiteFault.{SiteFault}
 use Rattle.model.specs.declared.fault.SiteFault.TheVariants.{Device, Stopped, Memory}
 use Rattle.model.specs.declared.outcome.Outcome.{Outcome}
 use Rattle.model.specs.declared.outcome.Write.{Write}
-use Rattle.model.specs.World.{View, file_at, view_of, latest, IsRunning}
-use Rattle.model.specs.Calls.{OthersWrote, content_or_empty}
+use Rattle.model.specs.World.{View, file_at, content_of, stamp_of, view_of, IsRunning}
+use Rattle.model.specs.Calls.{OthersWrote, Sees}
 use Rattle.sim.specs.declared.faults.Call.{Call}
 use Rattle.sim.specs.declared.faults.Named.{Named}
 use Rattle.sim.specs.declared.faults.Trouble.{Trouble}
@@ -21,7 +22,7 @@ use Rattle.sim.specs.declared.sim.Sim.{Sim}
 use Rattle.sim.specs.declared.sim.Timing.{Timing}
 use Rattle.sim.specs.declared.sim.Timing.TheVariants.{Early, Late}
 use Rattle.sim.specs.Faults.{trouble_in, after_call}
-use Rattle.sim.specs.History.{with_writes, after_writes}
+use Rattle.sim.specs.History.{with_next, with_writes, after_writes, longer_at}
 use Rattle.sim.specs.Jobs.{with_start, running_at}
 use Rattle.sim.specs.Running.{IsNext, act_of}
 use Rattle.sim.specs.World.{world_of, refused, happened, worked, restarted}
@@ -39,6 +40,10 @@ worked_off outcome job one history = with_writes job (given_by outcome one histo
 abbrev pub carried : (Act → View → Outcome) → List (ℕ × Running) → List Moment → List Moment
 carried outcome [] history = history
 carried outcome (entry ∷ running) history = carried outcome running (worked_off outcome entry.0 entry.1 history)
+
+-- by whichever events the commands are told to run, only running commands wrote
+abbrev pub OnlyTheyWrote : (List Event → Type 0) → List Moment → List Moment → Type 0
+OnlyTheyWrote TellsThem old new = (events : List Event) → TellsThem events → OthersWrote (IsRunning events) old new
 
 -- The site stopped. The commands that ran made their writes in turn, unless one found no memory; then it made none.
 pub record Halts {C : Type 0} (outcome : Act → View → Outcome) (old new : Sim C) : Type 0 where
@@ -83,16 +88,29 @@ pub record Ends {C : Type 0} (outcome : Act → View → Outcome) (finished : Fi
 -- ---- what the program writes
 
 abbrev pub storing : {C : Type 0} → List ℕ → Option (List ℕ) → Sim C → Sim C
-storing path content sim = record sim { history = sim.history ++ Wrote Program path content (latest sim.history + 1) ∷ [] }
+storing path content sim = record sim { history = with_next Program path content sim.history }
 
 -- the bytes are put behind what the file held
 abbrev pub putting : {C : Type 0} → List ℕ → List ℕ → Sim C → Sim C
-putting path bytes sim = storing path (Some (content_or_empty (file_at sim.history path) ++ bytes)) sim
+putting path bytes sim = storing path (longer_at path bytes sim.history) sim
 
 -- no bytes leave the file as it was
 abbrev pub putting_some : {C : Type 0} → List ℕ → List ℕ → Sim C → Sim C
 putting_some path [] sim = sim
 putting_some path (byte ∷ bytes) sim = putting path (byte ∷ bytes) sim
+
+-- no more than so many of the bytes are put there
+abbrev pub putting_first : {C : Type 0} → List ℕ → List ℕ → ℕ → Sim C → Sim C
+putting_first path bytes count sim = putting_some path (take count bytes) sim
+
+-- ---- what is seen
+
+-- this was the content of the file at the path, or its stamp, at some point between
+abbrev pub SawContent : List ℕ → Option (List ℕ) → List Moment → List Moment → Type 0
+SawContent path content old new = Sees (λ history. content_of (file_at history path)) content old new
+
+abbrev pub SawStamp : List ℕ → Option ℕ → List Moment → List Moment → Type 0
+SawStamp path stamp old new = Sees (λ history. stamp_of (file_at history path)) stamp old new
 
 -- ---- what was named
 
@@ -106,6 +124,14 @@ called call sim = record sim { faults = map (after_call call) sim.faults }
 
 abbrev pub naming : {C : Type 0} → Named → Sim C → Sim C
 naming named sim = record sim { faults = sim.faults ++ named ∷ [] }
+
+-- the device refused one more call
+abbrev pub refusing : {C : Type 0} → Sim C → Sim C
+refusing sim = record sim { failures = sim.failures + 1 }
+
+-- the device refused a call of this kind, as was named for it
+abbrev pub RefusedAsNamed : {C : Type 0} → Call → Sim C → Sim C → Type 0
+RefusedAsNamed call old new = (trouble_of call old ≡ Some Refused) × (new ≡ refusing (called call old))
 
 -- A call of this kind goes as it was named: it is refused, or the site stops in it, just where that was named for it, unless memory
 -- was refused. A refused call changes nothing but the count, and neither does one that found no memory; one in which the site stops

@@ -1,13 +1,19 @@
 -- The toy commands: what each gives in a view, and what it reads.
-use Rattle.std.specs.Prelude.{ℕ, ◌==◌, Bool, true, false, if◌then◌else◌, List, [], ◌∷◌, ◌++◌, Option, Some, None, bytes_eq, codes}
+use Rattle.std.specs.Prelude.{ℕ, ◌==◌, Bool, true, false, if◌then◌else◌, List, [], ◌∷◌, ◌++◌, Option, Some, None, bytes_eq, codes, map}
 use Rattle.std.specs.List.{slice_split, flat_map, filter_map}
 use Rattle.std.specs.Str.{is_utf8}
+use denote.Ref.{Bor}
 use Rattle.model.specs.declared.act.Act.{Act}
+use Rattle.model.specs.declared.event.Moment.{Moment}
 use Rattle.model.specs.declared.outcome.Outcome.{Outcome}
 use Rattle.model.specs.declared.outcome.Write.{Write}
-use Rattle.model.specs.World.{View}
+use Rattle.model.specs.World.{View, view_of}
 use Rattle.sim.specs.declared.toy.Kind.{Kind}
 use Rattle.sim.specs.declared.toy.Kind.TheVariants.{Cat, Keep, Both, Scan, Args, Fail}
+
+-- texts that are borrowed
+abbrev pub texts_in : List (Bor (List ℕ)) → List (List ℕ)
+texts_in texts = map (λ text. text.now) texts
 
 -- a command is cut at each space; a word is a path as it stands
 abbrev pub words : List ℕ → List (List ℕ)
@@ -32,6 +38,10 @@ joined (Some content) (Some rest) = Some (content ++ rest)
 abbrev pub contents : View → List (List ℕ) → Option (List ℕ)
 contents view [] = Some []
 contents view (path ∷ paths) = joined (view path) (contents view paths)
+
+-- what the paths hold at the end of a history
+abbrev pub contents_at : List Moment → List (Bor (List ℕ)) → Option (List ℕ)
+contents_at history paths = contents (view_of history) (texts_in paths)
 
 -- the command fails and writes nothing
 abbrev pub nothing : Outcome
@@ -69,6 +79,10 @@ behind (a ∷ prefix) (b ∷ line) = if b == a then behind prefix line else None
 abbrev pub named : List ℕ → List (List ℕ)
 named content = filter_map (behind (codes "use ")) (slice_split (λ b. b == 10) content)
 
+-- the paths that these lines name
+abbrev pub used_in : List (List ℕ) → List (List ℕ)
+used_in lines = filter_map (behind (codes "use ")) lines
+
 -- what a file names; None where it is absent or not UTF-8
 abbrev pub named_in : Option (List ℕ) → Option (List (List ℕ))
 named_in None = None
@@ -78,6 +92,10 @@ named_in (Some content) = if is_utf8 content then Some (named content) else None
 abbrev pub spaced : List (List ℕ) → List ℕ
 spaced [] = []
 spaced (path ∷ paths) = path ++ flat_map (λ other. 32 ∷ other) paths
+
+-- the paths, each with a space before it
+abbrev pub each_spaced : List (List ℕ) → List ℕ
+each_spaced paths = flat_map (λ path. 32 ∷ path) paths
 
 -- a depfile that tells these inputs of OUT
 abbrev pub depfile : List ℕ → List (List ℕ) → List ℕ

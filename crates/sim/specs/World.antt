@@ -1,17 +1,17 @@
 -- A site in memory as contracts see it, and what its calls do.
-use Rattle.std.specs.Prelude.{ℕ, ◌+◌, false, List, [], ◌∷◌, ◌++◌, Option, Some}
+use Rattle.std.specs.Prelude.{◌≡◌, ℕ, ◌+◌, false, List, [], ◌∷◌, ◌++◌, Option, Some}
 use Rattle.model.specs.declared.act.Act.{Act}
 use Rattle.model.specs.declared.event.Event.{Event}
 use Rattle.model.specs.declared.event.Event.TheVariants.{Start}
 use Rattle.model.specs.declared.event.Moment.{Moment}
-use Rattle.model.specs.declared.event.Moment.TheVariants.{Wrote, Happened}
+use Rattle.model.specs.declared.event.Moment.TheVariants.{Happened}
 use Rattle.model.specs.declared.event.Writer.{Writer}
 use Rattle.model.specs.declared.event.Writer.TheVariants.{Program}
 use Rattle.model.specs.declared.outcome.Outcome.{Outcome}
 use Rattle.model.specs.World.{World, file_at, latest}
 use Rattle.model.specs.Calls.{content_or_empty}
 use Rattle.sim.specs.declared.sim.Sim.{Sim}
-use Rattle.sim.specs.History.{with_writes}
+use Rattle.sim.specs.History.{with_next, with_writes, longer_at}
 use Rattle.sim.specs.Jobs.{Told, nothing_told}
 
 -- a site by its parts
@@ -35,7 +35,11 @@ fresh = world_with [] nothing_told 0 0 0
 
 -- a file has been written under the next stamp, or deleted
 abbrev pub wrote : Writer → List ℕ → Option (List ℕ) → World → World
-wrote by path content world = record world { history = world.history ++ Wrote by path content (latest world.history + 1) ∷ [] }
+wrote by path content world = record world { history = with_next by path content world.history }
+
+-- the site wrote the file under the next stamp, or deleted it
+abbrev pub HasWritten : {C : Type 0} → Writer → List ℕ → Option (List ℕ) → Sim C → Sim C → Type 0
+HasWritten by path content old new = world_of new ≡ wrote by path content (world_of old)
 
 -- the file has the next stamp, and what it held before
 abbrev pub ticked : List ℕ → World → World
@@ -43,7 +47,7 @@ ticked path world = record (wrote Program path (Some (content_or_empty (file_at 
 
 -- bytes stand behind what the file held
 abbrev pub appended : List ℕ → List ℕ → World → World
-appended path bytes world = wrote Program path (Some (content_or_empty (file_at world.history path) ++ bytes)) world
+appended path bytes world = wrote Program path (longer_at path bytes world.history) world
 
 -- a command was started or ended
 abbrev pub happened : Event → World → World

@@ -4,7 +4,7 @@ ghost use Rattle.std.specs.Prelude.{◌≡◌, ◌+◌, ◌<◌, ◌++◌, ◌�
 ghost use Rattle.std.specs.Option.{option_eq};
 ghost use Rattle.model.specs.World.{view_of, file_at, stamp_of, latest};
 ghost use Rattle.model.specs.Calls.{content_or_empty};
-ghost use Rattle.sim.specs.History.{with_event, with_write, with_writes, IsLonger};
+ghost use Rattle.sim.specs.History.{with_change, with_next, longer_at, with_event, with_write, with_writes, with_work, IsLonger};
 
 use crate::moments::Moments;
 use model::{Event, Moment, Write, Writer};
@@ -81,7 +81,7 @@ impl History {
         content: Option<Bytes>,
     ) -> Result<u64, AllocError>
         ensures stamp { IfOk result (λ stamp. stamp ≡ latest self.old + 1) }
-        ensures ok { OnOk result (self.new ≡ self.old ++ Moment.Wrote by path content (latest self.old + 1) ∷ []) }
+        ensures ok { OnOk result (self.new ≡ with_next by path content self.old) }
         ensures err { OnErr result (self.new ≡ self.old) }
     {
         append_write(&mut self.moments, &mut self.clock, by, path, content)?;
@@ -91,7 +91,7 @@ impl History {
     /// The program puts bytes behind what a file holds, which may be absent. Only these bytes are copied. Where memory is
     /// refused, or no stamp is left, nothing has happened.
     pub fn append(&mut self, alloc: Global, path: Path, bytes: &[u8]) -> Result<(), AllocError>
-        ensures ok { OnOk result (self.new ≡ self.old ++ Moment.Wrote Writer.Program path (Some (content_or_empty (file_at self.old path) ++ bytes.now)) (latest self.old + 1) ∷ []) }
+        ensures ok { OnOk result (self.new ≡ with_next Writer.Program path (longer_at path bytes.now self.old) self.old) }
         ensures err { OnErr result (self.new ≡ self.old) }
     {
         let stamp = self.clock.checked_add(1).ok_or(AllocError)?;
@@ -110,7 +110,7 @@ impl History {
         writes: Items<Write>,
         end: Option<Event>,
     ) -> Result<(), AllocError>
-        ensures ok { OnOk result (self.new ≡ with_event end (with_writes job writes (with_event start self.old))) }
+        ensures ok { OnOk result (self.new ≡ with_work job start writes end self.old) }
         ensures err { OnErr result (self.new ≡ self.old) }
     {
         let length = self.moments.len();
@@ -134,7 +134,7 @@ fn append_write(
     path: Path,
     content: Option<Bytes>,
 ) -> Result<(), AllocError>
-    ensures ok { OnOk result (moments.new ≡ moments.old ++ Moment.Wrote by path content (clock.old + 1) ∷ []) }
+    ensures ok { OnOk result (moments.new ≡ with_change by path content (clock.old + 1) moments.old) }
     ensures stamp { OnOk result (clock.new ≡ clock.old + 1) }
     ensures err { OnErr result (moments.new ≡ moments.old) }
     ensures still { OnErr result (clock.new ≡ clock.old) }
@@ -155,7 +155,7 @@ fn append_all(
     end: Option<Event>,
 ) -> Result<(), AllocError>
     requires { clock.old ≡ latest moments.old }
-    ensures ok { OnOk result (moments.new ≡ with_event end (with_writes job writes (with_event start moments.old))) }
+    ensures ok { OnOk result (moments.new ≡ with_work job start writes end moments.old) }
     ensures stamp { OnOk result (clock.new ≡ latest moments.new) }
     ensures err { OnErr result (IsLonger moments.old moments.new) }
 {

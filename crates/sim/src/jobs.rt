@@ -2,12 +2,12 @@
 
 ghost use Rattle.std.specs.Prelude.{◌≡◌, ◌+◌, ◌<◌, ◌≤◌, ℕ, ◌++◌, ◌∷◌, [], true, false, Some, None, IsSome, IfSome, IfOk, OnOk, OnErr, length, vec_capacity};
 ghost use Rattle.model.specs.World.{runs};
-ghost use Rattle.sim.specs.History.{with_writes};
-ghost use Rattle.sim.specs.Jobs.{nothing_told, with_start, with_finish, halted, restarted, running_at};
+ghost use Rattle.sim.specs.History.{with_launch};
+ghost use Rattle.sim.specs.Jobs.{nothing_told, with_start, with_finish, halted, restarted, running_at, AllRun, IsListed};
 ghost use Rattle.sim.specs.Running.{IsNext, IsEnd, act_of};
 
 use crate::history::History;
-use model::{Act, Event, Moment, Write};
+use model::{Act, Event, Write};
 use std::alloc::{AllocError, Global};
 use std::collections::BTreeMap;
 use std::marker::Model;
@@ -95,24 +95,21 @@ impl Jobs {
     ) -> Result<(), AllocError>
         requires { (self.old.stopped ≡ false) × (runs job self.old.events ≡ false) }
         ensures ok { OnOk result (self.new ≡ with_start job act.now stamp done self.old) }
-        ensures history { OnOk result (history.new ≡ with_writes job writes (history.old ++ Moment.Happened (Event.Start job act.now stamp) ∷ [])) }
+        ensures history { OnOk result (history.new ≡ with_launch job act.now stamp writes history.old) }
         ensures err { OnErr result (self.new ≡ self.old) }
         ensures unwritten { OnErr result (history.new ≡ history.old) }
     {
-        let running = Running {
-            act: act.clone()?,
-            done,
-        };
-        let told = started(job, act, stamp)?;
-        let happened = started(job, act, stamp)?;
-        reserve(&mut self.events, self.running.len() + 2)?;
-        self.running.insert(job, running)?;
-        if let Err(error) = history.record(job, Some(happened), writes, None) {
-            self.running.remove(&job);
-            return Err(error);
+        list(&mut self.events, &mut self.running, job, act, done)?;
+        match tell(history, job, act, stamp, writes) {
+            Ok(start) => {
+                push_reserved(&mut self.events, start);
+                Ok(())
+            }
+            Err(error) => {
+                self.running.remove(&job);
+                Err(error)
+            }
         }
-        push_reserved(&mut self.events, told);
-        Ok(())
     }
 
     /// The running command that ends next.
@@ -147,7 +144,7 @@ impl Jobs {
     /// The site stops, and gives the commands that run.
     pub fn stop(&mut self) -> BTreeMap<usize, Running>
         ensures running { result.entries ≡ self.old.running }
-        ensures runs { self.old.stopped ≡ false → (job : ℕ) (one : Running) → running_at job result.entries ≡ Some one → runs job self.old.events ≡ true }
+        ensures runs { self.old.stopped ≡ false → AllRun result.entries self.old.events }
         ensures stops { self.new ≡ halted self.old }
     {
         self.stopped = true;
@@ -180,6 +177,62 @@ fn end_of(running: &BTreeMap<usize, Running>, order: Order) -> Option<(usize, &R
             None => None,
         },
     }
+}
+
+/// Lists a command, with room for its start and its end. Where memory is refused, none is listed.
+fn list(
+    events: &mut Vec<Event>,
+    running: &mut BTreeMap<usize, Running>,
+    job: usize,
+    act: &Act,
+    done: Option<bool>,
+) -> Result<(), AllocError>
+    ensures items { events.new.items ≡ events.old.items }
+    ensures grows { vec_capacity events.old ≤ vec_capacity events.new }
+    ensures ok { OnOk result (IsListed job act.now done running.old.entries running.new.entries) }
+    ensures room { OnOk result (length events.new.items + (length running.new.entries + 1) ≤ vec_capacity events.new) }
+    ensures err { OnErr result (running.new.entries ≡ running.old.entries) }
+{
+    reserve(events, running.len() + 2)?;
+    let one = Running {
+        act: act.clone()?,
+        done,
+    };
+    running.insert(job, one)?;
+    Ok(())
+}
+
+/// The start of a command happens, and the writes that it makes right away; answered is the start. Where memory is
+/// refused, nothing has happened.
+fn tell(
+    history: &mut History,
+    job: usize,
+    act: &Act,
+    stamp: u64,
+    writes: Items<Write>,
+) -> Result<Event, AllocError>
+    ensures start { IfOk result (λ event. event ≡ Event.Start job act.now stamp) }
+    ensures ok { OnOk result (history.new ≡ with_launch job act.now stamp writes history.old) }
+    ensures err { OnErr result (history.new ≡ history.old) }
+{
+    let start = started(job, act, stamp)?;
+    record_start(history, job, act, stamp, writes)?;
+    Ok(start)
+}
+
+/// The start of a command happens, and the writes that it makes right away. Where memory is refused, nothing has happened.
+fn record_start(
+    history: &mut History,
+    job: usize,
+    act: &Act,
+    stamp: u64,
+    writes: Items<Write>,
+) -> Result<(), AllocError>
+    ensures ok { OnOk result (history.new ≡ with_launch job act.now stamp writes history.old) }
+    ensures err { OnErr result (history.new ≡ history.old) }
+{
+    let start = started(job, act, stamp)?;
+    history.record(job, Some(start), writes, None)
 }
 
 /// The start of a command.

@@ -3,7 +3,7 @@
 ghost use Rattle.std.specs.Prelude.{◌≡◌, ◌-◌, ◌<◌, ◌++◌, ◌∷◌, ℕ, List, [], Some, take, length, vec_capacity, option_map, OnOk, OnErr};
 ghost use Rattle.model.specs.World.{file_at};
 ghost use Rattle.model.specs.Calls.{content_or_empty};
-ghost use Rattle.sim.specs.History.{file_seen};
+ghost use Rattle.sim.specs.History.{file_seen, with_change, longer_at};
 ghost use Rattle.sim.specs.Notes.{file_in};
 
 use crate::notes::{self, Last, Note};
@@ -71,7 +71,7 @@ impl Moments {
         content: Option<Bytes>,
         stamp: u64,
     ) -> Result<(), AllocError>
-        ensures ok { OnOk result (self.new ≡ self.old ++ Moment.Wrote by path content stamp ∷ []) }
+        ensures ok { OnOk result (self.new ≡ with_change by path content stamp self.old) }
         ensures err { OnErr result (self.new ≡ self.old) }
     {
         self.notes.reserve(1)?;
@@ -89,7 +89,7 @@ impl Moments {
         bytes: &[u8],
         stamp: u64,
     ) -> Result<(), AllocError>
-        ensures ok { OnOk result (self.new ≡ self.old ++ Moment.Wrote by path (Some (content_or_empty (file_at self.old path) ++ bytes.now)) stamp ∷ []) }
+        ensures ok { OnOk result (self.new ≡ with_change by path (longer_at path bytes.now self.old) stamp self.old) }
         ensures err { OnErr result (self.new ≡ self.old) }
     {
         self.notes.reserve(1)?;

@@ -2,7 +2,7 @@
 
 ghost use Rattle.std.specs.Prelude.{◌≡◌, ◌++◌, ℕ, List, Some, take, if◌then◌else◌, bytes_eq, option_map, IfOk, OnErr};
 ghost use Rattle.std.specs.HashMap.{get_by_text};
-ghost use Rattle.sim.specs.Notes.{reverted, grown, IsWritten, IsGrown, IsExtended};
+ghost use Rattle.sim.specs.Notes.{IsTakenBack, IsWritten, IsAppended, IsGrown, IsExtended};
 
 use model::{Event, Writer};
 use std::alloc::{AllocError, Global};
@@ -58,7 +58,7 @@ pub fn append(
     bytes: &[u8],
     stamp: u64,
 ) -> Result<Before, AllocError>
-    ensures ok { IfOk result (λ before. IsWritten before path.now (grown bytes.now stamp (get_by_text lasts.old path.now)) (get_by_text lasts.old) (get_by_text lasts.new)) }
+    ensures ok { IfOk result (λ before. IsAppended before path.now bytes.now stamp (get_by_text lasts.old) (get_by_text lasts.new)) }
     ensures err { OnErr result ((p : List ℕ) → get_by_text lasts.new p ≡ get_by_text lasts.old p) }
 {
     if let Some(before) = extend(lasts, path.as_str(), bytes, stamp)? {
@@ -106,7 +106,7 @@ fn grow(last: &mut Last, bytes: &[u8], stamp: u64) -> Result<Option<Before>, All
 
 /// The path holds again what it held before its last write.
 pub fn take_back(lasts: &mut HashMap<String, Last>, path: &str, before: Before)
-    ensures { (p : List ℕ) → get_by_text lasts.new p ≡ (if bytes_eq path.now p then reverted before (get_by_text lasts.old p) else get_by_text lasts.old p) }
+    ensures { IsTakenBack before path.now (get_by_text lasts.old) (get_by_text lasts.new) }
 {
     match before {
         Before::Held(None) => {

@@ -3,10 +3,11 @@
 ghost use Rattle.std.specs.Prelude.{◌≡◌, ◌⊎◌, ◌+◌, ◌++◌, ℕ, List, [], take, IsErr, true, false, Some, None, option_copied, option_map, IsTrue, IsErrOf, IfOk, IfErr, OnOk, OnErr};
 ghost use Rattle.model.specs.World.{view_of, file_at, latest};
 ghost use Rattle.model.specs.Calls.{content_or_empty, HasCause, OnlyLooks, OthersWrote};
-ghost use Rattle.sim.specs.World.{world_of};
+ghost use Rattle.sim.specs.World.{world_of, HasWritten};
 ghost use Rattle.model.specs.World.{runs, IsRunning};
-ghost use Rattle.sim.specs.Sim.{Goes, GoesDoing, GoesWait, Ends, Halts, Restarts, launched, called, naming, storing, putting, putting_some, trouble_of, carried, given_by, worked_off};
-ghost use Rattle.sim.specs.Jobs.{running_at};
+ghost use Rattle.sim.specs.Sim.{Goes, GoesDoing, GoesWait, Ends, Halts, Restarts, SawContent, SawStamp, OnlyTheyWrote, RefusedAsNamed, refusing, launched, called, naming, storing, putting, putting_first, trouble_of, carried, given_by, worked_off};
+ghost use Rattle.sim.specs.Faults.{refusal, stop_in};
+ghost use Rattle.sim.specs.Jobs.{AllRun};
 ghost use Rattle.sim.specs.World.{appended};
 
 use crate::commands::Commands;
@@ -80,7 +81,7 @@ impl<C: Commands> Sim<C> {
 
     /// Someone writes a file.
     pub fn put(&mut self, path: &str, content: &[u8]) -> Result<(), AllocError>
-        ensures ok { OnOk result (world_of self.new ≡ wrote Writer.Someone path.now (Some content.now) (world_of self.old)) }
+        ensures ok { OnOk result (HasWritten Writer.Someone path.now (Some content.now) self.old self.new) }
         ensures err { OnErr result (self.new ≡ self.old) }
     {
         let path = Path::from_str(self.alloc, path)?;
@@ -91,7 +92,7 @@ impl<C: Commands> Sim<C> {
 
     /// Someone deletes a file.
     pub fn erase(&mut self, path: &str) -> Result<(), AllocError>
-        ensures ok { OnOk result (world_of self.new ≡ wrote Writer.Someone path.now None (world_of self.old)) }
+        ensures ok { OnOk result (HasWritten Writer.Someone path.now None self.old self.new) }
         ensures err { OnErr result (self.new ≡ self.old) }
     {
         let path = Path::from_str(self.alloc, path)?;
@@ -123,7 +124,7 @@ impl<C: Commands> Sim<C> {
     /// The device refuses a call of this kind: the next one where `number` is 1, the one behind it where it is 2, and so
     /// on. Where a stop is named for it too, this goes first.
     pub fn fail(&mut self, call: Call, number: u64) -> Result<(), AllocError>
-        ensures ok { OnOk result (self.new ≡ naming (record { call = call; left = number; trouble = Trouble.Refused }) self.old) }
+        ensures ok { OnOk result (self.new ≡ naming (refusal call number) self.old) }
         ensures err { OnErr result (self.new ≡ self.old) }
     {
         self.faults.name(Named {
@@ -136,7 +137,7 @@ impl<C: Commands> Sim<C> {
     /// The site stops in a call of this kind, which is counted likewise. An append puts so many of its bytes behind the
     /// file before, a start has started its command, and every other call has changed nothing.
     pub fn stop_at(&mut self, call: Call, number: u64, bytes: usize) -> Result<(), AllocError>
-        ensures ok { OnOk result (self.new ≡ naming (record { call = call; left = number; trouble = Trouble.Stop bytes }) self.old) }
+        ensures ok { OnOk result (self.new ≡ naming (stop_in call number bytes) self.old) }
         ensures err { OnErr result (self.new ≡ self.old) }
     {
         self.faults.name(Named {
@@ -181,7 +182,7 @@ impl<C: Commands> Sim<C> {
         ensures called { OnOk result (self.new ≡ called call self.old) }
         ensures went { OnOk result (self.old.jobs.stopped ≡ false) }
         ensures stop { IfOk result (λ stop. trouble_of call self.old ≡ option_map Trouble.Stop stop) }
-        ensures device { IsErrOf result SiteFault.Device → (trouble_of call self.old ≡ Some Trouble.Refused) × (self.new ≡ record (called call self.old) { failures = self.old.failures + 1 }) }
+        ensures device { IsErrOf result SiteFault.Device → RefusedAsNamed call self.old self.new }
         ensures stopped { IsErrOf result SiteFault.Stopped → (self.old.jobs.stopped ≡ true) × (self.new ≡ self.old) }
         ensures memory { IsErrOf result SiteFault.Memory → self.new ≡ called call self.old }
         ensures after_stop { self.old.jobs.stopped ≡ true → IsErrOf result SiteFault.Stopped }
@@ -228,7 +229,7 @@ impl<C: Commands> Sim<C> {
 
     /// The device refuses a call.
     fn refuse<T>(&mut self) -> Result<T, SiteFault>
-        ensures refused { IsErrOf result SiteFault.Device → self.new ≡ record self.old { failures = self.old.failures + 1 } }
+        ensures refused { IsErrOf result SiteFault.Device → self.new ≡ refusing self.old }
         ensures memory { IsErrOf result SiteFault.Memory → self.new ≡ self.old }
         ensures fault { IfErr result (λ fault. (fault ≡ SiteFault.Device) ⊎ (fault ≡ SiteFault.Memory)) }
         ensures err { IsErr result }
@@ -248,7 +249,7 @@ impl<C: Commands> Sim<C> {
 
     /// So many of the bytes go behind what the file holds, or all where there are no more; none give no new stamp.
     fn put_part_behind(&mut self, path: &str, bytes: &[u8], count: usize) -> Result<(), AllocError>
-        ensures ok { OnOk result (self.new ≡ putting_some path.now (take count bytes.now) self.old) }
+        ensures ok { OnOk result (self.new ≡ putting_first path.now bytes.now count self.old) }
         ensures err { OnErr result (self.new ≡ self.old) }
     {
         let part = &bytes[..count.min(bytes.len())];
@@ -301,7 +302,7 @@ impl<C: Commands> Texts for Sim<C> {
     fn read(&mut self, path: &str) -> Result<Option<Bytes>, SiteFault>
         ensures looks { OnlyLooks true (world_of self.old) (world_of self.new) }
         ensures cause { HasCause (world_of self.old) (world_of self.new) result }
-        ensures content { IfOk result (λ content. Sees (λ history. content_of (file_at history path.now)) content (world_of self.old).history (world_of self.new).history) }
+        ensures content { IfOk result (λ content. SawContent path.now content self.old.history self.new.history) }
         ensures present { IfOk result (λ content. content ≡ view_of (world_of self.old).history path.now) }
         ensures goes { Goes C.outcome Call.Read self.old self.new result }
     {
@@ -325,7 +326,7 @@ fn carry_out<C: Commands>(
     history: &mut History,
     mut running: BTreeMap<usize, Running>,
 ) -> bool
-    ensures others { (events : List Event) → ((job : ℕ) (one : Running) → running_at job running.entries ≡ Some one → runs job events ≡ true) → OthersWrote (IsRunning events) history.old history.new }
+    ensures others { OnlyTheyWrote (AllRun running.entries) history.old history.new }
     ensures all { IsTrue result → history.new ≡ carried C.outcome running.entries history.old }
 {
     let mut complete = true;
@@ -344,7 +345,7 @@ fn work_off<C: Commands>(
     job: usize,
     one: &Running,
 ) -> bool
-    ensures others { (events : List Event) → runs job events ≡ true → OthersWrote (IsRunning events) history.old history.new }
+    ensures others { OnlyTheyWrote (λ events. runs job events ≡ true) history.old history.new }
     ensures done { IsTrue result → history.new ≡ worked_off C.outcome job one.now history.old }
 {
     let Ok(outcome) = outcome_of(alloc, commands, history, one) else {
@@ -402,7 +403,7 @@ impl<C: Commands> Site for Sim<C> {
     fn stat(&mut self, path: &str) -> Result<Option<u64>, SiteFault>
         ensures looks { OnlyLooks true (world_of self.old) (world_of self.new) }
         ensures cause { HasCause (world_of self.old) (world_of self.new) result }
-        ensures stamp { IfOk result (λ stamp. Sees (λ history. stamp_of (file_at history path.now)) stamp (world_of self.old).history (world_of self.new).history) }
+        ensures stamp { IfOk result (λ stamp. SawStamp path.now stamp self.old.history self.new.history) }
         ensures present { IfOk result (λ stamp. stamp ≡ stamp_of (file_at (world_of self.old).history path.now)) }
         ensures goes { Goes C.outcome Call.Stat self.old self.new result }
     {
@@ -430,7 +431,7 @@ impl<C: Commands> Site for Sim<C> {
         ensures appends { OnOk result (Appends true path.now bytes.now (world_of self.old) (world_of self.new)) }
         ensures err { OnErr result (AppendsOrNot true path.now bytes.now (world_of self.old) (world_of self.new)) }
         ensures adds { OnOk result (world_of self.new ≡ appended path.now bytes.now (world_of self.old)) }
-        ensures goes { GoesDoing C.outcome Call.Append (λ count sim. putting_some path.now (take count bytes.now) sim) self.old self.new result }
+        ensures goes { GoesDoing C.outcome Call.Append (putting_first path.now bytes.now) self.old self.new result }
     {
         match self.enter(Call::Append)? {
             None => self.put_behind(path, bytes)?,
@@ -447,7 +448,7 @@ impl<C: Commands> Site for Sim<C> {
         ensures cause { HasCause (world_of self.old) (world_of self.new) result }
         ensures writes { OnOk result (Writes true path.now (Some content.now) (world_of self.old) (world_of self.new)) }
         ensures err { OnErr result (WritesOrNot true path.now (Some content.now) (world_of self.old) (world_of self.new)) }
-        ensures adds { OnOk result (world_of self.new ≡ wrote Writer.Program path.now (Some content.now) (world_of self.old)) }
+        ensures adds { OnOk result (HasWritten Writer.Program path.now (Some content.now) self.old self.new) }
         ensures goes { Goes C.outcome Call.Replace self.old self.new result }
     {
         self.pass(Call::Replace)?;
@@ -460,7 +461,7 @@ impl<C: Commands> Site for Sim<C> {
         ensures cause { HasCause (world_of self.old) (world_of self.new) result }
         ensures writes { OnOk result (Writes true path.now (Some content.now) (world_of self.old) (world_of self.new)) }
         ensures err { OnErr result (SpoilsOrNot true path.now (world_of self.old) (world_of self.new)) }
-        ensures adds { OnOk result (world_of self.new ≡ wrote Writer.Program path.now (Some content.now) (world_of self.old)) }
+        ensures adds { OnOk result (HasWritten Writer.Program path.now (Some content.now) self.old self.new) }
         ensures goes { Goes C.outcome Call.Write self.old self.new result }
     {
         self.pass(Call::Write)?;
@@ -473,7 +474,7 @@ impl<C: Commands> Site for Sim<C> {
         ensures cause { HasCause (world_of self.old) (world_of self.new) result }
         ensures writes { OnOk result (Writes true path.now None (world_of self.old) (world_of self.new)) }
         ensures err { OnErr result (WritesOrNot true path.now None (world_of self.old) (world_of self.new)) }
-        ensures adds { OnOk result (world_of self.new ≡ wrote Writer.Program path.now None (world_of self.old)) }
+        ensures adds { OnOk result (HasWritten Writer.Program path.now None self.old self.new) }
         ensures goes { Goes C.outcome Call.Remove self.old self.new result }
     {
         self.pass(Call::Remove)?;

@@ -3,7 +3,7 @@
 ghost use Rattle.std.specs.Prelude.{◌≡◌, ◌==◌, ◌++◌, ◌∷◌, Option, Some, List, map, option_copied, option_map, codes, IfOk, OnOk};
 ghost use Rattle.std.specs.List.{slice_split, filter_map, flat_map};
 ghost use Rattle.model.specs.World.{view_of};
-ghost use Rattle.sim.specs.Toy.{words, contents, nothing, writing, gathered, copied, halved, doubled, scanned, named_in, named, behind, spaced, depfile, replied, given, does, kind_of};
+ghost use Rattle.sim.specs.Toy.{texts_in, contents_at, used_in, each_spaced, words, contents, nothing, writing, gathered, copied, halved, doubled, scanned, named_in, named, behind, spaced, depfile, replied, given, does, kind_of};
 
 use crate::commands::Commands;
 use crate::history::History;
@@ -56,7 +56,7 @@ impl Commands for Toy {
 }
 
 fn words_of(alloc: Global, command: &str) -> Result<Vec<&str>, AllocError>
-    ensures { IfOk result (λ found. map (λ word. word.now) found.items ≡ words command.now) }
+    ensures { IfOk result (λ found. texts_in found.items ≡ words command.now) }
 {
     command.split(' ').collect(alloc)
 }
@@ -84,7 +84,7 @@ fn give(
     words: &[&str],
     history: &History,
 ) -> Result<Outcome, AllocError>
-    ensures { IfOk result (λ outcome. outcome ≡ given kind act.now.response_content out.now (map (λ word. word.now) words.now) (view_of history.now)) }
+    ensures { IfOk result (λ outcome. outcome ≡ given kind act.now.response_content out.now (texts_in words.now) (view_of history.now)) }
 {
     match kind {
         Some(Kind::Cat) => gather(alloc, out, words, false, history),
@@ -105,7 +105,7 @@ fn gather(
     only_changes: bool,
     history: &History,
 ) -> Result<Outcome, AllocError>
-    ensures { IfOk result (λ outcome. outcome ≡ gathered only_changes out.now (contents (view_of history.now) (map (λ path. path.now) paths.now))) }
+    ensures { IfOk result (λ outcome. outcome ≡ gathered only_changes out.now (contents_at history.now paths.now)) }
 {
     let Some(content) = join(alloc, paths, history)? else {
         return Ok(fails(alloc));
@@ -128,7 +128,7 @@ fn double(
     words: &[&str],
     history: &History,
 ) -> Result<Outcome, AllocError>
-    ensures { IfOk result (λ outcome. outcome ≡ doubled out.now (map (λ word. word.now) words.now) (view_of history.now)) }
+    ensures { IfOk result (λ outcome. outcome ≡ doubled out.now (texts_in words.now) (view_of history.now)) }
 {
     let [other, from, ..] = words else {
         return Ok(fails(alloc));
@@ -146,7 +146,7 @@ fn double(
 
 /// The contents of the paths that a file names go to `out`, and what they are to a depfile.
 fn scan(alloc: Global, out: &str, words: &[&str], history: &History) -> Result<Outcome, AllocError>
-    ensures { IfOk result (λ outcome. outcome ≡ scanned out.now (map (λ word. word.now) words.now) (view_of history.now)) }
+    ensures { IfOk result (λ outcome. outcome ≡ scanned out.now (texts_in words.now) (view_of history.now)) }
 {
     let [dep, from, ..] = words else {
         return Ok(fails(alloc));
@@ -171,7 +171,7 @@ fn scan(alloc: Global, out: &str, words: &[&str], history: &History) -> Result<O
 
 /// The paths that the bytes of a file name, or nothing where they are not UTF-8.
 fn named_in(alloc: Global, content: &[u8]) -> Result<Option<Vec<&str>>, AllocError>
-    ensures { IfOk result (λ paths. option_map (λ paths. map (λ path. path.now) paths.items) paths ≡ named_in (Some content.now)) }
+    ensures { IfOk result (λ paths. option_map (λ paths. texts_in paths.items) paths ≡ named_in (Some content.now)) }
 {
     match str::from_utf8(content) {
         Ok(text) => Ok(Some(named(alloc, text)?)),
@@ -181,7 +181,7 @@ fn named_in(alloc: Global, content: &[u8]) -> Result<Option<Vec<&str>>, AllocErr
 
 /// The paths that the lines of a text name.
 fn named(alloc: Global, text: &str) -> Result<Vec<&str>, AllocError>
-    ensures { IfOk result (λ paths. map (λ path. path.now) paths.items ≡ named text.now) }
+    ensures { IfOk result (λ paths. texts_in paths.items ≡ named text.now) }
 {
     let lines = lines_of(alloc, text)?;
     used_in(alloc, &lines)
@@ -189,7 +189,7 @@ fn named(alloc: Global, text: &str) -> Result<Vec<&str>, AllocError>
 
 /// The paths that these lines name.
 fn used_in<'a>(alloc: Global, lines: &[&'a str]) -> Result<Vec<&'a str>, AllocError>
-    ensures { IfOk result (λ paths. map (λ path. path.now) paths.items ≡ filter_map (behind (codes "use ")) (map (λ line. line.now) lines.now)) }
+    ensures { IfOk result (λ paths. texts_in paths.items ≡ used_in (texts_in lines.now)) }
 {
     let mut paths = Vec::new(alloc);
     for line in lines {
@@ -201,7 +201,7 @@ fn used_in<'a>(alloc: Global, lines: &[&'a str]) -> Result<Vec<&'a str>, AllocEr
 }
 
 fn lines_of(alloc: Global, text: &str) -> Result<Vec<&str>, AllocError>
-    ensures { IfOk result (λ lines. map (λ line. line.now) lines.items ≡ slice_split (λ b. b == 10) text.now) }
+    ensures { IfOk result (λ lines. texts_in lines.items ≡ slice_split (λ b. b == 10) text.now) }
 {
     text.split('\n').collect(alloc)
 }
@@ -215,7 +215,7 @@ fn used(line: &str) -> Option<&str>
 
 /// What a depfile holds that tells these inputs of `out`.
 fn depfile(alloc: Global, out: &str, paths: &[&str]) -> Result<Bytes, AllocError>
-    ensures { IfOk result (λ content. content ≡ depfile out.now (map (λ path. path.now) paths.now)) }
+    ensures { IfOk result (λ content. content ≡ depfile out.now (texts_in paths.now)) }
 {
     let mut text = Vec::from_slice(alloc, out.as_bytes())?;
     text.extend_from_slice(b": ")?;
@@ -226,7 +226,7 @@ fn depfile(alloc: Global, out: &str, paths: &[&str]) -> Result<Bytes, AllocError
 
 /// Appends the paths, with a space between.
 fn append_spaced(text: &mut Vec<u8>, paths: &[&str]) -> Result<(), AllocError>
-    ensures { OnOk result (text.new.items ≡ text.old.items ++ spaced (map (λ path. path.now) paths.now)) }
+    ensures { OnOk result (text.new.items ≡ text.old.items ++ spaced (texts_in paths.now)) }
 {
     if let [first, others @ ..] = paths {
         text.extend_from_slice(first.as_bytes())?;
@@ -237,7 +237,7 @@ fn append_spaced(text: &mut Vec<u8>, paths: &[&str]) -> Result<(), AllocError>
 
 /// Appends the paths, each with a space before it.
 fn append_others(text: &mut Vec<u8>, paths: &[&str]) -> Result<(), AllocError>
-    ensures { OnOk result (text.new.items ≡ text.old.items ++ flat_map (λ path. 32 ∷ path) (map (λ path. path.now) paths.now)) }
+    ensures { OnOk result (text.new.items ≡ text.old.items ++ each_spaced (texts_in paths.now)) }
 {
     for path in paths {
         text.push(b' ')?;
@@ -259,7 +259,7 @@ fn reply(alloc: Global, out: &str, response: &str) -> Result<Outcome, AllocError
 
 /// Half a file stands at `out` when the command breaks off.
 fn halve(alloc: Global, out: &str, paths: &[&str], history: &History) -> Result<Outcome, AllocError>
-    ensures { IfOk result (λ outcome. outcome ≡ halved out.now (contents (view_of history.now) (map (λ path. path.now) paths.now))) }
+    ensures { IfOk result (λ outcome. outcome ≡ halved out.now (contents_at history.now paths.now)) }
 {
     if join(alloc, paths, history)?.is_none() {
         return Ok(fails(alloc));
@@ -273,7 +273,7 @@ fn halve(alloc: Global, out: &str, paths: &[&str], history: &History) -> Result<
 
 /// The contents of the paths, one after the other, or nothing where one is absent.
 fn join(alloc: Global, paths: &[&str], history: &History) -> Result<Option<Bytes>, AllocError>
-    ensures { IfOk result (λ content. content ≡ contents (view_of history.now) (map (λ path. path.now) paths.now)) }
+    ensures { IfOk result (λ content. content ≡ contents_at history.now paths.now) }
 {
     let mut bytes = Vec::new(alloc);
     for path in paths {

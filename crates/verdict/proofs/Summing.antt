@@ -1,29 +1,27 @@
 -- What is taken in by what was seen of paths, and what phony edges read in sum.
 use Rattle.std.proofs.Common.{◌≡◌, inl, inr, ℕ, suc, ◌+◌, ◌<◌, ◌==◌, Bool, true, false, List, [], ◌∷◌, ◌++◌, Option, Some, None, cond, length, take, get_or, refl, sym, ◌∙◌, ap, subst, append_assoc}
 use Rattle.std.specs.List.{flat_map}
-use Rattle.std.proofs.lemmas.Bool.{false≢true, or_cases, or_left, or_right, eq-eqb, eqb-true}
+use Rattle.std.proofs.lemmas.Bool.{false≢true, or_left, or_right, eq-eqb, eqb-true}
 use Rattle.std.proofs.lemmas.List.{append-nil, take_more}
 use Rattle.std.proofs.lemmas.Grind.{flat_map-append}
 use Rattle.model.specs.declared.event.Moment.{Moment}
-use Rattle.model.specs.World.{View, stamp_of, file_at}
 use Rattle.model.specs.Graph.{has_number}
 use Rattle.model.specs.Reading.{IsRead}
 use Rattle.model.specs.Judgement.{InputFacts}
-use Rattle.build_theory.proofs.Lists.{all_append, has_number-left, has_number-right, has_number-cases, has_number-one, has_number-is}
-use Rattle.paths.specs.Told.{text_at}
+use Rattle.build_theory.proofs.Lists.{all_append, has_number-left, has_number-right, has_number-cases, has_number-is}
 use Rattle.links.specs.declared.graph.Graph.{Graph}
 use Rattle.links.specs.Links.{links_of}
 use Rattle.links.specs.Alias.{alias_at}
-use Rattle.links.specs.ReadingOf.{IsCountedIn, IsReadingOf}
+use Rattle.links.specs.ReadingOf.{IsReadingOf}
 use Rattle.links.specs.Told.{declared_by}
 use Rattle.links.proofs.ReadThrough.{read_by_step, read_counted, read_through}
 use Rattle.looks.specs.declared.table.Look.{Look}
 use Rattle.looks.specs.Seen.{look_at, look_of, is_asked, AreSeenOf}
 use Rattle.dirty.specs.declared.inputs.Inputs.{Inputs}
-use Rattle.dirty.specs.Summaries.{AreInputs, TakesInput, JoinsInputs}
+use Rattle.dirty.specs.Summaries.{AreInputs}
 use Rattle.verdict.specs.declared.sums.Sums.{Sums}
-use Rattle.verdict.specs.Facts.{flag_at, stamp_at, one_input, all_inputs, AreIn, TakesOne, IsReadBy, seen_stamp, seen_inputs, AreAsked, HasTaken}
-use Rattle.verdict.specs.Summed.{IsSum, AreSums, IsReadThrough, HasJoined}
+use Rattle.verdict.specs.Facts.{stamp_at, one_input, all_inputs, AreIn, IsReadBy, seen_stamp, seen_inputs, AreAsked, HasTaken}
+use Rattle.verdict.specs.Summed.{IsSum, AreSums, HasJoined}
 use Rattle.verdict.proofs.Taking.{flat_more}
 
 -- what was seen is still known
@@ -33,9 +31,6 @@ Stays seen new = (p : ℕ) → is_asked (look_at seen p) ≡ true → look_at ne
 none_some : (x : ℕ) → None ≡ Some x → ⊥
 none_some x is = cc
 
-some_same : (x y : ℕ) → Some x ≡ Some y → x ≡ y
-some_same x y is = cc
-
 sum_same : (x y : Inputs) → Some x ≡ Some y → x ≡ y
 sum_same x y is = cc
 
@@ -43,22 +38,12 @@ seen_of : (stamp : Option ℕ) → seen_stamp (look_of stamp) ≡ stamp
 seen_of None = refl
 seen_of (Some stamp) = refl
 
-pub asked_of : (stamp : Option ℕ) (look : Look) → look ≡ look_of stamp → is_asked look ≡ true
-asked_of None look is = ap is_asked is
-asked_of (Some stamp) look is = ap is_asked is
-
 pub stamp_by : (stamp : Option ℕ) (look : Look) → look ≡ look_of stamp → seen_stamp look ≡ stamp
 stamp_by stamp look is = ap seen_stamp is ∙ seen_of stamp
 
 asked_stays : (seen new : List Look) → Stays seen new → (ns : List ℕ) → AreAsked seen ns → AreAsked new ns
 asked_stays seen new stays [] asked = tt
 asked_stays seen new stays (n ∷ ns) asked = (ap is_asked (stays n asked.0) ∙ asked.0, asked_stays seen new stays ns asked.1)
-
--- a present file is taken in whether its path always counts or not
-pub takes_present : (graph : Graph) (flags : List Bool) (always : Bool) (p stamp : ℕ) (changed : Bool) (old new : Inputs) → changed ≡ flag_at flags p
-    → TakesInput (record { stamp = Some stamp; changed = changed }) old new → TakesOne graph flags always p (Some stamp) old new
-takes_present graph flags true p stamp changed old new is takes inputs of = subst (λ (c : Bool). AreInputs (inputs ++ record { stamp = Some stamp; changed = c } ∷ []) new) is (takes inputs of)
-takes_present graph flags false p stamp changed old new is takes inputs of = subst (λ (c : Bool). AreInputs (inputs ++ record { stamp = Some stamp; changed = c } ∷ []) new) is (takes inputs of)
 
 module _ (graph : Graph) (flags : List Bool) where
   -- ---- one list of paths and another
@@ -86,14 +71,6 @@ module _ (graph : Graph) (flags : List Bool) where
         (append_assoc inputs (seen_inputs graph flags always seen xs) (seen_inputs graph flags always seen ys)
         ∙ ap (λ (l : List InputFacts). inputs ++ l) (sym (flat_map-append (λ p. one_input graph flags always p (seen_stamp (look_at seen p))) xs ys)))
         (two.takes (inputs ++ seen_inputs graph flags always seen xs) (one.takes inputs of));
-  }
-
-  pub taken_one : (always : Bool) (seen : List Look) (p : ℕ) (stamp : Option ℕ) (a b : Inputs) → look_at seen p ≡ look_of stamp → TakesOne graph flags always p stamp a b → HasTaken graph flags always seen (p ∷ []) a b
-  taken_one always seen p stamp a b is takes = record {
-    asked = (asked_of stamp (look_at seen p) is, tt);
-    takes = λ inputs of.
-        subst (λ (s : Option ℕ). AreInputs (inputs ++ (one_input graph flags always p s ++ [])) b) (sym (stamp_by stamp (look_at seen p) is))
-        (subst (λ (l : List InputFacts). AreInputs (inputs ++ l) b) (sym (append-nil (one_input graph flags always p stamp))) (takes inputs of));
   }
 
   -- one path more, by what was seen before and after it
@@ -157,19 +134,6 @@ module _ (graph : Graph) (flags : List Bool) where
       (λ is. absurd (false≢true is.listed)),
     );
     taken = taken_none false seen a;
-  }
-
-  -- a path that this phony edge makes
-  pub joined_alias : (seen : List Look) (x j : ℕ) (inputs a b : Inputs) → alias_at (links_of graph) x ≡ Some j → IsSum graph flags seen j inputs → JoinsInputs inputs a b → HasJoined graph flags seen (x ∷ []) a b
-  joined_alias seen x j inputs a b made sum joins = record {
-    edges = sum.edges;
-    read = λ view p. (
-      (λ through.
-          let same : through.alias ≡ j = some_same through.alias j (sym through.made ∙ (sym (ap (alias_at (links_of graph)) (has_number-is x through.path through.listed)) ∙ made)) in
-          (sum.read view p).0 (subst (λ (n : ℕ). IsRead (declared_by graph).edges view (suc n) p) same through.read)),
-      (λ is. record { path = x; listed = has_number-one x; alias = j; made = made; read = (sum.read view p).1 is }),
-    );
-    taken = record { asked = sum.asked; takes = λ xs of. joins xs (seen_inputs graph flags false seen (flat_map (links_of graph).regular sum.edges)) of sum.are };
   }
 
   -- one list of paths and another

@@ -25,14 +25,6 @@ task_over edges = record {
   keep = 1;
 }
 
--- the edges with a command, and their limits
-pub one_two_three : (s : List ℕ) (k : ℕ) → IsCommand (declared s) k → (k ≡ 1) ⊎ (k ≡ 2) ⊎ (k ≡ 3)
-one_two_three s zero command = absurd (false≢true (sym command))
-one_two_three s (suc zero) command = inl refl
-one_two_three s (suc (suc zero)) command = inr (inl refl)
-one_two_three s (suc (suc (suc zero))) command = inr (inr refl)
-one_two_three s (suc (suc (suc (suc k)))) command = absurd (false≢true (sym command))
-
 pub three_of_grown : (s : List ℕ) (k : ℕ) → IsCommand (grown s) k → (k ≡ 1) ⊎ (k ≡ 2) ⊎ (k ≡ 3)
 three_of_grown s zero command = absurd (false≢true (sym command))
 three_of_grown s (suc zero) command = inl refl

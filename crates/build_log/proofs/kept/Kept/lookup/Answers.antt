@@ -1,6 +1,7 @@
 use Rattle.std.proofs.Common.{sym, ap, ◌∙◌}
 use Rattle.std.specs.Option.{option_copied}
-use Rattle.build_log.proofs.Lookups.{told_place, got, tolds}
+use Rattle.build_log.specs.Kept.{tolds}
+use Rattle.build_log.proofs.Lookups.{told_place, got}
 use Rattle.build_log.proofs.kept.Kept.lookup.Goals as goal
 
 pub returns-in_err-find : goal.returns-in_err-find

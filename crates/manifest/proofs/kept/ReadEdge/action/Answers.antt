@@ -1,10 +1,7 @@
-use Rattle.std.proofs.Common.{◌≡◌, ℕ, List, length, map, refl, sym, subst, ap, ◌∙◌}
+use Rattle.std.proofs.Common.{map, ap, ◌∙◌}
 use Rattle.std.specs.Map.Iter.{deref}
 use Rattle.std.proofs.lemmas.Result.{err_from_is_err_and}
 use Rattle.paths.specs.Lists.{line_at}
-use Rattle.paths.specs.Told.{texts_at}
-use Rattle.manifest.specs.InNumbers.{AreBelow}
-use Rattle.manifest.proofs.Added.{lists_of}
 use Rattle.manifest.proofs.EdgeAll.{rule_is, no_rule, alias_made, shows, values_fault, command_made}
 use Rattle.manifest.proofs.kept.ReadEdge.action.Goals as goal
 
@@ -12,21 +9,12 @@ pub returns-in_default-clause-edge : goal.returns-in_default-clause-edge
 returns-in_default-clause-edge c = λ past said build of are is for.
     alias_made past said build c.args.table.now (line_at c.args.lines.now c.args.edge) for (no_rule build c.args.self.now.rule is.rule c.in_default.is)
 
-pub texts-requires : goal.texts-requires
-texts-requires c =
-    subst (λ (numbers : List ℕ). AreBelow (length c.args.table.now) numbers) (sym c.explicit_inputs.ensures) (lists_of (length c.args.table.now) (line_at c.args.lines.now c.args.edge) c.requires.within).explicit_inputs
-
-pub texts-requires-2 : goal.texts-requires-2
-texts-requires-2 c =
-    subst (λ (numbers : List ℕ). AreBelow (length c.args.table.now) numbers) (sym c.explicit_outputs.ensures) (lists_of (length c.args.table.now) (line_at c.args.lines.now c.args.edge) c.requires.within).explicit_outputs
-
 pub returns-in_err-values-clause-edge : goal.returns-in_err-values-clause-edge
 returns-in_err-values-clause-edge c = λ past said build of are is for.
     let line = line_at c.args.lines.now c.args.edge in
     let some = rule_is build c.args.self.now.rule c.in-Some.rule c.deref.result.now is.rule c.in-Some.is c.deref.ensures in
     let plain = shows past said build c.args.table.now line for c.deref.result.now some (record { inputs = c.as_slice.result; outputs = c.as_slice-2.result })
-    (ap (map deref) c.as_slice.ensures ∙ (c.in_ok-inputs.ensures ∙ ap (texts_at c.args.table.now) c.explicit_inputs.ensures))
-    (ap (map deref) c.as_slice-2.ensures ∙ (c.in_ok-outputs.ensures ∙ ap (texts_at c.args.table.now) c.explicit_outputs.ensures)) in
+    (ap (map deref) c.as_slice.ensures ∙ c.in_ok-shown.ensures.inputs) (ap (map deref) c.as_slice-2.ensures ∙ c.in_ok-shown.ensures.outputs) in
     let failed = err_from_is_err_and c.from_residual-in_err-values.result c.from_residual-in_err-values.ensures.1 in
     rw (failed.1, failed.2) (values_fault past said build c.args.table.now line for c.deref.result.now some _ (c.in_err-values.ensures past said build of are is plain))
 
@@ -35,7 +23,6 @@ returns-clause-edge c = λ past said build of are is for.
     let line = line_at c.args.lines.now c.args.edge in
     let some = rule_is build c.args.self.now.rule c.in-Some.rule c.deref.result.now is.rule c.in-Some.is c.deref.ensures in
     let plain = shows past said build c.args.table.now line for c.deref.result.now some (record { inputs = c.as_slice.result; outputs = c.as_slice-2.result })
-    (ap (map deref) c.as_slice.ensures ∙ (c.in_ok-inputs.ensures ∙ ap (texts_at c.args.table.now) c.explicit_inputs.ensures))
-    (ap (map deref) c.as_slice-2.ensures ∙ (c.in_ok-outputs.ensures ∙ ap (texts_at c.args.table.now) c.explicit_outputs.ensures)) in
+    (ap (map deref) c.as_slice.ensures ∙ c.in_ok-shown.ensures.inputs) (ap (map deref) c.as_slice-2.ensures ∙ c.in_ok-shown.ensures.outputs) in
     command_made past said build c.args.table.now line for c.deref.result.now some c.command_of.new.table c.in_ok-values.values c.in_ok-command_of.field-0 c.in_ok-command_of.ensures.grows
     (c.in_ok-values.ensures past said build of are is plain) (c.in_ok-command_of.ensures.command line)

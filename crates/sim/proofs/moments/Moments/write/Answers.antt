@@ -1,11 +1,8 @@
-use Rattle.std.proofs.Common.{◌∙◌, ap, List, Option, Some, [], ◌∷◌, ◌++◌}
+use Rattle.std.proofs.Common.{◌∙◌, ap, List, [], ◌∷◌, ◌++◌}
 use Rattle.std.specs.HashMap.{get_by_text}
 use Rattle.model.specs.declared.event.Moment.{Moment}
 use Rattle.model.specs.declared.event.Moment.TheVariants.{Wrote}
-use Rattle.model.specs.World.{File, file_at}
-use Rattle.model.specs.Calls.{content_or_empty}
-use Rattle.sim.specs.Notes.{grown}
-use Rattle.sim.proofs.Undoing.{told_write, whole_write, whole_same, told_same, file_told}
+use Rattle.sim.proofs.Undoing.{told_write, whole_write, whole_same}
 use Rattle.sim.proofs.moments.Moments.write.Goals as goal
 
 pub invariant_of-self-in_err-before : goal.invariant_of-self-in_err-before

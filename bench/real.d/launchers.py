@@ -1,0 +1,223 @@
+"""Compilers behind launchers: distcc over three daemons on this machine, one of which is killed in the middle of a build, and ccache, with hard
+links too."""
+
+import os
+import re
+import shutil
+import signal
+import socket
+import subprocess
+import time
+
+from ground import Pair, differences, files_of, in_short, is_idle, must_run, replace, run, touch, write
+
+UNITS = 82
+
+# A command that has ended once all that holds its output has, also a preprocessor that distcc leaves behind where a host is down.
+WHOLE = "bash -o pipefail -c '\"$$@\" 2>&1 | cat' whole"
+
+# Where a command failed: ninja removes what it left as a depfile, and nj one of an earlier run, before it starts.
+DEPFILES = re.compile(r"\.o\.d$")
+
+DAEMONS = 3
+SLOTS = 4
+
+BUILD = """\
+launcher = LAUNCHER
+rule cc
+  command = $launcher cc -O1 -I. -MMD -MF $out.d -c $in -o $out
+  depfile = $out.d
+  deps = gcc
+rule link
+  command = cc -o $out $in
+"""
+
+
+def fill_with(launcher):
+    """A C program of so many sources, each with a header of its own and one that all read."""
+    def fill(folder):
+        units = range(UNITS - 1)
+        objects = "".join(f" o/u{n}.o" for n in units)
+        lines = "".join(f"build o/u{n}.o: cc u{n}.c\n" for n in units)
+        write(folder, "build.ninja", f"{BUILD.replace('LAUNCHER', launcher)}{lines}build o/main.o: cc main.c\nbuild app: link o/main.o{objects}\n")
+        write(folder, "all.h", "#include <stdio.h>\n" + "".join(f"int u{n}(void);\n" for n in units))
+        for n in units:
+            write(folder, f"u{n}.h", f"#define N{n} {n}\n")
+            write(folder, f"u{n}.c", f'#include "all.h"\n#include "u{n}.h"\nint u{n}(void) {{ return N{n}; }}\n')
+        write(folder, "main.c", '#include "all.h"\nint main(void) { printf("sum %d\\n", 0' + "".join(f" + u{n}()" for n in units) + "); return 0; }\n")
+    return fill
+
+
+def run_all(place):
+    distcc(place)
+    ccache(place, "ccache", {})
+    ccache(place, "ccache with hard links", {"CCACHE_HARDLINK": "1"})
+
+
+def check_made(place, where, folder, jobs=SLOTS):
+    """What stands there is what the compiler alone makes of the same sources, and nothing is left to do."""
+    ran = run([place.nj, "-C", folder, "-v"], folder)
+    place.expect(is_idle(ran), where, f"something is left to do: {ran.text[-900:]}")
+    alone = f"{folder}-alone"
+    shutil.copytree(folder, alone, ignore=shutil.ignore_patterns("o", "app", ".n*"))
+    text = open(os.path.join(alone, "build.ninja"), encoding="utf-8").read().split("\n")
+    write(alone, "build.ninja", "\n".join(["launcher =", *text[1:]]))
+    must_run([place.nj, "-j", str(jobs)], alone)
+    told = differences({path: it for path, it in files_of(folder).items() if path != "build.ninja"},
+                       {path: it for path, it in files_of(alone).items() if path != "build.ninja"}, ("the launcher", "the compiler alone"))
+    place.expect(not told, where, f"files: {in_short(told)}")
+    shutil.rmtree(alone)
+
+
+# ---- distcc
+
+class Daemon:
+    """A daemon of distcc on this machine, at a port of its own."""
+
+    def __init__(self, folder, name):
+        with socket.socket() as free:
+            free.bind(("127.0.0.1", 0))
+            self.port = free.getsockname()[1]
+        self.log = os.path.join(folder, f"{name}.log")
+        words = ["distccd", "--no-detach", "--daemon", "--listen", "127.0.0.1", "--port", str(self.port), "--allow", "127.0.0.1",
+                 "--jobs", str(SLOTS), "--log-level", "info", "--log-file", self.log]
+        self.process = subprocess.Popen(words, stdin=subprocess.DEVNULL, stdout=subprocess.DEVNULL, stderr=subprocess.DEVNULL,
+                                        start_new_session=True)
+
+    def is_up(self):
+        for _ in range(100):
+            with socket.socket() as call:
+                if call.connect_ex(("127.0.0.1", self.port)) == 0:
+                    return True
+            time.sleep(0.05)
+        return False
+
+    def compiled(self):
+        with open(self.log, encoding="utf-8", errors="replace") as it:
+            return it.read().count("COMPILE_OK")
+
+    def kill(self):
+        try:
+            os.killpg(self.process.pid, signal.SIGKILL)
+        except ProcessLookupError:
+            pass
+        self.process.wait()
+
+
+def distcc(place):
+    if place.lacks("distcc", "ninja", "cc", "distcc", "distccd"):
+        return
+    folder = place.tree("distcc-daemons")
+    os.chmod(folder, 0o777)
+    daemons = [Daemon(folder, f"daemon{n}") for n in range(DAEMONS)]
+    try:
+        if not all(it.is_up() for it in daemons):
+            place.leave_out("distcc", "its daemons do not start")
+            return
+        hosts = " ".join(f"127.0.0.1:{it.port}/{SLOTS}" for it in daemons)
+        state = os.path.join(folder, "state")
+        os.makedirs(state)
+        over(place, daemons, f"{WHOLE} env DISTCC_HOSTS='{hosts}' DISTCC_DIR={state} distcc")
+    finally:
+        for it in daemons:
+            it.kill()
+
+
+def over(place, daemons, launcher):
+    jobs = ["-j", str(DAEMONS * SLOTS)]
+    pair = Pair(place, "distcc", fill_with(launcher))
+    pair.step("a first build", *jobs)
+    counts = [it.compiled() for it in daemons]
+    place.expect(all(counts), "distcc", f"each daemon is to compile something: {counts}")
+    pair.rests()
+    for what, change in (
+        ("a header of one", lambda it: replace(it, "u3.h", "N3 3", "N3 30")),
+        ("a header of all", lambda it: touch(it, "all.h")),
+        ("a source", lambda it: touch(it, "u7.c")),
+        ("an output is deleted", lambda it: os.remove(os.path.join(it, "o/u9.o"))),
+    ):
+        pair.edit(change)
+        pair.step(what, *jobs)
+        pair.rests(f"{what}, again")
+    pair.edit(lambda it: replace(it, "u5.c", "return N5;", "return N5"))
+    pair.step("a source is broken", *jobs, status=1, passed_over=DEPFILES)
+    pair.edit(lambda it: replace(it, "u5.c", "return N5", "return N5;"))
+    pair.step("it is mended", *jobs)
+    killed_in_the_middle(place, daemons, launcher, jobs)
+
+
+def killed_in_the_middle(place, daemons, launcher, jobs):
+    """One daemon dies while a build runs: distcc compiles here what it was given, and the build is right."""
+    where = "distcc, a daemon is killed in the middle"
+    place.step(where)
+    folder = place.tree("distcc-killed")
+    fill_with(launcher)(folder)
+    build = subprocess.Popen([place.nj, *jobs], cwd=folder, stdin=subprocess.DEVNULL, stdout=subprocess.PIPE, stderr=subprocess.STDOUT)
+    objects = os.path.join(folder, "o")
+    while build.poll() is None and (not os.path.isdir(objects) or len(os.listdir(objects)) < UNITS // 3):
+        time.sleep(0.005)
+    place.expect(build.poll() is None, where, "the build ended before the kill")
+    daemons[0].kill()
+    place.count("kills")
+    told = build.communicate(timeout=600)[0].decode("utf-8", "replace")
+    place.expect(build.returncode == 0, where, f"status {build.returncode}: {told[-900:]}")
+    check_made(place, where, folder)
+    lone = [it.compiled() for it in daemons[1:]]
+    for it in daemons[1:]:
+        it.kill()
+    where = "distcc, no daemon is left"
+    place.step(where)
+    touch(folder, "all.h")
+    time.sleep(0.02)
+    ran = run([place.nj, *jobs], folder)
+    place.expect(ran.status == 0, where, f"status {ran.status}: {ran.text[-900:]}")
+    check_made(place, where, folder)
+    place.expect(all(lone), where, f"the other daemons compiled nothing: {lone}")
+
+
+# ---- ccache
+
+def ccache(place, name, how):
+    if place.lacks(name, "ninja", "cc", "ccache"):
+        return
+    cache = place.tree(f"{name.replace(' ', '-')}-cache")
+    known = " ".join(f"{key}={value}" for key, value in {"CCACHE_DIR": cache, **how}.items())
+    launcher = f"env -u CCACHE_DISABLE {known} ccache"
+    folder = place.tree(name.replace(" ", "-"))
+    fill_with(launcher)(folder)
+    for what, prepare, wanted in (
+        ("an empty cache", lambda: None, (0, UNITS)),
+        ("all is in the cache", lambda: without_outputs(folder), (UNITS, 0)),
+        ("a header is edited", lambda: replace(folder, "u3.h", "N3 3", "N3 30"), (0, 1)),
+        ("it is as it was", lambda: replace(folder, "u3.h", "N3 30", "N3 3"), (1, 0)),
+        ("a header of all is touched", lambda: touch(folder, "all.h"), (UNITS, 0)),
+    ):
+        where = f"{name}, {what}"
+        place.step(where)
+        time.sleep(0.05)
+        prepare()
+        time.sleep(0.05)
+        told = cached(cache, lambda where=where: build(place, where, folder))
+        place.expect(told == wanted, where, f"hits and misses: {told}, and not {wanted}")
+        check_made(place, where, folder)
+
+
+def build(place, where, folder):
+    ran = run([place.nj, "-j", str(SLOTS)], folder)
+    place.expect(ran.status == 0, where, f"status {ran.status}: {ran.text[-900:]}")
+
+
+def without_outputs(folder):
+    shutil.rmtree(os.path.join(folder, "o"))
+    os.remove(os.path.join(folder, "app"))
+
+
+def cached(cache, do):
+    """How many hits and misses come while this is done."""
+    def counts():
+        told = dict(it.split("\t") for it in must_run(["ccache", "--print-stats"], cache, {"CCACHE_DIR": cache}).strip().split("\n"))
+        return sum(int(told[it]) for it in ("direct_cache_hit", "preprocessed_cache_hit")), int(told["cache_miss"])
+    before = counts()
+    do()
+    after = counts()
+    return after[0] - before[0], after[1] - before[1]
