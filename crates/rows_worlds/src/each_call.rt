@@ -3,7 +3,7 @@
 use crate::ends::push_last;
 use crate::lines::Row;
 use crate::moves::{Met, edit_all, make_all, options};
-use crate::places::{CALLS, MANNERS, Manner, Place, fits, name};
+use crate::places::{CALLS, Manner, Place, fits, name};
 use builder::Options;
 use sim::{Call, Sim, Toy, Trouble};
 use std::alloc::{AllocError, Global};
@@ -24,21 +24,32 @@ struct Swept {
 
 /// In each manner, each call of each kind is refused, and the site stops in it, an append after each number of bytes. Behind
 /// each the history ends as a build of the same sources on a fresh site, and no further build starts more than it does there.
-pub fn push_swept(alloc: Global, row: Row<'_>, told: &mut Vec<u8>) -> io::Result<()> {
+pub fn push_swept(
+    alloc: Global,
+    row: Row<'_>,
+    manners: &[Manner],
+    told: &mut Vec<u8>,
+) -> io::Result<()> {
     let mut expected = Vec::new(alloc);
     push_expected(alloc, row, &mut expected)?;
-    sweep(alloc, row, &expected, told)
+    sweep(alloc, row, manners, &expected, told)
 }
 
-fn sweep(alloc: Global, row: Row<'_>, expected: &[u8], told: &mut Vec<u8>) -> io::Result<()> {
+fn sweep(
+    alloc: Global,
+    row: Row<'_>,
+    manners: &[Manner],
+    expected: &[u8],
+    told: &mut Vec<u8>,
+) -> io::Result<()> {
     let longest = longest(alloc, row)?;
     let mut swept = Swept {
         runs: 0,
         met: 0,
         wrong: None,
     };
-    for manner in MANNERS {
-        try_manner(alloc, row, manner, longest, expected, &mut swept)?;
+    for manner in manners {
+        try_manner(alloc, row, *manner, longest, expected, &mut swept)?;
     }
     tell(expected, &swept, told)
 }

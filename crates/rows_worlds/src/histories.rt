@@ -9,6 +9,7 @@ use crate::driven::{push_calls, push_driven};
 use crate::each_call::push_swept;
 use crate::lines::Row;
 use crate::made_up::Source;
+use crate::places::{ALONE, MANNERS};
 use crate::trial::push_tried;
 use std::alloc::{AllocError, Global};
 use std::io;
@@ -46,7 +47,7 @@ impl Histories {
     ) -> Result<bool, AllocError> {
         let (first, rest) = word(row);
         match first {
-            "each_call" | "drive" | "calls" | "clean" | "made_up" => {
+            "each_call" | "each_call_alone" | "drive" | "calls" | "clean" | "made_up" => {
                 self.push_answer(alloc, first, rest, told)?;
                 return Ok(true);
             }
@@ -111,7 +112,7 @@ impl Histories {
     }
 }
 
-/// `each_call`: the history, in which each call goes wrong in turn. `drive`: the history as one list of moves. `calls`: which calls of a site
+/// `each_call`: the history, in which each call goes wrong in turn, in each manner; `each_call_alone`: where one command runs at a time. `drive`: the history as one list of moves. `calls`: which calls of a site
 /// that list makes. `clean`: what a clean build leaves behind the edits. `made_up COUNT SEED`: so many histories that are made up, whose
 /// build files are the moves of this one.
 fn push_asked(
@@ -122,7 +123,8 @@ fn push_asked(
     told: &mut Vec<u8>,
 ) -> io::Result<()> {
     match first {
-        "each_call" => push_swept(alloc, row, told),
+        "each_call" => push_swept(alloc, row, &MANNERS, told),
+        "each_call_alone" => push_swept(alloc, row, &ALONE, told),
         "drive" => push_driven(alloc, row, told),
         "calls" => push_calls(alloc, row, told),
         "clean" => push_clean(alloc, source, row.moves, told),

@@ -26,6 +26,20 @@ pub struct Manner {
     pub order: Order,
 }
 
+/// The manners in which a history goes whose commands need one another, so that one runs at a time.
+pub const ALONE: [Manner; 2] = [
+    Manner {
+        jobs: 1,
+        timing: Timing::Early,
+        order: Order::First,
+    },
+    Manner {
+        jobs: 1,
+        timing: Timing::Late,
+        order: Order::First,
+    },
+];
+
 pub const MANNERS: [Manner; 6] = [
     Manner {
         jobs: 1,
