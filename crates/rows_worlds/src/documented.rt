@@ -104,18 +104,18 @@ fn push_options(alloc: Global, text: &str, options: &mut String) -> Result<(), A
 
 /// Puts the options whose letters stand behind `-s`, and whose words stand behind `-l`.
 fn push_named(alloc: Global, text: &str, options: &mut String) -> Result<(), AllocError> {
-    let mut before = "";
+    let mut dashes = 0_u8;
     for name in text.split(' ') {
-        let dashes = match before {
-            "-s" => "-",
-            "-l" => "--",
-            _ => "",
-        };
-        let option = format!(in alloc; "{dashes}{name}")?;
-        if !dashes.is_empty() {
-            push_option(option.as_str(), options)?;
+        if dashes == 1 {
+            push_option(format!(in alloc; "-{name}")?.as_str(), options)?;
+        } else if dashes == 2 {
+            push_option(format!(in alloc; "--{name}")?.as_str(), options)?;
         }
-        before = name;
+        dashes = match name {
+            "-s" => 1,
+            "-l" => 2,
+            _ => 0,
+        };
     }
     Ok(())
 }
