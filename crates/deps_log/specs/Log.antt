@@ -1,5 +1,6 @@
 -- The deps log.
-use Rattle.std.specs.Prelude.{◌≡◌, ℕ, List, [], ◌∷◌, None, Some, map}
+use Rattle.std.specs.Prelude.{◌≡◌, ℕ, List, [], ◌∷◌, Option, None, Some, map}
+use Rattle.std.specs.Option.{option_map, option_copied}
 use Rattle.std.specs.Borrow.{Bor}
 use Rattle.model.specs.declared.record.DepsRecord.{DepsRecord}
 use Rattle.model.specs.Records.{Told}
@@ -40,6 +41,10 @@ pub record Keeps (records : List DepsRecord) (log : Table Deps) : Type 0 where
 -- what numbers tell, the texts being these
 abbrev pub told_in : List (List ℕ) → Deps → Told
 told_in texts deps = record { start = deps.start; paths = texts_at texts deps.paths }
+
+-- what was found, as its numbers tell
+abbrev pub told_found : Table Deps → Option (Bor Deps) → Option Told
+told_found log found = option_map (told_in log.outputs) (option_copied found)
 
 -- the record of what is in force for some outputs, the texts being these
 abbrev pub record_in : List (List ℕ) → List (Bor (List ℕ)) × Bor Deps → DepsRecord

@@ -1,10 +1,12 @@
 -- The records of the deps log, and their lines.
 use Rattle.std.specs.Prelude.{◌≡◌, ◌<◌, ◌^◌, ℕ, List, [], ◌∷◌, ◌++◌, decimal, length, codes}
+use Rattle.std.specs.Borrow.{Bor}
 use Rattle.model.specs.declared.record.DepsRecord.{DepsRecord}
 use Rattle.build_log.specs.declared.form.Version.{Version}
 use Rattle.build_log.specs.declared.form.Version.TheVariants.{One, Two}
-use Rattle.build_log.specs.Line.{counted}
-use Rattle.build_log.specs.Form.{Form}
+use Rattle.build_log.specs.Line.{counted, fields_text}
+use Rattle.build_log.specs.Form.{Form, IsAppended}
+use Rattle.build_log.specs.Found.{texts_in}
 use Rattle.build_log.specs.Kept.{AreDistinct}
 use Rattle.build_log.specs.Record.{output_fields, HasRoomFor}
 
@@ -34,6 +36,38 @@ first_line Two = codes "nj-deps 2"
 
 abbrev pub forms : Version → Form DepsRecord
 forms version = record { first = first_line version; fields = fields_of version; Fits = IsRecord version }
+
+-- the record that a command of these outputs, started under this stamp, told that it read these paths
+abbrev pub reported : List (List ℕ) → ℕ → List (List ℕ) → DepsRecord
+reported outputs start paths = record { outputs = outputs; start = start; paths = paths }
+
+-- these are its fields
+abbrev pub AreFieldsOf : Version → DepsRecord → List (List ℕ) → Type 0
+AreFieldsOf version r fields = (fields ≡ fields_of version r) × IsRecord version r
+
+-- the fields tell this
+abbrev pub Tell : Version → List (List ℕ) → List (List ℕ) → ℕ → List (List ℕ) → Type 0
+Tell version fields outputs start paths = AreFieldsOf version (reported outputs start paths) fields
+
+-- the fields behind the outputs are those of this start and these paths
+abbrev pub AreTold : List (List ℕ) → ℕ → List (List ℕ) → Type 0
+AreTold fields start paths = (fields ≡ told_fields start paths) × (start < 2 ^ 64) × (length paths < 2 ^ 64)
+
+-- they are those of none
+abbrev pub AreNotTold : List (List ℕ) → Type 0
+AreNotTold fields = (start : ℕ) (ps : List (List ℕ)) → start < 2 ^ 64 → length ps < 2 ^ 64 → fields ≡ told_fields start ps → ⊥
+
+-- what is written of the fields in front of the paths, and the rest behind them
+abbrev pub headed : List ℕ → ℕ → ℕ → List ℕ → List ℕ
+headed output start count rest = fields_text (head_fields output start count) ++ rest
+
+-- the line of this record, which has one in version 2, was written behind the old text
+abbrev pub Appends : DepsRecord → List ℕ → List ℕ → Type 0
+Appends r old new = IsAppended (forms Two) r old new
+
+-- so was the line of this start and these paths
+abbrev pub Reports : List (Bor (List ℕ)) → ℕ → List (Bor (List ℕ)) → List ℕ → List ℕ → Type 0
+Reports outputs start paths old new = Appends (reported (texts_in outputs) start (texts_in paths)) old new
 
 -- the fields are no record's
 abbrev pub IsNoRecord : Version → List (List ℕ) → Type 0

@@ -1,16 +1,14 @@
 //! What is kept of the deps log.
 
-ghost use Rattle.std.specs.Prelude.{◌≡◌, ◌↔◌, [], ◌∷◌, ◌++◌, List, ℕ, IfOk, IsTrue, OnOk, OnErr, length, slice_get};
-ghost use Rattle.std.specs.Option.{option_map, option_copied};
-ghost use Rattle.model.specs.declared.record.DepsRecord.{DepsRecord};
+ghost use Rattle.std.specs.Prelude.{◌≡◌, IfOk, OnOk, OnErr, length, slice_get};
+ghost use Rattle.std.specs.Option.{option_map};
 ghost use Rattle.model.specs.Records.{deps_in_force};
 ghost use Rattle.build_log.specs.declared.form.Version.TheVariants.{Two};
-ghost use Rattle.build_log.specs.Form.{IsAppended};
-ghost use Rattle.build_log.specs.Kept.{AreDistinct, WantsCompaction};
-ghost use Rattle.build_log.specs.Text.{IsRead};
+ghost use Rattle.build_log.specs.Kept.{AreDistinct};
+ghost use Rattle.build_log.specs.Keeping.{OfKept, KeepsSame, KeepsAlso, IsParsed};
 ghost use Rattle.build_log.specs.Found.{IsNamed};
-ghost use Rattle.deps_log.specs.Record.{IsRecord, forms};
-ghost use Rattle.deps_log.specs.Log.{Keeps, compaction, told_in, tolds, record_in};
+ghost use Rattle.deps_log.specs.Record.{IsRecord, forms, reported, Appends};
+ghost use Rattle.deps_log.specs.Log.{Keeps, compaction, told_found, tolds, record_in};
 
 use crate::deps::Deps;
 use crate::record::{head_of, record_line, said_by};
@@ -141,7 +139,7 @@ impl Log {
     /// Each byte is looked at a fixed number of times. The text of an output or path is copied where it stands for the
     /// first time, and looked up once wherever it stands.
     pub fn parse(alloc: Global, bytes: &[u8]) -> Result<(Log, Tail), AllocError>
-        ensures { IfOk result (λ read. (records : List DepsRecord) × IsRead forms bytes.now records read.1 × Keeps records read.0) }
+        ensures { IfOk result (λ read. IsParsed forms Keeps bytes.now read.0 read.1) }
     {
         build_log::parse::<Log>(alloc, bytes)
     }
@@ -149,8 +147,8 @@ impl Log {
     /// Puts a record at the end. Where memory is refused, the log stands for the same records as before.
     pub fn apply(&mut self, alloc: Global, added: &DepsRecord) -> Result<(), AllocError>
         requires { IsRecord Two added.now }
-        ensures ok { OnOk result ((records : List DepsRecord) → Keeps records self.old → Keeps (records ++ added.now ∷ []) self.new) }
-        ensures err { OnErr result ((records : List DepsRecord) → Keeps records self.old → Keeps records self.new) }
+        ensures ok { OnOk result (KeepsAlso Keeps added.now self.old self.new) }
+        ensures err { OnErr result (KeepsSame Keeps self.old self.new) }
     {
         let outputs = plain_fields(alloc, added.outputs.as_slice())?;
         let paths = plain_fields(alloc, added.paths.as_slice())?;
@@ -166,8 +164,8 @@ impl Log {
         paths: &[Field<'_>],
     ) -> Result<(), AllocError>
         requires { AreDistinct outputs.now }
-        ensures ok { OnOk result ((records : List DepsRecord) → Keeps records self.old → Keeps (records ++ record { outputs = outputs.now; start = start; paths = paths.now } ∷ []) self.new) }
-        ensures err { OnErr result ((records : List DepsRecord) → Keeps records self.old → Keeps records self.new) }
+        ensures ok { OnOk result (KeepsAlso Keeps (reported outputs.now start paths.now) self.old self.new) }
+        ensures err { OnErr result (KeepsSame Keeps self.old self.new) }
     {
         let paths = self.kept.numbers(alloc, paths)?;
         self.kept.put(alloc, outputs, Some(Deps { start, paths }))
@@ -176,14 +174,14 @@ impl Log {
     /// What is in force for an output: the start of the command, and the numbers of the paths that it read. It takes no
     /// memory.
     pub fn lookup(&self, output: &str) -> Option<&Deps>
-        ensures { (records : List DepsRecord) → Keeps records self.now → option_map (told_in self.now.outputs) (option_copied result) ≡ deps_in_force records output.now }
+        ensures { OfKept Keeps self.now (λ all. told_found self.now result ≡ deps_in_force all output.now) }
     {
         self.kept.lookup(output)
     }
 
     /// What the record with this number tells: they are counted from 0. It takes no memory.
     pub fn deps_at(&self, number: usize) -> Option<&Deps>
-        ensures { (records : List DepsRecord) → Keeps records self.now → option_map (told_in self.now.outputs) (option_copied result) ≡ slice_get (tolds records) number }
+        ensures { OfKept Keeps self.now (λ all. told_found self.now result ≡ slice_get (tolds all) number) }
     {
         self.kept.at(number)
     }
@@ -197,7 +195,7 @@ impl Log {
 
     /// How many records are in force, each for one of its outputs at least.
     pub fn records_in_force(&self) -> usize
-        ensures { (records : List DepsRecord) → Keeps records self.now → result ≡ length (compaction records) }
+        ensures { OfKept Keeps self.now (λ all. result ≡ length (compaction all)) }
     {
         self.kept.records_in_force()
     }
@@ -210,7 +208,7 @@ impl Log {
         telling: &InForce<'_, Deps>,
     ) -> Result<(), AllocError>
         requires { IsNamed telling.now }
-        ensures { OnOk result (IsAppended (forms Two) (record_in self.now.outputs telling.now) text.old.items text.new.items) }
+        ensures { OnOk result (Appends (record_in self.now.outputs telling.now) text.old.items text.new.items) }
     {
         let (outputs, deps) = telling;
         let paths = self.kept.texts(alloc, deps.paths.as_slice())?;

@@ -1,15 +1,13 @@
 //! The records of the deps log and their lines.
 
-ghost use Rattle.std.specs.Prelude.{◌≡◌, ◌<◌, ◌^◌, ◌∷◌, [], ◌++◌, List, ℕ, IfSome, IfNone, IfOk, OnOk, OnSome, length, decimal};
+ghost use Rattle.std.specs.Prelude.{◌≡◌, ◌<◌, ◌^◌, ◌∷◌, [], ◌++◌, IfSome, IfNone, OnOk, OnSome, length};
 ghost use Rattle.build_log.specs.declared.form.Version.TheVariants.{Two};
-ghost use Rattle.std.specs.List.{flat_map};
-ghost use Rattle.std.specs.Str.{IsUtf8};
 ghost use Rattle.text.specs.Marks.{Lacks};
-ghost use Rattle.build_log.specs.Line.{counted, field_and_tab, AreTexts};
-ghost use Rattle.build_log.specs.Form.{IsAppended};
+ghost use Rattle.build_log.specs.Answered.{IfFound, IfMissing};
+ghost use Rattle.build_log.specs.Line.{AreTexts};
 ghost use Rattle.build_log.specs.Found.{texts_in};
 ghost use Rattle.build_log.specs.Kept.{AreDistinct};
-ghost use Rattle.deps_log.specs.Record.{fields_of, told_fields, head_fields, IsRecord, IsNoRecord, forms};
+ghost use Rattle.deps_log.specs.Record.{head_fields, headed, AreTold, AreNotTold, Tell, IsNoRecord, Reports};
 
 use crate::number::number_in;
 use build_log::{
@@ -27,8 +25,8 @@ pub(crate) fn said_by<'f, 'a>(
     version: Version,
     fields: &'f [Field<'a>],
 ) -> Result<Option<Said<'f, 'a>>, AllocError>
-    ensures found { IfOk result (λ found. IfSome found (λ said. (fields.now ≡ fields_of version (record { outputs = said.0.now; start = said.1; paths = said.2.now })) × IsRecord version (record { outputs = said.0.now; start = said.1; paths = said.2.now }))) }
-    ensures none { IfOk result (λ found. IfNone found (IsNoRecord version fields.now)) }
+    ensures found { IfFound result (λ said. Tell version fields.now said.0.now said.1 said.2.now) }
+    ensures none { IfMissing result (IsNoRecord version fields.now) }
 {
     let Some((kind, rest)) = fields.split_first() else {
         return Ok(None);
@@ -50,8 +48,8 @@ pub(crate) fn said_by<'f, 'a>(
 
 /// The start and the paths that the fields behind the outputs tell, if they tell some.
 fn told_by<'f, 'a>(fields: &'f [Field<'a>]) -> Option<(u64, &'f [Field<'a>])>
-    ensures found { IfSome result (λ told. (fields.now ≡ told_fields told.0 told.1.now) × (told.0 < 2 ^ 64) × (length told.1.now < 2 ^ 64)) }
-    ensures none { IfNone result ((start : ℕ) (paths : List (List ℕ)) → start < 2 ^ 64 → length paths < 2 ^ 64 → fields.now ≡ told_fields start paths → ⊥) }
+    ensures found { IfSome result (λ told. AreTold fields.now told.0 told.1.now) }
+    ensures none { IfNone result (AreNotTold fields.now) }
 {
     let (start, rest) = fields.split_first()?;
     let start = number_of(start.as_str())?;
@@ -67,7 +65,7 @@ fn told_by<'f, 'a>(fields: &'f [Field<'a>]) -> Option<(u64, &'f [Field<'a>])>
 pub(crate) fn head_of(version: Version, line: &[u8]) -> Option<(&str, u64, u64, &[u8])>
     requires { Lacks 10 line.now }
     ensures version { OnSome result (version ≡ Two) }
-    ensures head { IfSome result (λ head. line.now ≡ (flat_map field_and_tab (head_fields head.0.now head.1 head.2) ++ head.3.now) ++ 46 ∷ []) }
+    ensures head { IfSome result (λ head. line.now ≡ headed head.0.now head.1 head.2 head.3.now ++ 46 ∷ []) }
     ensures texts { IfSome result (λ head. AreTexts (head_fields head.0.now head.1 head.2)) }
     ensures start { IfSome result (λ head. head.1 < 2 ^ 64) }
     ensures count { IfSome result (λ head. head.2 < 2 ^ 64) }
@@ -86,7 +84,7 @@ pub(crate) fn head_of(version: Version, line: &[u8]) -> Option<(&str, u64, u64, 
 /// The same, in what stands before the dot.
 fn head_in(front: &[u8]) -> Option<(&str, u64, u64, &[u8])>
     requires { Lacks 10 front.now }
-    ensures head { IfSome result (λ head. front.now ≡ flat_map field_and_tab (head_fields head.0.now head.1 head.2) ++ head.3.now) }
+    ensures head { IfSome result (λ head. front.now ≡ headed head.0.now head.1 head.2 head.3.now) }
     ensures texts { IfSome result (λ head. AreTexts (head_fields head.0.now head.1 head.2)) }
     ensures start { IfSome result (λ head. head.1 < 2 ^ 64) }
     ensures count { IfSome result (λ head. head.2 < 2 ^ 64) }
@@ -119,7 +117,7 @@ pub fn record_line(
 ) -> Result<(), AllocError>
     requires some { 0 < length outputs.now }
     requires once { AreDistinct (texts_in outputs.now) }
-    ensures { OnOk result (IsAppended (forms Two) (record { outputs = texts_in outputs.now; start = start; paths = texts_in paths.now }) text.old.items text.new.items) }
+    ensures { OnOk result (Reports outputs.now start paths.now text.old.items text.new.items) }
 {
     push_text(text, "r")?;
     push_list(text, outputs)?;
