@@ -1,18 +1,16 @@
 -- What a run carries of its logs: how it begins, and how it goes on over calls that leave the logs alone.
-use Rattle.std.proofs.Common.{◌≡◌, ◌⊎◌, inl, inr, ℕ, Bool, true, false, IsTrue, List, [], ◌∷◌, ◌++◌, Option, Some, None, refl, sym, ◌∙◌, ap, subst, append_assoc}
+use Rattle.std.proofs.Common.{◌≡◌, ◌⊎◌, inl, inr, ℕ, Bool, true, false, IsTrue, List, [], ◌++◌, Option, Some, None, refl, sym, ◌∙◌, ap, subst, append_assoc}
 use Rattle.std.proofs.lemmas.List.{append-nil}
 use Rattle.std.proofs.lemmas.Bool.{false≢true}
 use Rattle.model.specs.declared.event.Event.{Event}
 use Rattle.model.specs.declared.event.Moment.{Moment}
 use Rattle.model.specs.declared.graph.Edge.{Edge}
 use Rattle.model.specs.declared.record.Record.{Record}
-use Rattle.model.specs.declared.record.DepsRecord.{DepsRecord}
 use Rattle.model.specs.World.{World, file_at, content_of, view_of, runs, IsIdle}
 use Rattle.model.specs.Calls.{OnlyLooks, Sees}
-use Rattle.model.specs.Graph.{has, has_number, edge_at, outputs, IsCommand, IsMadeOnce}
-use Rattle.model.specs.Outcome.{Behaviour}
-use Rattle.model.specs.Records.{OwnFiles, LogFormat, Store, store_in, read_log, in_force}
-use Rattle.model.specs.Schedule.{Step, started_in, well_in}
+use Rattle.model.specs.Graph.{has_number}
+use Rattle.model.specs.Records.{OwnFiles, store_in, read_log, in_force}
+use Rattle.model.specs.Schedule.{well_in}
 use Rattle.model.specs.Premises.{FilesAreKept}
 use Rattle.build_theory.proofs.Looks.{looks_then, kept_before, looks_keep, sees_so}
 use Rattle.build_theory.proofs.Makers.{one_maker}
@@ -23,19 +21,15 @@ use Rattle.build_log.specs.Text.{IsLogOf}
 use Rattle.build_log.specs.Laws.{Reads}
 use Rattle.build_log.specs.Log.{Keeps, compaction}
 use Rattle.build_log.specs.Record.{forms as record_forms}
-use Rattle.deps_log.specs.Format.{ReadsLogs}
 use Rattle.deps_log.specs.Log.{Keeps as KeepsDeps, compaction as deps_compaction}
 use Rattle.deps_log.specs.Record.{forms as deps_forms}
-use Rattle.log_theory.specs.Logged.{KeepsBoth, HasNone, HasNew, IsLoggedAt}
+use Rattle.log_theory.specs.Logged.{KeepsBoth, HasNone, HasNew}
 use Rattle.log_theory.proofs.Calls.{entry_logged, looks_logged}
-use Rattle.log_theory.proofs.Less.{store_same}
 use Rattle.records.specs.declared.file.State.{State}
 use Rattle.records.specs.declared.file.State.TheVariants.{Usable, Stale}
-use Rattle.records.specs.declared.logs.Logs.{Logs}
 use Rattle.records.specs.Held.{Held, text_in, IsReadFrom, WasRead, HoldsStill}
 use Rattle.records.specs.Carried.{IsHeldStill}
-use Rattle.records.specs.Logging.{IsLogging}
-use Rattle.records.specs.Laws.{WereRead, LogBegins, LogStays, StoreStays, NoneWhileRunning}
+use Rattle.records.specs.Laws.{LogBegins, LogStays, NoneWhileRunning}
 use Rattle.records.proofs.States.{no_log}
 use Rattle.records.proofs.Told.{records_told}
 use Rattle.records.proofs.Staying.{grew, build_stays, deps_stays}
@@ -146,10 +140,6 @@ log_stays_so tells B format own edges steps many hand next entry first now new l
   where
     kept_now : IsTrue tells → FilesAreKept own edges first.history new.history → FilesAreKept own edges first.history now.history
     kept_now tell kept = let call = grew tells own edges first now new tell leaves in kept_before own edges first.history now.history new.history call.0 call.1 kept
-
-pub store_stays_so : StoreStays
-store_stays_so tells B format own edges steps hand entry first now new logs leaves commands l tell kept =
-    store_same format own now.history new.history (build_stays tells own edges first now new l.commands l.grows tell kept commands leaves) (deps_stays tells own edges first now new l.commands l.grows tell kept commands leaves)
 
 -- ---- a command that runs
 

@@ -1,7 +1,7 @@
 -- The numbers of the records in force, path by path.
 use Rattle.std.proofs.Common.{◌≡◌, inl, inr, ℕ, zero, suc, ◌+◌, ◌<◌, ◌≤◌, false, List, [], ◌∷◌, ◌++◌, Option, Some, None, take, length, map, get_or, slice_get, unwrap_or, subst, sym, ◌∙◌, ap, append_assoc, arith, refl}
 use Rattle.std.specs.Option.{option_and_then}
-use Rattle.std.proofs.Math.Seq.{get_or-append_seam, take-append_seam}
+use Rattle.std.proofs.Math.Seq.{get_or-append_seam}
 use Rattle.std.proofs.lemmas.Option.{slice_get-get_or, slice_get_past, unwrap_or-slice_get}
 use Rattle.std.proofs.lemmas.List.{append-nil, get_or_append_left, length-append, map-append, take_more}
 use Rattle.std.proofs.lemmas.Bool.{cases_eq, cases_lt, false≢true}
@@ -59,10 +59,6 @@ longer_push first old new one pushed is = record {
   more = is.more ++ one ∷ [];
   grows = pushed ∙ (ap (λ (l : List (Option ℕ)). l ++ one ∷ []) is.grows ∙ append_assoc first is.more (one ∷ []));
 }
-
--- so many of them are those that stood there
-pub longer_back : (old new : List (Option ℕ)) → IsLonger old new → take (length old) new ≡ old
-longer_back old new is = ap (take (length old)) is.grows ∙ take-append_seam old is.more
 
 longer_same : (old new : List (Option ℕ)) → IsLonger old new → (p : ℕ) → p < length old → joined (slice_get new p) ≡ joined (slice_get old p)
 longer_same old new is p low =

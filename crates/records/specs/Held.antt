@@ -10,6 +10,7 @@ use Rattle.build_log.specs.declared.form.Version.TheVariants.{Two}
 use Rattle.build_log.specs.declared.tail.Tail.{Tail}
 use Rattle.build_log.specs.Form.{Form}
 use Rattle.build_log.specs.Kept.{WantsCompaction, joined}
+use Rattle.build_log.specs.Keeping.{Keeping}
 use Rattle.build_log.specs.Text.{IsRead, IsLogOf, IsEnded, IsTornOf}
 use Rattle.records.specs.declared.file.State.{State}
 use Rattle.records.specs.declared.file.State.TheVariants.{Usable, Stale}
@@ -25,6 +26,34 @@ abbrev pub text_in : Option (List ℕ) → List ℕ
 text_in None = []
 text_in (Some text) = text
 
+-- what a file holds, if it is there
+abbrev pub Content : Type 0
+Content = Option (List ℕ)
+
+-- how the records of a log are written in either version
+abbrev pub Forms : Type 0 → Type 1
+Forms R = Version → Form R
+
+-- which records a compaction leaves
+abbrev pub Compacts : Type 0 → Type 0
+Compacts R = List R → List R
+
+-- what records tell, in order
+abbrev pub Tellings : Type 0 → Type 0 → Type 0
+Tellings R X = List R → List X
+
+-- what records have in force for a text
+abbrev pub InForce : Type 0 → Type 0 → Type 0
+InForce R X = List R → List ℕ → Option X
+
+-- paths, by number
+abbrev pub Paths : Type 0
+Paths = List (List ℕ)
+
+-- the numbers of records by the numbers of paths
+abbrev pub Places : Type 0
+Places = List (Option ℕ)
+
 -- the file tells these records, however it ends
 abbrev pub AreRecordsIn : {R : Type 0} → (Version → Form R) → Option (List ℕ) → List R → Type 0
 AreRecordsIn forms content rs = (tail : Tail) × IsRead forms (text_in content) rs tail
@@ -32,6 +61,19 @@ AreRecordsIn forms content rs = (tail : Tail) × IsRead forms (text_in content) 
 -- a line may be appended: the file is a log of version 2 of these records, which wants no compaction
 abbrev pub MayBeAppendedTo : {R : Type 0} → (Version → Form R) → (List R → List R) → Option (List ℕ) → List R → Type 0
 MayBeAppendedTo forms compaction content rs = IsLogOf (forms Two) (text_in content) rs × (WantsCompaction (length rs) (length (compaction rs)) → ⊥)
+
+-- it is told right whether a line may be appended
+abbrev pub IsStateOf : {R : Type 0} → Forms R → Compacts R → Content → List R → State → Type 0
+IsStateOf forms compact held rs state = (state ≡ Usable) ↔ MayBeAppendedTo forms compact held rs
+
+-- so it is of some records, which the file tells and which are kept
+abbrev pub IsJudged : {R T : Type 0} → Forms R → Keeping R T → Compacts R → Content → T → State → Type 0
+IsJudged {R} forms Keeps compact held log state =
+    (rs : List R) × AreRecordsIn forms held rs × Keeps rs log × IsStateOf forms compact held rs state
+
+-- of whatever records a text tells that ends so
+abbrev pub OfRead : {R : Type 0} → Forms R → List ℕ → Tail → (List R → Type 0) → Type 0
+OfRead {R} forms text tail P = (rs : List R) → IsRead forms text rs tail → P rs
 
 -- this was read of a file that held this, and tells these records
 pub record IsReadFrom {R T : Type 0} (forms : Version → Form R) (Keeps : List R → T → Type 0) (compaction : List R → List R) (content : Option (List ℕ)) (rs : List R) (file : Held T) : Type 0 where
@@ -45,6 +87,14 @@ pub record WasRead {R T : Type 0} (forms : Version → Form R) (Keeps : List R �
   pub read : IsReadFrom forms Keeps compaction content rs file
   pub seen : IsTrue tells → Sees (λ history. content_of (file_at history file.path)) content old.history new.history
 
+-- what is said of the reading of a log between two worlds
+abbrev pub OfReading : Type 0 → Type 1
+OfReading T = World → World → Held T → Type 0
+
+-- of some records it was read so
+abbrev pub WasReadSo : {R T : Type 0} → Forms R → Keeping R T → Compacts R → Bool → OfReading T
+WasReadSo {R} forms Keeps compact tells old new it = (rs : List R) × WasRead forms Keeps compact tells old new rs it
+
 -- these are, for each of the paths, the numbers of the records in force for it
 abbrev pub ArePlaces : {R X : Type 0} → (List R → List X) → (List R → List ℕ → Option X) → List R → List (List ℕ) → List (Option ℕ) → Type 0
 ArePlaces told in_force rs paths places = (p : ℕ) → p < length paths → option_and_then (slice_get (told rs)) (joined (slice_get places p)) ≡ in_force rs (text_at paths p)
@@ -53,6 +103,31 @@ ArePlaces told in_force rs paths places = (p : ℕ) → p < length paths → opt
 abbrev pub AreMadeFrom : {R X : Type 0} → (List R → List X) → (List R → List ℕ → Option X) → ℕ → ℕ → List R → List (List ℕ) → List (Option ℕ) → Type 0
 AreMadeFrom told in_force start stop rs paths places =
     (p : ℕ) → start ≤ p → p < stop → option_and_then (slice_get (told rs)) (joined (slice_get places p)) ≡ in_force rs (text_at paths p)
+
+-- what is said of places for paths
+abbrev pub OfPlaces : Type 0 → Type 1
+OfPlaces R = List R → Paths → Places → Type 0
+
+-- so they are for the paths behind those that had places before
+abbrev pub AreMadeBehind : {R X : Type 0} → Tellings R X → InForce R X → Places → OfPlaces R
+AreMadeBehind told in_force old rs ps = AreMadeFrom told in_force (length old) (length ps) rs ps
+
+-- where there were no more places than paths, there still are not
+abbrev pub StaysWithin : Paths → Places → Places → Type 0
+StaysWithin paths old new = length old ≤ length paths → length new ≤ length paths
+
+-- where there were no more places than paths, each path has one
+abbrev pub Fills : Paths → Places → Places → Type 0
+Fills paths old new = length old ≤ length paths → length new ≡ length paths
+
+-- of each list of paths in front of these that has no fewer paths than there were places
+abbrev pub OfFront : Paths → Places → (Paths → Type 0) → Type 0
+OfFront all old P = (ps more : Paths) → all ≡ ps ++ more → length old ≤ length ps → P ps
+
+-- what was so of the places for the paths in front is now so of those for all
+abbrev pub GrowsTo : {R T : Type 0} → OfPlaces R → Keeping R T → T → Paths → Places → Places → Type 0
+GrowsTo {R} Are Keeps log all old new =
+    (rs : List R) → OfFront all old (λ ps. Keeps rs log → Are rs ps old → Are rs all new)
 
 -- more numbers stand behind those that stood there
 pub record IsLonger (old new : List (Option ℕ)) : Type 0 where

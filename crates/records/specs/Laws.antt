@@ -10,7 +10,6 @@ use Rattle.model.specs.Graph.{has_number, IsCommand, IsMadeOnce}
 use Rattle.model.specs.Outcome.{Behaviour}
 use Rattle.model.specs.Records.{OwnFiles, LogFormat, Store, store_in}
 use Rattle.model.specs.Schedule.{Step, started_in, well_in}
-use Rattle.model.specs.Premises.{FilesAreKept}
 use Rattle.build_log.specs.Log.{Keeps, compaction}
 use Rattle.build_log.specs.Record.{forms}
 use Rattle.deps_log.specs.Format.{ReadsLogs}
@@ -18,14 +17,25 @@ use Rattle.deps_log.specs.Log.{Keeps as KeepsDeps, compaction as deps_compaction
 use Rattle.deps_log.specs.Record.{forms as deps_forms}
 use Rattle.log_theory.specs.Writes.{GrewAt}
 use Rattle.records.specs.declared.logs.Logs.{Logs}
-use Rattle.records.specs.Held.{WasRead}
+use Rattle.records.specs.Held.{Paths, WasRead}
 use Rattle.records.specs.Carried.{WhereKept}
+use Rattle.records.specs.declared.records.Records.{Records}
+use Rattle.records.specs.Known.{IsOf, IsOfDeps, SomeOfBoth}
 use Rattle.records.specs.Logging.{IsLogging, IsLoggedStill, NoneInForce}
 
 -- both logs were read between these worlds, and told these records
 pub record WereRead (tells : Bool) (old new : World) (rs : List Record) (ds : List DepsRecord) (logs : Logs) : Type 0 where
   pub build_log : WasRead forms Keeps compaction tells old new rs logs.build_log
   pub deps_log : WasRead deps_forms KeepsDeps deps_compaction tells old new ds logs.deps_log
+
+-- of some records they were read so
+abbrev pub WereReadSo : Bool → World → World → Logs → Type 0
+WereReadSo tells old new logs = SomeOfBoth (λ rs ds. WereRead tells old new rs ds logs)
+
+-- of some records they were read so, and these are known for the paths
+abbrev pub AreRead : Bool → World → World → Paths → Records → Type 0
+AreRead tells old new ps it =
+    (rs : List Record) × (ds : List DepsRecord) × IsOf rs ps it × IsOfDeps ds ps it × WereRead tells old new rs ds it.logs
 
 -- the records that were read are those of the store at the entry, where the files were kept
 abbrev pub AreOfEntry : Bool → LogFormat → OwnFiles → List Edge → World → World → List Record → List DepsRecord → Type 0
@@ -64,14 +74,6 @@ LogStays =
     → LeavesTheLogs tells own edges first now new → ((job : ℕ) → runs job new.events ≡ true → IsCommand edges job)
     → IsLoggedStill tells B format own edges many next entry first new
     → IsLogging tells B format own edges steps hand entry first now logs → IsLogging tells B format own edges many next entry first new logs
-
--- and they tell the same
-abbrev pub StoreStays : Type 0
-StoreStays =
-    (tells : Bool) (B : Behaviour) (format : LogFormat) (own : OwnFiles) (edges : List Edge) (steps : List Step) (hand : Option ℕ) (entry : Store) (first now new : World) (logs : Logs)
-    → LeavesTheLogs tells own edges first now new → ((job : ℕ) → runs job new.events ≡ true → IsCommand edges job)
-    → IsLogging tells B format own edges steps hand entry first now logs
-    → WhereKept tells own edges first new (store_in format own (view_of new.history) ≡ store_in format own (view_of now.history))
 
 -- While a command has been started and has not ended well, no record of its outputs is in force.
 abbrev pub NoneWhileRunning : Type 0

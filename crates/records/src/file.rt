@@ -1,19 +1,13 @@
 //! The file of a log, and what it told when it was read.
 
-ghost use Rattle.std.specs.Prelude.{◌≡◌, ◌<◌, ◌≤◌, ◌↔◌, ◌^◌, ◌++◌, ℕ, List, Option, Some, None, IfOk, OnOk, OnErr, IsFalse, false, string_bytes, length, slice_get};
-ghost use Rattle.std.specs.Option.{option_and_then};
-ghost use Rattle.model.specs.declared.graph.Edge.{Edge};
-ghost use Rattle.model.specs.World.{World, view_of};
+ghost use Rattle.std.specs.Prelude.{◌≡◌, ◌<◌, ◌≤◌, ◌↔◌, ◌^◌, Some, IfOk, OnOk, OnErr, IsFalse, false, string_bytes, length};
 ghost use Rattle.model.specs.Calls.{OnlyLooks, HasCause};
-ghost use Rattle.model.specs.Records.{OwnFiles};
 ghost use Rattle.paths.specs.Told.{text_at};
-ghost use Rattle.build_log.specs.declared.form.Version.TheVariants.{Two};
-ghost use Rattle.build_log.specs.Kept.{WantsCompaction};
-ghost use Rattle.build_log.specs.Text.{IsRead, IsLogOf};
-ghost use Rattle.build_log.specs.Form.{IsLineOf};
+ghost use Rattle.build_log.specs.Keeping.{OfKept, at_number};
 ghost use Rattle.log_theory.specs.Writes.{WritesAt};
-ghost use Rattle.records.specs.Held.{text_in, WasRead, ArePlaces, AreMadeFrom, IsLonger, IsSameLog, TellsMore, IsKeptOrWrittenAnew, MayTellMore};
-ghost use Rattle.records.specs.Carried.{WhereKept, IsCarriedLog};
+ghost use Rattle.records.specs.Edges.{paths_in};
+ghost use Rattle.records.specs.Held.{text_in, WasReadSo, ArePlaces, AreMadeBehind, StaysWithin, Fills, GrowsTo, IsLonger, IsSameLog, IsKeptOrWrittenAnew, MayTellMore, IsJudged, OfRead, IsStateOf};
+ghost use Rattle.records.specs.Carried.{CarriesOn, CarriesLine, ChangesSo, PutsSo, TellsAlso};
 
 use build_log::{Records, Tail, front_of_lines, line_grows_log, one_reading};
 use links::Graph;
@@ -62,7 +56,7 @@ impl<L: Records> LogFile<L> {
         ensures looks { OnlyLooks S.tells (S.world site.old) (S.world site.new) }
         ensures cause { HasCause (S.world site.old) (S.world site.new) result }
         ensures path { IfOk result (λ file. file.path ≡ string_bytes path) }
-        ensures read { IfOk result (λ file. (rs : List L.Record) × WasRead L.forms L.Keeps L.compaction S.tells (S.world site.old) (S.world site.new) rs file) }
+        ensures read { IfOk result (WasReadSo L.forms L.Keeps L.compaction S.tells (S.world site.old) (S.world site.new)) }
     {
         let content = site.read(path.as_str())?;
         let (log, state) = log_of::<L>(alloc, &content)?;
@@ -75,8 +69,8 @@ impl<L: Records> LogFile<L> {
         alloc: Global,
         graph: &Graph,
     ) -> Result<Vec<Option<usize>>, AllocError>
-        ensures fits { IfOk result (λ places. length places.items ≤ length graph.now.manifest.paths) }
-        ensures made { IfOk result (λ places. (rs : List L.Record) → L.Keeps rs self.now.log → ArePlaces L.told L.in_force rs graph.now.manifest.paths places.items) }
+        ensures fits { IfOk result (λ places. length places.items ≤ length (paths_in graph.now)) }
+        ensures made { IfOk result (λ places. OfKept L.Keeps self.now.log (λ rs. ArePlaces L.told L.in_force rs (paths_in graph.now) places.items)) }
     {
         let mut places = Vec::new(alloc);
         self.look_up(graph, &mut places)?;
@@ -91,8 +85,8 @@ impl<L: Records> LogFile<L> {
         places: &mut Vec<Option<usize>>,
     ) -> Result<(), AllocError>
         ensures longer { IsLonger places.old.items places.new.items }
-        ensures fits { OnOk result (length places.old.items ≤ length graph.now.manifest.paths → length places.new.items ≤ length graph.now.manifest.paths) }
-        ensures made { OnOk result ((rs : List L.Record) (paths more : List (List ℕ)) → graph.now.manifest.paths ≡ paths ++ more → length places.old.items ≤ length paths → L.Keeps rs self.now.log → ArePlaces L.told L.in_force rs paths places.old.items → ArePlaces L.told L.in_force rs graph.now.manifest.paths places.new.items) }
+        ensures fits { OnOk result (StaysWithin (paths_in graph.now) places.old.items places.new.items) }
+        ensures made { OnOk result (GrowsTo (ArePlaces L.told L.in_force) L.Keeps self.now.log (paths_in graph.now) places.old.items places.new.items) }
     {
         L::keeps_in_force();
         if self.log.records() == 0 {
@@ -105,8 +99,8 @@ impl<L: Records> LogFile<L> {
     /// The same where the log has records, one path after the other.
     fn look_up_each(&self, graph: &Graph, places: &mut Vec<Option<usize>>) -> Result<(), AllocError>
         ensures longer { IsLonger places.old.items places.new.items }
-        ensures fits { OnOk result (length places.old.items ≤ length graph.now.manifest.paths → length places.new.items ≡ length graph.now.manifest.paths) }
-        ensures made { OnOk result ((rs : List L.Record) → L.Keeps rs self.now.log → AreMadeFrom L.told L.in_force (length places.old.items) (length graph.now.manifest.paths) rs graph.now.manifest.paths places.new.items) }
+        ensures fits { OnOk result (Fills (paths_in graph.now) places.old.items places.new.items) }
+        ensures made { OnOk result (OfKept L.Keeps self.now.log (λ rs. AreMadeBehind L.told L.in_force places.old.items rs (paths_in graph.now) places.new.items)) }
     {
         let count = graph.manifest.paths.len();
         places.reserve(count.saturating_sub(places.len()))?;
@@ -118,9 +112,9 @@ impl<L: Records> LogFile<L> {
 
     /// The number of the record in force for the path with this place.
     fn place_at(&self, graph: &Graph, place: usize) -> Option<usize>
-        requires within { place < length graph.now.manifest.paths }
+        requires within { place < length (paths_in graph.now) }
         requires small { place < 2 ^ 32 }
-        ensures { (rs : List L.Record) → L.Keeps rs self.now.log → option_and_then (slice_get (L.told rs)) result ≡ L.in_force rs (text_at graph.now.manifest.paths place) }
+        ensures { OfKept L.Keeps self.now.log (λ rs. at_number (L.told rs) result ≡ L.in_force rs (text_at (paths_in graph.now) place)) }
     {
         let path = PathId::at(place)?;
         self.log.find(graph.text(path))
@@ -145,9 +139,9 @@ impl<L: Records> LogFile<L> {
         ensures cause { HasCause (S.world site.old) (S.world site.new) result }
         ensures writes { WritesAt S.tells self.old.path (S.world site.old) (S.world site.new) }
         ensures same { IsSameLog self.old self.new }
-        ensures carried { OnOk result ((own : OwnFiles) (edges : List Edge) (first : World) (r : L.Record) → IsLineOf (L.forms Two) r line.now → IsCarriedLog L.forms L.Keeps S.tells own edges first (S.world site.old) self.old → IsCarriedLog L.forms L.Keeps S.tells own edges first (S.world site.new) self.new) }
-        ensures ok { OnOk result ((own : OwnFiles) (edges : List Edge) (first : World) (r : L.Record) → IsLineOf (L.forms Two) r line.now → IsCarriedLog L.forms L.Keeps S.tells own edges first (S.world site.old) self.old → WhereKept S.tells own edges first (S.world site.new) (TellsMore L.forms L.in_force (Some r) (view_of (S.world site.old).history self.old.path) (view_of (S.world site.new).history self.old.path))) }
-        ensures err { OnErr result ((own : OwnFiles) (edges : List Edge) (first : World) (r : L.Record) → IsLineOf (L.forms Two) r line.now → IsCarriedLog L.forms L.Keeps S.tells own edges first (S.world site.old) self.old → WhereKept S.tells own edges first (S.world site.new) (MayTellMore L.forms L.in_force r (view_of (S.world site.old).history self.old.path) (view_of (S.world site.new).history self.old.path))) }
+        ensures carried { OnOk result (CarriesLine L.forms L.Keeps S.tells line.now (S.world site.old, self.old) (S.world site.new, self.new)) }
+        ensures ok { OnOk result (PutsSo L.forms L.Keeps S.tells line.now (TellsAlso L.forms L.in_force) (S.world site.old, self.old) (S.world site.new)) }
+        ensures err { OnErr result (PutsSo L.forms L.Keeps S.tells line.now (MayTellMore L.forms L.in_force) (S.world site.old, self.old) (S.world site.new)) }
     {
         line_grows_log::<L>();
         front_of_lines::<L>();
@@ -164,8 +158,8 @@ impl<L: Records> LogFile<L> {
         ensures writes { WritesAt S.tells self.old.path (S.world site.old) (S.world site.new) }
         ensures same { IsSameLog self.old self.new }
         ensures usable { OnOk result (self.new.state ≡ State.Usable) }
-        ensures carried { OnOk result ((own : OwnFiles) (edges : List Edge) (first : World) → IsCarriedLog L.forms L.Keeps S.tells own edges first (S.world site.old) self.old → IsCarriedLog L.forms L.Keeps S.tells own edges first (S.world site.new) self.new) }
-        ensures anew { (own : OwnFiles) (edges : List Edge) (first : World) → IsCarriedLog L.forms L.Keeps S.tells own edges first (S.world site.old) self.old → WhereKept S.tells own edges first (S.world site.new) (IsKeptOrWrittenAnew L.forms L.in_force (view_of (S.world site.old).history self.old.path) (view_of (S.world site.new).history self.old.path)) }
+        ensures carried { OnOk result (CarriesOn L.forms L.Keeps S.tells (S.world site.old, self.old) (S.world site.new, self.new)) }
+        ensures anew { ChangesSo L.forms L.Keeps S.tells (IsKeptOrWrittenAnew L.forms L.in_force) (S.world site.old, self.old) (S.world site.new) }
     {
         match self.state {
             State::Usable => Ok(()),
@@ -181,8 +175,8 @@ impl<L: Records> LogFile<L> {
         ensures writes { WritesAt S.tells self.old.path (S.world site.old) (S.world site.new) }
         ensures same { IsSameLog self.old self.new }
         ensures usable { OnOk result (self.new.state ≡ State.Usable) }
-        ensures carried { OnOk result ((own : OwnFiles) (edges : List Edge) (first : World) → IsCarriedLog L.forms L.Keeps S.tells own edges first (S.world site.old) self.old → IsCarriedLog L.forms L.Keeps S.tells own edges first (S.world site.new) self.new) }
-        ensures anew { (own : OwnFiles) (edges : List Edge) (first : World) → IsCarriedLog L.forms L.Keeps S.tells own edges first (S.world site.old) self.old → WhereKept S.tells own edges first (S.world site.new) (IsKeptOrWrittenAnew L.forms L.in_force (view_of (S.world site.old).history self.old.path) (view_of (S.world site.new).history self.old.path)) }
+        ensures carried { OnOk result (CarriesOn L.forms L.Keeps S.tells (S.world site.old, self.old) (S.world site.new, self.new)) }
+        ensures anew { ChangesSo L.forms L.Keeps S.tells (IsKeptOrWrittenAnew L.forms L.in_force) (S.world site.old, self.old) (S.world site.new) }
     {
         L::keeps_in_force();
         let text = self.log.compacted(alloc)?;
@@ -194,7 +188,7 @@ impl<L: Records> LogFile<L> {
 
 /// What the content of the file tells, and what may be done with it. One that is absent is as one that is empty.
 fn log_of<L: Records>(alloc: Global, content: &Option<Bytes>) -> Result<(L, State), AllocError>
-    ensures { IfOk result (λ log. (rs : List L.Record) × ((tail : Tail) × IsRead L.forms (text_in content.now) rs tail) × L.Keeps rs log.0 × ((log.1 ≡ State.Usable) ↔ (IsLogOf (L.forms Two) (text_in content.now) rs × (WantsCompaction (length rs) (length (L.compaction rs)) → ⊥)))) }
+    ensures { IfOk result (λ log. IsJudged L.forms L.Keeps L.compaction content.now log.0 log.1) }
 {
     let text = bytes_in(content);
     let (log, tail) = build_log::parse::<L>(alloc, text)?;
@@ -214,7 +208,7 @@ fn bytes_in(content: &Option<Bytes>) -> &[u8]
 
 /// What may be done with a file that holds the text, which tells the log and ends so.
 fn state_of<L: Records>(text: &[u8], log: &L, tail: Tail) -> State
-    ensures { (rs : List L.Record) → IsRead L.forms text.now rs tail → L.Keeps rs log.now → (result ≡ State.Usable) ↔ (IsLogOf (L.forms Two) text.now rs × (WantsCompaction (length rs) (length (L.compaction rs)) → ⊥)) }
+    ensures { OfRead L.forms text.now tail (λ rs. L.Keeps rs log.now → IsStateOf L.forms L.compaction (Some text.now) rs result) }
 {
     one_reading::<L>();
     if text.is_empty() || is_other(tail) || log.wants_compaction() {

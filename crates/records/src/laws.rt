@@ -1,6 +1,6 @@
 //! What a run carries of its logs. These functions do nothing: their contracts are the laws.
 
-ghost use Rattle.records.specs.Laws.{LogBegins, LogStays, StoreStays, NoneWhileRunning};
+ghost use Rattle.records.specs.Laws.{LogBegins, LogStays, NoneWhileRunning};
 
 /// Logs that were read before anything ran are logged from there on, and what they told is what the logs told at the entry.
 pub fn log_begins()
@@ -10,11 +10,6 @@ pub fn log_begins()
 /// Over each call that writes elsewhere, starts or takes in a command, the logs go on.
 pub fn log_stays()
     ensures { LogStays }
-{}
-
-/// Over such a call they tell the same.
-pub fn store_stays()
-    ensures { StoreStays }
 {}
 
 /// No output of a command that was started, and has not ended well, has a record in force.

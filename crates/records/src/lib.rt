@@ -19,6 +19,6 @@ mod logs;
 mod records;
 
 pub use file::{LogFile, State};
-pub use laws::{log_begins, log_stays, none_while_running, store_stays};
+pub use laws::{log_begins, log_stays, none_while_running};
 pub use logs::Logs;
 pub use records::Records;

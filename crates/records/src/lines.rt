@@ -1,15 +1,14 @@
 //! The lines that a build puts behind its logs.
 
-ghost use Rattle.std.specs.Prelude.{◌≡◌, ◌≢◌, ◌<◌, [], ℕ, suc, List, IfOk, OnOk, length, map};
-ghost use Rattle.model.specs.Graph.{edge_at, outputs, IsCommand, IsMadeOnce};
+ghost use Rattle.std.specs.Prelude.{◌≡◌, ◌≢◌, ◌<◌, [], suc, IfOk, OnOk, length};
+ghost use Rattle.model.specs.Graph.{IsCommand, IsMadeOnce};
 ghost use Rattle.build_log.specs.declared.form.Version.TheVariants.{Two};
 ghost use Rattle.build_log.specs.Form.{IsLineOf};
 ghost use Rattle.build_log.specs.Found.{texts_in};
 ghost use Rattle.build_log.specs.Record.{forms};
 ghost use Rattle.deps_log.specs.Record.{forms as deps_forms};
-ghost use Rattle.records.specs.Logging.{deps_of};
+ghost use Rattle.records.specs.Edges.{declared_edges, declared_act, declared_outputs, begun_of, done_of, report_of};
 ghost use Rattle.paths.specs.Told.{text_at};
-ghost use Rattle.links.specs.Told.{declared_by};
 
 use build_log::{begun_line, made_line};
 use deps_log::record_line;
@@ -26,9 +25,9 @@ pub fn begun_line_of(
     edge: EdgeId,
 ) -> Result<(), AllocError>
     requires within { edge < length graph.now.manifest.lines }
-    requires once { IsMadeOnce (declared_by graph.now).edges }
-    requires some { outputs (edge_at (declared_by graph.now).edges (suc edge)) ≢ [] }
-    ensures { OnOk result (IsLineOf (forms Two) (Record.Begun (outputs (edge_at (declared_by graph.now).edges (suc edge)))) line.new.items) }
+    requires once { IsMadeOnce (declared_edges graph.now) }
+    requires some { declared_outputs graph.now edge ≢ [] }
+    ensures { OnOk result (IsLineOf (forms Two) (begun_of graph.now edge) line.new.items) }
 {
     let outputs = output_texts(alloc, graph, edge)?;
     line.clear();
@@ -45,10 +44,10 @@ pub fn done_line_of(
     start: u64,
 ) -> Result<(), AllocError>
     requires within { edge < length graph.now.manifest.lines }
-    requires once { IsMadeOnce (declared_by graph.now).edges }
-    requires some { outputs (edge_at (declared_by graph.now).edges (suc edge)) ≢ [] }
-    requires command { IsCommand (declared_by graph.now).edges (suc edge) }
-    ensures { OnOk result (IsLineOf (forms Two) (Record.Done (outputs (edge_at (declared_by graph.now).edges (suc edge))) start (edge_at (declared_by graph.now).edges (suc edge)).act) line.new.items) }
+    requires once { IsMadeOnce (declared_edges graph.now) }
+    requires some { declared_outputs graph.now edge ≢ [] }
+    requires command { IsCommand (declared_edges graph.now) (suc edge) }
+    ensures { OnOk result (IsLineOf (forms Two) (done_of graph.now edge start) line.new.items) }
 {
     let outputs = output_texts(alloc, graph, edge)?;
     line.clear();
@@ -67,9 +66,9 @@ pub fn deps_line_of(
     paths: &[&str],
 ) -> Result<(), AllocError>
     requires within { edge < length graph.now.manifest.lines }
-    requires once { IsMadeOnce (declared_by graph.now).edges }
-    requires some { outputs (edge_at (declared_by graph.now).edges (suc edge)) ≢ [] }
-    ensures { OnOk result (IsLineOf (deps_forms Two) (deps_of (declared_by graph.now).edges (suc edge) start (texts_in paths.now)) line.new.items) }
+    requires once { IsMadeOnce (declared_edges graph.now) }
+    requires some { declared_outputs graph.now edge ≢ [] }
+    ensures { OnOk result (IsLineOf (deps_forms Two) (report_of graph.now edge start (texts_in paths.now)) line.new.items) }
 {
     let outputs = output_texts(alloc, graph, edge)?;
     line.clear();
@@ -80,8 +79,8 @@ pub fn deps_line_of(
 /// What the command of an edge does.
 fn act_of(graph: &Graph, edge: EdgeId) -> &Act
     requires within { edge < length graph.now.manifest.lines }
-    requires command { IsCommand (declared_by graph.now).edges (suc edge) }
-    ensures { result.now ≡ (edge_at (declared_by graph.now).edges (suc edge)).act }
+    requires command { IsCommand (declared_edges graph.now) (suc edge) }
+    ensures { result.now ≡ declared_act graph.now edge }
 {
     numbers_stand(graph);
     match graph.manifest.action(edge) {
@@ -93,7 +92,7 @@ fn act_of(graph: &Graph, edge: EdgeId) -> &Act
 /// The texts of what the edge makes. They are borrowed from the graph.
 fn output_texts(alloc: Global, graph: &Graph, edge: EdgeId) -> Result<Vec<&str>, AllocError>
     requires within { edge < length graph.now.manifest.lines }
-    ensures { IfOk result (λ texts. map (λ text. text.now) texts.items ≡ outputs (edge_at (declared_by graph.now).edges (suc edge))) }
+    ensures { IfOk result (λ texts. texts_in texts.items ≡ declared_outputs graph.now edge) }
 {
     numbers_stand(graph);
     let outputs = graph.outputs(edge);

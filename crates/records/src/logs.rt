@@ -1,10 +1,8 @@
 //! Both logs of a build.
 
-ghost use Rattle.std.specs.Prelude.{◌≡◌, List, IfOk, false, string_bytes};
-ghost use Rattle.model.specs.World.{World};
+ghost use Rattle.std.specs.Prelude.{◌≡◌, IfOk, false, string_bytes};
 ghost use Rattle.model.specs.Calls.{OnlyLooks, HasCause};
-ghost use Rattle.model.specs.declared.record.DepsRecord.{DepsRecord};
-ghost use Rattle.records.specs.Laws.{WereRead};
+ghost use Rattle.records.specs.Laws.{WereReadSo};
 
 use crate::file::LogFile;
 use model::{Record, SiteFault};
@@ -31,7 +29,7 @@ impl Logs {
         ensures cause { HasCause (S.world site.old) (S.world site.new) result }
         ensures build_log { IfOk result (λ logs. logs.build_log.path ≡ string_bytes build_log) }
         ensures deps_log { IfOk result (λ logs. logs.deps_log.path ≡ string_bytes deps_log) }
-        ensures read { IfOk result (λ logs. (rs : List Record) × (ds : List DepsRecord) × WereRead S.tells (S.world site.old) (S.world site.new) rs ds logs) }
+        ensures read { IfOk result (WereReadSo S.tells (S.world site.old) (S.world site.new)) }
     {
         let build_log = LogFile::read(alloc, site, build_log)?;
         let deps_log = LogFile::read(alloc, site, deps_log)?;

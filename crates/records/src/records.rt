@@ -1,24 +1,16 @@
 //! The records of a build.
 
-ghost use Rattle.std.specs.Prelude.{◌≡◌, ◌≢◌, ◌<◌, ◌≤◌, ◌++◌, [], ℕ, suc, List, Option, Some, None, IfOk, OnOk, OnErr, false, string_bytes, length, slice_get, take};
-ghost use Rattle.std.specs.Option.{option_copied, option_map};
-ghost use Rattle.model.specs.declared.record.DepsRecord.{DepsRecord};
-ghost use Rattle.model.specs.World.{World};
+ghost use Rattle.std.specs.Prelude.{◌≡◌, ◌≢◌, ◌<◌, ◌≤◌, [], suc, None, IfOk, OnOk, OnErr, false, string_bytes, length, slice_get, take};
+ghost use Rattle.std.specs.Option.{option_map};
 ghost use Rattle.model.specs.Calls.{OnlyLooks, HasCause};
-ghost use Rattle.model.specs.Graph.{edge_at, outputs, IsCommand, IsMadeOnce};
-ghost use Rattle.model.specs.Outcome.{Behaviour};
-ghost use Rattle.model.specs.Records.{LogFormat, OwnFiles, Store, in_force, deps_in_force};
-ghost use Rattle.model.specs.Schedule.{Step};
-ghost use Rattle.build_log.specs.Found.{texts_in};
-ghost use Rattle.build_log.specs.Log.{made_of};
-ghost use Rattle.deps_log.specs.Log.{told_in};
+ghost use Rattle.model.specs.Graph.{IsCommand, IsMadeOnce};
 ghost use Rattle.log_theory.specs.Writes.{WritesAt};
-ghost use Rattle.paths.specs.Told.{text_at};
-ghost use Rattle.links.specs.Told.{declared_by};
+ghost use Rattle.records.specs.Edges.{paths_in, declared_edges, declared_outputs, OfEdge};
 ghost use Rattle.records.specs.Held.{IsLonger};
-ghost use Rattle.records.specs.Known.{IsOf, IsOfDeps, AreKnown};
-ghost use Rattle.records.specs.Laws.{WereRead};
-ghost use Rattle.records.specs.Logging.{AreSameLogs, IsLogging, IsLoggedStill, NoneInForce, IsReported, MayReport, EndedWell};
+ghost use Rattle.records.specs.Known.{Knows, KnowsAll, OfKnown, OfKnownDeps, IsMade, IsTold, OfGrown, AreStillKnown};
+ghost use Rattle.records.specs.Laws.{AreRead};
+ghost use Rattle.records.specs.Left.{HasBegun, TellBegun, HasReported, TellReported, HasDone, TellDone};
+ghost use Rattle.records.specs.Logging.{AreSameLogs};
 
 use crate::lines::{begun_line_of, deps_line_of, done_line_of};
 use crate::logs::Logs;
@@ -59,7 +51,7 @@ impl Records {
         ensures cause { HasCause (S.world site.old) (S.world site.new) result }
         ensures build_log { IfOk result (λ records. records.logs.build_log.path ≡ string_bytes build_log) }
         ensures deps_log { IfOk result (λ records. records.logs.deps_log.path ≡ string_bytes deps_log) }
-        ensures read { IfOk result (λ records. (rs : List Record) × (ds : List DepsRecord) × IsOf rs graph.now.manifest.paths records × IsOfDeps ds graph.now.manifest.paths records × WereRead S.tells (S.world site.old) (S.world site.new) rs ds records.logs) }
+        ensures read { IfOk result (AreRead S.tells (S.world site.old) (S.world site.new) (paths_in graph.now)) }
     {
         let logs = Logs::read(alloc, site, build_log, deps_log)?;
         let places = logs.build_log.places(alloc, graph)?;
@@ -76,8 +68,8 @@ impl Records {
     /// outputs that it got too. The logs are left alone, and the site is not asked. Where memory is refused, nothing is changed.
     pub fn grow(&mut self, graph: &Graph) -> Result<(), AllocError>
         ensures logs { self.new.logs ≡ self.old.logs }
-        ensures known { OnOk result ((before : Graph) (more : List (List ℕ)) (rs : List Record) (ds : List DepsRecord) → graph.now.manifest.paths ≡ before.manifest.paths ++ more → AreKnown before rs ds self.old → AreKnown graph.now rs ds self.new) }
-        ensures all { OnOk result ((before : Graph) (more : List (List ℕ)) (rs : List Record) (ds : List DepsRecord) → graph.now.manifest.paths ≡ before.manifest.paths ++ more → AreKnown before rs ds self.old → IsOf rs graph.now.manifest.paths self.new × IsOfDeps ds graph.now.manifest.paths self.new) }
+        ensures known { OnOk result (OfGrown graph.now self.old (Knows graph.now self.new)) }
+        ensures all { OnOk result (OfGrown graph.now self.old (KnowsAll graph.now self.new)) }
         ensures places { OnErr result (self.new.places.items ≡ self.old.places.items) }
         ensures deps_places { OnErr result (self.new.deps_places.items ≡ self.old.deps_places.items) }
     {
@@ -94,9 +86,9 @@ impl Records {
     /// Forgets what was looked up for paths that the graph has no more, as a load was taken back. It takes no memory.
     pub fn shrink(&mut self, graph: &Graph)
         ensures logs { self.new.logs ≡ self.old.logs }
-        ensures places { self.new.places.items ≡ take (length graph.now.manifest.paths) self.old.places.items }
-        ensures deps_places { self.new.deps_places.items ≡ take (length graph.now.manifest.paths) self.old.deps_places.items }
-        ensures known { (more : List (List ℕ)) (rs : List Record) (ds : List DepsRecord) → IsOf rs (graph.now.manifest.paths ++ more) self.old → IsOfDeps ds (graph.now.manifest.paths ++ more) self.old → AreKnown graph.now rs ds self.new }
+        ensures places { self.new.places.items ≡ take (length (paths_in graph.now)) self.old.places.items }
+        ensures deps_places { self.new.deps_places.items ≡ take (length (paths_in graph.now)) self.old.deps_places.items }
+        ensures known { AreStillKnown graph.now self.old self.new }
     {
         self.places.truncate(graph.paths());
         self.deps_places.truncate(graph.paths());
@@ -105,8 +97,8 @@ impl Records {
     /// The same, but that some paths may be looked up where memory is refused.
     fn look_up(&mut self, graph: &Graph) -> Result<(), AllocError>
         ensures logs { self.new.logs ≡ self.old.logs }
-        ensures known { OnOk result ((before : Graph) (more : List (List ℕ)) (rs : List Record) (ds : List DepsRecord) → graph.now.manifest.paths ≡ before.manifest.paths ++ more → AreKnown before rs ds self.old → AreKnown graph.now rs ds self.new) }
-        ensures all { OnOk result ((before : Graph) (more : List (List ℕ)) (rs : List Record) (ds : List DepsRecord) → graph.now.manifest.paths ≡ before.manifest.paths ++ more → AreKnown before rs ds self.old → IsOf rs graph.now.manifest.paths self.new × IsOfDeps ds graph.now.manifest.paths self.new) }
+        ensures known { OnOk result (OfGrown graph.now self.old (Knows graph.now self.new)) }
+        ensures all { OnOk result (OfGrown graph.now self.old (KnowsAll graph.now self.new)) }
         ensures places { IsLonger self.old.places.items self.new.places.items }
         ensures deps_places { IsLonger self.old.deps_places.items self.new.deps_places.items }
     {
@@ -118,8 +110,8 @@ impl Records {
     /// The record in force at the entry for a path that was looked up; none for one that the graph got since then, whatever the
     /// log tells of its text. It takes no memory.
     pub fn made(&self, path: PathId) -> Option<&Done>
-        ensures made { (rs : List Record) (paths : List (List ℕ)) → IsOf rs paths self.now → path < length paths → option_map made_of (option_copied result) ≡ in_force rs (text_at paths path) }
-        ensures later { (rs : List Record) (paths : List (List ℕ)) → IsOf rs paths self.now → length paths ≤ path → result ≡ None }
+        ensures made { OfKnown self.now (λ rs paths. path < length paths → IsMade result rs paths path) }
+        ensures later { OfKnown self.now (λ rs paths. length paths ≤ path → result ≡ None) }
     {
         let place = (*self.places.get(path.index())?)?;
         self.logs.build_log.log().done_at(place)
@@ -127,8 +119,8 @@ impl Records {
 
     /// The deps record in force at the entry, in the same way. `deps_path` gives the paths that it names. It takes no memory.
     pub fn deps(&self, path: PathId) -> Option<&Deps>
-        ensures told { (ds : List DepsRecord) (paths : List (List ℕ)) → IsOfDeps ds paths self.now → path < length paths → option_map (told_in self.now.logs.deps_log.log.outputs) (option_copied result) ≡ deps_in_force ds (text_at paths path) }
-        ensures later { (ds : List DepsRecord) (paths : List (List ℕ)) → IsOfDeps ds paths self.now → length paths ≤ path → result ≡ None }
+        ensures told { OfKnownDeps self.now (λ ds paths. path < length paths → IsTold self.now result ds paths path) }
+        ensures later { OfKnownDeps self.now (λ ds paths. length paths ≤ path → result ≡ None) }
     {
         let place = (*self.deps_places.get(path.index())?)?;
         self.logs.deps_log.log().deps_at(place)
@@ -154,15 +146,15 @@ impl Records {
     ) -> Result<(), SiteFault>
         requires running { (S.world site.old).stopped ≡ false }
         requires within { edge < length graph.now.manifest.lines }
-        requires once { IsMadeOnce (declared_by graph.now).edges }
-        requires some { outputs (edge_at (declared_by graph.now).edges (suc edge)) ≢ [] }
+        requires once { IsMadeOnce (declared_edges graph.now) }
+        requires some { declared_outputs graph.now edge ≢ [] }
         ensures cause { HasCause (S.world site.old) (S.world site.new) result }
         ensures writes { WritesAt S.tells self.old.logs.build_log.path (S.world site.old) (S.world site.new) }
         ensures same { AreSameLogs self.old.logs self.new.logs }
         ensures places { self.new.places.items ≡ self.old.places.items }
         ensures deps_places { self.new.deps_places.items ≡ self.old.deps_places.items }
-        ensures ok { OnOk result ((B : Behaviour) (format : LogFormat) (own : OwnFiles) (steps : List Step) (entry : Store) (first : World) → IsLogging S.tells B format own (declared_by graph.now).edges steps (Some (suc edge)) entry first (S.world site.old) self.old.logs → IsLogging S.tells B format own (declared_by graph.now).edges steps (Some (suc edge)) entry first (S.world site.new) self.new.logs × NoneInForce S.tells format own (declared_by graph.now).edges (suc edge) first (S.world site.new)) }
-        ensures err { OnErr result ((B : Behaviour) (format : LogFormat) (own : OwnFiles) (steps : List Step) (entry : Store) (first : World) → IsLogging S.tells B format own (declared_by graph.now).edges steps (Some (suc edge)) entry first (S.world site.old) self.old.logs → IsLoggedStill S.tells B format own (declared_by graph.now).edges steps (Some (suc edge)) entry first (S.world site.new)) }
+        ensures ok { OnOk result (OfEdge (HasBegun S.tells) graph.now edge (S.world site.old, self.old.logs) (S.world site.new, self.new.logs)) }
+        ensures err { OnErr result (OfEdge (TellBegun S.tells) graph.now edge (S.world site.old, self.old.logs) (S.world site.new, self.new.logs)) }
     {
         begun_line_of(alloc, &mut self.line, graph, edge)?;
         self.logs
@@ -186,15 +178,15 @@ impl Records {
     ) -> Result<(), SiteFault>
         requires running { (S.world site.old).stopped ≡ false }
         requires within { edge < length graph.now.manifest.lines }
-        requires once { IsMadeOnce (declared_by graph.now).edges }
-        requires some { outputs (edge_at (declared_by graph.now).edges (suc edge)) ≢ [] }
+        requires once { IsMadeOnce (declared_edges graph.now) }
+        requires some { declared_outputs graph.now edge ≢ [] }
         ensures cause { HasCause (S.world site.old) (S.world site.new) result }
         ensures writes { WritesAt S.tells self.old.logs.deps_log.path (S.world site.old) (S.world site.new) }
         ensures same { AreSameLogs self.old.logs self.new.logs }
         ensures places { self.new.places.items ≡ self.old.places.items }
         ensures deps_places { self.new.deps_places.items ≡ self.old.deps_places.items }
-        ensures ok { OnOk result ((B : Behaviour) (format : LogFormat) (own : OwnFiles) (steps : List Step) (entry : Store) (first : World) → MayReport S.tells format own (declared_by graph.now).edges steps (suc edge) start first (S.world site.old) → IsLogging S.tells B format own (declared_by graph.now).edges steps (Some (suc edge)) entry first (S.world site.old) self.old.logs → IsLogging S.tells B format own (declared_by graph.now).edges steps (Some (suc edge)) entry first (S.world site.new) self.new.logs × IsReported S.tells format own (declared_by graph.now).edges (suc edge) start (texts_in paths.now) first (S.world site.new)) }
-        ensures err { OnErr result ((B : Behaviour) (format : LogFormat) (own : OwnFiles) (steps : List Step) (entry : Store) (first : World) → MayReport S.tells format own (declared_by graph.now).edges steps (suc edge) start first (S.world site.old) → IsLogging S.tells B format own (declared_by graph.now).edges steps (Some (suc edge)) entry first (S.world site.old) self.old.logs → IsLoggedStill S.tells B format own (declared_by graph.now).edges steps (Some (suc edge)) entry first (S.world site.new)) }
+        ensures ok { OnOk result (OfEdge (HasReported S.tells start paths.now) graph.now edge (S.world site.old, self.old.logs) (S.world site.new, self.new.logs)) }
+        ensures err { OnErr result (OfEdge (TellReported S.tells start) graph.now edge (S.world site.old, self.old.logs) (S.world site.new, self.new.logs)) }
     {
         deps_line_of(alloc, &mut self.line, graph, edge, start, paths)?;
         self.logs
@@ -216,16 +208,16 @@ impl Records {
     ) -> Result<(), SiteFault>
         requires running { (S.world site.old).stopped ≡ false }
         requires within { edge < length graph.now.manifest.lines }
-        requires once { IsMadeOnce (declared_by graph.now).edges }
-        requires some { outputs (edge_at (declared_by graph.now).edges (suc edge)) ≢ [] }
-        requires command { IsCommand (declared_by graph.now).edges (suc edge) }
+        requires once { IsMadeOnce (declared_edges graph.now) }
+        requires some { declared_outputs graph.now edge ≢ [] }
+        requires command { IsCommand (declared_edges graph.now) (suc edge) }
         ensures cause { HasCause (S.world site.old) (S.world site.new) result }
         ensures writes { WritesAt S.tells self.old.logs.build_log.path (S.world site.old) (S.world site.new) }
         ensures same { AreSameLogs self.old.logs self.new.logs }
         ensures places { self.new.places.items ≡ self.old.places.items }
         ensures deps_places { self.new.deps_places.items ≡ self.old.deps_places.items }
-        ensures ok { OnOk result ((B : Behaviour) (format : LogFormat) (own : OwnFiles) (steps : List Step) (entry : Store) (first : World) → EndedWell S.tells B format own (declared_by graph.now).edges steps (suc edge) start first (S.world site.old) → IsLogging S.tells B format own (declared_by graph.now).edges steps (Some (suc edge)) entry first (S.world site.old) self.old.logs → IsLogging S.tells B format own (declared_by graph.now).edges steps None entry first (S.world site.new) self.new.logs) }
-        ensures err { OnErr result ((B : Behaviour) (format : LogFormat) (own : OwnFiles) (steps : List Step) (entry : Store) (first : World) → EndedWell S.tells B format own (declared_by graph.now).edges steps (suc edge) start first (S.world site.old) → IsLogging S.tells B format own (declared_by graph.now).edges steps (Some (suc edge)) entry first (S.world site.old) self.old.logs → IsLoggedStill S.tells B format own (declared_by graph.now).edges steps (Some (suc edge)) entry first (S.world site.new)) }
+        ensures ok { OnOk result (OfEdge (HasDone S.tells start) graph.now edge (S.world site.old, self.old.logs) (S.world site.new, self.new.logs)) }
+        ensures err { OnErr result (OfEdge (TellDone S.tells start) graph.now edge (S.world site.old, self.old.logs) (S.world site.new, self.new.logs)) }
     {
         done_line_of(alloc, &mut self.line, graph, edge, start)?;
         self.logs
