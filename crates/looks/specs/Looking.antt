@@ -14,10 +14,6 @@ pub record HasLooked (tells : Bool) (graph : Graph) (old new : World) (before af
   pub seen : IfKept tells graph.manifest.paths old new before.seen.items (λ set files. AreSeenOf set graph.manifest.paths files after.seen.items)
   pub stays : (p : ℕ) → is_asked (look_at before.seen.items p) ≡ true → look_at after.seen.items p ≡ look_at before.seen.items p
 
--- so it is of the files, where they stayed the same and what was seen before is so
-abbrev pub IfSeen : Bool → Graph → World → World → Looks → (List Moment → Type 0) → Type 0
-IfSeen tells graph old new before So = IfStays tells old new (λ files. AreSeen graph.manifest.paths files before.seen.items → So files)
-
 -- ---- one call after another
 
 pub record LooksFollow (tells : Bool) (a b c : World) : Type 0 where

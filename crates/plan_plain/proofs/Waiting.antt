@@ -72,5 +72,3 @@ module _ (task : Task) (graph : Graph) (stated : IsTaskOf task graph) (done : Li
 pub none_named : (task : Task) (graph : Graph) → IsTaskOf task graph → NamesNone graph → (i : ℕ) → (edge_at task.graph.edges i).dyndep ≡ None
 none_named task graph stated none zero = refl
 none_named task graph stated none (suc e) = stated.files e ∙ ap (option_map (text_at graph.manifest.paths)) (none e)
-
-]
