@@ -175,6 +175,9 @@ keeps_build old new state edge build grown is_build is same_scopes same_pools sa
   paths = named_now;
 }
 
+pub edges_count : (old : Declared) (state : State) → IsStateOf old state → length old.edges.items ≡ length state.builds
+edges_count old state is = zip_length IsBuildOf old.edges.items state.builds is.edges
+
 -- ---- its paths
 
 -- a line that was read, and what is kept of it

@@ -20,13 +20,13 @@ use Rattle.manifest.specs.declared.kept.Declared.{Declared}
 use Rattle.manifest.specs.declared.place.Place.{Place as KeptPlace}
 use Rattle.manifest.specs.Answer.{Answer, IsAnswerOf, IsFaultOf}
 use Rattle.manifest.specs.Blocks.{BlockLine, RuleText, RuleLine, IsRuleOf, block_lines, build_block}
-use Rattle.manifest.specs.Declarations.{OfBinding, OfRule, OfBuild, OfPool, OfDefault, RuleOf, RuleHere, DepthOf, PoolLine}
+use Rattle.manifest.specs.Declarations.{OfBinding, OfRule, OfBuild, OfPool, OfDefault, RuleOf, RuleHere, DepthOf}
 use Rattle.manifest.specs.Expansion.{text_at, is_large}
 use Rattle.manifest.specs.Files.{OfDeclaration, fault_in}
 use Rattle.manifest.specs.Held.{InEachState, IsFormed, Says}
 use Rattle.manifest.specs.Keeping.{IsBlockRead, FindsRule}
 use Rattle.manifest.specs.Places.{place_of}
-use Rattle.manifest.specs.Readings.{Outcome, Place, Reading, Unless, Give, Each, fault_at}
+use Rattle.manifest.specs.Readings.{Place, Reading, Unless, Give, Each, fault_at}
 use Rattle.manifest.specs.Readings.Outcome.{Reached}
 use Rattle.manifest.specs.States.{State, is_pool}
 
@@ -117,7 +117,3 @@ is_taken_pool state name = bytes_eq name console || is_pool state.pools name
 
 abbrev pub DepthSays : KeptPlace → List ℕ → List Line → Option Fault → State → Reading ℕ
 DepthSays place name block end = DepthOf (place_of place) name (lines_of block) (fault_of place end)
-
--- the depth behind these lines
-abbrev pub DepthAt : KeptPlace → List ℕ → List BlockLine → Option ℕ → State → Reading (Option ℕ)
-DepthAt place pool lines before state = Each (PoolLine state place.file.now.value pool) lines before
