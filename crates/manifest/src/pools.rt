@@ -1,15 +1,13 @@
 //! Pools (manual: "Pools").
 
-ghost use Rattle.std.specs.Prelude.{◌≡◌, None, IfErr, IsErr, OnOk, map};
-ghost use Rattle.lexer.specs.Said.{said_of};
+ghost use Rattle.std.specs.Prelude.{◌≡◌, None, IfErr, IsErr, OnOk};
 ghost use Rattle.manifest.specs.Answer.{IsAnswerOf};
-ghost use Rattle.manifest.specs.Blocks.{block_lines};
 ghost use Rattle.manifest.specs.Declarations.{PoolLine};
 ghost use Rattle.manifest.specs.Held.{InEachState, KeepsScopes};
 ghost use Rattle.manifest.specs.Places.{place_of, IsFaultAt};
 ghost use Rattle.manifest.specs.Readings.{Each};
 ghost use Rattle.manifest.specs.Statements.{SaysNext, IsAnswerIn, KeepsFormed};
-ghost use Rattle.manifest.specs.Statements.{PoolSays, DepthSays, is_taken_pool, lines_of_one};
+ghost use Rattle.manifest.specs.Statements.{PoolSays, DepthSays, is_taken_pool, lines_of, lines_of_one};
 
 use crate::blocks::block_line;
 use crate::fault::{FaultKind, ReadError};
@@ -77,7 +75,7 @@ impl Declared {
         pool: &str,
         block: &[Line<'_>],
     ) -> Result<Option<u32>, ReadError>
-        ensures { InEachState self.now (λ state. IsAnswerOf (Each (PoolLine state place.now.file.now.value pool.now) (block_lines (map said_of block.now)) None) result) }
+        ensures { InEachState self.now (λ state. IsAnswerOf (Each (PoolLine state place.now.file.now.value pool.now) (lines_of block.now) None) result) }
     {
         let mut depth = None;
         for line in block {
