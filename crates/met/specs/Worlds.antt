@@ -1,5 +1,5 @@
 -- What happens on a site in memory: which calls are made on it for each move, and what they leave. That the program makes just these calls
--- for these moves is shown by a test (`checks`, `history`).
+-- for these moves is shown by the rows `calls` of `rows_worlds`.
 use Rattle.std.specs.Prelude.{◌≡◌, ℕ, Bool, true, false, List, [], ◌∷◌, ◌++◌, Some, None, codes}
 use Rattle.model.specs.declared.event.Event.{Event}
 use Rattle.model.specs.declared.event.Event.TheVariants.{Start, Finish}
