@@ -72,15 +72,33 @@ pub fn push_look(
     match kind {
         Kind::BuildLog => {
             let (log, _) = Log::parse(alloc, text)?;
-            push_place(alloc, log.find(output), answer)?;
-            push_done(alloc, log.lookup(output), answer)
+            push_found(alloc, &log, output, answer)
         }
         _ => {
             let (log, _) = deps_log::Log::parse(alloc, text)?;
-            push_place(alloc, log.find(output), answer)?;
-            push_deps(alloc, &log, log.lookup(output), answer)
+            push_found_deps(alloc, &log, output, answer)
         }
     }
+}
+
+fn push_found(
+    alloc: Global,
+    log: &Log,
+    output: &str,
+    answer: &mut String,
+) -> Result<(), AllocError> {
+    push_place(alloc, log.find(output), answer)?;
+    push_done(alloc, log.lookup(output), answer)
+}
+
+fn push_found_deps(
+    alloc: Global,
+    log: &deps_log::Log,
+    output: &str,
+    answer: &mut String,
+) -> Result<(), AllocError> {
+    push_place(alloc, log.find(output), answer)?;
+    push_deps(alloc, log, log.lookup(output), answer)
 }
 
 /// `at`: what the record with this number tells.
@@ -144,14 +162,25 @@ pub fn push_added(
     answer: &mut String,
 ) -> Result<(), AllocError> {
     let (mut log, tail) = Log::parse(alloc, text)?;
+    let told = told_with(alloc, &mut log, tail, output, made)?;
+    told.push_to(alloc, answer)
+}
+
+fn told_with(
+    alloc: Global,
+    log: &mut Log,
+    tail: Tail,
+    output: &str,
+    made: Option<(&str, &str)>,
+) -> Result<Told, AllocError> {
     match made {
-        None => apply_begun(alloc, &mut log, output)?,
+        None => apply_begun(alloc, log, output)?,
         Some((start, command)) => {
             let start = number_of(start).unwrap_or(0);
-            apply_done(alloc, &mut log, output, start, command)?;
+            apply_done(alloc, log, output, start, command)?;
         }
     }
-    Told::of_log(alloc, &log, tail)?.push_to(alloc, answer)
+    Told::of_log(alloc, log, tail)
 }
 
 fn apply_begun(alloc: Global, log: &mut Log, output: &str) -> Result<(), AllocError> {
@@ -195,48 +224,61 @@ fn act(alloc: Global, command: &str) -> Result<Act, AllocError> {
 
 /// `times`: whether a build log and a deps log are to be compacted in which one output was made so often.
 pub fn push_times(alloc: Global, times: u64, answer: &mut String) -> Result<(), AllocError> {
-    let (log, _) = Log::parse(alloc, repeated(alloc, times)?.as_slice())?;
-    answer.push_str(wish(log.wants_compaction()))?;
-    let (log, _) = deps_log::Log::parse(alloc, reported(alloc, times)?.as_slice())?;
-    push_word(answer, wish(log.wants_compaction()))
+    answer.push_str(wish(wants_log(alloc, times)?))?;
+    push_word(answer, wish(wants_deps(alloc, times)?))
 }
 
 fn wish(wants: bool) -> &'static str {
     if wants { "wants" } else { "no" }
 }
 
-/// The line of a command of one output that ended well.
-fn push_made(text: &mut Vec<u8>, output: &str, done: &Done) -> Result<(), AllocError> {
-    done_line(text, &[output], done)?;
-    Ok(())
-}
-
-/// The line of what a command of one output told.
-fn push_reported(
-    text: &mut Vec<u8>,
-    output: &str,
-    start: u64,
-    paths: &[&str],
-) -> Result<(), AllocError> {
-    deps_log::record_line(text, &[output], start, paths)?;
-    Ok(())
-}
-
-/// A build log in which `o` was made so often.
-fn repeated(alloc: Global, times: u64) -> Result<Vec<u8>, AllocError> {
+/// Whether a build log is to be compacted in which `o` was made so often.
+fn wants_log(alloc: Global, times: u64) -> Result<bool, AllocError> {
     let mut text = Log::new(alloc).compacted(alloc)?;
-    for start in 0..times {
-        let act = act(alloc, "cat o a")?;
-        push_made(&mut text, "o", &Done { start, act })?;
-    }
-    Ok(text)
+    push_repeated(alloc, &mut text, times)?;
+    wants_in_log(alloc, text.as_slice())
 }
 
-/// A deps log in which `o` told its input so often.
-fn reported(alloc: Global, times: u64) -> Result<Vec<u8>, AllocError> {
-    let mut text = deps_log::Log::new(alloc).compacted(alloc)?;
+fn wants_in_log(alloc: Global, text: &[u8]) -> Result<bool, AllocError> {
+    let (log, _) = Log::parse(alloc, text)?;
+    Ok(log.wants_compaction())
+}
+
+/// The lines of commands that made `o`, so many.
+fn push_repeated(alloc: Global, text: &mut Vec<u8>, times: u64) -> Result<(), AllocError> {
     for start in 0..times {
-        push_reported(&mut text, "o", start, &["a.h"])?;
+        push_made(alloc, text, start)?;
     }
-    Ok(text)
+    Ok(())
+}
+
+/// The line of a command that made `o`, and ended well.
+fn push_made(alloc: Global, text: &mut Vec<u8>, start: u64) -> Result<(), AllocError> {
+    let act = act(alloc, "cat o a")?;
+    push_done_line(text, &Done { start, act })
+}
+
+fn push_done_line(text: &mut Vec<u8>, done: &Done) -> Result<(), AllocError> {
+    done_line(text, &["o"], done)?;
+    Ok(())
+}
+
+/// Whether a deps log is to be compacted in which `o` told its input so often.
+fn wants_deps(alloc: Global, times: u64) -> Result<bool, AllocError> {
+    let mut text = deps_log::Log::new(alloc).compacted(alloc)?;
+    push_reported(&mut text, times)?;
+    wants_in_deps(alloc, text.as_slice())
+}
+
+fn wants_in_deps(alloc: Global, text: &[u8]) -> Result<bool, AllocError> {
+    let (log, _) = deps_log::Log::parse(alloc, text)?;
+    Ok(log.wants_compaction())
+}
+
+/// The lines of what a command told that made `o`, so many.
+fn push_reported(text: &mut Vec<u8>, times: u64) -> Result<(), AllocError> {
+    for start in 0..times {
+        deps_log::record_line(text, &["o"], start, &["a.h"])?;
+    }
+    Ok(())
 }
