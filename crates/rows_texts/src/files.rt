@@ -13,10 +13,10 @@ pub struct Files<'a> {
     main: Option<&'a [u8]>,
     sub: Option<&'a [u8]>,
     /// Files with the numbers from 2 on as names, of which each but the last is this word and the next number.
-    pub keyword: &'a str,
-    pub last: u32,
+    keyword: &'a str,
+    last: u32,
     /// What the last of them holds.
-    pub innermost: &'a [u8],
+    innermost: &'a [u8],
     pub passing: u64,
     pub failures: u64,
 }
@@ -59,6 +59,26 @@ impl<'a> Files<'a> {
         files
     }
 
+    /// `build.ninja`, and files with the numbers from 2 up to the last, which name each other by this word.
+    pub fn nested(
+        alloc: Global,
+        main: &'a [u8],
+        keyword: &'a str,
+        last: u32,
+        innermost: &'a [u8],
+    ) -> Files<'a> {
+        Files {
+            alloc,
+            main: Some(main),
+            sub: None,
+            keyword,
+            last,
+            innermost,
+            passing: u64::MAX,
+            failures: 0,
+        }
+    }
+
     fn content(&self, name: &str) -> Option<&'a [u8]> {
         match name {
             "build.ninja" => self.main,
@@ -93,10 +113,19 @@ impl<'a> Files<'a> {
 
     /// What a read gives.
     pub fn outcome(&mut self) -> Outcome {
-        match read(self.alloc, self, "build.ninja") {
+        let alloc = self.alloc;
+        match read(alloc, self, "build.ninja") {
             Ok(_) => Outcome::Manifest,
-            Err(ReadError::Refused(fault)) if self.has(&fault) => Outcome::Refusal,
+            Err(ReadError::Refused(fault)) => self.refusal(&fault),
             Err(_) => Outcome::Other,
+        }
+    }
+
+    fn refusal(&self, fault: &FileFault) -> Outcome {
+        if self.has(fault) {
+            Outcome::Refusal
+        } else {
+            Outcome::Other
         }
     }
 

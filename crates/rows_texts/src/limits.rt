@@ -46,9 +46,13 @@ pub fn push_nested(alloc: Global, row: &str, told: &mut String) -> Result<(), Al
     let (keyword, text) = word(rest);
     let innermost = unescaped(alloc, text)?;
     let outermost = format!(in alloc; "{keyword} 2\n")?;
-    let mut files = Files::one(alloc, outermost.as_bytes());
-    files.keyword = keyword;
-    files.last = depth.parse::<u32>().unwrap_or(0);
-    files.innermost = innermost.as_slice();
-    files.push_told(told)
+    let last = depth.parse::<u32>().unwrap_or(0);
+    Files::nested(
+        alloc,
+        outermost.as_bytes(),
+        keyword,
+        last,
+        innermost.as_slice(),
+    )
+    .push_told(told)
 }

@@ -95,8 +95,18 @@ fn push_ending_of(
         return push_ended(alloc, &ending, told);
     }
     let outputs = part(parts, 1).split(',').collect::<Vec<&str>>(alloc)?;
+    push_failed(alloc, outputs.as_slice(), parts, output, told)
+}
+
+fn push_failed<'x>(
+    alloc: Global,
+    outputs: &'x [&'x str],
+    parts: &'x [&'x str],
+    output: &'x [u8],
+    told: &mut String,
+) -> Result<(), AllocError> {
     let failure = Failure {
-        outputs: outputs.as_slice(),
+        outputs,
         command: part(parts, 2),
         depfile: depfile_fault(parts),
     };
