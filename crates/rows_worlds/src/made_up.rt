@@ -26,12 +26,16 @@ pub fn edges_in(graph: &str) -> &str {
 
 /// What the dyndep file of this path holds beside the build file of the line.
 pub fn dyndep_in(alloc: Global, graph: &str, path: &str) -> Result<Vec<u8>, AllocError> {
-    let place = path
-        .strip_prefix('y')
-        .unwrap_or("")
-        .parse::<usize>()
-        .unwrap_or(1);
-    let text = graph.split('@').nth(place).unwrap_or("");
-    let text = format!(in alloc; "ninja_dyndep_version = 1\\n{text}")?;
+    let said = graph.split('@').nth(place_in(path)).unwrap_or("");
+    let text = format!(in alloc; "ninja_dyndep_version = 1\\n{said}")?;
     unescaped(alloc, text.as_str())
+}
+
+/// The number in the path of a dyndep file, or 1.
+fn place_in(path: &str) -> usize {
+    let number = match path.strip_prefix('y') {
+        Some(number) => number,
+        None => "",
+    };
+    number.parse::<usize>().unwrap_or(1)
 }
