@@ -1,5 +1,5 @@
 -- What calls of a site leave, one after another.
-use Rattle.std.proofs.Common.{◌≡◌, ◌≤◌, Bool, false, true, List, [], ◌∷◌, ◌++◌, Result, Ok, Err, IfErr, refl, sym, ◌∙◌, ap, subst, arith, append_assoc}
+use Rattle.std.proofs.Common.{◌≡◌, ◌≤◌, Bool, false, true, List, [], ◌∷◌, ◌++◌, ℕ, Option, Some, inl, inr, Result, Ok, Err, IfErr, refl, sym, ◌∙◌, ap, subst, arith, append_assoc}
 use Rattle.std.specs.List.{AllByRecursion}
 use Rattle.std.proofs.lemmas.List.{append-nil}
 use Rattle.std.proofs.lemmas.Bool.{false≢true}
@@ -34,19 +34,20 @@ looks_then tells a b c first second =
           };
     }
 
+not_refused : {T : Type 0} (r : Result T SiteFault) → r ≡ Err Memory → r ≡ Err Device → ⊥
+not_refused r wants refused = cc
+
 pub seen_of : {T : Type 0} (old new : World) (r : Result T SiteFault) → HasCause old new r → IfErr r (IsSeen old new)
 seen_of old new (Ok x) cause = tt
 seen_of old new (Err Device) cause = cause.device refl
 seen_of old new (Err Stopped) cause = cause.stopped
-seen_of old new (Err Memory) cause = tt
-
-pub seen_before : (a b c : World) (fault : SiteFault) → a.failures ≤ b.failures → IsSeen b c fault → IsSeen a c fault
-seen_before a b c Device le h = omega (arith, le, h)
-seen_before a b c Stopped le h = h
-seen_before a b c Memory le h = tt
+seen_of old new (Err Memory) cause = inl (cause.others (not_refused (Err Memory) refl))
 
 pub seen_since : (a b c : World) (fault : SiteFault) → b.failures ≡ a.failures → IsSeen b c fault → IsSeen a c fault
-seen_since a b c fault same h = seen_before a b c fault (omega (arith, same)) h
+seen_since a b c Device same h = omega (arith, same, h)
+seen_since a b c Stopped same h = h
+seen_since a b c Memory same (inl h) = inl (h ∙ same)
+seen_since a b c Memory same (inr h) = inr (h ∙ ap Some same)
 
 -- ---- calls of which none was refused
 

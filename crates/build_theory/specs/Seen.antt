@@ -4,12 +4,13 @@ use Rattle.model.specs.declared.fault.SiteFault.{SiteFault}
 use Rattle.model.specs.declared.fault.SiteFault.TheVariants.{Device, Stopped, Memory}
 use Rattle.model.specs.World.{World}
 use Rattle.model.specs.Calls.{OnlyLooks}
+use Rattle.model.specs.SingleBuild.{IsBeforeRefusals}
 
 -- what a fault says about the site
 abbrev pub IsSeen : World → World → SiteFault → Type 0
 IsSeen old new Device = old.failures < new.failures
 IsSeen old new Stopped = new.stopped ≡ true
-IsSeen old new Memory = Unit {0}
+IsSeen old new Memory = IsBeforeRefusals old new
 
 -- no call was refused so far, the site has not stopped, and it was not started again
 pub record Unrefused (old now : World) : Type 0 where

@@ -239,6 +239,10 @@ pub record IsAsked (task : Task) (phases : List Phase) (done : List Step) : Type
   pub at_once : done ≡ steps_of phases
   pub loaded : (file : List ℕ) → IsDueLoad task done file → maker task.graph.edges file ≡ None → ⊥
 
+-- the device had refused no call when this came: none was refused since, or none before a wait was refused
+abbrev pub IsBeforeRefusals : World → World → Type 0
+IsBeforeRefusals old new = (new.failures ≡ old.failures) ⊎ (new.wait_refused ≡ Some old.failures)
+
 -- each answer has its cause; success, failure and what is missing come just where they should; want of memory is shown by tests alone, and a refusal of another
 -- part has its cause in that part's contract. `phases` ended with a load each; `done` are the steps up to a refusal.
 abbrev pub IsAnswer : Bool → Behaviour → OwnFiles → View → Asked → Store → List Phase → List Step → List Step → World → World → Answer → Type 0
@@ -270,7 +274,7 @@ IsAnswer tells B own texts asked store phases done steps old new Refused =
     IsUntouched tells steps old new × ((done ≡ []) ⊎ ((file : List ℕ) × IsNextLoad (task_of asked store) done file))
 IsAnswer tells B own texts asked store phases done steps old new (Fault Device) = old.failures < new.failures
 IsAnswer tells B own texts asked store phases done steps old new (Fault Stopped) = new.stopped ≡ true
-IsAnswer tells B own texts asked store phases done steps old new (Fault Memory) = Unit {0}
+IsAnswer tells B own texts asked store phases done steps old new (Fault Memory) = IsBeforeRefusals old new
 
 -- No fault is passed over: where a call was refused a fault is answered, and no command was started after it; that the site has
 -- stopped is answered where it has. (A call that found no memory and changed nothing shows nothing here.) Nothing was restarted.
@@ -367,8 +371,9 @@ pub record SingleBuild (tells : Bool) (B : Behaviour) (format : LogFormat) (own 
   pub answers : IsAnswer tells B own texts asked store schedule.lawful.earlier (steps_of schedule.lawful.earlier ++ schedule.lawful.last) steps old new answer
   pub in_order : (steps ≡ []) ⊎ WasInOrder tells own asked store schedule.lawful.earlier schedule.lawful.last old new
   pub faults : PassesNoFault old new answer
-  -- commands run at the exit under a fault alone
+  -- commands run at the exit under a fault alone, and only where a wait was refused or the site has stopped
   pub idle : is_fault answer ≡ false → IsIdle new.events
+  pub taken_in : new.stopped ≡ false → new.wait_refused ≡ None → IsIdle new.events
   pub frame : IsTrue tells → IsFrame own asked.graph.edges steps old.history new.history
   pub from_nothing : IsTrue tells → IsSuccess answer → IsFromNothing own asked.graph.edges (view_of old.history)
       → Premises B own asked.declared asked.graph.edges (recorded_inputs store asked.graph.edges) steps old.history new.history

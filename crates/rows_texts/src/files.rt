@@ -155,11 +155,11 @@ fn push_error(alloc: Global, error: &ReadError, told: &mut String) -> Result<(),
 }
 
 impl<'a> Texts for Files<'a> {
-    ghost use Rattle.std.specs.Prelude.{false, []};
+    ghost use Rattle.std.specs.Prelude.{None, false, []};
 
     ghost tells = { false };
 
-    ghost world = { λ files. record { history = []; events = []; ticked = 0; failures = files.failures; failures_at_start = 0; stopped = false; earlier = [] } };
+    ghost world = { λ files. record { history = []; events = []; ticked = 0; failures = files.failures; failures_at_start = 0; wait_refused = None; stopped = false; earlier = [] } };
 
     fn read(&mut self, path: &str) -> Result<Option<Bytes>, SiteFault> {
         if self.passing == 0 {

@@ -13,11 +13,11 @@ struct OneFile {
 }
 
 impl Texts for OneFile {
-    ghost use Rattle.std.specs.Prelude.{false, []};
+    ghost use Rattle.std.specs.Prelude.{None, false, []};
 
     ghost tells = { false };
 
-    ghost world = { λ _. record { history = []; earlier = []; events = []; ticked = 0; failures = 0; failures_at_start = 0; stopped = false } };
+    ghost world = { λ _. record { history = []; earlier = []; events = []; ticked = 0; failures = 0; failures_at_start = 0; wait_refused = None; stopped = false } };
 
     fn read(&mut self, path: &str) -> Result<Option<Bytes>, SiteFault> {
         if path == "build.ninja" {

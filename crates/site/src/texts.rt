@@ -2,7 +2,7 @@
 
 ghost use Rattle.std.specs.Prelude.{◌≡◌, Bool, IsTrue, IfOk};
 ghost use Rattle.model.specs.World.{World, file_at, content_of};
-ghost use Rattle.model.specs.Calls.{OnlyLooks, HasCause, Sees};
+ghost use Rattle.model.specs.Calls.{OnlyLooks, HasCause, KeepsWait, Sees};
 
 use model::SiteFault;
 use text::Bytes;
@@ -18,6 +18,7 @@ pub trait Texts {
     fn read(&mut self, path: &str) -> Result<Option<Bytes>, SiteFault>
         ensures looks { OnlyLooks tells (world self.old) (world self.new) }
         ensures cause { HasCause (world self.old) (world self.new) result }
+        ensures waits { KeepsWait (world self.old) (world self.new) }
         ensures content { IsTrue tells → IfOk result (λ content. Sees (λ history. content_of (file_at history path.now)) content (world self.old).history (world self.new).history) };
 
     /// How many calls the device has refused so far.

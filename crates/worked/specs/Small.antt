@@ -99,7 +99,7 @@ done_under start = record { records = done start ∷ []; deps = [] }
 
 -- a site on which this has happened, with no refused call
 abbrev pub world_with : List Moment → List Event → ℕ → World
-world_with history events ticked = record { history = history; events = events; earlier = []; ticked = ticked; failures = 0; failures_at_start = 0; stopped = false }
+world_with history events ticked = record { history = history; events = events; earlier = []; ticked = ticked; failures = 0; failures_at_start = 0; wait_refused = None; stopped = false }
 
 abbrev pub task : Task
 task = task_of asked no_records
