@@ -28,15 +28,7 @@ module _ (tells : Bool) (tell : IsTrue tells) (B : Behaviour) (format : LogForma
     (stamps : StampsGrow old.history new.history) (edits : NothingIsEdited old.history new.history) where
   -- it leaves what an edit may leave that the device refused
   abbrev as_refused : World
-  as_refused = record {
-    history = new.history;
-    events = new.events;
-    earlier = new.earlier;
-    ticked = new.ticked;
-    failures = suc old.failures;
-    failures_at_start = new.failures_at_start;
-    stopped = new.stopped;
-  }
+  as_refused = record new { failures = suc old.failures }
 
   one_more : old.failures < suc old.failures
   one_more = omega arith

@@ -155,15 +155,7 @@ module _ (tells : Bool) (own : OwnFiles) (task : Task) (steps : List Step) (old 
         ∙ (ap events_in (sym given.splits) ∙ (at.events_before ∙ sym (append-nil cut.before)))))
 
     abbrev mid : World
-    mid = record {
-      history = old.history ++ take_events (length cut.before) given.earlier;
-      events = old.events ++ cut.before;
-      earlier = old.earlier;
-      ticked = old.ticked;
-      failures = old.failures;
-      failures_at_start = old.failures_at_start;
-      stopped = old.stopped;
-    }
+    mid = record old { history = old.history ++ take_events (length cut.before) given.earlier; events = old.events ++ cut.before }
 
     from_zero : (n : ℕ) → 0 + n ≡ n
     from_zero n = omega arith
