@@ -50,14 +50,14 @@ passes_by a b fault starts stopped earlier = record { refused = λ none. absurd 
 pub faulted_there : (a b : World) (fault : SiteFault) → IsMet a b fault → StartsUnrefused a b → b.stopped ≡ is_stop {T = Unit {0}} (Err fault) → b.earlier ≡ a.earlier → IsFaultedThere a b fault
 faulted_there a b fault met starts stopped earlier = record { met = met; passes = passes_by a b fault starts stopped earlier }
 
-not_device : IsErrOf {T = Unit {0}} (Err Memory) Device → ⊥
+not_device : {T : Type 0} → IsErrOf {T = T} (Err Memory) Device → ⊥
 not_device is = cc
 
 -- a fault says what its cause was
-pub met_of : (a b : World) (fault : SiteFault) → HasCause {T = Unit {0}} a b (Err fault) → IsMet a b fault
+pub met_of : {T : Type 0} (a b : World) (fault : SiteFault) → HasCause {T = T} a b (Err fault) → IsMet a b fault
 met_of a b Device cause = cause.device refl
 met_of a b Stopped cause = cause.stopped
-met_of a b Memory cause = cause.others not_device
+met_of {T} a b Memory cause = cause.others (not_device {T = T})
 
 pub faulted_call : (tells : Bool) (a b : World) (fault : SiteFault) → OnlyLooks tells a b → HasCause {T = Unit {0}} a b (Err fault) → IsFaultedThere a b fault
 faulted_call tells a b fault looks cause = faulted_there a b fault (met_of a b fault cause) (inl looks.at_start) cause.stopped cause.earlier

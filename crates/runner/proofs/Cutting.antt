@@ -1,17 +1,17 @@
 -- Faults that cut a run off, and what is left then.
-use Rattle.std.proofs.Common.{◌≡◌, inl, inr, ◌≤◌, Bool, true, false, List, Some, Result, Ok, Err, refl, sym, ◌∙◌, ap, arith}
+use Rattle.std.proofs.Common.{◌≡◌, inl, inr, Bool, false, List, Result, Ok, Err, refl, sym, ◌∙◌, ap, arith}
 use Rattle.std.specs.Result.{IsErrOf}
-use Rattle.std.proofs.lemmas.Bool.{false≢true, true≢false}
+use Rattle.std.proofs.lemmas.Bool.{false≢true}
 use Rattle.model.specs.declared.event.Event.{Event}
 use Rattle.model.specs.declared.fault.SiteFault.TheVariants.{Device, Stopped, Memory}
 use Rattle.model.specs.declared.fault.SiteFault.{SiteFault}
 use Rattle.model.specs.World.{World, runs}
 use Rattle.model.specs.Calls.{OnlyLooks, HasCause, is_stop}
 use Rattle.model.specs.SingleBuild.{Answer, PassesNoFault}
-use Rattle.build_theory.specs.Seen.{IsSeen, Unrefused, StartsUnrefused}
+use Rattle.build_theory.specs.Seen.{Unrefused, StartsUnrefused}
 use Rattle.runner.specs.declared.cut.Cut.{Cut}
 use Rattle.runner.specs.declared.cut.Cut.TheVariants.{Waiting, Other}
-use Rattle.runner.specs.Cut.{fault_of, is_final}
+use Rattle.runner.specs.Cut.{fault_of}
 use Rattle.runner.specs.Cutting.{SomeRuns, TakesIn, Cuts, IsMetBy, site_answer}
 use Rattle.build_theory.proofs.Calls.{cause_then, seen_of}
 
@@ -70,35 +70,12 @@ cuts_then old mid new r unrefused same cuts = record { cause = cause_then old mi
     by_start (inl none) = inl (none ∙ same)
     by_start (inr first) = inr (first ∙ unrefused.failures)
 
--- ---- what a fault says of the site, when what runs was taken in after it
-
 -- the fault of a run says what its cause was
 pub met_by : {T : Type 0} (old new : World) (cut : Cut) → HasCause {T = T} old new (Err (fault_of cut)) → IsMetBy old new cut
 met_by old new (Waiting fault) cause = seen_of old new (Err fault) cause
 met_by old new (Other Device) cause = cause.device refl
 met_by old new (Other Stopped) cause = cause.stopped
-met_by {T = T} old new (Other Memory) cause = cause.others (λ is. no_device {T = T} is)
+met_by {T} old new (Other Memory) cause = cause.others no_device
   where
-    no_device : {T : Type 0} → IsErrOf {T = T} (Err Memory) Device → ⊥
+    no_device : IsErrOf {T = T} (Err Memory) Device → ⊥
     no_device is = cc
-
--- where nothing was asked of the site
-pub met_seen : (old new : World) (cut : Cut) → IsMetBy old new cut → IsSeen old new (fault_of cut)
-met_seen old new (Waiting fault) met = met
-met_seen old new (Other Device) met = met
-met_seen old new (Other Stopped) met = met
-met_seen old new (Other Memory) met = inl met
-
--- where no wait was refused
-pub met_taken : (entry old new : World) (cut : Cut) → is_final cut ≡ false → new.failures ≡ old.failures → IsMetBy entry old cut → IsSeen entry new (fault_of cut)
-met_taken entry old new (Waiting fault) final same met = absurd (true≢false final)
-met_taken entry old new (Other Device) final same met = omega (arith, same, met)
-met_taken entry old new (Other Stopped) final same met = absurd (true≢false final)
-met_taken entry old new (Other Memory) final same met = inl (same ∙ met)
-
--- where one was
-pub met_waiting : (entry old new : World) (cut : Cut) → is_final cut ≡ false → old.failures ≤ new.failures → new.wait_refused ≡ Some old.failures → IsMetBy entry old cut → IsSeen entry new (fault_of cut)
-met_waiting entry old new (Waiting fault) final grows noted met = absurd (true≢false final)
-met_waiting entry old new (Other Device) final grows noted met = omega (arith, grows, met)
-met_waiting entry old new (Other Stopped) final grows noted met = absurd (true≢false final)
-met_waiting entry old new (Other Memory) final grows noted met = inr (noted ∙ ap Some met)

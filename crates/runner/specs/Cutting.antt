@@ -54,6 +54,10 @@ abbrev pub IsMetBy : World → World → Cut → Type 0
 IsMetBy old new (Waiting fault) = IsSeen old new fault
 IsMetBy old new (Other fault) = IsMet old new fault
 
+-- what a cut said of the site since any point, another says behind it
+abbrev pub StaysSeen : World → World → Cut → Cut → Type 0
+StaysSeen old new cut last = (entry : World) → IsMetBy entry old cut → IsSeen entry new (fault_of last)
+
 -- the site has stopped exactly where this is the fault
 abbrev pub IsStoppedBy : World → Cut → Type 0
 IsStoppedBy world cut = world.stopped ≡ is_stop {T = Unit {0}} (Err (fault_of cut))
