@@ -82,7 +82,7 @@ module _ (tells : Bool) (B : Behaviour) (format : LogFormat) (own : OwnFiles) (g
   builds_fault looks fault cause = builds_over graph.edges (Fault fault) (answer.Fault fault) refl (built_fault tells B format own The store entry now found idle refl looks fault cause)
 
   pub builds_memory : Looked tells entry now → BuildsAs (Fault Memory)
-  builds_memory looked = builds_looked looked (Fault Memory) (answer.Fault Memory) refl tt (λ h. h) tt
+  builds_memory looked = builds_looked looked (Fault Memory) (answer.Fault Memory) refl tt (λ h. h) (inl looked.unrefused.failures)
 
   pub builds_ungraphed : Looked tells entry now → (fault : GraphFault) → IsFaultOf graph.edges fault → BuildsAs (ungraphed fault)
   builds_ungraphed looked graph_fault.Memory is = builds_memory looked
