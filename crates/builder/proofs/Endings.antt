@@ -11,7 +11,7 @@ use Rattle.model.specs.declared.fault.SiteFault.{SiteFault}
 use Rattle.model.specs.declared.fault.SiteFault.TheVariants.{Stopped, Memory}
 use Rattle.model.specs.declared.graph.Edge.{Edge}
 use Rattle.model.specs.World.{World, View, view_of, IsIdle}
-use Rattle.model.specs.Graph.{Addition, edge_at, first_output, maker, IsMadeTwice}
+use Rattle.model.specs.Graph.{Addition, edge_at, first_output, maker, IsMadeOnce, IsMadeTwice}
 use Rattle.model.specs.Premises.{FilesAreKept}
 use Rattle.model.specs.Records.{Store}
 use Rattle.model.specs.Schedule.{Task, Step as Done, failed_in, done_in}
@@ -432,7 +432,7 @@ ended_grows tells course grown graph cone now (Err (stop.Fault fault)) cut tell 
 
 -- The run of what was asked for has ended: on the course by which was read, and on one that begins anew there.
 module _ (tells : Bool) (graph : Graph) (request : Request) (records : Records) (course : Course) (old : World) (has : HasRead tells graph request records course old)
-    (others : (file : List ℕ) → NamesOther (declared_by graph).edges file → ⊥) (cone : Cone) (coned : IsConeRecorded graph request.targets cone) (grown : List Edge) (after : Graph) (last : Cone) (exit : World) where
+    (once : IsMadeOnce (declared_by graph).edges) (others : (file : List ℕ) → NamesOther (declared_by graph).edges file → ⊥) (cone : Cone) (coned : IsConeRecorded graph request.targets cone) (grown : List Edge) (after : Graph) (last : Cone) (exit : World) where
   abbrev The : Asked
   The = asked_of (declared_by graph) request.folder request.limits request.targets
 
@@ -451,7 +451,7 @@ module _ (tells : Bool) (graph : Graph) (request : Request) (records : Records) 
 
     builds_so : (report : Report) → EndsSo tells this grown exit report → BuildsAs report
     builds_so report ends =
-        builds_over tells course.behaviour course.format course.own (declared_by graph) request.folder request.limits request.given.now request.targets course.store course.entry exit found has.idle grown report ends.said
+        builds_over tells course.behaviour course.format course.own (declared_by graph) request.folder request.limits request.given.now request.targets course.store course.entry exit found has.idle once others grown report ends.said
         (ends.says (declared_by graph).edges request.given.now request.targets) ends.built
 
     named : answer.AllNamed The
@@ -484,13 +484,13 @@ module _ (tells : Bool) (graph : Graph) (request : Request) (records : Records) 
 
 -- a run that began so was reported
 pub builds_reported : (tells : Bool) (graph : Graph) (request : Request) (records : Records) (course : Course) (old : World) → HasRead tells graph request records course old
-    → ((file : List ℕ) → NamesOther (declared_by graph).edges file → ⊥) → (cone : Cone) → IsConeRecorded graph request.targets cone → (tick : List ℕ) (state : State) (after : Graph) (last : Cone) (exit : World) (report : Report)
+    → IsMadeOnce (declared_by graph).edges → ((file : List ℕ) → NamesOther (declared_by graph).edges file → ⊥) → (cone : Cone) → IsConeRecorded graph request.targets cone → (tick : List ℕ) (state : State) (after : Graph) (last : Cone) (exit : World) (report : Report)
     → (told : IsReported tells tick graph cone state old after last exit report)
     → BeginsAt tells tick (course_of course.behaviour course.format course.own (asked_of (declared_by graph) request.folder request.limits request.targets) course.store course.entry) (declared_by graph).edges [] graph cone state old
     → BeginsAt tells tick (course_of course.behaviour course.format (any_own request.folder) (asked_of (declared_by graph) request.folder request.limits request.targets) course.store old) (declared_by graph).edges [] graph cone state old
     → Builds tells course.behaviour course.format course.own (declared_by graph) request.folder request.limits request.given.now request.targets told.grown course.entry exit report
-builds_reported tells graph request records course old has others cone coned tick state after last exit report told this here =
-    builds_said tells graph request records course old has others cone coned told.grown after last exit told.said
+builds_reported tells graph request records course old has once others cone coned tick state after last exit report told this here =
+    builds_said tells graph request records course old has once others cone coned told.grown after last exit told.said
     (told.ended (course_of course.behaviour course.format course.own (asked_of (declared_by graph) request.folder request.limits request.targets) course.store course.entry) (declared_by graph).edges [] this)
     (told.ended (course_of course.behaviour course.format (any_own request.folder) (asked_of (declared_by graph) request.folder request.limits request.targets) course.store old) (declared_by graph).edges [] here)
     told.faults told.seen report told.is

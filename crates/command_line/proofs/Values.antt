@@ -1,29 +1,25 @@
 -- What the values of options come to.
-use Rattle.std.proofs.Common.{◌≡◌, ◌<◌, ◌^◌, ℕ, Bool, true, false, List, [], map, option_map, subst, Option, Some, None, Result, Ok, Err, refl, sym, ap, ◌∙◌, arith}
-use Rattle.std.specs.Prelude.{codes, decimal, unwrap_or, IfErr, IsErrAnd}
+use Rattle.std.proofs.Common.{◌≡◌, ◌<◌, ◌^◌, ℕ, Bool, true, false, List, [], map, option_map, subst, Option, Some, None, Result, Ok, Err, refl, sym, ap, ◌∙◌}
+use Rattle.std.specs.Prelude.{codes, unwrap_or, IfErr, IsErrAnd}
 use Rattle.std.specs.Str.Parse.{ParsesUnsigned}
-use Rattle.std.proofs.lemmas.Fmt.{parse-decimal}
 use Rattle.std.specs.Borrow.{Bor}
 use Rattle.clap.specs.Words.{App, HasMatchesOf, ReadsOne, fault_of, Row, Text, found_of, is_simple, is_simple_and_free, kind_of, matches_of, rows_of, takes}
 use Rattle.clap.specs.declared.parser.matches.ArgMatches.{ArgMatches}
 use Rattle.clap.proofs.OnLiterals.{clap_on_literals}
 use Rattle.clap.specs.declared.error.Error.{Error}
 use Rattle.clap.specs.declared.error.kind.ErrorKind.TheVariants.{OutOfMemory}
-use Rattle.command_line.specs.Options.{AreAsked, AreGiven, IsFlag, IsNumber, Options, nj}
+use Rattle.command_line.specs.Options.{AreAsked, AreGiven, IsFlag, IsNumber, Options, Writes, nj}
 
 read_number : {E : Type 0} (G : Text → Result ℕ E → Type 0) (text : Text) (default given : ℕ) (r : Option ℕ) → ((u : Text) (x : Result ℕ E) → G u x → ParsesUnsigned 32 10 u x)
-    → given < 2 ^ 32 → text ≡ decimal given → ReadsOne G text r → unwrap_or r default ≡ given
-read_number {E} G text default given (Some v) only below e read =
-    let parsed : ◌≡◌ {A = Result ℕ E} (Ok v) (Ok given) = parse-decimal 32 given text (Ok v) below (omega arith) e (only text (Ok v) read) in
-    cc
-read_number {E} G text default given None only below e read =
-    let parsed : ◌≡◌ {A = Result ℕ E} (Err read.0) (Ok given) = parse-decimal 32 given text (Err read.0) below (omega arith) e (only text (Err read.0) read.1) in
-    cc
+    → given < 2 ^ 32 → Writes text given → ReadsOne G text r → unwrap_or r default ≡ given
+read_number {E} G text default given (Some v) only below writes read = (only text (Ok v) read).1 ∙ sym writes.value
+read_number {E} G text default given None only below writes read =
+    absurd (only text (Err read.0) read.1 (writes.digits, subst (λ (n : ℕ). n < 2 ^ 32) writes.value below))
 
 pub number_is : {E : Type 0} (G : Text → Result ℕ E → Type 0) (o : Option Text) (default : ℕ) (r : Option ℕ) → ((u : Text) (x : Result ℕ E) → G u x → ParsesUnsigned 32 10 u x)
     → (o ≡ None → r ≡ None) → ((t : Text) → o ≡ Some t → ReadsOne G t r) → IsNumber o default (unwrap_or r default)
 number_is G None default r only none value = rw (none refl) refl
-number_is G (Some t) default r only none value = λ given below e. read_number G t default given r only below e (value t refl)
+number_is G (Some t) default r only none value = λ given below writes. read_number G t default given r only below writes (value t refl)
 
 pub flag_is : (o : Option Text) (flag : Bool) → (o ≡ None → flag ≡ false) → (o ≡ Some (codes "true") → flag ≡ true) → (o ≡ Some (codes "false") → flag ≡ false) → IsFlag o flag
 flag_is None flag none set unset = none refl

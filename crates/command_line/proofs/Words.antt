@@ -1,11 +1,10 @@
 -- What some words ask for, computed.
-use Rattle.std.proofs.Common.{◌≡◌, ℕ, Bool, true, List, [], ◌∷◌, Option, refl, sym, ap, ◌∙◌, lit<, codes}
-use Rattle.std.proofs.lemmas.Fmt.{decimal_digit}
+use Rattle.std.proofs.Common.{◌≡◌, ℕ, Bool, true, List, [], ◌∷◌, Option, refl, ap, ◌∙◌, lit<, codes}
 use Rattle.clap.specs.Words.{fault_of, Text, matches_of, takes}
 use Rattle.clap.specs.declared.error.kind.ErrorKind.TheVariants.{DisplayHelp, UnknownArgument, ValueValidation}
 use Rattle.clap.proofs.OnLiterals.{clap_on_literals}
-use Rattle.command_line.specs.Options.{AreGiven, Options, nj}
-use Rattle.command_line.specs.Worked.{AskFor, no_words, many_words, many_options}
+use Rattle.command_line.specs.Options.{AreGiven, Options, Writes, nj}
+use Rattle.command_line.specs.Worked.{AskFor, no_words, many_words, many_options, eight_jobs}
 
 abbrev options_of : Option Text → Text → ℕ → ℕ → Bool → List Text → Options
 options_of folder file jobs keep verbose targets = record { folder = folder; file = file; jobs = jobs; keep = keep; verbose = verbose; targets = targets }
@@ -35,12 +34,46 @@ many_are_taken : takes nj many_words ≡ true
 unfolding clap_on_literals
 many_are_taken = refl
 
+three : Writes (codes "3") 3
+three = record { digits = (lit< tt, (lit< tt, tt)); value = refl }
+
+none : Writes (codes "0") 0
+none = record { digits = (lit< tt, (lit< tt, tt)); value = refl }
+
 many_only : (other : Options) → AreGiven (matches_of nj many_words) other → other ≡ many_options
 unfolding clap_on_literals
-many_only other given = same_options other many_options given.folder given.file (given.jobs 3 (lit< tt) (sym (decimal_digit 3 (lit< tt)))) (given.keep 0 (lit< tt) (sym (decimal_digit 0 (lit< tt)))) (given.verbose.0 refl) given.targets
+many_only other given = same_options other many_options given.folder given.file (given.jobs 3 (lit< tt) three) (given.keep 0 (lit< tt) none) (given.verbose.0 refl) given.targets
 
 pub many_words_ask : AskFor many_words many_options
 many_words_ask = record { taken = many_are_taken; only = λ other asked. many_only other asked.given }
+
+zero_eight : Writes (codes "08") 8
+zero_eight = record { digits = (lit< tt, (lit< tt, (lit< tt, tt))); value = refl }
+
+zero_in_front_is_taken : takes nj (codes "-j" ∷ codes "08" ∷ []) ≡ true
+unfolding clap_on_literals
+zero_in_front_is_taken = refl
+
+zero_in_front_only : (other : Options) → AreGiven (matches_of nj (codes "-j" ∷ codes "08" ∷ [])) other → other ≡ eight_jobs
+unfolding clap_on_literals
+zero_in_front_only other given = same_options other eight_jobs given.folder given.file (given.jobs 8 (lit< tt) zero_eight) given.keep (given.verbose.1 refl) given.targets
+
+pub zero_in_front : AskFor (codes "-j" ∷ codes "08" ∷ []) eight_jobs
+zero_in_front = record { taken = zero_in_front_is_taken; only = λ other asked. zero_in_front_only other asked.given }
+
+plus_eight : Writes (codes "+8") 8
+plus_eight = record { digits = (lit< tt, (lit< tt, tt)); value = refl }
+
+plus_in_front_is_taken : takes nj (codes "-j" ∷ codes "+8" ∷ []) ≡ true
+unfolding clap_on_literals
+plus_in_front_is_taken = refl
+
+plus_in_front_only : (other : Options) → AreGiven (matches_of nj (codes "-j" ∷ codes "+8" ∷ [])) other → other ≡ eight_jobs
+unfolding clap_on_literals
+plus_in_front_only other given = same_options other eight_jobs given.folder given.file (given.jobs 8 (lit< tt) plus_eight) given.keep (given.verbose.1 refl) given.targets
+
+pub plus_in_front : AskFor (codes "-j" ∷ codes "+8" ∷ []) eight_jobs
+plus_in_front = record { taken = plus_in_front_is_taken; only = λ other asked. plus_in_front_only other asked.given }
 
 pub no_number : fault_of nj (codes "-j" ∷ codes "x" ∷ []) ≡ ValueValidation ∷ []
 unfolding clap_on_literals

@@ -1,5 +1,6 @@
 -- What the words of a command line ask for (this project's own; the letters are those of Ninja).
-use Rattle.std.specs.Prelude.{◌≡◌, ◌<◌, ◌^◌, ℕ, Bool, true, false, pos, List, [], Option, Some, None, codes, decimal, unwrap_or}
+use Rattle.std.specs.Prelude.{◌≡◌, ◌<◌, ◌^◌, ℕ, Bool, true, false, pos, List, [], Option, Some, None, codes, unwrap_or}
+use Rattle.std.specs.Str.Parse.{IsNumeral, digits_value, without_leading_plus}
 use Rattle.clap.specs.Words.{App, Row, Rule, Text, all_of, first_of, matches_of, new_app, new_rule, one_of, with_rule}
 use Rattle.clap.specs.Simple.{on_top}
 use Rattle.clap.specs.Lexer.{usize_max}
@@ -53,10 +54,17 @@ pub record Options : Type 0 where
   pub verbose : Bool
   pub targets : List Text
 
--- the number that is given, else the default
+-- The text writes this number: a plus sign or none, then one decimal digit or more and nothing else, which come to the number; zeros
+-- may stand in front. So `8`, `08` and `+8` all write eight.
+pub record Writes (text : Text) (number : ℕ) : Type 0 where
+  pub digits : IsNumeral 10 (without_leading_plus text)
+  pub value : number ≡ digits_value 10 (without_leading_plus text)
+
+-- The number that is given, else the default. (A text that clap takes for these options writes a number below 2 to the 32, once clap
+-- has dropped the minus of a `-0`.)
 abbrev pub IsNumber : Option Text → ℕ → ℕ → Type 0
 IsNumber None default number = number ≡ default
-IsNumber (Some text) default number = (given : ℕ) → given < 2 ^ 32 → text ≡ decimal given → number ≡ given
+IsNumber (Some text) default number = (given : ℕ) → given < 2 ^ 32 → Writes text given → number ≡ given
 
 -- whether the flag is given
 abbrev pub IsFlag : Option Text → Bool → Type 0

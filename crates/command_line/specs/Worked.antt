@@ -21,10 +21,16 @@ many_words =
 abbrev pub many_options : Options
 many_options = record { folder = Some (codes "out"); file = codes "b.ninja"; jobs = 3; keep = 0; verbose = true; targets = codes "all" ∷ codes "-x" ∷ [] }
 
+-- the defaults, and eight jobs
+abbrev pub eight_jobs : Options
+eight_jobs = record no_words { jobs = 8 }
+
 -- what these words ask for, or why they are refused
 pub record WorkedWords : Type 0 where
   pub defaults : AskFor [] no_words
   pub given : AskFor many_words many_options
+  pub zero_in_front : AskFor (codes "-j" ∷ codes "08" ∷ []) eight_jobs
+  pub plus_in_front : AskFor (codes "-j" ∷ codes "+8" ∷ []) eight_jobs
   pub no_number : fault_of nj (codes "-j" ∷ codes "x" ∷ []) ≡ ValueValidation ∷ []
   pub too_large : fault_of nj (codes "-k4294967296" ∷ []) ≡ ValueValidation ∷ []
   pub unknown : fault_of nj (codes "-q" ∷ []) ≡ UnknownArgument ∷ []

@@ -80,7 +80,7 @@ returns g c = (
       let is_tick = c.as_str-2.ensures.value ∙ (c.in_ok-tick.ensures ∙ ap (λ folder. file_in folder tick_name) c.as_str.ensures) in
       let state = c.in_ok-state.state in
       let fresh = c.in_ok-state.ensures.fresh in
-      builds_reported tells graph asked c.args.records course old has c.requires.inputs c.in_ok-cone.cone c.in_ok-cone.ensures.cone _ state c.run_state.new.graph c.run_state.new.cone (g.S.Texts.world c.run_state.new.site)
+      builds_reported tells graph asked c.args.records course old has c.requires.once c.requires.inputs c.in_ok-cone.cone c.in_ok-cone.ensures.cone _ state c.run_state.new.graph c.run_state.new.cone (g.S.Texts.world c.run_state.new.site)
       (report_in c.run_state.result) c.run_state.ensures
       (begins_this tells graph asked c.args.records course old has c.requires.formed c.requires.once c.requires.inputs c.in_ok-cone.cone c.in_ok-cone.ensures.cone state.plan fresh.plan state.looks
       fresh.looks state refl refl fresh.kept fresh.failed fresh.starts _ is_tick)
