@@ -1,6 +1,6 @@
 -- How a build ends that ran what was asked for, in the words of its contract.
 use Rattle.std.specs.Prelude.{IfErr}
-use Rattle.std.proofs.Common.{◌≡◌, ◌⊎◌, inl, inr, ℕ, suc, Bool, false, cond, IsTrue, List, [], ◌∷◌, ◌++◌, map, Option, Some, None, bytes_eq, Vec, Global, Result, Ok, Err, refl, sym, ◌∙◌, ap, subst, append_assoc}
+use Rattle.std.proofs.Common.{◌≡◌, ◌⊎◌, inl, inr, ℕ, suc, Bool, true, false, cond, IsTrue, List, [], ◌∷◌, ◌++◌, map, Option, Some, None, bytes_eq, Vec, Global, Result, Ok, Err, refl, sym, ◌∙◌, ap, subst, append_assoc}
 use Rattle.std.proofs.lemmas.Bool.{cases_Bool}
 use Rattle.build_theory.proofs.Builds.{idle_at_end}
 use Rattle.build_theory.proofs.Looks.{kept_before}

@@ -1,4 +1,3 @@
-use Rattle.std.proofs.Common.{inl}
 use Rattle.paths.specs.Told.{graph_of}
 use Rattle.builder.specs.Build.{limits_of}
 use Rattle.builder.proofs.Builds.{idle_after}
