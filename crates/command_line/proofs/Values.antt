@@ -3,7 +3,7 @@ use Rattle.std.proofs.Common.{◌≡◌, ◌<◌, ◌^◌, ℕ, Bool, true, fals
 use Rattle.std.specs.Prelude.{codes, unwrap_or, IfErr, IsErrAnd}
 use Rattle.std.specs.Str.Parse.{ParsesUnsigned}
 use Rattle.std.specs.Borrow.{Bor}
-use Rattle.clap.specs.Words.{App, HasMatchesOf, ReadsOne, fault_of, Row, Text, found_of, is_simple, is_simple_and_free, kind_of, matches_of, rows_of, takes}
+use Rattle.clap.specs.Words.{App, HasKind, HasMatchesOf, ReadsOne, fault_of, Row, Text, found_of, is_simple, is_simple_and_free, kind_of, matches_of, rows_of, takes}
 use Rattle.clap.specs.declared.parser.matches.ArgMatches.{ArgMatches}
 use Rattle.clap.proofs.OnLiterals.{clap_on_literals}
 use Rattle.clap.specs.declared.error.Error.{Error}
@@ -59,3 +59,7 @@ nj_is_free = refl
 
 pub faultless : (a : App) (words : List Text) → a ≡ nj → (is_simple_and_free a ≡ true → fault_of a words ≡ []) → fault_of nj words ≡ []
 faultless a words same none = ap (λ (b : App). fault_of b words) (sym same) ∙ none (ap is_simple_and_free same ∙ nj_is_free)
+
+-- memory ran out, or the error is of a fault of the words
+pub faulty : (a : App) (words : List Text) (e : Error) → a ≡ nj → (is_simple_and_free a ≡ true → HasKind (fault_of a words) e) → HasKind (fault_of nj words) e
+faulty a words e same kinds = subst (λ (b : App). HasKind (fault_of b words) e) same (kinds (ap is_simple_and_free same ∙ nj_is_free))

@@ -1,7 +1,7 @@
 //! What the words of a command line ask for.
 
 ghost use Rattle.std.specs.Prelude.{◌≡◌, [], IfOk, IfErr, true, false, map};
-ghost use Rattle.clap.specs.Words.{app_of, fault_of, found_of, kind_of, one_of, rows_of, rule_of, takes};
+ghost use Rattle.clap.specs.Words.{HasKind, app_of, fault_of, found_of, kind_of, one_of, rows_of, rule_of, takes};
 ghost use Rattle.command_line.specs.Options.{AreAsked, AreGiven, IsNumber, bare, nj, folder_rule, file_rule, jobs_rule, keep_rule, verbose_rule, targets_rule};
 
 use crate::given::Options;
@@ -34,6 +34,7 @@ nj 0.1 reads build files up to ninja_required_version 1.12, and its own logs up 
 pub fn options<'a, S: AsStr>(alloc: Global, words: &'a [S]) -> Result<Options<'a>, Error>
     ensures ok { IfOk result (AreAsked (map S.text words.entry.now)) }
     ensures faultless { IfOk result (λ _. fault_of nj (map S.text words.entry.now) ≡ []) }
+    ensures fault { IfErr result (HasKind (fault_of nj (map S.text words.entry.now))) }
     ensures err { IfErr result (λ error. takes nj (map S.text words.entry.now) ≡ true → kind_of error ≡ ErrorKind.OutOfMemory) }
 {
     let matches = command(alloc)?.try_get_matches_from(words)?;

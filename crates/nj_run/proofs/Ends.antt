@@ -1,6 +1,19 @@
--- With which status the program ends.
-use Rattle.std.proofs.Common.{◌≡◌, ◌≢◌, ◌≤◌, ℕ, Bool, true, false, Result, Ok, Err, IfOk, refl, sym, ap, ◌∙◌, arith}
+-- How the program ends.
+use Rattle.std.proofs.Common.{◌≡◌, ◌≢◌, ◌≤◌, ℕ, Bool, true, false, List, [], Option, Some, Result, Ok, Err, IfOk, OnOk, inl, inr, refl, sym, ap, ◌∙◌, arith}
 use Rattle.std.specs.Result.{result_unwrap_or}
+use Rattle.clap.specs.Words.{HasKind, IsAmong, Text, fault_of, kind_of}
+use Rattle.clap.specs.declared.error.Error.{Error}
+use Rattle.clap.specs.declared.error.kind.ErrorKind.TheVariants.{OutOfMemory}
+use Rattle.command_line.specs.Options.{AreAsked, Options, nj}
+use Rattle.model.specs.World.{World}
+use Rattle.builder.specs.declared.report.Report.{Report}
+use Rattle.builder.specs.declared.report.Report.TheVariants.{Success, Failed, Refused, Fault}
+use Rattle.host.specs.World.{any_outcome, fresh}
+use Rattle.nj_run.specs.Asked.{BuildsAsked}
+use Rattle.nj_run.specs.Status.{status_of}
+use Rattle.nj_run.specs.Texts.{Adds, err_of, out_of}
+use Rattle.nj_run.proofs.Telling.{untouched}
+use Rattle.nj_run.specs.Ends.{AreDone, Built, Comes, Ending, Ends, EndsBy, EndsFor, EndsWell, Help, MayEnd, NoFolder, NoMemory, NoWords, exit_status}
 
 -- after a build the status is no 2
 pub built : {F : Type 0} (done told : Result ℕ F) (status : ℕ) → status ≡ result_unwrap_or told 1 → told ≡ done → IfOk done (λ given. given ≤ 1) → status ≡ 2 → ⊥
@@ -16,3 +29,70 @@ explained true kind memory (Ok given) told status is same other cause two =
     let all : status ≡ given = is ∙ ap (λ (r : Result ℕ _). result_unwrap_or r 1) same in absurd (other (sym all ∙ two) (cause refl))
 explained true kind memory (Err fault) told status is same other cause two =
     let all : status ≡ 1 = is ∙ ap (λ (r : Result ℕ _). result_unwrap_or r 1) same in let never : ⊥ = omega (arith, all, two) in absurd never
+
+-- a folder that could not be gone to
+pub no_folder : {W E F : Type 0} (asked : Options) (on_out : W → Option Text) (on_err : E → Option Text) (out : W) (old_err new_err : E) (folder : Text) (told : Result ℕ F)
+    → asked.folder ≡ Some folder → IfOk told (λ status. status ≡ 1) → Comes (EndsFor asked) on_out on_err out out old_err new_err told
+no_folder asked on_out on_err out old_err new_err folder (Ok status) is one =
+    record { ending = NoFolder folder; may = is; tells = (one, record { shown = out; shows = refl; out = untouched (on_out out); err = tt }) }
+no_folder asked on_out on_err out old_err new_err folder (Err fault) is one = record { ending = NoFolder folder; may = is; tells = tt }
+
+-- what a build reported, and what was told of it
+pub reported : {W E F : Type 0} (asked : Options) (on_out : W → Option Text) (on_err : E → Option Text) (old_out shown new_out : W) (old_err new_err : E) (report : Report) (refused : Bool) (told : Result ℕ F)
+    → ((later : World) × BuildsAsked false any_outcome asked fresh later report) → IfOk told (λ status. status ≡ status_of report)
+    → OnOk told (Adds (on_out shown) (on_out new_out) (out_of report)) → OnOk told (Adds (on_err old_err) (on_err new_err) (err_of report refused))
+    → Comes (EndsFor asked) on_out on_err old_out new_out old_err new_err told
+reported asked on_out on_err old_out shown new_out old_err new_err report refused (Ok status) so is out err =
+    record { ending = Built report refused; may = so; tells = (is, record { shown = shown; shows = tt; out = out; err = err }) }
+reported asked on_out on_err old_out shown new_out old_err new_err report refused (Err fault) so is out err = record { ending = Built report refused; may = so; tells = tt }
+
+-- what a run has come to, and its status
+pub ends : {W E F : Type 0} (words : List Text) (May : Ending → Type 0) (on_out : W → Option Text) (on_err : E → Option Text) (old_out new_out : W) (old_err new_err : E) (done told : Result ℕ F) (status : ℕ)
+    → status ≡ result_unwrap_or told 1 → told ≡ done → Comes May on_out on_err old_out new_out old_err new_err done → ((ending : Ending) → May ending → MayEnd words ending)
+    → Ends words on_out on_err old_out new_out old_err new_err status
+ends words May on_out on_err old_out new_out old_err new_err (Ok given) told status is same comes may =
+    let all : status ≡ given = is ∙ ap (λ (r : Result ℕ _). result_unwrap_or r 1) same in
+    record { ending = comes.ending; may = may comes.ending comes.may; tells = inl (all ∙ comes.tells.0, comes.tells.1) }
+ends words May on_out on_err old_out new_out old_err new_err (Err fault) told status is same comes may =
+    record { ending = comes.ending; may = may comes.ending comes.may; tells = inr (is ∙ ap (λ (r : Result ℕ _). result_unwrap_or r 1) same) }
+
+among : (words : List Text) (error : Error) → HasKind (fault_of nj words) error → kind_of error ≢ OutOfMemory → IsAmong (kind_of error) (fault_of nj words)
+among words error (inl memory) other = absurd (other memory)
+among words error (inr fault) other = fault
+
+-- words that clap refuses by this error
+pub refused : (words : List Text) (error : Error) → HasKind (fault_of nj words) error → (ending : Ending) → EndsBy (kind_of error) ending → MayEnd words ending
+refused words error has Help so = record { kind = kind_of error; fault = among words error has so.1; so = so }
+refused words error has NoWords so = record { kind = kind_of error; fault = among words error has so.1; so = so }
+refused words error has NoMemory so = tt
+refused words error has (NoFolder folder) so = absurd so
+refused words error has (Built report told) so = absurd so
+
+-- words that ask for this
+pub done : (words : List Text) (asked : Options) → fault_of nj words ≡ [] → AreAsked words asked → (ending : Ending) → EndsFor asked ending → MayEnd words ending
+done words asked faultless are Help so = absurd so
+done words asked faultless are NoWords so = absurd so
+done words asked faultless are NoMemory so = absurd so
+done words asked faultless are (NoFolder folder) so = record { faultless = faultless; asked = asked; are_asked = are; so = so }
+done words asked faultless are (Built report told) so = record { faultless = faultless; asked = asked; are_asked = are; so = so }
+
+well_after : (words : List Text) (report : Report) (told : Bool) → AreDone words (Built report told) → 0 ≡ status_of report → EndsWell words
+well_after words (Success started) told done zero = inr (started, told, done)
+well_after words (Failed outputs) told done zero = absurd (omega (arith, zero))
+well_after words (Refused refusal) told done zero = absurd (omega (arith, zero))
+well_after words (Fault fault) told done zero = absurd (omega (arith, zero))
+
+well_by : (words : List Text) (ending : Ending) → MayEnd words ending → 0 ≡ exit_status ending → EndsWell words
+well_by words Help may zero = inl may
+well_by words NoWords may zero = absurd (omega (arith, zero))
+well_by words NoMemory may zero = absurd (omega (arith, zero))
+well_by words (NoFolder folder) may zero = absurd (omega (arith, zero))
+well_by words (Built report told) may zero = well_after words report told may zero
+
+-- where the status is 0, the run has ended well
+pub well : {W E : Type 0} (words : List Text) (on_out : W → Option Text) (on_err : E → Option Text) (old_out new_out : W) (old_err new_err : E) (status : ℕ)
+    → Ends words on_out on_err old_out new_out old_err new_err status → status ≡ 0 → EndsWell words
+well words on_out on_err old_out new_out old_err new_err status ended zero = elim ended.tells [
+  | inl told ↦ well_by words ended.ending ended.may (sym zero ∙ told.0)
+  | inr one ↦ absurd (omega (arith, zero, one))
+]

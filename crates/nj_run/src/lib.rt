@@ -4,4 +4,4 @@
 mod program;
 mod told;
 
-pub use program::run;
+pub use program::{build_on, run};

@@ -2,13 +2,17 @@
 
 ghost use Rattle.std.specs.Prelude.{◌≡◌, ◌≤◌, IfOk, true, false, map};
 ghost use Rattle.clap.specs.Words.{takes};
+ghost use Rattle.model.specs.World.{World, IsIdle};
 ghost use Rattle.command_line.specs.Options.{nj};
+ghost use Rattle.host.specs.World.{any_outcome, fresh};
+ghost use Rattle.nj_run.specs.Asked.{AreHandedOn, BuildsAsked, pattern_text};
+ghost use Rattle.nj_run.specs.Ends.{Comes, Ends, EndsFor, EndsWell};
 
 use crate::told;
 use builder::{Options, Report, build};
 use command_line::{Options as Asked, options};
 use host::{Host, Trouble};
-use site::SiteFault;
+use site::{Site, SiteFault};
 use status::Pattern;
 use std::alloc::{AllocError, Global};
 use std::convert::AsStr;
@@ -28,6 +32,8 @@ pub fn run<S: AsStr, W: Write, E: Write>(
 ) -> u8
     ensures range { result ≤ 2 }
     ensures refused { result ≡ 2 → takes nj (map S.text words.entry.now) ≡ false }
+    ensures well { result ≡ 0 → EndsWell (map S.text words.entry.now) }
+    ensures ends { Ends (map S.text words.entry.now) W.contents E.contents out.old out.new err.old err.new result }
 {
     let told = match options(rt.alloc(), words) {
         Ok(asked) => build_asked(rt, &asked, pattern, out, err),
@@ -44,7 +50,8 @@ fn build_asked<W: Write, E: Write>(
     out: &mut W,
     err: &mut E,
 ) -> io::Result<u8>
-    ensures { IfOk result (λ status. status ≤ 1) }
+    ensures range { IfOk result (λ status. status ≤ 1) }
+    ensures comes { Comes (EndsFor asked.now) W.contents E.contents out.old out.new err.old err.new result }
 {
     if let Some(folder) = asked.folder {
         if let Err(reason) = env::set_current_dir(rt, folder) {
@@ -61,14 +68,29 @@ fn build_here<W: Write>(
     asked: &Asked<'_>,
     pattern: Option<&str>,
     out: &mut W,
-) -> (Report, Option<Trouble>) {
+) -> (Report, Option<Trouble>)
+    ensures { (later : World) × BuildsAsked false any_outcome asked.now fresh later result.0 }
+{
     let alloc = rt.alloc();
     let mut host = Host::new(alloc, rt, out);
-    let report = match build_options(alloc, asked, pattern) {
-        Ok((options, targets)) => build(alloc, &mut host, &options, targets.as_slice()),
-        Err(_) => Report::Fault(SiteFault::Memory),
-    };
+    let report = build_on(alloc, &mut host, asked, pattern);
     (report, host.into_trouble())
+}
+
+/// Builds what is asked for on a site, whatever folder is asked for. Where no pattern is given, lines have the default one.
+pub fn build_on<S: Site>(
+    alloc: Global,
+    site: &mut S,
+    asked: &Asked<'_>,
+    pattern: Option<&str>,
+) -> Report
+    requires idle { IsIdle (S.world site.old).events }
+    ensures { BuildsAsked S.tells S.outcome asked.now (S.world site.old) (S.world site.new) result }
+{
+    match build_options(alloc, asked, pattern) {
+        Ok((options, targets)) => build(alloc, site, &options, targets.as_slice()),
+        Err(_) => Report::Fault(SiteFault::Memory),
+    }
 }
 
 /// The options and the targets of a build. Where no pattern is given, lines have the default one.
@@ -76,7 +98,9 @@ fn build_options(
     alloc: Global,
     asked: &Asked<'_>,
     pattern: Option<&str>,
-) -> Result<(Options, Vec<Text>), AllocError> {
+) -> Result<(Options, Vec<Text>), AllocError>
+    ensures { IfOk result (λ made. AreHandedOn asked.now (pattern_text pattern.entry) made.0 made.1.items) }
+{
     let options = Options {
         file: Text::from_str(alloc, asked.file)?,
         jobs: asked.jobs,
@@ -84,9 +108,15 @@ fn build_options(
         verbose: asked.verbose,
         pattern: Pattern::parse(alloc, pattern.unwrap_or(Pattern::DEFAULT))?,
     };
-    let mut targets = Vec::new(alloc);
-    for target in asked.targets.as_slice() {
-        targets.push(Text::from_str(alloc, target)?)?;
+    Ok((options, copies(alloc, asked.targets.as_slice())?))
+}
+
+fn copies(alloc: Global, words: &[&str]) -> Result<Vec<Text>, AllocError>
+    ensures { IfOk result (λ texts. texts.items ≡ map (λ word. word.now) words.now) }
+{
+    let mut texts = Vec::new(alloc);
+    for word in words {
+        texts.push(Text::from_str(alloc, word)?)?;
     }
-    Ok((options, targets))
+    Ok(texts)
 }

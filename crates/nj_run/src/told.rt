@@ -1,10 +1,12 @@
 //! What the program tells when it ends, and its status.
 
-ghost use Rattle.std.specs.Prelude.{◌≡◌, ◌≢◌, ◌≤◌, IfOk};
+ghost use Rattle.std.specs.Prelude.{◌≡◌, ◌≢◌, ◌≤◌, Some, IfOk, OnOk, is_some};
 ghost use Rattle.clap.specs.Words.{kind_of};
+ghost use Rattle.nj_run.specs.Ends.{Comes, EndsBy};
 ghost use Rattle.nj_run.specs.Status.{status_of};
+ghost use Rattle.nj_run.specs.Texts.{Adds, after_failure, after_success, err_of, no_memory, out_of, stopped};
 
-use builder::Report;
+use builder::{Refusal, Report};
 use clap::Error;
 use clap::error::ErrorKind;
 use host::Trouble;
@@ -22,42 +24,71 @@ pub fn report<W: Write, E: Write>(
 ) -> io::Result<u8>
     ensures status { IfOk result (λ status. status ≡ status_of report.now) }
     ensures range { IfOk result (λ status. status ≤ 1) }
+    ensures out { OnOk result (Adds (W.contents out.old) (W.contents out.new) (out_of report.now)) }
+    ensures err { OnOk result (Adds (E.contents err.old) (E.contents err.new) (err_of report.now (is_some trouble.entry))) }
 {
     match report {
         Report::Success { started } => {
             success(*started, out)?;
-            return Ok(0);
+            Ok(0)
         }
         Report::Failed { outputs } => {
-            let count = outputs.len();
-            writeln!(err, "nj: build stopped, failed commands: {count}")?;
+            failed(outputs.len(), err)?;
+            Ok(1)
         }
-        Report::Refused(refusal) => writeln!(err, "nj: error: {refusal}")?,
-        Report::Fault(SiteFault::Memory) => memory(err)?,
-        Report::Fault(_) => failed_site(trouble, err)?,
+        Report::Refused(refusal) => {
+            refused(refusal, err)?;
+            Ok(1)
+        }
+        Report::Fault(SiteFault::Memory) => {
+            memory(err)?;
+            Ok(1)
+        }
+        Report::Fault(_) => {
+            failed_site(trouble, err)?;
+            Ok(1)
+        }
     }
-    err.flush()?;
-    Ok(1)
 }
 
 /// Tells that there was nothing to do, where nothing was started.
-fn success<W: Write>(started: usize, out: &mut W) -> io::Result<()> {
+fn success<W: Write>(started: usize, out: &mut W) -> io::Result<()>
+    ensures { OnOk result (Adds (W.contents out.old) (W.contents out.new) (Some (after_success started))) }
+{
     if started == 0 {
         writeln!(out, "nj: no work to do.")?;
     }
     out.flush()
 }
 
-fn memory<E: Write>(err: &mut E) -> io::Result<()> {
-    writeln!(err, "nj: error: N61: out of memory")
+/// Tells how many commands failed.
+fn failed<E: Write>(count: usize, err: &mut E) -> io::Result<()>
+    ensures { OnOk result (Adds (E.contents err.old) (E.contents err.new) (Some (stopped count))) }
+{
+    writeln!(err, "nj: build stopped, failed commands: {count}")?;
+    err.flush()
 }
 
-fn failed_site<E: Write>(trouble: Option<&Trouble>, err: &mut E) -> io::Result<()> {
+fn refused<E: Write>(refusal: &Refusal, err: &mut E) -> io::Result<()> {
+    writeln!(err, "nj: error: {refusal}")?;
+    err.flush()
+}
+
+fn memory<E: Write>(err: &mut E) -> io::Result<()>
+    ensures { OnOk result (Adds (E.contents err.old) (E.contents err.new) (Some no_memory)) }
+{
+    writeln!(err, "nj: error: N61: out of memory")?;
+    err.flush()
+}
+
+fn failed_site<E: Write>(trouble: Option<&Trouble>, err: &mut E) -> io::Result<()>
+    ensures { OnOk result (Adds (E.contents err.old) (E.contents err.new) (after_failure (is_some trouble.entry))) }
+{
     writeln!(err, "nj: error: N60: the site failed")?;
     if let Some(trouble) = trouble {
         writeln!(err, "nj: {trouble}")?;
     }
-    Ok(())
+    err.flush()
 }
 
 /// Tells that the folder in which to build cannot be gone to. The status is 1.
@@ -75,18 +106,21 @@ pub fn folder<E: Write>(folder: &str, reason: &io::Error, err: &mut E) -> io::Re
 pub fn words<W: Write, E: Write>(error: &Error, out: &mut W, err: &mut E) -> io::Result<u8>
     ensures range { IfOk result (λ status. status ≤ 2) }
     ensures refused { IfOk result (λ status. status ≡ 2 → kind_of error.now ≢ ErrorKind.OutOfMemory) }
+    ensures comes { Comes (EndsBy (kind_of error.now)) W.contents E.contents out.old out.new err.old err.new result }
 {
     if error.kind() == ErrorKind::OutOfMemory {
         memory(err)?;
-        err.flush()?;
         return Ok(1);
     }
-    if error.use_stderr() {
-        write!(err, "{error}")?;
-        err.flush()?;
-        return Ok(2);
+    if !error.use_stderr() {
+        show(error, out)?;
+        return Ok(0);
     }
-    write!(out, "{error}")?;
-    out.flush()?;
-    Ok(0)
+    show(error, err)?;
+    Ok(2)
+}
+
+fn show<W: Write>(error: &Error, to: &mut W) -> io::Result<()> {
+    write!(to, "{error}")?;
+    to.flush()
 }

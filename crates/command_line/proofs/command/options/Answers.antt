@@ -1,5 +1,5 @@
 use Rattle.std.proofs.Common.{map}
-use Rattle.command_line.proofs.Values.{asked, faultless, if_err, taken}
+use Rattle.command_line.proofs.Values.{asked, faultless, faulty, if_err, taken}
 use Rattle.command_line.proofs.command.options.Goals as goal
 
 pub returns-in_err-matches-clause-err : goal.returns-in_err-matches-clause-err
@@ -12,3 +12,7 @@ returns-clause-ok g c =
 
 pub returns-clause-faultless : goal.returns-clause-faultless
 returns-clause-faultless g c = faultless _ (map g.S.AsStr.text c.args.words.now) c.in_ok-command.ensures c.in_ok-matches.ensures.kinds
+
+pub returns-in_err-matches-clause-fault : goal.returns-in_err-matches-clause-fault
+returns-in_err-matches-clause-fault g c =
+    if_err c.from_residual-in_err-matches.result _ _ c.from_residual-in_err-matches.ensures.1 (λ e is. rw is (faulty _ (map g.S.AsStr.text c.args.words.now) c.in_err-matches.field-0.0 c.in_ok-command.ensures c.in_err-matches.ensures.kinds))

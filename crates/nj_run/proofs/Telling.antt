@@ -1,0 +1,28 @@
+-- What is written to an output.
+use Rattle.std.proofs.Common.{ℕ, List, [], Option, Some, None, Result, Ok, Err, IfOk, sym, ◌∙◌, append-nil}
+use Rattle.std.specs.Prelude.{IsErrAnd}
+use Rattle.std.specs.Io.KnownBytes.{Appends, Keeps}
+
+-- written, and flushed
+pub flushed : (a b c : Option (List ℕ)) (text : List ℕ) → Appends a b text → Keeps b c → Appends a c text
+flushed None b c text wrote kept = tt
+flushed (Some x) None c text wrote kept = absurd wrote
+flushed (Some x) (Some y) None text wrote kept = absurd kept
+flushed (Some x) (Some y) (Some z) text wrote kept = kept ∙ wrote
+
+-- only flushed
+pub kept_only : (a b : Option (List ℕ)) → Keeps a b → Appends a b []
+kept_only None b kept = tt
+kept_only (Some x) None kept = absurd kept
+kept_only (Some x) (Some y) kept = kept ∙ sym (append-nil x)
+
+pub untouched : (a : Option (List ℕ)) → Appends a a []
+untouched None = tt
+untouched (Some x) = sym (append-nil x)
+
+-- an error is no `Ok`
+pub if_ok_of_err : {T E : Type 0} (r : Result T E) (Q : E → Type 0) (P : T → Type 0) → IsErrAnd r Q → IfOk r P
+if_ok_of_err (Ok v) Q P is = absurd is
+if_ok_of_err (Err e) Q P is = tt
+
+pub ruleset telling = (flushed, kept_only, untouched, if_ok_of_err)

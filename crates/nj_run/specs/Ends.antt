@@ -1,0 +1,124 @@
+-- How a run of the program ends: why, with which status, and what it tells.
+use Rattle.std.specs.Prelude.{◌≡◌, ◌≢◌, ◌⊎◌, ℕ, Bool, false, List, [], Option, Some, None, Result, IfOk, ⊤}
+use Rattle.clap.specs.Words.{IsAmong, Text, fault_of}
+use Rattle.clap.specs.declared.error.kind.ErrorKind.{ErrorKind}
+use Rattle.clap.specs.declared.error.kind.ErrorKind.TheVariants.{DisplayHelp, DisplayVersion, OutOfMemory}
+use Rattle.model.specs.World.{World}
+use Rattle.command_line.specs.Options.{AreAsked, Options, nj}
+use Rattle.builder.specs.declared.report.Report.{Report}
+use Rattle.builder.specs.declared.report.Report.TheVariants.{Success}
+use Rattle.host.specs.World.{any_outcome, fresh}
+use Rattle.nj_run.specs.Asked.{BuildsAsked}
+use Rattle.nj_run.specs.Status.{status_of}
+use Rattle.nj_run.specs.Texts.{Adds, err_of, no_memory, out_of}
+
+-- why a run ends
+pub data Ending : Type 0 where
+  -- help was asked for
+  Help : Ending
+  -- the words are no command line
+  NoWords : Ending
+  -- memory was refused before it was known what the words ask for
+  NoMemory : Ending
+  -- the folder of this path could not be gone to
+  NoFolder : Text → Ending
+  -- a build was reported so, and whether it is told what the device refused last
+  Built : Report → Bool → Ending
+
+abbrev pub exit_status : Ending → ℕ
+exit_status Help = 0
+exit_status NoWords = 2
+exit_status NoMemory = 1
+exit_status (NoFolder folder) = 1
+exit_status (Built report refused) = status_of report
+
+-- What is told on the standard output, behind what the build showed there. The text of help is open: no contract tells it.
+abbrev pub told_on_out : Ending → Option Text
+told_on_out Help = None
+told_on_out NoWords = Some []
+told_on_out NoMemory = Some []
+told_on_out (NoFolder folder) = Some []
+told_on_out (Built report refused) = out_of report
+
+-- What is told on the standard error. What is wrong with the words is open, and so is why the system refused the folder; it stands behind
+-- the line of N60 and `nj: FOLDER: `.
+abbrev pub told_on_err : Ending → Option Text
+told_on_err Help = Some []
+told_on_err NoWords = None
+told_on_err NoMemory = Some no_memory
+told_on_err (NoFolder folder) = None
+told_on_err (Built report refused) = err_of report refused
+
+-- help, or the version, which clap shows in the same way; `nj` has no word that asks for it
+abbrev pub IsShown : ErrorKind → Type 0
+IsShown kind = (kind ≡ DisplayHelp) ⊎ (kind ≡ DisplayVersion)
+
+-- how a run ends where clap answers an error of this kind
+abbrev pub EndsBy : ErrorKind → Ending → Type 0
+EndsBy kind Help = IsShown kind × (kind ≢ OutOfMemory)
+EndsBy kind NoWords = (¬ IsShown kind) × (kind ≢ OutOfMemory)
+EndsBy kind NoMemory = kind ≡ OutOfMemory
+EndsBy kind (NoFolder folder) = ⊥
+EndsBy kind (Built report refused) = ⊥
+
+-- how it ends where this is asked for: what is asked for is built on the site of real files, on which nothing has happened yet
+abbrev pub EndsFor : Options → Ending → Type 0
+EndsFor asked Help = ⊥
+EndsFor asked NoWords = ⊥
+EndsFor asked NoMemory = ⊥
+EndsFor asked (NoFolder folder) = asked.folder ≡ Some folder
+EndsFor asked (Built report refused) = (later : World) × BuildsAsked false any_outcome asked fresh later report
+
+-- the words have a fault for which a run may end so
+pub record AreRefused (words : List Text) (ending : Ending) : Type 0 where
+  pub kind : ErrorKind
+  pub fault : IsAmong kind (fault_of nj words)
+  pub so : EndsBy kind ending
+
+-- the words have no fault, and a run of what they ask for may end so
+pub record AreDone (words : List Text) (ending : Ending) : Type 0 where
+  pub faultless : fault_of nj words ≡ []
+  pub asked : Options
+  pub are_asked : AreAsked words asked
+  pub so : EndsFor asked ending
+
+-- a run of these words may end so; want of memory is shown by tests alone
+abbrev pub MayEnd : List Text → Ending → Type 0
+MayEnd words Help = AreRefused words Help
+MayEnd words NoWords = AreRefused words NoWords
+MayEnd words NoMemory = ⊤
+MayEnd words (NoFolder folder) = AreDone words (NoFolder folder)
+MayEnd words (Built report refused) = AreDone words (Built report refused)
+
+-- What the standard output was where a build has ended. A build shows on it by way of the host, which keeps it as long as the build lasts, and
+-- of what `Site::show` shows contracts tell nothing: it may hold anything then. Where nothing is built, it is as it was.
+abbrev pub Shows : {W : Type 0} → Ending → W → W → Type 0
+Shows Help old shown = shown ≡ old
+Shows NoWords old shown = shown ≡ old
+Shows NoMemory old shown = shown ≡ old
+Shows (NoFolder folder) old shown = shown ≡ old
+Shows (Built report refused) old shown = ⊤
+
+-- all was told: on the standard output, behind what was shown there, and on the standard error
+pub record Tells {W E : Type 0} (on_out : W → Option Text) (on_err : E → Option Text) (ending : Ending) (old_out new_out : W) (old_err new_err : E) : Type 0 where
+  pub shown : W
+  pub shows : Shows ending old_out shown
+  pub out : Adds (on_out shown) (on_out new_out) (told_on_out ending)
+  pub err : Adds (on_err old_err) (on_err new_err) (told_on_err ending)
+
+-- a run has come to an ending of which this holds, and where all was told, this is its status
+pub record Comes (May : Ending → Type 0) {W E F : Type 0} (on_out : W → Option Text) (on_err : E → Option Text) (old_out new_out : W) (old_err new_err : E) (told : Result ℕ F) : Type 0 where
+  pub ending : Ending
+  pub may : May ending
+  pub tells : IfOk told (λ status. (status ≡ exit_status ending) × Tells on_out on_err ending old_out new_out old_err new_err)
+
+-- A run of these words ends with this status: that of its ending, where all was told, and 1 where a text could not be written. So it is 0
+-- only after a build that succeeded and after help, and 2 only where the words have a fault.
+pub record Ends (words : List Text) {W E : Type 0} (on_out : W → Option Text) (on_err : E → Option Text) (old_out new_out : W) (old_err new_err : E) (status : ℕ) : Type 0 where
+  pub ending : Ending
+  pub may : MayEnd words ending
+  pub tells : ((status ≡ exit_status ending) × Tells on_out on_err ending old_out new_out old_err new_err) ⊎ (status ≡ 1)
+
+-- help was asked for, or what the words ask for was built, with success
+abbrev pub EndsWell : List Text → Type 0
+EndsWell words = AreRefused words Help ⊎ ((started : ℕ) × (refused : Bool) × AreDone words (Built (Success started) refused))
