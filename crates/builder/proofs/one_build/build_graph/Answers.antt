@@ -1,11 +1,11 @@
-use Rattle.std.proofs.Common.{[], inl, inr, refl, sym, ◌∙◌, ap, subst}
+use Rattle.std.proofs.Common.{[], refl, sym, ◌∙◌, ap, subst}
 use Rattle.model.specs.Records.{file_in, tick_name}
 use Rattle.links.specs.Told.{declared_by}
 use Rattle.builder.specs.declared.report.Report.{Report}
 use Rattle.builder.specs.Build.{Builds, asked_of}
 use Rattle.builder.specs.Reports.{report_in, SaysNoCone}
 use Rattle.builder.proofs.Beginning.{begins_this, begins_here}
-use Rattle.builder.proofs.Builds.{any_own, builds_memory, builds_uncut}
+use Rattle.builder.proofs.Builds.{builds_memory, builds_uncut}
 use Rattle.builder.proofs.Endings.{builds_reported}
 use Rattle.builder.proofs.Looking.{course_of}
 use Rattle.builder.proofs.Stages.{told_by}

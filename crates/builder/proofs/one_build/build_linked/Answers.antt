@@ -1,4 +1,4 @@
-use Rattle.std.proofs.Common.{List, ℕ, inl, refl, sym, ◌∙◌, subst}
+use Rattle.std.proofs.Common.{List, ℕ, refl, sym, ◌∙◌, subst}
 use Rattle.model.specs.declared.graph.BuildGraph.{BuildGraph}
 use Rattle.model.specs.World.{view_of}
 use Rattle.model.specs.Graph.{IsMadeOnce}

@@ -46,5 +46,5 @@ pub returns : goal.returns
 returns g c = (
   c.build_linked.ensures.0,
   subst (λ (b : BuildGraph). BuildsFor g.S.Texts.tells b c.args.reading.asked c.build_linked.ensures.0 (g.S.Texts.world c.args.site.now) (g.S.Texts.world c.build_linked.new.site) (report_in c.build_linked.result))
-  (ap graph_of c.in_ok-graph.ensures.manifest) c.build_linked.ensures.1,
+      (ap graph_of c.in_ok-graph.ensures.manifest) c.build_linked.ensures.1,
 )
