@@ -18,7 +18,7 @@ use Rattle.runner.specs.Ran.{HasRun}
 use Rattle.builder.specs.declared.report.Refusal.{Refusal}
 use Rattle.builder.specs.declared.stop.Stop.{Stop}
 use Rattle.builder.specs.declared.stop.Stop.TheVariants as stop
-use Rattle.builder.specs.Going.{ended_course, grown_course, GoesWell, IsStopOf, IsRefusedAt, HasHalted, HasStopped, WasCut, HasEndedSo, IfRefused}
+use Rattle.builder.specs.Going.{GoesWell, IsStopOf, IsRefusedAt, HasHalted, HasStopped, WasCut, IfRefused}
 use Rattle.builder.proofs.Faults.{well_then, faulted_then}
 use Rattle.builder.proofs.Behind.{ends, ends_suits, ends_on, ends_going, stopped_finished, stopped_cut}
 
