@@ -22,9 +22,12 @@ use Rattle.manifest.specs.declared.fault.ReadError.{ReadError}
 use Rattle.manifest.specs.declared.fault.ReadError.TheVariants as error
 use Rattle.builder.specs.declared.asked.Limits.{Limits}
 use Rattle.builder.specs.declared.asked.Asked.{Asked}
+use Rattle.builder.specs.declared.reading.Reading.{Reading}
+use Rattle.builder.specs.declared.report.Options.{Options}
 use Rattle.builder.specs.declared.report.Report.{Report}
+use Rattle.paths.specs.Told.{graph_of}
 use Rattle.builder.specs.Asked.{AreTargets, IsFolder}
-use Rattle.builder.specs.Build.{Builds, BuildsFor, IsBuild, IsUnread, WasRead, unread}
+use Rattle.builder.specs.Build.{Builds, BuildsFor, IsBuild, IsUnread, WasRead, limits_of, unread}
 use Rattle.builder.specs.Loads.{ReadsDyndeps}
 use Rattle.builder.specs.Reports.{report_in}
 use Rattle.builder.proofs.Builds.{looked_nothing, idle_after, any_own, own_in, builds_grow}
@@ -54,21 +57,26 @@ reads_dyndeps has = (λ bytes. option_map (map addition_of) (has.0 bytes), λ by
 -- ---- first reading, and then building
 
 -- what was read was not refused
-pub was_read : (tells : Bool) (name : List ℕ) (given : List (List ℕ)) (limits : Limits) (old new : World) (graph : BuildGraph) (asked : Asked) → OnlyLooks tells old new → HasCause {T = Unit {0}} old new (Ok tt) → IsGraph graph
-    → (IsTrue tells → ReadsFile name old.history new.history (Ok graph)) → asked.given.now ≡ given → AreTargets given asked.targets → IsFolder graph.builddir asked.folder → asked.limits ≡ limits
-    → WasRead tells name limits given old new graph asked
-was_read tells name given limits old new graph asked looks cause formed file given_is targets folder limits_are = record {
+pub was_read : (tells : Bool) (options : Options) (old new : World) (read : Reading) → OnlyLooks tells old new → HasCause {T = Unit {0}} old new (Ok tt) → IsGraph (graph_of read.manifest)
+    → (IsTrue tells → ReadsFile options.file old.history new.history (Ok (graph_of read.manifest))) → AreTargets read.asked.given.now read.asked.targets
+    → IsFolder (graph_of read.manifest).builddir read.asked.folder → read.asked.limits ≡ limits_of options → WasRead tells options old new read
+was_read tells options old new read looks cause formed file targets folder limits_are = record {
   formed = formed;
   file = file;
   looked = record { looks = looks; unrefused = unrefused_call old new _ cause };
-  given_is = given_is;
   targets = targets;
   folder = folder;
   limits_are = limits_are;
 }
 
-module _ (tells : Bool) (outcome : Act → View → Outcome) (name : List ℕ) (limits : Limits) (given : List (List ℕ)) (old mid new : World) (idle : IsIdle old.events)
-    (graph : BuildGraph) (asked : Asked) (read : WasRead tells name limits given old mid graph asked) (report : Report) (grown : List Edge) (builds : BuildsFor tells graph asked grown mid new report) where
+module _ (tells : Bool) (outcome : Act → View → Outcome) (options : Options) (given : List (List ℕ)) (old mid new : World) (idle : IsIdle old.events) (reading : Reading) (read : WasRead tells options old mid reading) (given_is : reading.asked.given.now ≡ given)
+    (report : Report) (grown : List Edge) (builds : BuildsFor tells (graph_of reading.manifest) reading.asked grown mid new report) where
+  abbrev graph : BuildGraph
+  graph = graph_of reading.manifest
+
+  abbrev asked : Asked
+  asked = reading.asked
+
   -- from what was read the history grew
   later : HasFormat → HasReading → HasDyndeps → IsTrue tells → (later : List Moment) × (new.history ≡ mid.history ++ later)
   later logs depfiles dyndeps tell =
@@ -77,19 +85,22 @@ module _ (tells : Bool) (outcome : Act → View → Outcome) (name : List ℕ) (
       builds_grow tells any logs.0 (any_own asked.folder) graph asked.folder asked.limits asked.given.now asked.targets grown mid new report
       (builds any logs.0 (any_own asked.folder) mid depfiles.1 adds.1 logs.1 (own_in asked.folder) (idle_after tells old mid read.looked.looks idle) (looked_nothing tells mid read.looked.unrefused.goes_on)) tell
 
+  canonical : AreTargets given reading.asked.targets
+  canonical = subst (λ (g : List (List ℕ)). AreTargets g reading.asked.targets) given_is read.targets
+
   -- so what was read was built
-  pub built_read : HasFormat → HasReading → HasDyndeps → IsBuild tells outcome name limits given old new report
+  pub built_read : HasFormat → HasReading → HasDyndeps → IsBuild tells outcome options.file (limits_of options) given old new report
   built_read logs depfiles dyndeps = inr record {
     graph = graph;
     formed = read.formed;
     file = record { read = mid; looked = read.looked; file = read.file; since = later logs depfiles dyndeps };
     targets = asked.targets;
-    canonical = read.targets;
+    canonical = canonical;
     folder = asked.folder;
     in_folder = read.folder;
     grown = grown;
     builds = λ own format depfile dyndep depfiles dyndeps reads owned.
         subst (λ (l : Limits). Builds tells (record { outcome = outcome; depfile = depfile; dyndep = dyndep }) format own graph asked.folder l given asked.targets grown old new report) read.limits_are
-        (subst (λ (g : List (List ℕ)). Builds tells (record { outcome = outcome; depfile = depfile; dyndep = dyndep }) format own graph asked.folder asked.limits g asked.targets grown old new report) read.given_is
+        (subst (λ (g : List (List ℕ)). Builds tells (record { outcome = outcome; depfile = depfile; dyndep = dyndep }) format own graph asked.folder asked.limits g asked.targets grown old new report) given_is
         (builds (record { outcome = outcome; depfile = depfile; dyndep = dyndep }) format own old depfiles dyndeps reads owned idle read.looked));
   }

@@ -27,10 +27,11 @@ use Rattle.builder.specs.declared.report.Report.{Report}
 use Rattle.builder.specs.declared.report.Options.{Options}
 use Rattle.builder.specs.declared.asked.Asked.{Asked as Request}
 use Rattle.builder.specs.declared.asked.Limits.{Limits}
+use Rattle.builder.specs.declared.reading.Reading.{Reading}
 use Rattle.builder.specs.declared.report.Report.TheVariants.{Success, Failed, Refused, Fault}
 use Rattle.build_theory.specs.Seen.{Looked}
 use Rattle.builder.specs.Asked.{AreTargets, IsFolder}
-use Rattle.paths.specs.Told.{text_at}
+use Rattle.paths.specs.Told.{graph_of, text_at}
 use Rattle.builder.specs.Loads.{ReadsDyndeps, RefusesFile}
 use Rattle.links.specs.declared.fault.GraphFault.TheVariants as fault_of
 use Rattle.links.specs.Linked.{IsFaultOf}
@@ -75,8 +76,8 @@ Says edges given targets (Refused (Cycle paths)) said = said ≡ answer.Cyclic p
 Says edges given targets (Refused (Missing missing)) said = said ≡ missing_answer missing.path missing.needed_by
 Says edges given targets (Fault fault) said = said ≡ answer.Fault fault
 
--- Where the declared edges are no graph, the report names the path that the fault of the lowest edge that has one names. A path that is
--- made twice only with what a dyndep file adds is refused over edges which make each path once.
+-- Where N17 or N53 is answered, the path is the one that the fault of the lowest edge names which has one; but for a path that is made
+-- twice only with what a dyndep file adds, where the declared edges make each path once.
 abbrev pub NamesFault : List Edge → Report → Type 0
 NamesFault edges (Success started) = Unit {0}
 NamesFault edges (Failed outputs) = Unit {0}
@@ -138,16 +139,16 @@ pub record IsUnread (tells : Bool) (name : List ℕ) (old new : World) (report :
   pub cause : HasCause old new (site_part {T = BuildGraph} (Err error))
   pub file : IsTrue tells → OnOk (site_part {T = BuildGraph} (Err error)) (ReadsFile name old.history new.history (Err error))
 
--- The file of this name was read as this graph, in calls that only looked and of which none was refused; this is asked of the graph
--- where targets were given so: their canonical paths, the folder that `builddir` names, and these limits.
-pub record WasRead (tells : Bool) (name : List ℕ) (limits : Limits) (given : List (List ℕ)) (old new : World) (graph : BuildGraph) (asked : Request) : Type 0 where
-  pub formed : IsGraph graph
-  pub file : IsTrue tells → ReadsFile name old.history new.history (Ok graph)
+-- The file that the options name was read, in calls that only looked and of which none was refused: the manifest stands for the graph
+-- that it declares. Asked of it are the canonical paths of the targets that were given, the folder that `builddir` names, and the limits
+-- of the options.
+pub record WasRead (tells : Bool) (options : Options) (old new : World) (read : Reading) : Type 0 where
+  pub formed : IsGraph (graph_of read.manifest)
+  pub file : IsTrue tells → ReadsFile options.file old.history new.history (Ok (graph_of read.manifest))
   pub looked : Looked tells old new
-  pub given_is : asked.given.now ≡ given
-  pub targets : AreTargets given asked.targets
-  pub folder : IsFolder graph.builddir asked.folder
-  pub limits_are : asked.limits ≡ limits
+  pub targets : AreTargets read.asked.given.now read.asked.targets
+  pub folder : IsFolder (graph_of read.manifest).builddir read.asked.folder
+  pub limits_are : read.asked.limits ≡ limits_of options
 
 -- The file of this name was read as this graph before anything else was done: up to the world where reading ended there was only looked
 -- and no call was refused, and what happened until then is a beginning of all that happened.

@@ -17,7 +17,8 @@ ghost use Rattle.manifest.specs.Answer.{IsGraph};
 ghost use Rattle.paths.specs.Told.{graph_of, text_at};
 ghost use Rattle.runner.specs.Course.{Course};
 ghost use Rattle.runner.specs.Ran.{AreEdgesOf};
-ghost use Rattle.builder.specs.Build.{limits_of, Builds, BuildsFor, IsBuild};
+ghost use Rattle.builder.specs.Build.{limits_of, Builds, IsBuild};
+ghost use Rattle.builder.specs.Parts.{BuildsGraph, BuildsReading};
 ghost use Rattle.model.specs.Phases.{Phase};
 ghost use Rattle.runner.specs.Going.{AreSet};
 ghost use Rattle.builder.specs.Going.{BeginsAt};
@@ -46,15 +47,15 @@ use text::Text;
 
 /// Builds the targets, or the default ones where none is given (manual: "Default target statements").
 ///
-/// The build files are read first ([`read`]), and what was read is built then ([`build_read`]): no build file is read again, whatever
-/// is written meanwhile.
+/// The build files are read first ([`read`]), and what was read is built then ([`build_read`]): what is read later counts for nothing,
+/// whatever is written meanwhile.
 ///
 /// What the logs in the folder of `builddir` (manual: "Top-level variables") tell is believed: a command whose outputs are in
 /// order by their records is not started, and the inputs that it told in its depfile count as its inputs. Each start and each good
-/// end is put behind the build log, and what a command told behind the deps log; one that is damaged tells nothing.
+/// end is put after what stands in the build log, and what a command told after what stands in the deps log; one that is damaged tells nothing.
 ///
 /// A dyndep file (manual: "Dynamic Dependencies") is loaded when its maker is settled; one that no edge makes, before anything is
-/// started, or right behind the load by which an edge that names it joins the build. One that is refused ends the build, and so does a
+/// started, or right after the load by which an edge that names it joins the build. One that is refused ends the build, and so does a
 /// source that is missing once one was loaded: nothing more is started, and what runs by then is taken in and recorded. Every other
 /// refusal has started and written nothing.
 ///
@@ -73,8 +74,7 @@ pub fn build<S: Site>(alloc: Global, site: &mut S, options: &Options, targets: &
     }
 }
 
-/// Builds what was read of build files ([`read`]), as [`build`] does. Since then there may have been looks at the site, but no other
-/// calls.
+/// Builds what was read of build files ([`read`]), as [`build`] does. It is promised for each entry since which there were looks alone.
 ///
 /// The limits, the targets and the folder of the program's own files are those of the reading; of the options this takes only how
 /// commands are shown.
@@ -87,7 +87,7 @@ pub fn build_read<S: Site>(
     requires idle { IsIdle (S.world site.old).events }
     requires running { (S.world site.old).stopped ≡ false }
     requires formed { IsGraph (graph_of reading.manifest) }
-    ensures { (grown : List Edge) × BuildsFor S.tells (graph_of reading.entry.manifest) reading.entry.asked grown (S.world site.old) (S.world site.new) result }
+    ensures { BuildsReading S.tells reading.entry (S.world site.old) (S.world site.new) result }
 {
     match link_and_build(alloc, site, reading, options) {
         Ok(report) => report,
@@ -105,7 +105,7 @@ fn link_and_build<S: Site>(
     requires idle { IsIdle (S.world site.old).events }
     requires running { (S.world site.old).stopped ≡ false }
     requires formed { IsGraph (graph_of reading.manifest) }
-    ensures { (grown : List Edge) × BuildsFor S.tells (graph_of reading.entry.manifest) reading.entry.asked grown (S.world site.old) (S.world site.new) (report_in result) }
+    ensures { BuildsReading S.tells reading.entry (S.world site.old) (S.world site.new) (report_in result) }
 {
     let Reading { manifest, asked } = reading;
     let mut graph = Graph::build(alloc, manifest)?;
@@ -124,7 +124,7 @@ fn build_linked<S: Site>(
     requires running { (S.world site.old).stopped ≡ false }
     requires formed { IsGraph (declared_by graph.old) }
     requires linked { IsLinked graph.old }
-    ensures { (grown : List Edge) × BuildsFor S.tells (declared_by graph.old) asked.now grown (S.world site.old) (S.world site.new) (report_in result) }
+    ensures { BuildsGraph S.tells graph.old asked.now (S.world site.old) (S.world site.new) result }
 {
     has_format();
     has_reading();

@@ -1,8 +1,7 @@
 //! What is read before a build.
 
-ghost use Rattle.std.specs.Prelude.{IfOk, IfErr};
-ghost use Rattle.paths.specs.Told.{graph_of};
-ghost use Rattle.builder.specs.Build.{limits_of, IsUnread, WasRead};
+ghost use Rattle.std.specs.Prelude.{◌≡◌, IfOk, IfErr};
+ghost use Rattle.builder.specs.Build.{IsUnread, WasRead};
 
 use crate::asked::Asked;
 use crate::report::{Options, Report};
@@ -32,7 +31,8 @@ pub fn read<'a, R: Texts>(
     options: &Options,
     targets: &'a [Text],
 ) -> Result<Reading<'a>, Report>
-    ensures read { IfOk result (λ reading. WasRead R.tells options.now.file (limits_of options.now) targets.now (R.world site.old) (R.world site.new) (graph_of reading.manifest) reading.asked) }
+    ensures read { IfOk result (WasRead R.tells options.now (R.world site.old) (R.world site.new)) }
+    ensures given { IfOk result (λ reading. reading.asked.given.now ≡ targets.now) }
     ensures unread { IfErr result (IsUnread R.tells options.now.file (R.world site.old) (R.world site.new)) }
 {
     let manifest = manifest::read(alloc, site, options.file.as_str())?;

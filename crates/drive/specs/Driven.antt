@@ -86,12 +86,16 @@ abbrev pub HasCauseOf : {tells : Bool} → {B : Behaviour} → {format : LogForm
 HasCauseOf {tells} {B} {format} {own} {asked} {old} {new} {said} report build =
     RefusesFile tells own asked build.store (steps_of build.schedule.lawful.earlier ++ build.schedule.lawful.last) old new report
 
--- The visit is a build that was asked for with these words, and this is its report, as `build` promises it: it says the answer, names
--- the fault of edges that are no graph and, for any own files that lie in the folder, has its cause.
+-- the report says this answer of what was asked for with these words, and where it is N17 or N53, it names the path as it should
+abbrev pub SaysOf : List (List ℕ) → Asked → Answer → Report → Type 0
+SaysOf words asked said report = Says asked.declared words asked.targets report said × NamesFault asked.declared report
+
+-- The visit is a build that was asked for with these words, and this is its report, as `build` promises it, for any own files that lie
+-- in the folder.
 abbrev pub Reports : {tells : Bool} {B : Behaviour} {format : LogFormat} → List ℕ → List (List ℕ) → Visit tells B format → Report → Type 0
 Reports name words (Edited path content old new edit) report = ⊥
 Reports {tells} {B} {format} name words (Built asked old new said build) report =
-    Says asked.declared words asked.targets report said × NamesFault asked.declared report × ((own : OwnFiles) (fits : IsOwnIn own asked.folder) → HasCauseOf report (build own fits))
+    SaysOf words asked said report × ((own : OwnFiles) (fits : IsOwnIn own asked.folder) → HasCauseOf report (build own fits))
 Reports {tells} {B} {format} name words (Unread old new said cause) report = IsRefused tells name old new report said
 Reports name words (Restarted edges old new restart) report = ⊥
 

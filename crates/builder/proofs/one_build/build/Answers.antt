@@ -1,5 +1,3 @@
-use Rattle.paths.specs.Told.{graph_of}
-use Rattle.builder.specs.Build.{limits_of}
 use Rattle.builder.proofs.Builds.{idle_after}
 use Rattle.builder.proofs.Stages.{built_read}
 use Rattle.builder.proofs.one_build.build.Goals as goal
@@ -16,6 +14,5 @@ build_read-requires-clause-formed g c = c.in-Ok.ensures.read.formed
 
 pub returns-in-Ok : goal.returns-in-Ok
 returns-in-Ok g c =
-    let reading = c.in-Ok.reading in
-    built_read g.S.Texts.tells g.S.Site.outcome c.args.options.now.file (limits_of c.args.options.now) c.args.targets.now (g.S.Texts.world c.args.site.now) (g.S.Texts.world c.read.new.site) (g.S.Texts.world c.build_read.new.site) c.requires
-    (graph_of reading.manifest) reading.asked c.in-Ok.ensures.read c.build_read.result c.build_read.ensures.0 c.build_read.ensures.1 c.has_format.ensures c.has_reading.ensures c.has_reading-2.ensures
+    built_read g.S.Texts.tells g.S.Site.outcome c.args.options.now c.args.targets.now (g.S.Texts.world c.args.site.now) (g.S.Texts.world c.read.new.site) (g.S.Texts.world c.build_read.new.site) c.requires
+    c.in-Ok.reading c.in-Ok.ensures.read c.in-Ok.ensures.given c.build_read.result c.build_read.ensures.0 c.build_read.ensures.1 c.has_format.ensures c.has_reading.ensures c.has_reading-2.ensures

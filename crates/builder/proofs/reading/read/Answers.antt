@@ -1,8 +1,8 @@
-use Rattle.std.proofs.Common.{List, ℕ, Ok, subst}
+use Rattle.std.proofs.Common.{List, ℕ, Ok, sym, subst}
 use Rattle.manifest.specs.Answer.{ReadsFile}
 use Rattle.manifest.specs.declared.fault.ReadError.TheVariants as error
 use Rattle.paths.specs.Told.{graph_of}
-use Rattle.builder.specs.Build.{limits_of}
+use Rattle.builder.specs.Asked.{AreTargets}
 use Rattle.builder.proofs.Stages.{unread_by, read_named, was_read}
 use Rattle.builder.proofs.reading.read.Goals as goal
 
@@ -22,11 +22,11 @@ returns-in_err-asked-clause-unread g c =
 
 pub returns-clause-read : goal.returns-clause-read
 returns-clause-read g c =
-    let tells = g.R.Texts.tells in
-    let graph = graph_of c.in_ok-manifest.manifest in
+    let manifest = c.in_ok-manifest.manifest in
+    let graph = graph_of manifest in
     let asked = c.in_ok-asked.asked in
     let old = g.R.Texts.world c.args.site.now in
     let new = g.R.Texts.world c.read.new.texts in
-    was_read tells c.args.options.now.file c.args.targets.now (limits_of c.args.options.now) old new graph asked c.read.ensures.looks c.in_ok-manifest.ensures.cause c.in_ok-manifest.ensures.graph
+    was_read g.R.Texts.tells c.args.options.now old new (record { manifest = manifest; asked = asked }) c.read.ensures.looks c.in_ok-manifest.ensures.cause c.in_ok-manifest.ensures.graph
     (λ tell. subst (λ (n : List ℕ). ReadsFile n old.history new.history (Ok graph)) c.as_str.ensures (c.in_ok-manifest.ensures.file tell))
-    c.in_ok-asked.ensures.given c.in_ok-asked.ensures.targets c.in_ok-asked.ensures.folder c.in_ok-asked.ensures.limits
+    (subst (λ (given : List (List ℕ)). AreTargets given asked.targets) (sym {A = List (List ℕ)} c.in_ok-asked.ensures.given) c.in_ok-asked.ensures.targets) c.in_ok-asked.ensures.folder c.in_ok-asked.ensures.limits
