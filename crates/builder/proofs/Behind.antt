@@ -14,7 +14,7 @@ use Rattle.runner.specs.declared.cut.Cut.{Cut}
 use Rattle.runner.specs.declared.state.State.{State}
 use Rattle.runner.specs.After.{ComesAfter, LooksUnlessMore}
 use Rattle.runner.specs.Course.{Course, goes_on, IsSince, Suits, IsOn}
-use Rattle.runner.specs.Cut.{fault_of}
+use Rattle.runner.specs.Cut.{fault_of, IsLeft}
 use Rattle.runner.specs.Going.{IsGoing, IsFinished}
 use Rattle.runner.specs.Ran.{HasRun}
 use Rattle.runner.proofs.Onward.{since_goes}
@@ -132,11 +132,12 @@ module _ (tells : Bool) (tick : List ℕ) (course : Course) (edges : List Edge) 
         since = phases_since finished.on.steps finished.on.since
 
     -- a fault was met
-    pub stopped_cut : (cut : Cut) → HasRun tells ends new (Err cut) → WasCut tells course edges new (fault_of cut)
-    stopped_cut cut ran = record {
+    pub stopped_cut : (cut : Cut) → IsLeft new cut → HasRun tells ends new (Err cut) → WasCut tells course edges new (fault_of cut)
+    stopped_cut cut left ran = record {
       phases = phases;
       cut = cut;
       is = refl;
+      left = left;
       ran = record { steps = ran.steps; met = ran.met; cut = record { phased = since.phased; run = ran.cut.run; beside = ran.cut.beside }; in_hand = ran.in_hand; since = since_goes course.refused stands.goes ran.steps; ends = tt; goes = tt; removed = tt };
       once = stands.suits.once;
       acyclic = stands.acyclic;

@@ -8,12 +8,13 @@ use Rattle.model.specs.declared.fault.SiteFault.TheVariants.{Memory}
 use Rattle.model.specs.World.{World, IsIdle}
 use Rattle.model.specs.Calls.{OnlyLooks, HasCause}
 use Rattle.model.specs.declared.graph.Edge.{Edge}
-use Rattle.model.specs.Graph.{has}
+use Rattle.model.specs.Graph.{has, IsMadeOnce}
+use Rattle.model.specs.Phases.{steps_of}
 use Rattle.model.specs.Outcome.{Behaviour}
 use Rattle.model.specs.Premises.{FilesAreKept}
 use Rattle.model.specs.Records.{OwnFiles, Store, LogFormat, IsOwnIn, file_in, build_log_name, deps_log_name}
 use Rattle.model.specs.SingleBuild as answer
-use Rattle.model.specs.SingleBuild.{asked_with, Asked, Answer, IsSuccess, IsShownCycle, IsAnswer}
+use Rattle.model.specs.SingleBuild.{asked_with, Asked, Answer, IsSuccess, IsShownCycle, IsAnswer, NamesOther, SingleBuild}
 use Rattle.std.proofs.lemmas.Bool.{false≢true, or_left}
 use Rattle.build_theory.proofs.Lists.{has-left, has-right, bytes_same}
 use Rattle.build_theory.proofs.Looks.{looks_nothing, looks_then}
@@ -32,8 +33,8 @@ use Rattle.builder.specs.declared.asked.Limits.{Limits}
 use Rattle.builder.specs.declared.report.Refusal.{Refusal}
 use Rattle.builder.specs.declared.report.Refusal.TheVariants as refusal
 use Rattle.builder.specs.declared.report.Report.{Report}
-use Rattle.builder.specs.declared.report.Report.TheVariants.{Refused, Fault}
-use Rattle.builder.specs.Build.{asked_of, Says, Builds}
+use Rattle.builder.specs.declared.report.Report.TheVariants.{Success, Failed, Refused, Fault}
+use Rattle.builder.specs.Build.{asked_of, Says, NamesFault, Builds}
 use Rattle.builder.specs.Reports.{ungraphed, ShowsFault, SaysNoCone}
 use Rattle.builder.specs.Recorded.{IsRecordedBy}
 use Rattle.builder.specs.Loads.{RefusesFile}
@@ -47,21 +48,42 @@ path_has (p ∷ ps) zero lt = has-left (p ∷ []) ps p (has_one p)
     has_one p = or_left (bytes_eq p p) false (bytes_same p)
 path_has (p ∷ ps) (suc k) lt = has-right (p ∷ []) ps (text_at ps k) (path_has ps k (omega (arith, lt)))
 
+-- a report names no fault of edges that are a graph
+names_none : (edges : List Edge) (given targets : List (List ℕ)) (report : Report) (said : Answer) → IsMadeOnce edges → ((path : List ℕ) → said ≡ answer.NoDyndepInput path → ⊥) → Says edges given targets report said → NamesFault edges report
+names_none edges given targets (Success started) said once none says = tt
+names_none edges given targets (Failed outputs) said once none says = tt
+names_none edges given targets (Refused (refusal.File fault)) said once none says = tt
+names_none edges given targets (Refused (refusal.MadeTwice path)) said once none says = inl once
+names_none edges given targets (Refused (refusal.NoDyndepInput path)) said once none says = absurd (none path says)
+names_none edges given targets (Refused (refusal.NoDyndep path)) said once none says = tt
+names_none edges given targets (Refused (refusal.BadVersion path)) said once none says = tt
+names_none edges given targets (Refused (refusal.BadStatement path)) said once none says = tt
+names_none edges given targets (Refused (refusal.Unfit unfit)) said once none says = tt
+names_none edges given targets (Refused (refusal.UnknownTarget target)) said once none says = tt
+names_none edges given targets (Refused (refusal.Cycle paths)) said once none says = tt
+names_none edges given targets (Refused (refusal.Missing missing)) said once none says = tt
+names_none edges given targets (Fault fault) said once none says = tt
+
 module _ (tells : Bool) (B : Behaviour) (format : LogFormat) (own : OwnFiles) (graph : BuildGraph) (folder : List ℕ) (limits : Limits) (given targets : List (List ℕ)) (store : Store) (entry now : World) (found : IsFoundAt tells format own store entry now)
     (idle : IsIdle entry.events) where
   -- what was asked for
   abbrev The : Asked
   The = asked_of graph folder limits targets
 
+  -- with these edges at the end
+  abbrev BuildsOver : List Edge → Report → Type 0
+  BuildsOver grown report = Builds tells B format own graph folder limits given targets grown entry now report
+
   -- where nothing was loaded
   abbrev pub BuildsAs : Report → Type 0
   BuildsAs report = Builds tells B format own graph folder limits given targets graph.edges entry now report
 
   -- these are the edges at the end, and the report gives the answer
-  pub builds_over : (grown : List Edge) (report : Report) (said : Answer) → Says graph.edges given targets report said → Built tells B format own (asked_with The grown) entry now said report → Builds tells B format own graph folder limits given targets grown entry now report
-  builds_over grown report said says built = record {
+  builds_named : (grown : List Edge) (report : Report) (said : Answer) → Says graph.edges given targets report said → NamesFault graph.edges report → Built tells B format own (asked_with The grown) entry now said report → BuildsOver grown report
+  builds_named grown report said says named built = record {
     answer = said;
     said = says;
+    named = named;
     build = built.build;
     refused = built.refused;
     headline = built.headline;
@@ -70,36 +92,48 @@ module _ (tells : Bool) (B : Behaviour) (format : LogFormat) (own : OwnFiles) (g
     removed = built.removed;
   }
 
+  -- a dyndep file that is no input is answered over such edges alone
+  names_other : (grown : List Edge) (said : Answer) → SingleBuild tells B format own (asked_with The grown) entry now said → (path : List ℕ) → said ≡ answer.NoDyndepInput path → NamesOther graph.edges path
+  names_other grown said build path is =
+      let lawful = build.schedule.lawful in
+      (subst (λ (a : Answer). IsAnswer tells B own build.texts (asked_with The grown) build.store lawful.earlier (steps_of lawful.earlier ++ lawful.last) build.steps entry now a) is build.answers).2
+
+  -- over edges that are a graph no fault of theirs is named
+  pub builds_over : IsMadeOnce graph.edges → ((file : List ℕ) → NamesOther graph.edges file → ⊥) → (grown : List Edge) (report : Report) (said : Answer) → Says graph.edges given targets report said
+      → Built tells B format own (asked_with The grown) entry now said report → BuildsOver grown report
+  builds_over once others grown report said says built =
+      builds_named grown report said says (names_none graph.edges given targets report said once (λ path is. others path (names_other grown said built.build path is)) says) built
+
   -- ---- refusals and faults before anything was loaded or judged
 
-  builds_looked : Looked tells entry now → (report : Report) (said : Answer) → Says graph.edges given targets report said → RefusesFile tells own The store [] entry now report → (IsSuccess said → ⊥)
+  builds_looked : Looked tells entry now → (report : Report) (said : Answer) → Says graph.edges given targets report said → NamesFault graph.edges report → RefusesFile tells own The store [] entry now report → (IsSuccess said → ⊥)
       → IsAnswer tells B own none_loaded The store [] [] [] entry now said → BuildsAs report
-  builds_looked looked report said says refused failed is =
-      builds_over graph.edges report said says
+  builds_looked looked report said says named refused failed is =
+      builds_named graph.edges report said says named
       (built_looking tells B format own The store entry now found idle refl looked.looks said report refused failed (passes_looking tells entry now looked said) is)
 
   pub builds_fault : {T : Type 0} → OnlyLooks tells entry now → (fault : SiteFault) → HasCause {T = T} entry now (Err fault) → BuildsAs (Fault fault)
-  builds_fault looks fault cause = builds_over graph.edges (Fault fault) (answer.Fault fault) refl (built_fault tells B format own The store entry now found idle refl looks fault cause)
+  builds_fault looks fault cause = builds_named graph.edges (Fault fault) (answer.Fault fault) refl tt (built_fault tells B format own The store entry now found idle refl looks fault cause)
 
   pub builds_memory : Looked tells entry now → BuildsAs (Fault Memory)
-  builds_memory looked = builds_looked looked (Fault Memory) (answer.Fault Memory) refl tt (λ h. h) tt
+  builds_memory looked = builds_looked looked (Fault Memory) (answer.Fault Memory) refl tt tt (λ h. h) (inl looked.unrefused.failures)
 
   pub builds_ungraphed : Looked tells entry now → (fault : GraphFault) → IsFaultOf graph.edges fault → BuildsAs (ungraphed fault)
   builds_ungraphed looked graph_fault.Memory is = builds_memory looked
   builds_ungraphed looked (graph_fault.MadeTwice path) is =
-      builds_looked looked (Refused (refusal.MadeTwice path)) (answer.MadeTwice path) refl tt (λ h. h) ((λ none. looked.looks), (The, inl (refl, refl), is.0))
+      builds_looked looked (Refused (refusal.MadeTwice path)) (answer.MadeTwice path) refl (inr is) tt (λ h. h) ((λ none. looked.looks), (The, inl (refl, refl), is.0))
   builds_ungraphed looked (graph_fault.NoDyndepInput path) is =
-      builds_looked looked (Refused (refusal.NoDyndepInput path)) (answer.NoDyndepInput path) refl tt (λ h. h) ((λ none. looked.looks), refl, is.0)
+      builds_looked looked (Refused (refusal.NoDyndepInput path)) (answer.NoDyndepInput path) refl is tt (λ h. h) ((λ none. looked.looks), refl, is.0)
 
   pub builds_unknown : Looked tells entry now → (place : ℕ) → IsFirstUnknown graph.edges targets place → BuildsAs (Refused (refusal.UnknownTarget (text_at given place)))
   builds_unknown looked place first =
       builds_looked looked (Refused (refusal.UnknownTarget (text_at given place))) (answer.Unknown (text_at targets place))
-      (text_at targets place, refl, record { place = place; first = first; text_is = refl; path_is = refl }) tt (λ h. h)
+      (text_at targets place, refl, record { place = place; first = first; text_is = refl; path_is = refl }) tt tt (λ h. h)
       ((λ none. looked.looks), refl, path_has targets place first.within, first.unknown)
 
   pub builds_cycle : Looked tells entry now → (paths : List (List ℕ)) → answer.AllNamed The → IsShownCycle The store paths → BuildsAs (Refused (refusal.Cycle paths))
   builds_cycle looked paths named cycle =
-      builds_looked looked (Refused (refusal.Cycle paths)) (answer.Cyclic paths) refl tt (λ h. h) ((λ none. looked.looks), named, (The, inl (refl, refl), cycle))
+      builds_looked looked (Refused (refusal.Cycle paths)) (answer.Cyclic paths) refl tt tt (λ h. h) ((λ none. looked.looks), named, (The, inl (refl, refl), cycle))
 
   of_memory : Looked tells entry now → (report : Report) → report ≡ Fault Memory → BuildsAs report
   of_memory looked report is = subst (λ (r : Report). BuildsAs r) (sym {A = Report} is) (builds_memory looked)

@@ -12,13 +12,13 @@ use Rattle.runner.specs.declared.cut.Cut.{Cut}
 use Rattle.runner.specs.declared.state.State.{State}
 use Rattle.runner.specs.After.{ComesAfter, LooksUnlessMore}
 use Rattle.runner.specs.Course.{Course, goes_on, Suits, IsOn}
-use Rattle.runner.specs.Cut.{fault_of}
+use Rattle.runner.specs.Cut.{fault_of, IsLeft}
 use Rattle.runner.specs.Going.{IsGoing, IsFinished}
 use Rattle.runner.specs.Ran.{HasRun}
 use Rattle.builder.specs.declared.report.Refusal.{Refusal}
 use Rattle.builder.specs.declared.stop.Stop.{Stop}
 use Rattle.builder.specs.declared.stop.Stop.TheVariants as stop
-use Rattle.builder.specs.Going.{ended_course, grown_course, GoesWell, IsStopOf, IsRefusedAt, HasHalted, HasStopped, WasCut, HasEndedSo, IfRefused}
+use Rattle.builder.specs.Going.{GoesWell, IsStopOf, IsRefusedAt, HasHalted, HasStopped, WasCut, IfRefused}
 use Rattle.builder.proofs.Faults.{well_then, faulted_then}
 use Rattle.builder.proofs.Behind.{ends, ends_suits, ends_on, ends_going, stopped_finished, stopped_cut}
 
@@ -46,13 +46,13 @@ module _ (tells : Bool) (tick : List ℕ) (graph : Graph) (state : State) (now :
         (ran (ends tells tick course grown graph cone state now refusal here) (ends_suits tells tick course grown graph cone state now refusal here) refl (ends_on tells tick course grown graph cone state now refusal here))
 
     -- a fault was met
-    pub refused_cut : (cut : Cut) (fault : SiteFault) → fault ≡ fault_of cut
+    pub refused_cut : (cut : Cut) (fault : SiteFault) → fault ≡ fault_of cut → IsLeft new cut
         → ((course : Course) → Suits course tick graph → goes_on course ≡ false → IsOn tells course graph None state now → HasRun tells course new (Err cut))
         → (course : Course) (grown : List Edge) (cone : Cone) → HasHalted tells tick course grown graph cone state now s → WasCut tells course grown new fault
-    refused_cut cut fault same ran course grown cone halted =
+    refused_cut cut fault same left ran course grown cone halted =
         let here = here_of course grown cone halted in
         subst (λ (f : SiteFault). WasCut tells course grown new f) (sym {A = SiteFault} same)
-        (stopped_cut tells tick course grown graph cone state now refusal here new grows cut
+        (stopped_cut tells tick course grown graph cone state now refusal here new grows cut left
         (ran (ends tells tick course grown graph cone state now refusal here) (ends_suits tells tick course grown graph cone state now refusal here) refl (ends_on tells tick course grown graph cone state now refusal here)))
 
 -- ---- what the site shows

@@ -1,16 +1,17 @@
 -- How a build ends that ran what was asked for, in the words of its contract.
 use Rattle.std.specs.Prelude.{IfErr}
-use Rattle.std.proofs.Common.{◌≡◌, ◌⊎◌, inl, inr, ℕ, suc, Bool, false, cond, IsTrue, List, [], ◌∷◌, ◌++◌, map, Option, Some, None, bytes_eq, Vec, Global, Result, Ok, Err, refl, sym, ◌∙◌, ap, subst, append_assoc}
+use Rattle.std.proofs.Common.{◌≡◌, ◌⊎◌, inl, inr, ℕ, suc, Bool, true, false, cond, IsTrue, List, [], ◌∷◌, ◌++◌, map, Option, Some, None, bytes_eq, Vec, Global, Result, Ok, Err, refl, sym, ◌∙◌, ap, subst, append_assoc}
 use Rattle.std.proofs.lemmas.Bool.{cases_Bool}
+use Rattle.build_theory.proofs.Builds.{idle_at_end}
 use Rattle.build_theory.proofs.Looks.{kept_before}
 use Rattle.build_theory.proofs.Runs.{rest_begins}
 use Rattle.build_theory.proofs.Settled.{settled_command}
 use Rattle.model.specs.declared.event.Moment.{Moment}
 use Rattle.model.specs.declared.fault.SiteFault.{SiteFault}
-use Rattle.model.specs.declared.fault.SiteFault.TheVariants.{Memory}
+use Rattle.model.specs.declared.fault.SiteFault.TheVariants.{Stopped, Memory}
 use Rattle.model.specs.declared.graph.Edge.{Edge}
 use Rattle.model.specs.World.{World, View, view_of, IsIdle}
-use Rattle.model.specs.Graph.{Addition, edge_at, first_output, maker, IsMadeTwice}
+use Rattle.model.specs.Graph.{Addition, edge_at, first_output, maker, IsMadeOnce, IsMadeTwice}
 use Rattle.model.specs.Premises.{FilesAreKept}
 use Rattle.model.specs.Records.{Store}
 use Rattle.model.specs.Schedule.{Task, Step as Done, failed_in, done_in}
@@ -29,6 +30,7 @@ use Rattle.log_theory.proofs.Phased.{HoldsAll, with_text, holds_all, holds_it}
 use Rattle.runner.specs.declared.summary.Summary.{Summary}
 use Rattle.runner.specs.declared.summary.Summary.TheVariants.{Well, Failed as SomeFailed}
 use Rattle.runner.specs.Course.{Course}
+use Rattle.runner.specs.Cut.{fault_of}
 use Rattle.builder.specs.declared.report.Missing.{Missing as Lacking}
 use Rattle.builder.specs.declared.report.Refusal.{Refusal}
 use Rattle.builder.specs.declared.report.Refusal.TheVariants.{File, MadeTwice, NoDyndepInput, NoDyndep, BadVersion, BadStatement, Unfit, UnknownTarget, Cycle, Missing}
@@ -45,6 +47,7 @@ use Rattle.builder.specs.declared.asked.Asked.{Asked as Request}
 use Rattle.builder.specs.Reports.{first_output_of, HasRead, IsConeRecorded, SaysEnd, report_of}
 use Rattle.builder.proofs.Beginning.{found_later}
 use Rattle.builder.proofs.Builds.{any_own, builds_over}
+use Rattle.builder.proofs.Faults.{idle_left}
 use Rattle.builder.proofs.Opening.{cause_since}
 use Rattle.builder.proofs.Looking.{Built, IsFoundAt, course_of, passes_any, passes_after}
 use Rattle.builder.proofs.Running.{holds_still, held, built_ended, built_cut, built_failed, built_well, was_in_order}
@@ -117,6 +120,11 @@ module _ (tells : Bool) (course : Course) (grown : List Edge) (now : World) (fou
   -- ---- nothing was left to do
 
   module _ (graph : Graph) (cone : Cone) (passes : PassesNoFault course.entry now answer.Refused) where
+    -- and no command runs
+    idle_then : (summary : Summary) → HasDone tells course grown graph cone now summary → IsIdle now.events
+    idle_then (Well started) done = idle_at_end tells course.own (asked_with course.asked grown) course.store done.ran.steps course.entry now idle done.ran.ends.1 (let over = done.ran.ends.2 in over.2)
+    idle_then (SomeFailed failed) done = idle_at_end tells course.own (asked_with course.asked grown) course.store done.ran.steps course.entry now idle done.ran.ends.1 (let over = done.ran.ends.2 in over.2)
+
     module _ (summary : Summary) (done : HasDone tells course grown graph cone now summary) where
       abbrev asked_then : Asked
       asked_then = asked_with course.asked grown
@@ -135,7 +143,7 @@ module _ (tells : Bool) (course : Course) (grown : List Edge) (now : World) (fou
         said = answer.Fault Memory;
         says = λ edges given targets. refl;
         built = built_cut tells course.behaviour course.format course.own asked_then course.store course.entry now found idle done.phases done.ran.steps done.ran.met done.ran.cut done.once others done.ran.in_hand (inr in_order)
-            Memory tt (passes_any course.entry now passes (answer.Fault Memory));
+            (λ goes none. idle_then summary done) Memory (inl (passes.refused refl)) (passes_any course.entry now passes (answer.Fault Memory));
       }
 
     done_well : (started : ℕ) → HasDone tells course grown graph cone now (Well started) → EndsAs (Success started)
@@ -178,9 +186,12 @@ module _ (tells : Bool) (course : Course) (grown : List Edge) (now : World) (fou
     said = answer.Fault fault;
     says = λ edges given targets. refl;
     built = built_cut tells course.behaviour course.format course.own (asked_with course.asked grown) course.store course.entry now found idle cut.phases cut.ran.steps cut.ran.met cut.ran.cut cut.once others cut.ran.in_hand (inr ordered)
-        fault seen passes;
+        (idle_left now cut.cut cut.left stops) fault seen passes;
   }
     where
+      stops : fault_of cut.cut ≡ Stopped → now.stopped ≡ true
+      stops is = subst (λ (f : SiteFault). IsSeen course.entry now f) (sym {A = SiteFault} cut.is ∙ is) seen
+
       ordered : WasInOrder tells course.own (asked_with course.asked grown) course.store cut.ran.cut.phased.build.earlier cut.ran.cut.phased.build.last course.entry now
       ordered = record {
         made_once = cut.once;
@@ -421,7 +432,7 @@ ended_grows tells course grown graph cone now (Err (stop.Fault fault)) cut tell 
 
 -- The run of what was asked for has ended: on the course by which was read, and on one that begins anew there.
 module _ (tells : Bool) (graph : Graph) (request : Request) (records : Records) (course : Course) (old : World) (has : HasRead tells graph request records course old)
-    (others : (file : List ℕ) → NamesOther (declared_by graph).edges file → ⊥) (cone : Cone) (coned : IsConeRecorded graph request.targets cone) (grown : List Edge) (after : Graph) (last : Cone) (exit : World) where
+    (once : IsMadeOnce (declared_by graph).edges) (others : (file : List ℕ) → NamesOther (declared_by graph).edges file → ⊥) (cone : Cone) (coned : IsConeRecorded graph request.targets cone) (grown : List Edge) (after : Graph) (last : Cone) (exit : World) where
   abbrev The : Asked
   The = asked_of (declared_by graph) request.folder request.limits request.targets
 
@@ -440,7 +451,7 @@ module _ (tells : Bool) (graph : Graph) (request : Request) (records : Records) 
 
     builds_so : (report : Report) → EndsSo tells this grown exit report → BuildsAs report
     builds_so report ends =
-        builds_over tells course.behaviour course.format course.own (declared_by graph) request.folder request.limits request.given.now request.targets course.store course.entry exit found has.idle grown report ends.said
+        builds_over tells course.behaviour course.format course.own (declared_by graph) request.folder request.limits request.given.now request.targets course.store course.entry exit found has.idle once others grown report ends.said
         (ends.says (declared_by graph).edges request.given.now request.targets) ends.built
 
     named : answer.AllNamed The
@@ -473,13 +484,13 @@ module _ (tells : Bool) (graph : Graph) (request : Request) (records : Records) 
 
 -- a run that began so was reported
 pub builds_reported : (tells : Bool) (graph : Graph) (request : Request) (records : Records) (course : Course) (old : World) → HasRead tells graph request records course old
-    → ((file : List ℕ) → NamesOther (declared_by graph).edges file → ⊥) → (cone : Cone) → IsConeRecorded graph request.targets cone → (tick : List ℕ) (state : State) (after : Graph) (last : Cone) (exit : World) (report : Report)
+    → IsMadeOnce (declared_by graph).edges → ((file : List ℕ) → NamesOther (declared_by graph).edges file → ⊥) → (cone : Cone) → IsConeRecorded graph request.targets cone → (tick : List ℕ) (state : State) (after : Graph) (last : Cone) (exit : World) (report : Report)
     → (told : IsReported tells tick graph cone state old after last exit report)
     → BeginsAt tells tick (course_of course.behaviour course.format course.own (asked_of (declared_by graph) request.folder request.limits request.targets) course.store course.entry) (declared_by graph).edges [] graph cone state old
     → BeginsAt tells tick (course_of course.behaviour course.format (any_own request.folder) (asked_of (declared_by graph) request.folder request.limits request.targets) course.store old) (declared_by graph).edges [] graph cone state old
     → Builds tells course.behaviour course.format course.own (declared_by graph) request.folder request.limits request.given.now request.targets told.grown course.entry exit report
-builds_reported tells graph request records course old has others cone coned tick state after last exit report told this here =
-    builds_said tells graph request records course old has others cone coned told.grown after last exit told.said
+builds_reported tells graph request records course old has once others cone coned tick state after last exit report told this here =
+    builds_said tells graph request records course old has once others cone coned told.grown after last exit told.said
     (told.ended (course_of course.behaviour course.format course.own (asked_of (declared_by graph) request.folder request.limits request.targets) course.store course.entry) (declared_by graph).edges [] this)
     (told.ended (course_of course.behaviour course.format (any_own request.folder) (asked_of (declared_by graph) request.folder request.limits request.targets) course.store old) (declared_by graph).edges [] here)
     told.faults told.seen report told.is

@@ -1,5 +1,5 @@
 -- What is found of sources before anything was judged.
-use Rattle.std.proofs.Common.{◌≡◌, ℕ, zero, suc, false, List, [], length, refl, ◌∙◌, ap, replicate}
+use Rattle.std.proofs.Common.{◌≡◌, ℕ, zero, suc, false, List, length, refl, ◌∙◌, ap, replicate}
 use Rattle.looks.specs.declared.table.Looks.{Looks}
 use Rattle.looks.specs.declared.table.Look.{Look}
 use Rattle.looks.specs.declared.table.Look.TheVariants.{Unasked}

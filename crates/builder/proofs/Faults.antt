@@ -1,21 +1,23 @@
 -- What the site shows of a run that is stopped: each fault is passed on.
-use Rattle.std.proofs.Common.{◌≡◌, inl, inr, Bool, true, Err, refl, sym, ◌∙◌}
+use Rattle.std.proofs.Common.{◌≡◌, inl, inr, ℕ, Bool, true, false, Some, None, Err, refl, sym, ◌∙◌}
+use Rattle.std.specs.Result.{IsErrOf}
 use Rattle.std.proofs.lemmas.Bool.{false≢true, true≢false, cases_Bool}
 use Rattle.model.specs.declared.fault.SiteFault.{SiteFault}
 use Rattle.model.specs.declared.fault.SiteFault.TheVariants.{Device, Stopped, Memory}
-use Rattle.model.specs.World.{World}
+use Rattle.model.specs.World.{World, IsIdle}
 use Rattle.model.specs.Calls.{OnlyLooks, HasCause, is_stop}
 use Rattle.model.specs.SingleBuild.{PassesNoFault}
 use Rattle.model.specs.SingleBuild as answer
 use Rattle.build_theory.specs.Seen.{IsSeen, Unrefused, StartsUnrefused}
-use Rattle.build_theory.proofs.Calls.{unrefused_then, seen_of, seen_since}
+use Rattle.build_theory.proofs.Calls.{unrefused_then, seen_since}
 use Rattle.runner.specs.declared.cut.Cut.{Cut}
-use Rattle.runner.specs.Cut.{fault_of}
-use Rattle.runner.specs.Cutting.{TakesIn}
+use Rattle.runner.specs.declared.cut.Cut.TheVariants.{Waiting, Other}
+use Rattle.runner.specs.Cut.{fault_of, IsLeft}
+use Rattle.runner.specs.Cutting.{IsMet, TakesIn}
 use Rattle.runner.proofs.Cutting.{starts_then, starts_cut, passes_whole}
 use Rattle.builder.specs.declared.stop.Stop.{Stop}
 use Rattle.builder.specs.declared.stop.Stop.TheVariants as stop
-use Rattle.builder.specs.Going.{GoesWell, IsFaulted, IsStopOf, IfFault, stop_answer}
+use Rattle.builder.specs.Going.{GoesWell, IsFaultedThere, IsFaulted, IsStopOf, IfFault, stop_answer}
 
 pub well_then : (a b c : World) → GoesWell a b → GoesWell b c → GoesWell a c
 well_then a b c first second = record { unrefused = unrefused_then a b c first.unrefused second.unrefused; starts = starts_then a b c first.unrefused first.starts second.starts }
@@ -42,17 +44,26 @@ said_stop a Device is stopped = absurd (false≢true (sym is ∙ stopped))
 said_stop a Stopped is stopped = refl
 said_stop a Memory is stopped = absurd (false≢true (sym is ∙ stopped))
 
-pub faulted_by : (a b : World) (fault : SiteFault) → IsSeen a b fault → StartsUnrefused a b → b.stopped ≡ is_stop {T = Unit {0}} (Err fault) → b.earlier ≡ a.earlier → IsFaulted a b fault
-faulted_by a b fault seen starts stopped earlier = record {
-  seen = seen;
-  passes = record { refused = λ none. absurd (true≢false none); starts = starts; stopped = said_stop b fault stopped; earlier = earlier };
-}
+passes_by : (a b : World) (fault : SiteFault) → StartsUnrefused a b → b.stopped ≡ is_stop {T = Unit {0}} (Err fault) → b.earlier ≡ a.earlier → PassesNoFault a b (answer.Fault fault)
+passes_by a b fault starts stopped earlier = record { refused = λ none. absurd (true≢false none); starts = starts; stopped = said_stop b fault stopped; earlier = earlier }
 
-pub faulted_call : (tells : Bool) (a b : World) (fault : SiteFault) → OnlyLooks tells a b → HasCause {T = Unit {0}} a b (Err fault) → IsFaulted a b fault
-faulted_call tells a b fault looks cause = faulted_by a b fault (seen_of {T = Unit {0}} a b (Err fault) cause) (inl looks.at_start) cause.stopped cause.earlier
+pub faulted_there : (a b : World) (fault : SiteFault) → IsMet a b fault → StartsUnrefused a b → b.stopped ≡ is_stop {T = Unit {0}} (Err fault) → b.earlier ≡ a.earlier → IsFaultedThere a b fault
+faulted_there a b fault met starts stopped earlier = record { met = met; passes = passes_by a b fault starts stopped earlier }
+
+not_device : {T : Type 0} → IsErrOf {T = T} (Err Memory) Device → ⊥
+not_device is = cc
+
+-- a fault says what its cause was
+pub met_of : {T : Type 0} (a b : World) (fault : SiteFault) → HasCause {T = T} a b (Err fault) → IsMet a b fault
+met_of a b Device cause = cause.device refl
+met_of a b Stopped cause = cause.stopped
+met_of {T} a b Memory cause = cause.others (not_device {T = T})
+
+pub faulted_call : (tells : Bool) (a b : World) (fault : SiteFault) → OnlyLooks tells a b → HasCause {T = Unit {0}} a b (Err fault) → IsFaultedThere a b fault
+faulted_call tells a b fault looks cause = faulted_there a b fault (met_of a b fault cause) (inl looks.at_start) cause.stopped cause.earlier
 
 -- it has stopped where that was the fault, and nowhere else
-pub stopped_by : (a b : World) (fault : SiteFault) → IsFaulted a b fault → b.stopped ≡ is_stop {T = Unit {0}} (Err fault)
+pub stopped_by : (a b : World) (fault : SiteFault) → IsFaultedThere a b fault → b.stopped ≡ is_stop {T = Unit {0}} (Err fault)
 stopped_by a b Device faulted = elim (cases_Bool b.stopped) [
   | inl is ↦ absurd (other (faulted.passes.stopped is))
   | inr is ↦ is
@@ -60,7 +71,7 @@ stopped_by a b Device faulted = elim (cases_Bool b.stopped) [
   where
     other : answer.Fault Device ≡ answer.Fault Stopped → ⊥
     other same = cc
-stopped_by a b Stopped faulted = faulted.seen
+stopped_by a b Stopped faulted = faulted.met
 stopped_by a b Memory faulted = elim (cases_Bool b.stopped) [
   | inl is ↦ absurd (other (faulted.passes.stopped is))
   | inr is ↦ is
@@ -70,8 +81,21 @@ stopped_by a b Memory faulted = elim (cases_Bool b.stopped) [
     other same = cc
 
 -- behind it what runs was taken in
-pub faulted_on : (a b c : World) (fault : SiteFault) (cut : Cut) → IsFaulted a b fault → (IsSeen a b fault → IsSeen a c (fault_of cut)) → TakesIn b c cut → IsFaulted a c (fault_of cut)
-faulted_on a b c fault cut faulted seen takes = faulted_by a c (fault_of cut) (seen faulted.seen) (starts_cut a b c cut faulted.passes.starts takes) takes.stopped (takes.earlier ∙ faulted.passes.earlier)
+pub faulted_on : (a b c : World) (fault : SiteFault) (cut : Cut) → IsFaultedThere a b fault → (IsMet a b fault → IsSeen a c (fault_of cut)) → TakesIn b c cut → IsFaulted a c (fault_of cut)
+faulted_on a b c fault cut faulted seen takes = record {
+  seen = seen faulted.met;
+  passes = passes_by a c (fault_of cut) (starts_cut a b c cut faulted.passes.starts takes) takes.stopped (takes.earlier ∙ faulted.passes.earlier);
+}
+
+none_some : (count : ℕ) → None ≡ Some count → ⊥
+none_some count is = cc
+
+-- no command runs then, unless a wait was refused or the site has stopped
+pub idle_left : (now : World) (cut : Cut) → IsLeft now cut → (fault_of cut ≡ Stopped → now.stopped ≡ true) → now.stopped ≡ false → now.wait_refused ≡ None → IsIdle now.events
+idle_left now (Waiting fault) left stopped goes none = absurd (none_some left.noted.0 (sym none ∙ left.noted.1))
+idle_left now (Other Device) left stopped goes none = left
+idle_left now (Other Stopped) left stopped goes none = absurd (false≢true (sym goes ∙ stopped refl))
+idle_left now (Other Memory) left stopped goes none = left
 
 -- ---- answers
 

@@ -32,7 +32,7 @@ use Rattle.runner.specs.declared.state.State.{State}
 use Rattle.runner.specs.declared.summary.Summary.{Summary}
 use Rattle.runner.specs.After.{ComesAfter, LooksUnlessMore}
 use Rattle.runner.specs.Course.{Course, goes_on, IsOn}
-use Rattle.runner.specs.Cut.{fault_of}
+use Rattle.runner.specs.Cut.{fault_of, IsLeft}
 use Rattle.runner.specs.Going.{IsAtLoad, IsInHand}
 use Rattle.runner.specs.Ran.{HasRun}
 use Rattle.runner.proofs.After.{after_looks, none_between}
@@ -150,11 +150,12 @@ module _ (tells : Bool) (tick : List ℕ) (course : Course) (edges : List Edge) 
     listed = stands.listed;
   }
 
-  pub cut_at : (cut : Cut) (new : World) → ComesAfter tells now new → HasAsked tells course edges phases now → HasRun tells here new (Err cut) → WasCut tells course edges new (fault_of cut)
-  cut_at cut new grows asked ran = record {
+  pub cut_at : (cut : Cut) (new : World) → IsLeft new cut → ComesAfter tells now new → HasAsked tells course edges phases now → HasRun tells here new (Err cut) → WasCut tells course edges new (fault_of cut)
+  cut_at cut new left grows asked ran = record {
     phases = phases;
     cut = cut;
     is = refl;
+    left = left;
     ran = ran;
     once = stands.suits.once;
     acyclic = stands.acyclic;

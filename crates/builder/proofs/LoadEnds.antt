@@ -6,25 +6,26 @@ use Rattle.model.specs.declared.graph.Edge.{Edge}
 use Rattle.model.specs.World.{World}
 use Rattle.model.specs.Calls.{OnlyLooks, is_stop}
 use Rattle.model.specs.Phases.{Phase}
-use Rattle.build_theory.specs.Seen.{IsSeen, Unrefused}
+use Rattle.build_theory.specs.Seen.{Unrefused}
 use Rattle.links.specs.declared.cone.Cone.{Cone}
 use Rattle.links.specs.declared.graph.Graph.{Graph}
 use Rattle.links.specs.Told.{declared_by}
 use Rattle.runner.specs.declared.state.State.{State}
 use Rattle.runner.specs.Course.{Course}
+use Rattle.runner.specs.Cutting.{IsMet}
 use Rattle.runner.specs.Going.{IsCut}
 use Rattle.builder.specs.declared.report.Refusal.{Refusal}
 use Rattle.builder.specs.declared.stop.Stop.{Stop}
 use Rattle.builder.specs.declared.stop.Stop.TheVariants as stop
-use Rattle.builder.specs.Going.{grown_course, StandsAt, HasAsked, IsLoadNext, IsAtNextLoad, IsStopped, IsRefusedAt, IsCutThere, IsStopOf, StoppedThere, IfRefused, IfFault}
-use Rattle.builder.proofs.Faults.{well_looks, faulted_by}
+use Rattle.builder.specs.Going.{grown_course, StandsAt, HasAsked, IsLoadNext, IsAtNextLoad, IsStopped, IsRefusedAt, IsCutThere, IsStopThere, StoppedThere, IfRefused, IfFault}
+use Rattle.builder.proofs.Faults.{well_looks, faulted_there}
 use Rattle.builder.proofs.Stopping.{load_refused}
 
 -- what the site shows of it
-pub load_stop : (tells : Bool) (now new : World) (s : Stop) → OnlyLooks tells now new → new.earlier ≡ now.earlier → IfRefused s (λ refusal. Unrefused now new) → IfFault s (λ fault. IsSeen now new fault)
-    → IfFault s (λ fault. new.stopped ≡ is_stop {T = Unit {0}} (Err fault)) → IsStopOf now new s
-load_stop tells now new (stop.Refused refusal) looks earlier unrefused seen stopped = well_looks tells now new looks unrefused
-load_stop tells now new (stop.Fault fault) looks earlier unrefused seen stopped = faulted_by now new fault seen (inl looks.at_start) stopped earlier
+pub load_stop : (tells : Bool) (now new : World) (s : Stop) → OnlyLooks tells now new → new.earlier ≡ now.earlier → IfRefused s (λ refusal. Unrefused now new) → IfFault s (IsMet now new)
+    → IfFault s (λ fault. new.stopped ≡ is_stop {T = Unit {0}} (Err fault)) → IsStopThere now new s
+load_stop tells now new (stop.Refused refusal) looks earlier unrefused met stopped = well_looks tells now new looks unrefused
+load_stop tells now new (stop.Fault fault) looks earlier unrefused met stopped = faulted_there now new fault met (inl looks.at_start) stopped earlier
 
 module _ (tells : Bool) (graph grown : Graph) (cone next : Cone) (state after : State) (file : ℕ) (now new : World) where
   -- it is refused where the build stands

@@ -199,6 +199,7 @@ module _ (tells : Bool) (B : Behaviour) (format : LogFormat) (own : OwnFiles) (a
       in_order = inl refl;
       faults = passes;
       idle = λ fine. subst IsIdle (sym {A = List Event} looks.events) idle;
+      taken_in = λ goes none. subst IsIdle (sym {A = List Event} looks.events) idle;
       frame = λ tell. frame_of_looks tells own asked.graph.edges entry now idle looks tell;
       from_nothing = λ tell success. absurd (failed success);
     }
@@ -213,4 +214,4 @@ module _ (tells : Bool) (B : Behaviour) (format : LogFormat) (own : OwnFiles) (a
   pub built_fault : {T : Type 0} (fault : SiteFault) → HasCause {T = T} entry now (Err fault) → Built tells B format own asked entry now (answer.Fault fault) (Fault fault)
   built_fault Device cause = built_looking (answer.Fault Device) (Fault Device) tt (λ h. h) (passes_fault tells entry now looks Device cause) (seen_of entry now (Err Device) cause)
   built_fault Stopped cause = built_looking (answer.Fault Stopped) (Fault Stopped) tt (λ h. h) (passes_fault tells entry now looks Stopped cause) (seen_of entry now (Err Stopped) cause)
-  built_fault Memory cause = built_looking (answer.Fault Memory) (Fault Memory) tt (λ h. h) (passes_fault tells entry now looks Memory cause) tt
+  built_fault Memory cause = built_looking (answer.Fault Memory) (Fault Memory) tt (λ h. h) (passes_fault tells entry now looks Memory cause) (seen_of entry now (Err Memory) cause)

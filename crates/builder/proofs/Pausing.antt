@@ -12,7 +12,7 @@ use Rattle.runner.specs.declared.summary.Pause.{Pause}
 use Rattle.runner.specs.declared.summary.Pause.TheVariants.{Load, Ended}
 use Rattle.runner.specs.After.{ComesAfter, LooksUnlessMore}
 use Rattle.runner.specs.Course.{Course, goes_on, Suits, IsOn}
-use Rattle.runner.specs.Cut.{fault_of}
+use Rattle.runner.specs.Cut.{fault_of, IsLeft}
 use Rattle.runner.specs.Going.{IsGoing}
 use Rattle.runner.specs.Ran.{HasPaused}
 use Rattle.builder.specs.Going.{grown_course, HasSourcesAt, GoesWell, HasPausedSo, WasCut}
@@ -32,5 +32,5 @@ module _ (tells : Bool) (tick : List ℕ) (course : Course) (edges : List Edge) 
     paused_at (Load file) looked ran = load_at tells tick course edges phases graph cone state now at.stands after file new grows looked at.asked (ran (grown_course course edges phases) at.stands.suits at.stands.goes at.stands.on)
     paused_at (Ended summary) looked ran = done_at tells tick course edges phases graph cone state now at.stands summary new grows at.asked (ran (grown_course course edges phases) at.stands.suits at.stands.goes at.stands.on)
 
-    pub cut_from : (cut : Cut) → ((of : Course) → Suits of tick graph → goes_on of ≡ true → IsOn tells of graph None state now → HasPaused tells of graph after new (Err cut)) → WasCut tells course edges new (fault_of cut)
-    cut_from cut ran = cut_at tells tick course edges phases graph cone state now at.stands cut new grows at.asked (ran (grown_course course edges phases) at.stands.suits at.stands.goes at.stands.on)
+    pub cut_from : (cut : Cut) → IsLeft new cut → ((of : Course) → Suits of tick graph → goes_on of ≡ true → IsOn tells of graph None state now → HasPaused tells of graph after new (Err cut)) → WasCut tells course edges new (fault_of cut)
+    cut_from cut left ran = cut_at tells tick course edges phases graph cone state now at.stands cut new left grows at.asked (ran (grown_course course edges phases) at.stands.suits at.stands.goes at.stands.on)

@@ -49,6 +49,10 @@ module _ (tells : Bool) (B : Behaviour) (format : LogFormat) (own : OwnFiles) (a
   abbrev Said : Answer → Report → Type 0
   Said said report = Built tells B format own asked entry now said report
 
+  -- no command runs, unless a wait was refused or the site has stopped
+  abbrev IsTakenIn : Type 0
+  IsTakenIn = now.stopped ≡ false → now.wait_refused ≡ None → IsIdle now.events
+
   -- what a loaded file held it holds still
   abbrev HoldStill : View → Type 0
   HoldStill texts =
@@ -79,7 +83,7 @@ module _ (tells : Bool) (B : Behaviour) (format : LogFormat) (own : OwnFiles) (a
     module _ (said : Answer) (report : Report) (refused : RefusesFile tells own asked store done entry now report) (met_fault : (i : ℕ) → met ≡ Some i → MetFault (task_of asked store) steps entry now said i)
         (first later : List Event) (grows : now.events ≡ entry.events ++ (first ++ later)) (of_steps : AreEventsOf asked.graph.edges steps first) (finishes : AreFinishes (entry.events ++ first) later) (whole : is_fault said ≡ false → later ≡ [])
         (went_on : WentOn said → build.taken_in ≡ []) (is : Answers said) (settled : IsSuccess said → (i : ℕ) → InCone asked store i → IsSettled asked.graph.edges (done_in steps) i)
-        (ordered : (steps ≡ []) ⊎ WasInOrder tells own asked store build.earlier build.last entry now) (passes : PassesNoFault entry now said) (ended : is_fault said ≡ false → IsIdle now.events) where
+        (ordered : (steps ≡ []) ⊎ WasInOrder tells own asked store build.earlier build.last entry now) (passes : PassesNoFault entry now said) (ended : is_fault said ≡ false → IsIdle now.events) (taken_in : IsTakenIn) where
       abbrev scheduled : IsScheduled B texts asked store steps entry now said
       scheduled = record { lawful = build; first = first; later = later; grows = grows; of_steps = of_steps; finishes = finishes; whole = whole; went_on = went_on }
 
@@ -98,6 +102,7 @@ module _ (tells : Bool) (B : Behaviour) (format : LogFormat) (own : OwnFiles) (a
         in_order = ordered;
         faults = passes;
         idle = ended;
+        taken_in = taken_in;
         frame = λ tell. frame_of tells B format own asked store entry phases steps met now cut once tell;
         from_nothing = λ tell success nothing premises.
             clean_with_loads tells B format own texts asked store steps met entry now tell idle cut.run build
@@ -126,7 +131,7 @@ module _ (tells : Bool) (B : Behaviour) (format : LogFormat) (own : OwnFiles) (a
           → (IsSuccess said → (i : ℕ) → InCone asked store i → IsSettled asked.graph.edges (done_in steps) i) → PassesNoFault entry now said → Said said report
       built_ended said report refused went_on is settled passes =
           built_running said report refused (none_met_in none said) run.events [] ended_so run.of_steps tt (λ fine. refl) went_on is settled (inr ordered) passes
-          (λ fine. idle_at_end tells own asked store steps entry now idle run over) (λ fine. removed)
+          (λ fine. idle_at_end tells own asked store steps entry now idle run over) (λ goes none. idle_at_end tells own asked store steps entry now idle run over) (λ fine. removed)
 
   -- ---- by the phases of its cut
 
@@ -147,19 +152,19 @@ module _ (tells : Bool) (B : Behaviour) (format : LogFormat) (own : OwnFiles) (a
       }
 
   -- a fault has cut it off
-  pub built_cut : ((i : ℕ) → met ≡ Some i → IsInHand (task_of asked store) steps i) → (steps ≡ []) ⊎ WasInOrder tells own asked store earlier last entry now
+  pub built_cut : ((i : ℕ) → met ≡ Some i → IsInHand (task_of asked store) steps i) → (steps ≡ []) ⊎ WasInOrder tells own asked store earlier last entry now → IsTakenIn
       → (fault : SiteFault) → IsSeen entry now fault → PassesNoFault entry now (answer.Fault fault) → Said (answer.Fault fault) (Fault fault)
-  built_cut in_hand ordered fault seen passes = by_seen fault seen passes
+  built_cut in_hand ordered taken_in fault seen passes = by_seen fault seen passes
     where
       of_fault : (fault : SiteFault) → Answers cut.phased.texts cut.phased.build held (answer.Fault fault) → PassesNoFault entry now (answer.Fault fault) → Said (answer.Fault fault) (Fault fault)
       of_fault fault is passes =
           built_running cut.phased.texts cut.phased.build held (answer.Fault fault) (Fault fault) tt (met_so in_hand fault) cut.run.first cut.run.later cut.run.grows cut.run.of_steps cut.run.finishes (λ fine. absurd (false≢true (sym fine)))
-          (λ on. absurd on) is (λ success. absurd success) ordered passes (λ fine. absurd (false≢true (sym fine))) (λ fine. absurd (false≢true (sym fine)))
+          (λ on. absurd on) is (λ success. absurd success) ordered passes (λ fine. absurd (false≢true (sym fine))) taken_in (λ fine. absurd (false≢true (sym fine)))
 
       by_seen : (fault : SiteFault) → IsSeen entry now fault → PassesNoFault entry now (answer.Fault fault) → Said (answer.Fault fault) (Fault fault)
       by_seen Device seen passes = of_fault Device seen passes
       by_seen Stopped seen passes = of_fault Stopped seen passes
-      by_seen Memory seen passes = of_fault Memory tt passes
+      by_seen Memory seen passes = of_fault Memory seen passes
 
   -- ---- it went on until nothing was left to do
 

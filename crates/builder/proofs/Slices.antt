@@ -1,5 +1,5 @@
 -- Lists, up to a place and from there on.
-use Rattle.std.proofs.Common.{◌≡◌, inl, inr, ◌==◌, ℕ, suc, ◌+◌, ◌<◌, true, List, [], ◌∷◌, ◌++◌, map, Result, Ok, Err, IfOk, refl, ◌∙◌, ap}
+use Rattle.std.proofs.Common.{◌≡◌, inl, inr, ◌==◌, ℕ, suc, true, List, [], ◌∷◌, map, Result, Ok, Err, IfOk, refl, ap}
 use Rattle.std.proofs.lemmas.Bool.{eqb-true, eq-eqb, or_cases, or_left, false≢true}
 use Rattle.model.specs.Graph.{has_number}
 use Rattle.build_theory.proofs.Lists.{has_number-right}

@@ -1,4 +1,5 @@
 -- From what stages give to what a build has come to.
+use Rattle.std.specs.Prelude.{OnOk, IfErr}
 use Rattle.std.proofs.Common.{Option, ◌≡◌, inr, ℕ, Bool, IsTrue, List, ◌++◌, Result, Ok, Err, ap, map, subst}
 use Rattle.std.specs.Result.{IsErrAnd}
 use Rattle.model.specs.declared.act.Act.{Act}
@@ -9,7 +10,6 @@ use Rattle.model.specs.declared.outcome.Outcome.{Outcome}
 use Rattle.model.specs.World.{World, View, IsIdle}
 use Rattle.model.specs.Calls.{OnlyLooks, HasCause}
 use Rattle.model.specs.Outcome.{Behaviour}
-use Rattle.build_theory.specs.Seen.{Looked}
 use Rattle.build_theory.proofs.Calls.{unrefused_call}
 use Rattle.deps_log.specs.Format.{HasFormat}
 use Rattle.depfile.specs.Depfile.{HasReading}
@@ -17,13 +17,17 @@ use Rattle.dyndep_law.specs.Readings.{HasReading as HasDyndeps}
 use Rattle.links.specs.Extended.{addition_of}
 use Rattle.model.specs.Graph.{Addition}
 use Rattle.std.specs.Option.{option_map}
+use Rattle.manifest.specs.Answer.{IsGraph, ReadsFile, site_part}
 use Rattle.manifest.specs.declared.fault.ReadError.{ReadError}
-use Rattle.manifest.specs.Answer.{IsGraph, ReadsFile}
+use Rattle.manifest.specs.declared.fault.ReadError.TheVariants as error
 use Rattle.builder.specs.declared.asked.Limits.{Limits}
 use Rattle.builder.specs.declared.asked.Asked.{Asked}
+use Rattle.builder.specs.declared.reading.Reading.{Reading}
+use Rattle.builder.specs.declared.report.Options.{Options}
 use Rattle.builder.specs.declared.report.Report.{Report}
+use Rattle.paths.specs.Told.{graph_of}
 use Rattle.builder.specs.Asked.{AreTargets, IsFolder}
-use Rattle.builder.specs.Build.{Builds, BuildsFor, IsBuild}
+use Rattle.builder.specs.Build.{Builds, BuildsFor, IsBuild, IsUnread, WasRead, limits_of, unread}
 use Rattle.builder.specs.Loads.{ReadsDyndeps}
 use Rattle.builder.specs.Reports.{report_in}
 use Rattle.builder.proofs.Builds.{looked_nothing, idle_after, any_own, own_in, builds_grow}
@@ -33,44 +37,70 @@ pub told_by : (told : Report) (r : Result Report Report) → IsErrAnd r (λ repo
 told_by told (Ok report) passed = absurd passed
 told_by told (Err report) passed = passed
 
+-- an exit by `?` before all was read
+pub unread_by : {T : Type 0} (tells : Bool) (name : List ℕ) (old new : World) (error : ReadError) → OnlyLooks tells old new → HasCause old new (site_part {T = BuildGraph} (Err error))
+    → (IsTrue tells → OnOk (site_part {T = BuildGraph} (Err error)) (ReadsFile name old.history new.history (Err error))) → (r : Result T Report) → IsErrAnd r (λ report. report ≡ unread error) → IfErr r (IsUnread tells name old new)
+unread_by tells name old new error looks cause file (Ok reading) passed = tt
+unread_by tells name old new error looks cause file (Err report) passed = record { error = error; is = passed; looks = looks; cause = cause; file = file }
+
+-- of a file under the same name
+pub read_named : (name other : List ℕ) (old new : World) (error : ReadError) → name ≡ other → ReadsFile name old.history new.history (Err error)
+    → OnOk (site_part {T = BuildGraph} (Err error)) (ReadsFile other old.history new.history (Err error))
+read_named name other old new error.Memory same is = tt
+read_named name other old new (error.Site fault) same is = tt
+read_named name other old new (error.Refused fault) same is = subst (λ (n : List ℕ). ReadsFile n old.history new.history (Err (error.Refused fault))) same is
+
 -- there is a function that reads each dyndep file by its grammar
 pub reads_dyndeps : HasDyndeps → (dyndep : List ℕ → Option (List Addition)) × ReadsDyndeps dyndep
 reads_dyndeps has = (λ bytes. option_map (map addition_of) (has.0 bytes), λ bytes. let said = has.1 bytes in (said.0, said.1, ap (option_map (map addition_of)) said.2))
 
-module _ (tells : Bool) (outcome : Act → View → Outcome) (name : List ℕ) (limits : Limits) (given : List (List ℕ)) (old mid : World) (idle : IsIdle old.events) (looks : OnlyLooks tells old mid) (cause : HasCause {T = Unit {0}} old mid (Ok tt))
-    (graph : BuildGraph) (formed : IsGraph graph) (file : IsTrue tells → ReadsFile name old.history mid.history (Ok graph))
-    (asked : Asked) (given_is : asked.given.now ≡ given) (canonical : AreTargets given asked.targets) (in_folder : IsFolder graph.builddir asked.folder) (limits_is : asked.limits ≡ limits) where
-  looked : Looked tells old mid
-  looked = record { looks = looks; unrefused = unrefused_call old mid _ cause }
+-- ---- first reading, and then building
 
-  built_on : (new : World) (report : Report) (grown : List Edge) → (IsTrue tells → ReadsFile name old.history new.history (Ok graph)) → BuildsFor tells graph asked grown mid new report
-      → IsBuild tells outcome name limits given old new report
-  built_on new report grown file builds = inr record {
+-- what was read was not refused
+pub was_read : (tells : Bool) (options : Options) (old new : World) (read : Reading) → OnlyLooks tells old new → HasCause {T = Unit {0}} old new (Ok tt) → IsGraph (graph_of read.manifest)
+    → (IsTrue tells → ReadsFile options.file old.history new.history (Ok (graph_of read.manifest))) → AreTargets read.asked.given.now read.asked.targets
+    → IsFolder (graph_of read.manifest).builddir read.asked.folder → read.asked.limits ≡ limits_of options → WasRead tells options old new read
+was_read tells options old new read looks cause formed file targets folder limits_are = record {
+  formed = formed;
+  file = file;
+  looked = record { looks = looks; unrefused = unrefused_call old new _ cause };
+  targets = targets;
+  folder = folder;
+  limits_are = limits_are;
+}
+
+module _ (tells : Bool) (outcome : Act → View → Outcome) (options : Options) (given : List (List ℕ)) (old mid new : World) (idle : IsIdle old.events) (reading : Reading) (read : WasRead tells options old mid reading) (given_is : reading.asked.given.now ≡ given)
+    (report : Report) (grown : List Edge) (builds : BuildsFor tells (graph_of reading.manifest) reading.asked grown mid new report) where
+  abbrev graph : BuildGraph
+  graph = graph_of reading.manifest
+
+  abbrev asked : Asked
+  asked = reading.asked
+
+  -- from what was read the history grew
+  later : HasFormat → HasReading → HasDyndeps → IsTrue tells → (later : List Moment) × (new.history ≡ mid.history ++ later)
+  later logs depfiles dyndeps tell =
+      let adds = reads_dyndeps dyndeps in
+      let any : Behaviour = record { outcome = outcome; depfile = depfiles.0; dyndep = adds.0 } in
+      builds_grow tells any logs.0 (any_own asked.folder) graph asked.folder asked.limits asked.given.now asked.targets grown mid new report
+      (builds any logs.0 (any_own asked.folder) mid depfiles.1 adds.1 logs.1 (own_in asked.folder) (idle_after tells old mid read.looked.looks idle) (looked_nothing tells mid read.looked.unrefused.goes_on)) tell
+
+  canonical : AreTargets given reading.asked.targets
+  canonical = subst (λ (g : List (List ℕ)). AreTargets g reading.asked.targets) given_is read.targets
+
+  -- so what was read was built
+  pub built_read : HasFormat → HasReading → HasDyndeps → IsBuild tells outcome options.file (limits_of options) given old new report
+  built_read logs depfiles dyndeps = inr record {
     graph = graph;
-    formed = formed;
-    file = file;
+    formed = read.formed;
+    file = record { read = mid; looked = read.looked; file = read.file; since = later logs depfiles dyndeps };
     targets = asked.targets;
     canonical = canonical;
     folder = asked.folder;
-    in_folder = in_folder;
+    in_folder = read.folder;
     grown = grown;
     builds = λ own format depfile dyndep depfiles dyndeps reads owned.
-        subst (λ (l : Limits). Builds tells (record { outcome = outcome; depfile = depfile; dyndep = dyndep }) format own graph asked.folder l given asked.targets grown old new report) limits_is
+        subst (λ (l : Limits). Builds tells (record { outcome = outcome; depfile = depfile; dyndep = dyndep }) format own graph asked.folder l given asked.targets grown old new report) read.limits_are
         (subst (λ (g : List (List ℕ)). Builds tells (record { outcome = outcome; depfile = depfile; dyndep = dyndep }) format own graph asked.folder asked.limits g asked.targets grown old new report) given_is
-        (builds (record { outcome = outcome; depfile = depfile; dyndep = dyndep }) format own old depfiles dyndeps reads owned idle looked));
+        (builds (record { outcome = outcome; depfile = depfile; dyndep = dyndep }) format own old depfiles dyndeps reads owned idle read.looked));
   }
-
-  -- right after the files were read
-  pub built_here : (report : Report) → BuildsFor tells graph asked graph.edges mid mid report → IsBuild tells outcome name limits given old mid report
-  built_here report builds = built_on mid report graph.edges file builds
-
-  pub built_later : HasFormat → HasReading → HasDyndeps → ((name : List ℕ) (old mid new later : List Moment) (result : Result BuildGraph ReadError) → new ≡ mid ++ later → ReadsFile name old mid result → ReadsFile name old new result)
-      → (new : World) (report : Report) (grown : List Edge) → BuildsFor tells graph asked grown mid new report → IsBuild tells outcome name limits given old new report
-  built_later logs depfiles dyndeps longer new report grown builds = built_on new report grown (λ tell. let later = more tell in longer name old.history mid.history new.history later.0 (Ok graph) later.1 (file tell)) builds
-    where
-      any : Behaviour
-      any = record { outcome = outcome; depfile = depfiles.0; dyndep = (reads_dyndeps dyndeps).0 }
-
-      more : IsTrue tells → (later : List Moment) × (new.history ≡ mid.history ++ later)
-      more tell = builds_grow tells any logs.0 (any_own asked.folder) graph asked.folder asked.limits asked.given.now asked.targets grown mid new report
-          (builds any logs.0 (any_own asked.folder) mid depfiles.1 (reads_dyndeps dyndeps).1 logs.1 (own_in asked.folder) (idle_after tells old mid looks idle) (looked_nothing tells mid cause.stopped)) tell

@@ -28,13 +28,13 @@ use Rattle.runner.specs.declared.state.State.{State}
 use Rattle.runner.specs.After.{ComesAfter}
 use Rattle.runner.specs.Going.{IsCut}
 use Rattle.runner.specs.Course.{Course}
-use Rattle.runner.specs.Cut.{fault_of}
+use Rattle.runner.specs.Cut.{fault_of, IsLeft}
 use Rattle.runner.proofs.After.{after_looks}
 use Rattle.runner.proofs.Noticed.{with_looks}
 use Rattle.builder.specs.declared.report.Refusal.{Refusal}
 use Rattle.builder.specs.declared.stop.Stop.{Stop}
 use Rattle.builder.specs.declared.stop.Stop.TheVariants as stop
-use Rattle.builder.specs.Going.{grown_course, task_over, StandsAt, HadAsked, BeginsAt, IsAtNextLoad, HasSourcesAt, IsLacking, IsMissingAfter, IsStopped, IsRefusedAt, IsCutThere, WasCut, StoppedThere, NoSourceIsDue, IsStopOf, IfRefused, IfFault}
+use Rattle.builder.specs.Going.{grown_course, task_over, StandsAt, HadAsked, BeginsAt, IsAtNextLoad, HasSourcesAt, IsLacking, IsMissingAfter, IsStopped, IsRefusedAt, IsCutThere, WasCut, StoppedThere, NoSourceIsDue, IsStopThere, IfRefused, IfFault}
 use Rattle.builder.specs.Reports.{IsMissingFor}
 use Rattle.builder.specs.Sources.{HasSources, LacksSource}
 use Rattle.builder.proofs.Asking.{fresh_steps, asked_on, had_asked_on, asked_in, asked_also, under, same_edges, run_new, found_at, nothing_missing_now}
@@ -166,9 +166,9 @@ module _ (tells : Bool) (tick : List ℕ) (course : Course) (edges : List Edge) 
         met (stop.Fault fault) there = (grown_course course edges there.phases, there.graph, there.cut)
 
 -- what the site shows of that
-pub lacking_stop : (tells : Bool) (graph : Graph) (records : Records) (cone : Cone) (plan : Plan) (now new : World) (seen : Looks) (stopped : Stop) → OnlyLooks tells now new → LacksSource tells graph records cone plan now new seen stopped → IsStopOf now new stopped
-lacking_stop tells graph records cone plan now new seen stopped looks (inl fault) = subst (λ (s : Stop). IsStopOf now new s) (sym {A = Stop} fault.says) (faulted_call tells now new fault.fault looks fault.cause)
-lacking_stop tells graph records cone plan now new seen stopped looks (inr lack) = subst (λ (s : Stop). IsStopOf now new s) (sym {A = Stop} lack.says) (well_looks tells now new looks lack.unrefused)
+pub lacking_stop : (tells : Bool) (graph : Graph) (records : Records) (cone : Cone) (plan : Plan) (now new : World) (seen : Looks) (stopped : Stop) → OnlyLooks tells now new → LacksSource tells graph records cone plan now new seen stopped → IsStopThere now new stopped
+lacking_stop tells graph records cone plan now new seen stopped looks (inl fault) = subst (λ (s : Stop). IsStopThere now new s) (sym {A = Stop} fault.says) (faulted_call tells now new fault.fault looks fault.cause)
+lacking_stop tells graph records cone plan now new seen stopped looks (inr lack) = subst (λ (s : Stop). IsStopThere now new s) (sym {A = Stop} lack.says) (well_looks tells now new looks lack.unrefused)
 
 -- ---- a load that is not made
 
@@ -185,13 +185,14 @@ load_refused tells tick course edges phases graph grown cone next state after fi
 -- ---- behind a fault
 
 -- what runs was taken in
-pub given_up_cut : (tells : Bool) (course : Course) (grown : List Edge) (state : State) (now new : World) (cut : Cut) → IsCutThere tells course grown state now → ComesAfter tells now new
+pub given_up_cut : (tells : Bool) (course : Course) (grown : List Edge) (state : State) (now new : World) (cut : Cut) → IsCutThere tells course grown state now → IsLeft new cut → ComesAfter tells now new
     → ((of : Course) (steps : List Done) (met : Option ℕ) → IsCutOff tells of.behaviour of.format of.own of.asked of.store of.phases steps met of.entry now → IsCutOff tells of.behaviour of.format of.own of.asked of.store of.phases steps met of.entry new)
     → WasCut tells course grown new (fault_of cut)
-given_up_cut tells course grown state now new cut there after rest = record {
+given_up_cut tells course grown state now new cut there left after rest = record {
   phases = there.phases;
   cut = cut;
   is = refl;
+  left = left;
   ran = record {
     steps = there.cut.steps;
     met = there.cut.met;

@@ -12,13 +12,13 @@ use Rattle.runner.specs.declared.cut.Cut.{Cut}
 use Rattle.runner.specs.declared.state.State.{State}
 use Rattle.runner.specs.After.{ComesAfter}
 use Rattle.runner.specs.Course.{Course}
-use Rattle.runner.specs.Cut.{fault_of}
-use Rattle.runner.specs.Cutting.{TakesIn}
+use Rattle.runner.specs.Cut.{fault_of, IsLeft}
+use Rattle.runner.specs.Cutting.{IsMet, TakesIn}
 use Rattle.build_theory.specs.Seen.{IsSeen}
 use Rattle.builder.specs.declared.report.Refusal.{Refusal}
 use Rattle.builder.specs.declared.stop.Stop.{Stop}
 use Rattle.builder.specs.declared.stop.Stop.TheVariants as stop
-use Rattle.builder.specs.Going.{IsFaulted, IsStopOf, StoppedThere, HasHalted, WasCut, IfRefused, IfFault}
+use Rattle.builder.specs.Going.{IsFaulted, IsStopThere, IsStopOf, StoppedThere, HasHalted, WasCut, IfRefused, IfFault}
 use Rattle.builder.proofs.Faults.{faulted_on, stopped_by}
 use Rattle.builder.proofs.Stopping.{given_up_cut}
 
@@ -33,25 +33,25 @@ fault_unrefused s fault So is = subst (λ (x : Stop). IfRefused x So) (sym {A = 
 pub fault_fault : (s : Stop) (fault last : SiteFault) → s ≡ stop.Fault fault → IfFault s (λ f. IfRefused (stop.Fault last) (λ refusal. ⊥))
 fault_fault s fault last is = subst (λ (x : Stop). IfFault x (λ f. IfRefused (stop.Fault last) (λ refusal. ⊥))) (sym {A = Stop} is) tt
 
-pub fault_stopped : (a b : World) (s : Stop) (fault : SiteFault) → s ≡ stop.Fault fault → IsStopOf a b s → b.stopped ≡ is_stop {T = Unit {0}} (Err fault)
-fault_stopped a b s fault is so = stopped_by a b fault (subst (λ (x : Stop). IsStopOf a b x) is so)
+pub fault_stopped : (a b : World) (s : Stop) (fault : SiteFault) → s ≡ stop.Fault fault → IsStopThere a b s → b.stopped ≡ is_stop {T = Unit {0}} (Err fault)
+fault_stopped a b s fault is so = stopped_by a b fault (subst (λ (x : Stop). IsStopThere a b x) is so)
 
 -- behind it what runs was taken in
-pub fault_on : (a b c : World) (s : Stop) (fault last : SiteFault) (cut : Cut) → s ≡ stop.Fault fault → last ≡ fault_of cut → IsStopOf a b s → (IsSeen a b fault → IsSeen a c (fault_of cut)) → TakesIn b c cut → IsStopOf a c (stop.Fault last)
-fault_on a b c s fault last cut is same so seen takes = subst (λ (f : SiteFault). IsFaulted a c f) (sym {A = SiteFault} same) (faulted_on a b c fault cut (subst (λ (x : Stop). IsStopOf a b x) is so) seen takes)
+pub fault_on : (a b c : World) (s : Stop) (fault last : SiteFault) (cut : Cut) → s ≡ stop.Fault fault → last ≡ fault_of cut → IsStopThere a b s → (IsMet a b fault → IsSeen a c (fault_of cut)) → TakesIn b c cut → IsStopOf a c (stop.Fault last)
+fault_on a b c s fault last cut is same so seen takes = subst (λ (f : SiteFault). IsFaulted a c f) (sym {A = SiteFault} same) (faulted_on a b c fault cut (subst (λ (x : Stop). IsStopThere a b x) is so) seen takes)
 
 pub fault_halted : (tells : Bool) (tick : List ℕ) (course : Course) (grown : List Edge) (graph : Graph) (cone : Cone) (state : State) (now new : World) (s : Stop) (fault last : SiteFault) (cut : Cut) → s ≡ stop.Fault fault → last ≡ fault_of cut
-    → StoppedThere tells tick course grown graph cone state now s → ComesAfter tells now new
+    → StoppedThere tells tick course grown graph cone state now s → IsLeft new cut → ComesAfter tells now new
     → ((of : Course) (steps : List Done) (met : Option ℕ) → IsCutOff tells of.behaviour of.format of.own of.asked of.store of.phases steps met of.entry now → IsCutOff tells of.behaviour of.format of.own of.asked of.store of.phases steps met of.entry new)
     → HasHalted tells tick course grown graph cone state new (stop.Fault last)
-fault_halted tells tick course grown graph cone state now new s fault last cut is same there after rest =
+fault_halted tells tick course grown graph cone state now new s fault last cut is same there left after rest =
     subst (λ (f : SiteFault). WasCut tells course grown new f) (sym {A = SiteFault} same)
-    (given_up_cut tells course grown state now new cut (subst (λ (x : Stop). StoppedThere tells tick course grown graph cone state now x) is there) after rest)
+    (given_up_cut tells course grown state now new cut (subst (λ (x : Stop). StoppedThere tells tick course grown graph cone state now x) is there) left after rest)
 
 -- ---- a refusal
 
-pub refusal_on : (a b : World) (s : Stop) (refusal : Refusal) → s ≡ stop.Refused refusal → IsStopOf a b s → IsStopOf a b (stop.Refused refusal)
-refusal_on a b s refusal is so = subst (λ (x : Stop). IsStopOf a b x) is so
+pub refusal_on : (a b : World) (s : Stop) (refusal : Refusal) → s ≡ stop.Refused refusal → IsStopThere a b s → IsStopOf a b (stop.Refused refusal)
+refusal_on a b s refusal is so = subst (λ (x : Stop). IsStopThere a b x) is so
 
 pub refusal_same : (s : Stop) (refusal : Refusal) → s ≡ stop.Refused refusal → IfRefused s (λ r. stop.Refused refusal ≡ s)
 refusal_same s refusal is = subst (λ (x : Stop). IfRefused x (λ r. stop.Refused refusal ≡ x)) (sym {A = Stop} is) refl

@@ -6,7 +6,8 @@ use Rattle.model.specs.declared.graph.BuildGraph.{BuildGraph}
 use Rattle.model.specs.declared.graph.Edge.{Edge}
 use Rattle.model.specs.declared.outcome.Outcome.{Outcome}
 use Rattle.model.specs.World.{World, View, IsIdle}
-use Rattle.model.specs.Graph.{Addition}
+use Rattle.model.specs.declared.event.Moment.{Moment}
+use Rattle.model.specs.Graph.{Addition, IsMadeOnce}
 use Rattle.model.specs.Calls.{OnlyLooks, HasCause}
 use Rattle.model.specs.Outcome.{Behaviour}
 use Rattle.model.specs.Premises.{FilesAreKept}
@@ -26,11 +27,14 @@ use Rattle.builder.specs.declared.report.Report.{Report}
 use Rattle.builder.specs.declared.report.Options.{Options}
 use Rattle.builder.specs.declared.asked.Asked.{Asked as Request}
 use Rattle.builder.specs.declared.asked.Limits.{Limits}
+use Rattle.builder.specs.declared.reading.Reading.{Reading}
 use Rattle.builder.specs.declared.report.Report.TheVariants.{Success, Failed, Refused, Fault}
 use Rattle.build_theory.specs.Seen.{Looked}
 use Rattle.builder.specs.Asked.{AreTargets, IsFolder}
-use Rattle.paths.specs.Told.{text_at}
+use Rattle.paths.specs.Told.{graph_of, text_at}
 use Rattle.builder.specs.Loads.{ReadsDyndeps, RefusesFile}
+use Rattle.links.specs.declared.fault.GraphFault.TheVariants as fault_of
+use Rattle.links.specs.Linked.{IsFaultOf}
 use Rattle.links.specs.Targets.{IsFirstUnknown}
 use Rattle.log_theory.specs.Alone.{AreLeftAlone}
 use Rattle.runner.specs.Removing.{AreRemoved}
@@ -72,6 +76,23 @@ Says edges given targets (Refused (Cycle paths)) said = said ≡ answer.Cyclic p
 Says edges given targets (Refused (Missing missing)) said = said ≡ missing_answer missing.path missing.needed_by
 Says edges given targets (Fault fault) said = said ≡ answer.Fault fault
 
+-- Where N17 or N53 is answered, the path is the one that the fault of the lowest edge names which has one; but for a path that is made
+-- twice only with what a dyndep file adds, where the declared edges make each path once.
+abbrev pub NamesFault : List Edge → Report → Type 0
+NamesFault edges (Success started) = Unit {0}
+NamesFault edges (Failed outputs) = Unit {0}
+NamesFault edges (Refused (File fault)) = Unit {0}
+NamesFault edges (Refused (MadeTwice path)) = IsMadeOnce edges ⊎ IsFaultOf edges (fault_of.MadeTwice path)
+NamesFault edges (Refused (NoDyndepInput path)) = IsFaultOf edges (fault_of.NoDyndepInput path)
+NamesFault edges (Refused (NoDyndep path)) = Unit {0}
+NamesFault edges (Refused (BadVersion path)) = Unit {0}
+NamesFault edges (Refused (BadStatement path)) = Unit {0}
+NamesFault edges (Refused (Unfit unfit)) = Unit {0}
+NamesFault edges (Refused (UnknownTarget target)) = Unit {0}
+NamesFault edges (Refused (Cycle paths)) = Unit {0}
+NamesFault edges (Refused (Missing missing)) = Unit {0}
+NamesFault edges (Fault fault) = Unit {0}
+
 -- A build that no fault has cut off has removed the response files of commands that ended well, and of their depfiles just those
 -- that are not to stay, where files are kept.
 abbrev pub RemovesFiles : {tells : Bool} → {B : Behaviour} → {format : LogFormat} → {own : OwnFiles} → {asked : Asked} → {old new : World} → {said : Answer} → SingleBuild tells B format own asked old new said → Type 0
@@ -81,12 +102,13 @@ RemovesFiles {tells} {B} {format} {own} {asked} {old} {new} {said} build = is_fa
 abbrev pub LeavesAlone : Bool → OwnFiles → Asked → World → World → Type 0
 LeavesAlone tells own asked old new = IsTrue tells → FilesAreKept own asked.graph.edges old.history new.history → AreLeftAlone asked.graph.edges old.history new.history
 
--- The graph was built, whose edges are `grown` at the end, with what the loaded dyndep files add, and the report says how; a dyndep file that has ended the
--- build is refused with its cause; the build is as the headline says, keeps its logs, leaves the files of running commands alone, and
--- removes those of commands that ended well.
+-- The graph was built, whose edges are `grown` at the end, with what the loaded dyndep files add, and the report says how, and names the
+-- fault of edges that are no graph; a dyndep file that has ended the build is refused with its cause; the build is as the headline says,
+-- keeps its logs, leaves the files of running commands alone, and removes those of commands that ended well.
 pub record Builds (tells : Bool) (B : Behaviour) (format : LogFormat) (own : OwnFiles) (graph : BuildGraph) (folder : List ℕ) (limits : Limits) (given targets : List (List ℕ)) (grown : List Edge) (old new : World) (report : Report) : Type 0 where
   pub answer : Answer
   pub said : Says graph.edges given targets report answer
+  pub named : NamesFault graph.edges report
   pub build : SingleBuild tells B format own (asked_with (asked_of graph folder limits targets) grown) old new answer
   pub refused : RefusesFile tells own (asked_with (asked_of graph folder limits targets) grown) build.store (steps_of build.schedule.lawful.earlier ++ build.schedule.lawful.last) old new report
   pub headline : IsHeadline tells B format own (asked_with (asked_of graph folder limits targets) grown) old new answer build
@@ -117,13 +139,32 @@ pub record IsUnread (tells : Bool) (name : List ℕ) (old new : World) (report :
   pub cause : HasCause old new (site_part {T = BuildGraph} (Err error))
   pub file : IsTrue tells → OnOk (site_part {T = BuildGraph} (Err error)) (ReadsFile name old.history new.history (Err error))
 
--- The file of this name was read, and the graph that it declares was built: for any own files of the program that lie in the
+-- The file that the options name was read, in calls that only looked and of which none was refused: the manifest stands for the graph
+-- that it declares. Asked of it are the canonical paths of the targets that were given, the folder that `builddir` names, and the limits
+-- of the options.
+pub record WasRead (tells : Bool) (options : Options) (old new : World) (read : Reading) : Type 0 where
+  pub formed : IsGraph (graph_of read.manifest)
+  pub file : IsTrue tells → ReadsFile options.file old.history new.history (Ok (graph_of read.manifest))
+  pub looked : Looked tells old new
+  pub targets : AreTargets read.asked.given.now read.asked.targets
+  pub folder : IsFolder (graph_of read.manifest).builddir read.asked.folder
+  pub limits_are : read.asked.limits ≡ limits_of options
+
+-- The file of this name was read as this graph before anything else was done: up to the world where reading ended there was only looked
+-- and no call was refused, and what happened until then is a beginning of all that happened.
+pub record ReadsFirst (tells : Bool) (name : List ℕ) (graph : BuildGraph) (old new : World) : Type 0 where
+  pub read : World
+  pub looked : Looked tells old read
+  pub file : IsTrue tells → ReadsFile name old.history read.history (Ok graph)
+  pub since : IsTrue tells → (later : List Moment) × (new.history ≡ read.history ++ later)
+
+-- The file of this name was read, and then the graph that it declares was built: for any own files of the program that lie in the
 -- folder which `builddir` names, and for each format and each reading of depfiles and of dyndep files by which logs and such files are
 -- read as they are defined.
 pub record IsBuilt (tells : Bool) (outcome : Act → View → Outcome) (name : List ℕ) (limits : Limits) (given : List (List ℕ)) (old new : World) (report : Report) : Type 0 where
   pub graph : BuildGraph
   pub formed : IsGraph graph
-  pub file : IsTrue tells → ReadsFile name old.history new.history (Ok graph)
+  pub file : ReadsFirst tells name graph old new
   -- the canonical paths of the targets
   pub targets : List (List ℕ)
   pub canonical : AreTargets given targets

@@ -32,7 +32,8 @@ use Rattle.runner.specs.declared.summary.Pause.TheVariants as pause
 use Rattle.runner.specs.declared.summary.Summary.{Summary}
 use Rattle.runner.specs.After.{ComesAfter}
 use Rattle.runner.specs.Course.{Course, goes_on, Suits, IsOn}
-use Rattle.runner.specs.Cut.{fault_of}
+use Rattle.runner.specs.Cut.{fault_of, IsLeft}
+use Rattle.runner.specs.Cutting.{IsMet}
 use Rattle.runner.specs.Going.{IsCut, IsFinished}
 use Rattle.runner.specs.Ran.{HasRun}
 use Rattle.builder.specs.declared.report.Missing.{Missing as Lacking}
@@ -221,12 +222,22 @@ pub record GoesWell (old new : World) : Type 0 where
   pub unrefused : Unrefused old new
   pub starts : StartsUnrefused old new
 
--- what it shows of a fault
+-- what it shows of a fault between two calls of a run, before what runs is taken in,
+pub record IsFaultedThere (old new : World) (fault : SiteFault) : Type 0 where
+  pub met : IsMet old new fault
+  pub passes : PassesNoFault old new (answer.Fault fault)
+
+-- and behind that
 pub record IsFaulted (old new : World) (fault : SiteFault) : Type 0 where
   pub seen : IsSeen old new fault
   pub passes : PassesNoFault old new (answer.Fault fault)
 
--- what it shows of a stop
+-- what it shows of a stop, before what runs is taken in,
+abbrev pub IsStopThere : World → World → Stop → Type 0
+IsStopThere old new (stop.Refused refusal) = GoesWell old new
+IsStopThere old new (stop.Fault fault) = IsFaultedThere old new fault
+
+-- and behind that
 abbrev pub IsStopOf : World → World → Stop → Type 0
 IsStopOf old new (stop.Refused refusal) = GoesWell old new
 IsStopOf old new (stop.Fault fault) = IsFaulted old new fault
@@ -262,11 +273,12 @@ pub record HasStopped (tells : Bool) (course : Course) (grown : List Edge) (now 
   pub acyclic : HasNoCycle (asked_with course.asked grown) course.store
   pub asked : HadAsked tells course grown phases phased.build.last now
 
--- A fault has cut it off.
+-- A fault has cut it off, behind which what ran was taken in.
 pub record WasCut (tells : Bool) (course : Course) (grown : List Edge) (now : World) (fault : SiteFault) : Type 0 where
   pub phases : List Phase
   pub cut : Cut
   pub is : fault_of cut ≡ fault
+  pub left : IsLeft now cut
   pub ran : HasRun tells (grown_course course grown phases) now (Err cut)
   pub once : IsMadeOnce grown
   pub acyclic : HasNoCycle (asked_with course.asked grown) course.store

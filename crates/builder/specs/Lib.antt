@@ -3,6 +3,7 @@ pub mod Build
 pub mod Commands
 pub mod Loads
 pub mod Joined
+pub mod Parts
 pub mod Going
 pub mod Recorded
 pub mod Reports

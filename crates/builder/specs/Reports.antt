@@ -6,12 +6,12 @@ use Rattle.model.specs.declared.fault.SiteFault.TheVariants.{Memory}
 use Rattle.model.specs.declared.graph.Edge.{Edge}
 use Rattle.model.specs.World.{World, view_of, IsIdle}
 use Rattle.model.specs.Calls.{HasCause, OnlyLooks}
-use Rattle.model.specs.Graph.{edge_at, first_output}
+use Rattle.model.specs.Graph.{edge_at, first_output, IsMadeOnce}
 use Rattle.model.specs.OutOfDate.{IsFirstMissing, IsMissingInput}
 use Rattle.model.specs.Premises.{NothingIsEdited}
 use Rattle.model.specs.Schedule.{Step}
 use Rattle.model.specs.Records.{Store, IsOwnIn, store_in}
-use Rattle.model.specs.SingleBuild.{Asked, task_of}
+use Rattle.model.specs.SingleBuild.{Asked, NamesOther, task_of}
 use Rattle.build_theory.specs.Seen.{Looked}
 use Rattle.paths.specs.declared.manifest.Manifest.{Manifest}
 use Rattle.paths.specs.Told.{text_at, texts_at, graph_of}
@@ -70,11 +70,17 @@ ungraphed graph.Memory = Fault Memory
 ungraphed (graph.MadeTwice path) = Refused (MadeTwice path)
 ungraphed (graph.NoDyndepInput path) = Refused (NoDyndepInput path)
 
--- ---- the cone
-
 -- no edge has a recorded input
 abbrev pub IsUnrecorded : Graph → Type 0
 IsUnrecorded graph = (i : ℕ) → recorded_by graph i ≡ []
+
+-- the edges make a graph, and nothing is recorded of them yet
+pub record IsLinked (graph : Graph) : Type 0 where
+  pub once : IsMadeOnce (declared_by graph).edges
+  pub inputs : (file : List ℕ) → NamesOther (declared_by graph).edges file → ⊥
+  pub unrecorded : IsUnrecorded graph
+
+-- ---- the cone
 
 -- the refusal shows the fault: the target as it was given, or the paths round a cycle
 abbrev pub ShowsFault : List (List ℕ) → List (List ℕ) → ConeFault → Refusal → Type 0

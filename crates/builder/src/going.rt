@@ -16,7 +16,7 @@ ghost use Rattle.runner.specs.declared.state.State.{State as StateOf};
 ghost use Rattle.runner.specs.Course.{Course};
 ghost use Rattle.runner.specs.Going.{IsCut, AreSet};
 ghost use Rattle.runner.specs.Ran.{AreEdgesOf, IsPauseOf};
-ghost use Rattle.builder.specs.Going.{BeginsAt, IsAtNextLoad, HasSourcesAt, IsRefusedAt, HasBegun, HasDone, NoSourceIsDue, GoesWell, IsStopOf, StoppedThere, HasHalted, HasPausedSo, HasEndedSo, IfRefused, IfFault, files_left, stop_answer};
+ghost use Rattle.builder.specs.Going.{BeginsAt, IsAtNextLoad, HasSourcesAt, IsRefusedAt, HasBegun, HasDone, NoSourceIsDue, GoesWell, IsStopThere, IsStopOf, StoppedThere, HasHalted, HasPausedSo, HasEndedSo, IfRefused, IfFault, files_left, stop_answer};
 
 use crate::commands::unstarted_commands;
 use crate::loads::load;
@@ -198,8 +198,8 @@ fn load_file<S: Site>(
 /// After a fault what runs is taken in; a refusal stays as it is.
 fn given_up<S: Site>(site: &mut S, plan: &Plan, stop: Stop) -> Stop
     requires met { IfFault stop (λ fault. (course : Course) × (graph : GraphOf) × IsCut S.tells course graph plan.now (S.world site.old)) }
-    requires stop { (entry : World) × IsStopOf entry (S.world site.old) stop }
-    ensures stop { (entry : World) → IsStopOf entry (S.world site.old) stop → IsStopOf entry (S.world site.new) result }
+    requires stop { (entry : World) × IsStopThere entry (S.world site.old) stop }
+    ensures stop { (entry : World) → IsStopThere entry (S.world site.old) stop → IsStopOf entry (S.world site.new) result }
     ensures same { IfRefused stop (λ refusal. result ≡ stop) }
     ensures faults { IfFault stop (λ fault. IfRefused result (λ refusal. ⊥)) }
     ensures halted { (tick : List ℕ) (course : Course) (grown : List Edge) (graph : GraphOf) (cone : ConeOf) (state : StateOf) → state.plan ≡ plan.now → StoppedThere S.tells tick course grown graph cone state (S.world site.old) stop → HasHalted S.tells tick course grown graph cone state (S.world site.new) result }

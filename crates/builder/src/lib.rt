@@ -8,10 +8,12 @@ mod loads;
 mod names;
 mod one_build;
 mod own_files;
+mod reading;
 mod recorded;
 mod report;
 mod sources;
 mod stop;
 
-pub use one_build::build;
+pub use one_build::{build, build_read};
+pub use reading::{Reading, read};
 pub use report::{Missing, Options, Refusal, Report, Unfit};

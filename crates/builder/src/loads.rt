@@ -9,7 +9,7 @@ ghost use Rattle.model.specs.Records.{Store, recorded_inputs};
 ghost use Rattle.model.specs.SingleBuild.{Asked, declared_graph};
 ghost use Rattle.model.specs.Phases.{Phase};
 ghost use Rattle.model.specs.Calls.{OnlyLooks, is_stop};
-ghost use Rattle.build_theory.specs.Seen.{IsSeen, Unrefused};
+ghost use Rattle.build_theory.specs.Seen.{Unrefused};
 ghost use Rattle.paths.specs.Told.{text_at, texts_at};
 ghost use Rattle.links.specs.Back.{Undoes};
 ghost use Rattle.links.specs.Extended.{HasLoaded, IsRefusedLoad, addition_of};
@@ -19,6 +19,7 @@ ghost use Rattle.links.specs.Told.{declared_by, recorded_by, AreSameInputs};
 ghost use Rattle.records.specs.Known.{IsOf, IsOfDeps, AreKnown};
 ghost use Rattle.plan.specs.Extended.{MayGoOn, GoesOn};
 ghost use Rattle.runner.specs.Course.{Course};
+ghost use Rattle.runner.specs.Cutting.{IsMet};
 ghost use Rattle.runner.specs.Going.{AreSet};
 ghost use Rattle.builder.specs.Going.{StandsAt, HasAsked, IsLoadNext, HasBegun, IsStopped, IsCutThere, IfRefused, IfFault, files_left};
 ghost use Rattle.builder.specs.Joined.{WasHeld, IsUnread, stop_of, IsMemory, IsUnfitBy, IsCircle, IsUnjoined, MayJoin, GoesOnWith, IsLeftWith, HasRoomIn, StayKnown, IsAsBefore};
@@ -66,7 +67,7 @@ pub fn load<S: Site>(
     ensures room { IfErr result (λ stop. IfRefused stop (λ refusal. state.new.set ≡ state.old.set)) }
     ensures plan { IfErr result (λ stop. IfRefused stop (λ refusal. state.new.plan ≡ state.old.plan)) }
     ensures stopped { IfErr result (λ stop. IfRefused stop (λ refusal. (tick : List ℕ) (course : Course) (edges : List Edge) (phases : List Phase) → (stands : StandsAt S.tells tick course edges phases graph.old cone.old state.old (S.world site.old)) → IsLoadNext course edges graph.old state.old stands.on.steps file → IsStopped S.tells tick course edges phases graph.new cone.new state.new (S.world site.new) refusal)) }
-    ensures seen { IfErr result (λ stop. IfFault stop (λ fault. IsSeen (S.world site.old) (S.world site.new) fault)) }
+    ensures met { IfErr result (λ stop. IfFault stop (IsMet (S.world site.old) (S.world site.new))) }
     ensures stop { IfErr result (λ stop. IfFault stop (λ fault. (S.world site.new).stopped ≡ is_stop {T = Unit {0}} (Err fault))) }
     ensures cut { IfErr result (λ stop. IfFault stop (λ fault. (grown : List Edge) × ((tick : List ℕ) (course : Course) (edges : List Edge) (phases : List Phase) → (stands : StandsAt S.tells tick course edges phases graph.old cone.old state.old (S.world site.old)) → IsLoadNext course edges graph.old state.old stands.on.steps file → HasAsked S.tells course edges phases (S.world site.old) → IsCutThere S.tells course grown state.new (S.world site.new)))) }
 {
@@ -212,7 +213,7 @@ fn additions_in<S: Site>(
     ensures read { IfOk result (λ additions. WasHeld S.tells (text_at graph.now.manifest.paths file) (IsSaying (Ok additions)) (S.world site.old) (S.world site.new)) }
     ensures calm { IfErr result (λ stop. IfRefused stop (λ refusal. Unrefused (S.world site.old) (S.world site.new))) }
     ensures refused { IfErr result (λ stop. IfRefused stop (IsUnread S.tells (text_at graph.now.manifest.paths file) (S.world site.old) (S.world site.new))) }
-    ensures seen { IfErr result (λ stop. IfFault stop (IsSeen (S.world site.old) (S.world site.new))) }
+    ensures met { IfErr result (λ stop. IfFault stop (IsMet (S.world site.old) (S.world site.new))) }
     ensures stop { IfErr result (λ stop. IfFault stop (λ fault. (S.world site.new).stopped ≡ is_stop {T = Unit {0}} (Err fault))) }
 {
     let path = path_text(alloc, &graph.manifest, file)?;

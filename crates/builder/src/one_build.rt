@@ -14,20 +14,22 @@ ghost use Rattle.model.specs.Graph.{IsMadeOnce};
 ghost use Rattle.model.specs.SingleBuild.{NamesOther};
 ghost use Rattle.links.specs.Told.{declared_by};
 ghost use Rattle.manifest.specs.Answer.{IsGraph};
-ghost use Rattle.paths.specs.Told.{text_at};
+ghost use Rattle.paths.specs.Told.{graph_of, text_at};
 ghost use Rattle.runner.specs.Course.{Course};
 ghost use Rattle.runner.specs.Ran.{AreEdgesOf};
 ghost use Rattle.builder.specs.Build.{limits_of, Builds, IsBuild};
+ghost use Rattle.builder.specs.Parts.{BuildsGraph, BuildsReading};
 ghost use Rattle.model.specs.Phases.{Phase};
 ghost use Rattle.runner.specs.Going.{AreSet};
 ghost use Rattle.builder.specs.Going.{BeginsAt};
 ghost use Rattle.builder.specs.Reported.{IsFresh, IsReported};
-ghost use Rattle.builder.specs.Reports.{report_in, HasRead, IsConeRecorded, SaysNoCone, SaysFault, ShowsFault, IsPlanFor, SaysEnd};
+ghost use Rattle.builder.specs.Reports.{report_in, IsLinked, HasRead, IsConeRecorded, SaysNoCone, SaysFault, ShowsFault, IsPlanFor, SaysEnd};
 
 use crate::asked::{Asked, Limits};
 use crate::going::run_graph;
 use crate::names::{first_outputs, path_texts};
 use crate::own_files::{DEPS_LOG, LOG, TICK, own_path};
+use crate::reading::{Reading, read};
 use crate::recorded::join_recorded;
 use crate::report::{Options, Refusal, Report};
 use depfile::has_reading;
@@ -36,7 +38,6 @@ use display::Display;
 use dyndep_law::has_reading as has_dyndeps;
 use links::{Cone, ConeFault, Graph, lists_stand};
 use looks::Looks;
-use manifest::reads_longer;
 use plan::{Plan, task_of};
 use records::{Records, log_begins};
 use runner::{State, Summary};
@@ -46,12 +47,15 @@ use text::Text;
 
 /// Builds the targets, or the default ones where none is given (manual: "Default target statements").
 ///
+/// The build files are read first ([`read`]), and what was read is built then ([`build_read`]): what is read later counts for nothing,
+/// whatever is written meanwhile.
+///
 /// What the logs in the folder of `builddir` (manual: "Top-level variables") tell is believed: a command whose outputs are in
 /// order by their records is not started, and the inputs that it told in its depfile count as its inputs. Each start and each good
-/// end is put behind the build log, and what a command told behind the deps log; one that is damaged tells nothing.
+/// end is put after what stands in the build log, and what a command told after what stands in the deps log; one that is damaged tells nothing.
 ///
 /// A dyndep file (manual: "Dynamic Dependencies") is loaded when its maker is settled; one that no edge makes, before anything is
-/// started, or right behind the load by which an edge that names it joins the build. One that is refused ends the build, and so does a
+/// started, or right after the load by which an edge that names it joins the build. One that is refused ends the build, and so does a
 /// source that is missing once one was loaded: nothing more is started, and what runs by then is taken in and recorded. Every other
 /// refusal has started and written nothing.
 ///
@@ -61,33 +65,74 @@ pub fn build<S: Site>(alloc: Global, site: &mut S, options: &Options, targets: &
     requires { IsIdle (S.world site.old).events }
     ensures { IsBuild S.tells S.outcome options.now.file (limits_of options.now) targets.now (S.world site.old) (S.world site.new) result }
 {
-    match try_build(alloc, site, options, targets) {
+    has_format();
+    has_reading();
+    has_dyndeps();
+    match read(alloc, site, options, targets) {
+        Ok(reading) => build_read(alloc, site, reading, options),
+        Err(report) => report,
+    }
+}
+
+/// Builds what was read of build files ([`read`]), as [`build`] does. It is promised for each entry since which there were looks alone.
+///
+/// The limits, the targets and the folder of the program's own files are those of the reading; of the options this takes only how
+/// commands are shown.
+pub fn build_read<S: Site>(
+    alloc: Global,
+    site: &mut S,
+    reading: Reading<'_>,
+    options: &Options,
+) -> Report
+    requires idle { IsIdle (S.world site.old).events }
+    requires running { (S.world site.old).stopped ≡ false }
+    requires formed { IsGraph (graph_of reading.manifest) }
+    ensures { BuildsReading S.tells reading.entry (S.world site.old) (S.world site.new) result }
+{
+    match link_and_build(alloc, site, reading, options) {
         Ok(report) => report,
         Err(report) => report,
     }
 }
 
-/// The build up to its graph, and then of that: each stage goes on, or gives the report.
-fn try_build<S: Site>(
+/// The graph of what was read, and then the build of it: each stage goes on, or gives the report.
+fn link_and_build<S: Site>(
     alloc: Global,
     site: &mut S,
+    reading: Reading<'_>,
     options: &Options,
-    targets: &[Text],
 ) -> Result<Report, Report>
-    requires { IsIdle (S.world site.old).events }
-    ensures { IsBuild S.tells S.outcome options.now.file (limits_of options.now) targets.now (S.world site.old) (S.world site.new) (report_in result) }
+    requires idle { IsIdle (S.world site.old).events }
+    requires running { (S.world site.old).stopped ≡ false }
+    requires formed { IsGraph (graph_of reading.manifest) }
+    ensures { BuildsReading S.tells reading.entry (S.world site.old) (S.world site.new) (report_in result) }
 {
-    let manifest = manifest::read(alloc, site, options.file.as_str())?;
-    let asked = Asked::new(alloc, options, targets, &manifest.builddir)?;
+    let Reading { manifest, asked } = reading;
     let mut graph = Graph::build(alloc, manifest)?;
-    reads_longer();
+    build_linked(alloc, site, &mut graph, &asked, options)
+}
+
+/// Builds what was asked for of a graph that has no recorded inputs yet.
+fn build_linked<S: Site>(
+    alloc: Global,
+    site: &mut S,
+    graph: &mut Graph,
+    asked: &Asked<'_>,
+    options: &Options,
+) -> Result<Report, Report>
+    requires idle { IsIdle (S.world site.old).events }
+    requires running { (S.world site.old).stopped ≡ false }
+    requires formed { IsGraph (declared_by graph.old) }
+    requires linked { IsLinked graph.old }
+    ensures { BuildsGraph S.tells graph.old asked.now (S.world site.old) (S.world site.new) result }
+{
     has_format();
     has_reading();
     has_dyndeps();
     log_begins();
-    let records = read_records(alloc, site, &graph, &asked)?;
-    join_recorded(alloc, &mut graph, &records)?;
-    build_graph(alloc, site, &mut graph, &asked, options, records)
+    let records = read_records(alloc, site, graph, asked)?;
+    join_recorded(alloc, graph, &records)?;
+    build_graph(alloc, site, graph, asked, options, records)
 }
 
 /// Reads the logs, which lie in the folder of the program's own files.

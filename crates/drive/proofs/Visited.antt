@@ -185,7 +185,7 @@ module _ (tells : Bool) (outcome : Act → View → Outcome) (name : List ℕ) (
       logs = λ own fits. (sound own fits).logs;
       files = λ own fits. let one = sound own fits in (one.alone, one.removed);
       asks = fault_same built.graph.edges words built.targets report first.answer first.said;
-      reported = ((first.said, λ own fits. (sound own fits).refused), tt);
+      reported = (((first.said, first.named), λ own fits. (sound own fits).refused), tt);
     }
 
   built_done : HasFormat → HasReading → HasDyndeps → IsDone tells outcome name limits (Build words) (reports_fault report) (report ∷ []) old new

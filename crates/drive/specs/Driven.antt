@@ -1,5 +1,5 @@
 -- What `drive` promises, over the definition of a list of moves that was carried out (model's `Driven`).
-use Rattle.std.specs.Prelude.{◌≡◌, ◌⊎◌, ℕ, Bool, false, IsTrue, List, [], ◌∷◌, ◌++◌, Option, Some, None, Ok}
+use Rattle.std.specs.Prelude.{◌≡◌, ◌⊎◌, ℕ, Bool, false, IsTrue, List, [], ◌∷◌, ◌++◌, Option, Some, None}
 use Rattle.std.specs.List.{AllByRecursion}
 use Rattle.model.specs.declared.act.Act.{Act}
 use Rattle.model.specs.declared.graph.BuildGraph.{BuildGraph}
@@ -21,23 +21,23 @@ use Rattle.model.specs.SingleBuild.{Asked, Answer, SingleBuild, asked_with}
 use Rattle.model.specs.World.{World, View}
 use Rattle.deps_log.specs.Format.{ReadsLogs}
 use Rattle.depfile.specs.Depfile.{IsReading}
-use Rattle.manifest.specs.Answer.{IsGraph, ReadsFile}
+use Rattle.manifest.specs.Answer.{IsGraph}
 use Rattle.manifest.specs.declared.fault.ReadError.{ReadError}
 use Rattle.manifest.specs.declared.fault.ReadError.TheVariants as read
 use Rattle.builder.specs.Asked.{AreTargets, IsFolder}
-use Rattle.builder.specs.Build.{Says, IsUnread, RemovesFiles, LeavesAlone, asked_of}
+use Rattle.builder.specs.Build.{Says, NamesFault, IsUnread, ReadsFirst, RemovesFiles, LeavesAlone, asked_of}
 use Rattle.builder.specs.Loads.{ReadsDyndeps, RefusesFile}
 use Rattle.builder.specs.declared.asked.Limits.{Limits}
 use Rattle.builder.specs.declared.report.Report.{Report}
 
 -- ---- what a build reads
 
--- The file of this name was read as a graph, and this is what the words ask of it within these limits: its edges are what the file
--- declares, and the graph of the build is that of the file over the edges at its end.
+-- The file of this name was read as a graph, before anything else was done, and this is what the words ask of it within these limits:
+-- its edges are what the file declares, and the graph of the build is that of the file over the edges at its end.
 pub record IsRead (tells : Bool) (name : List ℕ) (limits : Limits) (words : List (List ℕ)) (old new : World) (asked : Asked) : Type 0 where
   pub graph : BuildGraph
   pub formed : IsGraph graph
-  pub file : IsTrue tells → ReadsFile name old.history new.history (Ok graph)
+  pub file : ReadsFirst tells name graph old new
   -- the canonical paths of the words
   pub targets : List (List ℕ)
   pub canonical : AreTargets words targets
@@ -86,12 +86,16 @@ abbrev pub HasCauseOf : {tells : Bool} → {B : Behaviour} → {format : LogForm
 HasCauseOf {tells} {B} {format} {own} {asked} {old} {new} {said} report build =
     RefusesFile tells own asked build.store (steps_of build.schedule.lawful.earlier ++ build.schedule.lawful.last) old new report
 
+-- the report says this answer of what was asked for with these words, and where it is N17 or N53, it names the path as it should
+abbrev pub SaysOf : List (List ℕ) → Asked → Answer → Report → Type 0
+SaysOf words asked said report = Says asked.declared words asked.targets report said × NamesFault asked.declared report
+
 -- The visit is a build that was asked for with these words, and this is its report, as `build` promises it, for any own files that lie
 -- in the folder.
 abbrev pub Reports : {tells : Bool} {B : Behaviour} {format : LogFormat} → List ℕ → List (List ℕ) → Visit tells B format → Report → Type 0
 Reports name words (Edited path content old new edit) report = ⊥
 Reports {tells} {B} {format} name words (Built asked old new said build) report =
-    Says asked.declared words asked.targets report said × ((own : OwnFiles) (fits : IsOwnIn own asked.folder) → HasCauseOf report (build own fits))
+    SaysOf words asked said report × ((own : OwnFiles) (fits : IsOwnIn own asked.folder) → HasCauseOf report (build own fits))
 Reports {tells} {B} {format} name words (Unread old new said cause) report = IsRefused tells name old new report said
 Reports name words (Restarted edges old new restart) report = ⊥
 

@@ -165,6 +165,7 @@ module _ (reading : List ℕ → Option (List (List ℕ))) (dyndep : List ℕ �
     in_order = inr (was_in_order reading dyndep no_store [] refl refl tt all named failed (λ none. some_none _ none) (λ none. some_none _ none) failing_steps);
     faults = record { refused = λ none. refl; starts = inl refl; stopped = λ stop. absurd (false≢true stop); earlier = refl };
     idle = λ none. both_ended 6 11 false;
+    taken_in = λ going unrefused. both_ended 6 11 false;
     frame = λ tells.
         frame_of all failing_steps named.history failing (failing_writes all fits) (failing_changes all fits) (
           tt,
@@ -220,6 +221,7 @@ module _ (reading : List ℕ → Option (List (List ℕ))) (dyndep : List ℕ �
     in_order = inr (was_in_order reading dyndep failed_store [] refl refl tt all edited stopped (λ none. some_none _ none) (λ none. some_none _ none) stopping_steps);
     faults = record { refused = λ none. refl; starts = inl refl; stopped = λ stop. refl; earlier = refl };
     idle = λ none. absurd (false≢true (sym none));
+    taken_in = λ going. absurd (false≢true (sym going));
     frame = λ tells.
         frame_of all stopping_steps edited.history stopping (stopping_writes all fits) (stopping_changes all fits)
         (tt, (tt, (tt, ((b_is edited.history (edited.history ++ take 3 stopping) refl, ready_scan _ refl), (tt, (tt, tt))))))
@@ -268,6 +270,7 @@ module _ (reading : List ℕ → Option (List (List ℕ))) (dyndep : List ℕ �
     in_order = inr (was_in_order reading dyndep stopped_store [] refl refl tt all restarted_world built (λ none. some_none _ none) (λ none. some_none _ none) good_steps);
     faults = record { refused = λ none. refl; starts = inl refl; stopped = λ stop. absurd (false≢true stop); earlier = refl };
     idle = λ none. ended 2 20 true;
+    taken_in = λ going unrefused. ended 2 20 true;
     frame = λ tells.
         frame_of all good_steps restarted_world.history succeeding (succeeding_writes all fits) (succeeding_changes all fits)
         (tt, (tt, (tt, ((b_is restarted_world.history (restarted_world.history ++ take 3 succeeding) refl, ready_scan _ refl), (tt, (tt, (tt, (tt, (tt, (tt, (tt, tt)))))))))))
@@ -326,6 +329,7 @@ module _ (reading : List ℕ → Option (List (List ℕ))) (dyndep : List ℕ �
     in_order = inr (was_in_order reading dyndep built_store (codes "h" ∷ []) refl refl (refl, tt) all edited_again last (λ none. some_none _ none) (λ none. some_none _ none) all_steps);
     faults = record { refused = λ none. refl; starts = inl refl; stopped = λ stop. absurd (false≢true stop); earlier = refl };
     idle = λ none. all_ended 20 29 34;
+    taken_in = λ going unrefused. all_ended 20 29 34;
     frame = λ tells.
         frame_of all all_steps edited_again.history again (again_writes all fits) (again_changes all fits) (
           tt,

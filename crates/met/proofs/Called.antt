@@ -40,8 +40,8 @@ given_by name is_name world held naming_is held_is = outcome_is name is_name (vi
 waits_then : (call : Call) (world : World) (given : Outcome) → now_given scan world ≡ given → call (waits 2 scan world) ≡ call (happened (Finish 2 given.ok) (worked 2 given world))
 waits_then call world given is = ap (λ (o : Outcome). call (happened (Finish 2 o.ok) (worked 2 o world))) is
 
-stops_giving : (world : World) (given : Outcome) → now_given scan world ≡ given → stops 2 scan world ≡ record (worked 2 given world) { stopped = true }
-stops_giving world given is = ap (λ (o : Outcome). record (worked 2 o world) { stopped = true }) is
+stops_giving : (world : World) (given : Outcome) → now_given scan world ≡ given → stops 2 scan world ≡ record (worked 2 given world) { wait_refused = Some world.failures; stopped = true }
+stops_giving world given is = ap (λ (o : Outcome). record (worked 2 o world) { wait_refused = Some world.failures; stopped = true }) is
 
 logs_then : (call : Call) (rs : List Record) (r : Record) (world : World) → content_or_empty (file_at world.history build_log_name) ≡ log_text rs
     → call (logs r world) ≡ call (writes build_log_name (log_text (rs ++ r ∷ [])) world)

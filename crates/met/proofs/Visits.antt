@@ -88,7 +88,7 @@ module _ (reading : List ℕ → Option (List (List ℕ))) (dyndep : List ℕ �
       ∷ Built asked named failed (Failed (codes "b" ∷ [])) (failing_build reading dyndep reads format reads_logs)
       ∷ Edited (codes "a") (Some (naming (codes "h"))) failed edited (edits (codes "a") (naming (codes "h")) failed edited 12 refl refl refl)
       ∷ Built asked edited stopped (Fault Stopped) (stopping_build reading dyndep reads format reads_logs)
-      ∷ Restarted edges stopped restarted_world (record { earlier = refl; events = refl; stopped = refl; history = λ told. record { more = []; grows = refl; all = tt } })
+      ∷ Restarted edges stopped restarted_world (record { earlier = refl; events = refl; stopped = refl; waits = refl; history = λ told. record { more = []; grows = refl; all = tt } })
       ∷ Built asked restarted_world built (Success 1) (succeeding_build reading dyndep reads format reads_logs)
       ∷ Edited (codes "g") (Some (codes "y")) built edited_again (edits (codes "g") (codes "y") built edited_again 27 refl refl refl)
       ∷ Built asked edited_again last (Success 2) (building_again reading dyndep reads format reads_logs)

@@ -1,6 +1,6 @@
 -- What happens on a site in memory: which calls are made on it for each move, and what they leave. That the program makes just these calls
 -- for these moves is shown by the rows `calls` of `rows_worlds`.
-use Rattle.std.specs.Prelude.{◌≡◌, ℕ, Bool, true, false, List, [], ◌∷◌, ◌++◌, Some, None, codes}
+use Rattle.std.specs.Prelude.{◌≡◌, ℕ, true, false, List, [], ◌∷◌, ◌++◌, Some, None, codes}
 use Rattle.model.specs.declared.event.Event.{Event}
 use Rattle.model.specs.declared.event.Event.TheVariants.{Start, Finish}
 use Rattle.model.specs.declared.event.Finished.{Finished}
@@ -21,7 +21,7 @@ use Rattle.build_log.specs.Text.{header}
 use Rattle.build_log.specs.Record.{forms as record_forms}
 use Rattle.deps_log.specs.Record.{forms as deps_forms}
 use Rattle.sim.specs.Toy.{toy_outcome}
-use Rattle.sim.specs.Sim.{Ends, Halts}
+use Rattle.sim.specs.Sim.{Ends, Halts, noting}
 use Rattle.sim.specs.World.{wrote, ticked, appended, started, happened, worked}
 use Rattle.sim.specs.World.{world_of as world_of_sim}
 use Rattle.sim.specs.declared.jobs.Running.{Running}
@@ -48,15 +48,15 @@ now_given act world = toy_outcome act (view_of world.history)
 abbrev pub waits : ℕ → Act → Call
 waits job act world = happened (Finish job (now_given act world).ok) (worked job (now_given act world) world)
 
--- the site stops in the wait: the command has made its writes
+-- the site stops in the wait, which is noted: the command has made its writes
 abbrev pub stops : ℕ → Act → Call
-stops job act world = record (worked job (now_given act world) world) { stopped = true }
+stops job act world = record (worked job (now_given act world) world) { wait_refused = Some world.failures; stopped = true }
 
 -- Waiting and stopping are what the contracts of the site say, where the command that runs has not written yet.
 pub record AreOfSim : Type 0 where
   pub waits : (old new : Sim Toy) (finished : Finished) (ends : Ends toy_outcome finished old new) → ends.one.done ≡ None
       → world_of_sim new ≡ waits finished.job ends.one.act (world_of_sim old)
-  pub stops : (old new : Sim Toy) (job : ℕ) (one : Running) → Halts toy_outcome old new → one.done ≡ None → old.jobs.running ≡ (job, one) ∷ [] → new.lost ≡ false
+  pub stops : (old new : Sim Toy) (job : ℕ) (one : Running) → Halts toy_outcome (noting old) new → one.done ≡ None → old.jobs.running ≡ (job, one) ∷ [] → new.lost ≡ false
       → world_of_sim new ≡ stops job one.act (world_of_sim old)
 
 abbrev pub after : List Call → World → World
@@ -153,54 +153,54 @@ again =
 
 -- ---- the worlds between
 
-abbrev pub world_of : List Moment → List Event → List Event → ℕ → Bool → World
-world_of history events earlier tick stopped =
-    record { history = history; events = events; earlier = earlier; ticked = tick; failures = 0; failures_at_start = 0; stopped = stopped }
+abbrev pub world_of : List Moment → List Event → List Event → ℕ → World
+world_of history events earlier tick =
+    record { history = history; events = events; earlier = earlier; ticked = tick; failures = 0; failures_at_start = 0; wait_refused = None; stopped = false }
 
 abbrev pub first : World
-first = world_of [] [] [] 0 false
+first = world_of [] [] [] 0
 
 abbrev pub declared : World
-declared = world_of (put (codes "build.ninja") file_text 1 ∷ []) [] [] 0 false
+declared = world_of (put (codes "build.ninja") file_text 1 ∷ []) [] [] 0
 
 abbrev pub sourced : World
-sourced = world_of (declared.history ++ put (codes "g") (codes "x") 2 ∷ []) [] [] 0 false
+sourced = world_of (declared.history ++ put (codes "g") (codes "x") 2 ∷ []) [] [] 0
 
 abbrev pub named : World
-named = world_of (sourced.history ++ put (codes "a") (naming (codes "k")) 3 ∷ []) [] [] 0 false
+named = world_of (sourced.history ++ put (codes "a") (naming (codes "k")) 3 ∷ []) [] [] 0
 
 abbrev pub failed_events : List Event
 failed_events = Start 1 cat 6 ∷ Finish 1 true ∷ Start 2 scan 11 ∷ Finish 2 false ∷ []
 
 abbrev pub failed : World
-failed = world_of (named.history ++ failing) failed_events [] 11 false
+failed = world_of (named.history ++ failing) failed_events [] 11
 
 abbrev pub edited : World
-edited = world_of (failed.history ++ put (codes "a") (naming (codes "h")) 12 ∷ []) failed_events [] 11 false
+edited = world_of (failed.history ++ put (codes "a") (naming (codes "h")) 12 ∷ []) failed_events [] 11
 
 abbrev pub stopped_events : List Event
 stopped_events = failed_events ++ Start 2 scan 15 ∷ []
 
 abbrev pub stopped : World
-stopped = world_of (edited.history ++ stopping) stopped_events [] 15 true
+stopped = record (world_of (edited.history ++ stopping) stopped_events [] 15) { wait_refused = Some 0; stopped = true }
 
 abbrev pub restarted_world : World
-restarted_world = world_of stopped.history [] stopped_events 15 false
+restarted_world = world_of stopped.history [] stopped_events 15
 
 abbrev pub built_events : List Event
 built_events = Start 2 scan 20 ∷ Finish 2 true ∷ []
 
 abbrev pub built : World
-built = world_of (restarted_world.history ++ succeeding) built_events stopped_events 20 false
+built = world_of (restarted_world.history ++ succeeding) built_events stopped_events 20
 
 abbrev pub edited_again : World
-edited_again = world_of (built.history ++ put (codes "g") (codes "y") 27 ∷ []) built_events stopped_events 20 false
+edited_again = world_of (built.history ++ put (codes "g") (codes "y") 27 ∷ []) built_events stopped_events 20
 
 abbrev pub more_events : List Event
 more_events = Start 1 cat 29 ∷ Finish 1 true ∷ Start 2 scan 34 ∷ Finish 2 true ∷ []
 
 abbrev pub last : World
-last = world_of (edited_again.history ++ again) (built_events ++ more_events) stopped_events 34 false
+last = world_of (edited_again.history ++ again) (built_events ++ more_events) stopped_events 34
 
 abbrev pub worlds : List World
 worlds = declared ∷ sourced ∷ named ∷ failed ∷ edited ∷ stopped ∷ restarted_world ∷ built ∷ edited_again ∷ last ∷ []

@@ -1,5 +1,5 @@
 -- Faults that cut a run off, and what is left then.
-use Rattle.std.proofs.Common.{◌≡◌, inl, inr, ◌≤◌, Bool, false, List, Result, Ok, Err, refl, sym, ◌∙◌, ap, arith}
+use Rattle.std.proofs.Common.{◌≡◌, inl, inr, Bool, false, List, Result, Ok, Err, refl, sym, ◌∙◌, ap, arith}
 use Rattle.std.specs.Result.{IsErrOf}
 use Rattle.std.proofs.lemmas.Bool.{false≢true}
 use Rattle.model.specs.declared.event.Event.{Event}
@@ -10,8 +10,10 @@ use Rattle.model.specs.Calls.{OnlyLooks, HasCause, is_stop}
 use Rattle.model.specs.SingleBuild.{Answer, PassesNoFault}
 use Rattle.build_theory.specs.Seen.{Unrefused, StartsUnrefused}
 use Rattle.runner.specs.declared.cut.Cut.{Cut}
-use Rattle.runner.specs.Cutting.{SomeRuns, TakesIn, Cuts, site_answer}
-use Rattle.build_theory.proofs.Calls.{cause_then}
+use Rattle.runner.specs.declared.cut.Cut.TheVariants.{Waiting, Other}
+use Rattle.runner.specs.Cut.{fault_of}
+use Rattle.runner.specs.Cutting.{SomeRuns, TakesIn, Cuts, IsMetBy, site_answer}
+use Rattle.build_theory.proofs.Calls.{cause_then, seen_of}
 
 -- what was started in two calls one after the other
 pub starts_then : (old mid new : World) → Unrefused old mid → StartsUnrefused old mid → StartsUnrefused mid new → StartsUnrefused old new
@@ -67,3 +69,13 @@ cuts_then old mid new r unrefused same cuts = record { cause = cause_then old mi
     by_start : StartsUnrefused mid new → StartsUnrefused old new
     by_start (inl none) = inl (none ∙ same)
     by_start (inr first) = inr (first ∙ unrefused.failures)
+
+-- the fault of a run says what its cause was
+pub met_by : {T : Type 0} (old new : World) (cut : Cut) → HasCause {T = T} old new (Err (fault_of cut)) → IsMetBy old new cut
+met_by old new (Waiting fault) cause = seen_of old new (Err fault) cause
+met_by old new (Other Device) cause = cause.device refl
+met_by old new (Other Stopped) cause = cause.stopped
+met_by {T} old new (Other Memory) cause = cause.others no_device
+  where
+    no_device : IsErrOf {T = T} (Err Memory) Device → ⊥
+    no_device is = cc

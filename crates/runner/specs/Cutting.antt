@@ -1,15 +1,16 @@
 -- What a fault tells of the site, and what runs then.
 use Rattle.std.specs.Prelude.{◌≡◌, ℕ, ◌<◌, ◌≤◌, true, List, length, Result, Ok, Err, IfErr}
 use Rattle.model.specs.declared.fault.SiteFault.{SiteFault}
+use Rattle.model.specs.declared.fault.SiteFault.TheVariants.{Device, Stopped, Memory}
 use Rattle.model.specs.declared.event.Event.{Event}
 use Rattle.model.specs.World.{World, runs}
 use Rattle.model.specs.Calls.{HasCause, is_stop}
 use Rattle.model.specs.Graph.{has_number}
-use Rattle.build_theory.specs.Seen.{StartsUnrefused}
+use Rattle.build_theory.specs.Seen.{IsSeen, StartsUnrefused}
 use Rattle.links.specs.Held.{StandOnce}
 use Rattle.runner.specs.declared.cut.Cut.{Cut}
 use Rattle.runner.specs.declared.cut.Cut.TheVariants.{Waiting, Other}
-use Rattle.runner.specs.Cut.{fault_of}
+use Rattle.runner.specs.Cut.{fault_of, HasRefusedWait}
 
 abbrev pub SomeRuns : World → Type 0
 SomeRuns now = (job : ℕ) × (runs job now.events ≡ true)
@@ -40,7 +41,22 @@ site_answer (Err cut) = Err (fault_of cut)
 pub record Cuts {T : Type 0} (old new : World) (result : Result T Cut) : Type 0 where
   pub cause : HasCause old new (site_answer result)
   pub starts : StartsUnrefused old new
-  pub waits : IfErr result (λ cut. IfWaiting cut (SomeRuns new))
+  pub waits : IfErr result (λ cut. IfWaiting cut (HasRefusedWait new))
+
+-- what the fault of a call says about the site that was no wait, where no call was refused before it
+abbrev pub IsMet : World → World → SiteFault → Type 0
+IsMet old new Device = old.failures < new.failures
+IsMet old new Stopped = new.stopped ≡ true
+IsMet old new Memory = new.failures ≡ old.failures
+
+-- what a cut says about the site: a wait may be refused after it yet, unless it is itself a refused wait
+abbrev pub IsMetBy : World → World → Cut → Type 0
+IsMetBy old new (Waiting fault) = IsSeen old new fault
+IsMetBy old new (Other fault) = IsMet old new fault
+
+-- what a cut said of the site since any point, another says behind it
+abbrev pub StaysSeen : World → World → Cut → Cut → Type 0
+StaysSeen old new cut last = (entry : World) → IsMetBy entry old cut → IsSeen entry new (fault_of last)
 
 -- the site has stopped exactly where this is the fault
 abbrev pub IsStoppedBy : World → Cut → Type 0

@@ -1,16 +1,16 @@
 //! Taking in what runs after a fault.
 
-ghost use Rattle.std.specs.Prelude.{◌≡◌, ◌⊎◌, ℕ, List, Option, false, Err, OnOk, OnErr};
+ghost use Rattle.std.specs.Prelude.{◌≡◌, ◌⊎◌, ℕ, List, Option, false, Some, Err, OnOk, OnErr};
 ghost use Rattle.model.specs.World.{World, IsIdle};
 ghost use Rattle.model.specs.Schedule.{Step as Done};
 ghost use Rattle.model.specs.Calls.{HasCause, is_stop};
-ghost use Rattle.build_theory.specs.Seen.{IsSeen};
 ghost use Rattle.links.specs.declared.graph.Graph.{Graph};
 ghost use Rattle.log_theory.specs.Ledger.{IsCutOff};
 ghost use Rattle.runner.specs.After.{ComesAfter};
 ghost use Rattle.runner.specs.Course.{Course};
-ghost use Rattle.runner.specs.Cut.{fault_of, IsLeft};
-ghost use Rattle.runner.specs.Cutting.{IfWaiting, SomeRuns, SoManyRun, IsStoppedBy, TakesIn};
+ghost use Rattle.runner.specs.declared.cut.Cut.TheVariants.{Other};
+ghost use Rattle.runner.specs.Cut.{fault_of, HasRefusedWait, IsLeft};
+ghost use Rattle.runner.specs.Cutting.{IfWaiting, SomeRuns, SoManyRun, StaysSeen, IsStoppedBy, TakesIn};
 ghost use Rattle.runner.specs.Going.{IsCut};
 ghost use Rattle.runner.specs.Ran.{HasRun};
 
@@ -25,7 +25,7 @@ pub fn give_up<S: Site>(site: &mut S, plan: &Plan, fault: SiteFault) -> Cut
     requires met { (course : Course) × (graph : Graph) × IsCut S.tells course graph plan.now (S.world site.old) }
     requires stopped { (S.world site.old).stopped ≡ is_stop {T = Unit {0}} (Err fault) }
     ensures ran { (course : Course) (graph : Graph) → IsCut S.tells course graph plan.now (S.world site.old) → HasRun S.tells course (S.world site.new) (Err result) }
-    ensures seen { (entry : World) → IsSeen entry (S.world site.old) fault → IsSeen entry (S.world site.new) (fault_of result) }
+    ensures seen { StaysSeen (S.world site.old) (S.world site.new) (Other fault) result }
     ensures left { IsLeft (S.world site.new) result }
     ensures grows { ComesAfter S.tells (S.world site.old) (S.world site.new) }
     ensures takes_in { TakesIn (S.world site.old) (S.world site.new) result }
@@ -38,9 +38,9 @@ pub fn give_up<S: Site>(site: &mut S, plan: &Plan, fault: SiteFault) -> Cut
 /// the run: that the site stopped, where it did, and else the first. After a final fault the site is not asked.
 pub fn take_in_rest<S: Site>(site: &mut S, count: usize, cut: Cut) -> Cut
     requires many { SoManyRun count (S.world site.old).events }
-    requires waits { IfWaiting cut (SomeRuns (S.world site.old)) }
+    requires waits { IfWaiting cut (HasRefusedWait (S.world site.old)) }
     requires stopped { IsStoppedBy (S.world site.old) cut }
-    ensures seen { (entry : World) → IsSeen entry (S.world site.old) (fault_of cut) → IsSeen entry (S.world site.new) (fault_of result) }
+    ensures seen { StaysSeen (S.world site.old) (S.world site.new) cut result }
     ensures first { (fault_of result ≡ fault_of cut) ⊎ (fault_of result ≡ SiteFault.Stopped) }
     ensures still { IfWaiting cut (S.world site.new ≡ S.world site.old) }
     ensures left { IsLeft (S.world site.new) result }
@@ -66,6 +66,7 @@ fn take_in_all<S: Site>(site: &mut S, count: usize) -> Result<(), SiteFault>
     ensures grows { ComesAfter S.tells (S.world site.old) (S.world site.new) }
     ensures at_start { (S.world site.new).failures_at_start ≡ (S.world site.old).failures_at_start }
     ensures runs { OnErr result (SomeRuns (S.world site.new)) }
+    ensures noted { OnErr result ((S.world site.new).wait_refused ≡ Some (S.world site.old).failures) }
     ensures idle { OnOk result (IsIdle (S.world site.new).events) }
     ensures rest { (course : Course) (steps : List Done) (met : Option ℕ) → IsCutOff S.tells course.behaviour course.format course.own course.asked course.store course.phases steps met course.entry (S.world site.old) → IsCutOff S.tells course.behaviour course.format course.own course.asked course.store course.phases steps met course.entry (S.world site.new) }
 {

@@ -102,10 +102,10 @@ job_wrote job writes h k events live is = subst (OthersWrote (IsRunning events) 
 
 -- ---- the call
 
-pub ends_world : (job : ℕ) (given : Outcome) (h new : List Moment) (told after : Told) (tick failures at_start : ℕ) → after ≡ with_finish job given.ok told
+pub ends_world : (job : ℕ) (given : Outcome) (h new : List Moment) (told after : Told) (tick failures at_start : ℕ) (refused : Option ℕ) → after ≡ with_finish job given.ok told
     → new ≡ with_event (Some (Finish job given.ok)) (with_writes job given.writes h)
-    → world_with new after tick failures at_start ≡ happened (Finish job given.ok) (worked job given (world_with h told tick failures at_start))
-ends_world job given h new told after tick failures at_start told_is is = λ i. world_with (is i) (told_is i) tick failures at_start
+    → world_with new after tick failures at_start refused ≡ happened (Finish job given.ok) (worked job given (world_with h told tick failures at_start refused))
+ends_world job given h new told after tick failures at_start refused told_is is = λ i. world_with (is i) (told_is i) tick failures at_start refused
 
 pub ends_view : (job : ℕ) (given : Outcome) (h new : List Moment) (path : List ℕ) → new ≡ with_event (Some (Finish job given.ok)) (with_writes job given.writes h) → view_of new path ≡ after_writes (view_of h) given.writes path
 ends_view job given h new path is =

@@ -148,9 +148,22 @@ GoesDoing outcome call part old new (Err Memory) = (old.jobs.stopped ≡ false) 
 abbrev pub Goes : {C T : Type 0} → (Act → View → Outcome) → Call → Sim C → Sim C → Result T SiteFault → Type 0
 Goes outcome call old new result = GoesDoing outcome call (λ bytes sim. sim) old new result
 
--- a wait is refused, too, where fewer commands run than the gate asks for
+-- one in which a command is taken in is refused, too, where fewer commands run than the gate asks for
+abbrev pub GoesTaking : {C T : Type 0} → (Act → View → Outcome) → Call → Sim C → Sim C → Result T SiteFault → Type 0
+GoesTaking outcome call old new (Ok value) = Goes {T = ℕ} outcome call old new (Ok 0) × (old.gate ≤ length old.jobs.running)
+GoesTaking outcome call old new (Err Device) =
+    (old.jobs.stopped ≡ false) × ((trouble_of call old ≡ Some Refused) ⊎ (length old.jobs.running < old.gate)) × (world_of new ≡ refused (world_of old))
+GoesTaking outcome call old new (Err Stopped) = Goes {T = ℕ} outcome call old new (Err Stopped)
+GoesTaking outcome call old new (Err Memory) = Goes {T = ℕ} outcome call old new (Err Memory)
+
+-- it is noted how many calls the device had refused before this wait
+abbrev pub noting : {C : Type 0} → Sim C → Sim C
+noting sim = record sim { wait_refused = Some sim.failures }
+
+-- a wait goes so, and one that takes in no command is noted, unless the site had stopped before
 abbrev pub GoesWait : {C T : Type 0} → (Act → View → Outcome) → Call → Sim C → Sim C → Result T SiteFault → Type 0
-GoesWait outcome call old new (Ok value) = Goes {T = ℕ} outcome call old new (Ok 0) × (old.gate ≤ length old.jobs.running)
-GoesWait outcome call old new (Err Device) = (old.jobs.stopped ≡ false) × ((trouble_of call old ≡ Some Refused) ⊎ (length old.jobs.running < old.gate)) × (world_of new ≡ refused (world_of old))
-GoesWait outcome call old new (Err Stopped) = Goes {T = ℕ} outcome call old new (Err Stopped)
-GoesWait outcome call old new (Err Memory) = Goes {T = ℕ} outcome call old new (Err Memory)
+GoesWait outcome call old new (Ok value) = GoesTaking {T = ℕ} outcome call old new (Ok 0)
+GoesWait outcome call old new (Err Device) =
+    (old.jobs.stopped ≡ false) × ((trouble_of call old ≡ Some Refused) ⊎ (length old.jobs.running < old.gate)) × (world_of new ≡ refused (world_of (noting old)))
+GoesWait outcome call old new (Err Stopped) = GoesDoing {T = ℕ} outcome call (λ bytes sim. noting sim) old new (Err Stopped)
+GoesWait outcome call old new (Err Memory) = (old.jobs.stopped ≡ false) × (world_of new ≡ world_of (noting old))

@@ -1,5 +1,5 @@
 -- A site in memory as contracts see it, and what its calls do.
-use Rattle.std.specs.Prelude.{◌≡◌, ℕ, ◌+◌, false, List, [], ◌∷◌, ◌++◌, Option, Some}
+use Rattle.std.specs.Prelude.{◌≡◌, ℕ, ◌+◌, false, List, [], ◌∷◌, ◌++◌, Option, Some, None}
 use Rattle.model.specs.declared.act.Act.{Act}
 use Rattle.model.specs.declared.event.Event.{Event}
 use Rattle.model.specs.declared.event.Event.TheVariants.{Start}
@@ -15,23 +15,24 @@ use Rattle.sim.specs.History.{with_next, with_writes, longer_at}
 use Rattle.sim.specs.Jobs.{Told, nothing_told}
 
 -- a site by its parts
-abbrev pub world_with : List Moment → Told → (ticked failures at_start : ℕ) → World
-world_with history told ticked failures at_start = record {
+abbrev pub world_with : List Moment → Told → (ticked failures at_start : ℕ) → Option ℕ → World
+world_with history told ticked failures at_start refused_before = record {
   history = history;
   events = told.events;
   earlier = told.earlier;
   ticked = ticked;
   failures = failures;
   failures_at_start = at_start;
+  wait_refused = refused_before;
   stopped = told.stopped;
 }
 
 abbrev pub world_of : {C : Type 0} → Sim C → World
-world_of sim = world_with sim.history sim.jobs sim.ticked sim.failures sim.failures_at_start
+world_of sim = world_with sim.history sim.jobs sim.ticked sim.failures sim.failures_at_start sim.wait_refused
 
 -- nothing has happened
 abbrev pub fresh : World
-fresh = world_with [] nothing_told 0 0 0
+fresh = world_with [] nothing_told 0 0 0 None
 
 -- a file has been written under the next stamp, or deleted
 abbrev pub wrote : Writer → List ℕ → Option (List ℕ) → World → World
@@ -59,7 +60,7 @@ started job act world = record (happened (Start job act world.ticked) world) { f
 
 -- the site was started again, where nothing had run
 abbrev pub restarted : World → World
-restarted world = record world { earlier = world.earlier ++ world.events; events = []; stopped = false }
+restarted world = record world { earlier = world.earlier ++ world.events; events = []; wait_refused = None; stopped = false }
 
 -- the device refused a call
 abbrev pub refused : World → World

@@ -2,10 +2,10 @@
 
 ghost use Rattle.std.specs.Prelude.{◌≡◌, ◌⊎◌, ◌+◌, ◌++◌, ℕ, List, [], take, IsErr, true, false, Some, None, option_copied, option_map, IsTrue, IsErrOf, IfOk, IfErr, OnOk, OnErr};
 ghost use Rattle.model.specs.World.{view_of, file_at, latest};
-ghost use Rattle.model.specs.Calls.{content_or_empty, HasCause, OnlyLooks, OthersWrote};
+ghost use Rattle.model.specs.Calls.{content_or_empty, HasCause, KeepsWait, OnlyLooks, OthersWrote};
 ghost use Rattle.sim.specs.World.{world_of, HasWritten};
 ghost use Rattle.model.specs.World.{runs, IsRunning};
-ghost use Rattle.sim.specs.Sim.{Goes, GoesDoing, GoesWait, Ends, Halts, Restarts, SawContent, SawStamp, OnlyTheyWrote, RefusedAsNamed, refusing, launched, called, naming, storing, putting, putting_first, trouble_of, carried, given_by, worked_off};
+ghost use Rattle.sim.specs.Sim.{Goes, GoesDoing, GoesTaking, GoesWait, Ends, Halts, Restarts, SawContent, SawStamp, OnlyTheyWrote, RefusedAsNamed, refusing, launched, called, naming, storing, putting, putting_first, trouble_of, carried, given_by, worked_off};
 ghost use Rattle.sim.specs.Faults.{refusal, stop_in};
 ghost use Rattle.sim.specs.Jobs.{AllRun};
 ghost use Rattle.sim.specs.World.{appended};
@@ -24,7 +24,8 @@ use text::{Bytes, Items, Path};
 /// A site in memory, for tests and scripts. Its commands write when they start or when they end, in the view of that
 /// moment. The device refuses just the calls that `fail` and `gate` name, and the site stops just in those that `stop_at`
 /// names; else a call fails only where memory is refused or no stamp or count is left. A call that is refused, or that
-/// finds no memory, has changed nothing. No call goes through what happened before to find a file or a command.
+/// finds no memory, has changed nothing but what is counted or noted of it. No call goes through what happened before to
+/// find a file or a command.
 #[derive(Drop)]
 pub struct Sim<C> {
     alloc: Global,
@@ -36,6 +37,9 @@ pub struct Sim<C> {
     failures: u64,
     /// How many calls had been refused when the last command was started.
     failures_at_start: u64,
+    /// How many calls had been refused before the last wait that was refused or in which the site stopped, if one was since
+    /// the last restart.
+    wait_refused: Option<u64>,
     faults: Faults,
     /// How many commands have to run where one is waited for next, unless the device is to refuse it.
     gate: usize,
@@ -70,6 +74,7 @@ impl<C: Commands> Sim<C> {
             ticked: 0,
             failures: 0,
             failures_at_start: 0,
+            wait_refused: None,
             faults: Faults::new(alloc),
             gate: 0,
             order: Order::First,
@@ -204,6 +209,7 @@ impl<C: Commands> Sim<C> {
     fn pass(&mut self, call: Call) -> Result<(), SiteFault>
         ensures called { OnOk result (self.new ≡ called call self.old) }
         ensures cause { HasCause (world_of self.old) (world_of self.new) result }
+        ensures waits { KeepsWait (world_of self.old) (world_of self.new) }
         ensures looks { OnlyLooks true (world_of self.old) (world_of self.new) }
         ensures goes { Goes C.outcome call self.old self.new result }
     {
@@ -278,6 +284,32 @@ impl<C: Commands> Sim<C> {
         Ok(())
     }
 
+    /// Takes in the running command that is next in the order that was chosen. Who calls it notes whether it was refused.
+    fn take_next(&mut self) -> Result<Finished, SiteFault>
+        requires { (job : ℕ) × (runs job (world_of self.old).events ≡ true) }
+        ensures cause { HasCause (world_of self.old) (world_of self.new) result }
+        ensures waits { KeepsWait (world_of self.old) (world_of self.new) }
+        ensures err { OnErr result (OnlyLooks true (world_of self.old) (world_of self.new)) }
+        ensures ends { IfOk result (λ finished. Ends C.outcome finished self.old self.new) }
+        ensures goes { GoesTaking C.outcome Call.WaitAny self.old self.new result }
+    {
+        self.pass(Call::WaitAny)?;
+        let gate = mem::replace(&mut self.gate, 0);
+        if self.jobs.len() < gate {
+            return self.refuse();
+        }
+        let (job, one) = self.jobs.next(self.order);
+        let Outcome { ok, writes } = outcome_of(self.alloc, &self.commands, &self.history, one)?;
+        self.history
+            .record(job, None, writes, Some(Event::Finish { job, ok }))?;
+        self.jobs.finish(job, ok);
+        Ok(Finished {
+            job,
+            ok,
+            output: Bytes::new(self.alloc),
+        })
+    }
+
     /// The program writes a file, or with no content deletes it.
     fn store(&mut self, path: &str, content: Option<Bytes>) -> Result<u64, AllocError>
         ensures stamp { IfOk result (λ stamp. stamp ≡ latest self.old.history + 1) }
@@ -302,6 +334,7 @@ impl<C: Commands> Texts for Sim<C> {
     fn read(&mut self, path: &str) -> Result<Option<Bytes>, SiteFault>
         ensures looks { OnlyLooks true (world_of self.old) (world_of self.new) }
         ensures cause { HasCause (world_of self.old) (world_of self.new) result }
+        ensures waits { KeepsWait (world_of self.old) (world_of self.new) }
         ensures content { IfOk result (λ content. SawContent path.now content self.old.history self.new.history) }
         ensures present { IfOk result (λ content. content ≡ view_of (world_of self.old).history path.now) }
         ensures goes { Goes C.outcome Call.Read self.old self.new result }
@@ -394,7 +427,7 @@ fn content_or_empty(alloc: Global, history: &History, path: &str) -> Result<Byte
 
 impl<C: Commands> Site for Sim<C> {
     ghost use Rattle.model.specs.World.{stamp_of};
-    ghost use Rattle.model.specs.Calls.{Sees, Ticks, TicksOrNot, Writes, WritesOrNot, SpoilsOrNot, Appends, AppendsOrNot, Starts, StartsOrNot, Finishes, IsRestart};
+    ghost use Rattle.model.specs.Calls.{NotesWait, Sees, Ticks, TicksOrNot, Writes, WritesOrNot, SpoilsOrNot, Appends, AppendsOrNot, Starts, StartsOrNot, Finishes, IsRestart};
     ghost use Rattle.sim.specs.World.{ticked, wrote};
 
     ghost outcome = { C.outcome };
@@ -403,6 +436,7 @@ impl<C: Commands> Site for Sim<C> {
     fn stat(&mut self, path: &str) -> Result<Option<u64>, SiteFault>
         ensures looks { OnlyLooks true (world_of self.old) (world_of self.new) }
         ensures cause { HasCause (world_of self.old) (world_of self.new) result }
+        ensures waits { KeepsWait (world_of self.old) (world_of self.new) }
         ensures stamp { IfOk result (λ stamp. SawStamp path.now stamp self.old.history self.new.history) }
         ensures present { IfOk result (λ stamp. stamp ≡ stamp_of (file_at (world_of self.old).history path.now)) }
         ensures goes { Goes C.outcome Call.Stat self.old self.new result }
@@ -413,6 +447,7 @@ impl<C: Commands> Site for Sim<C> {
 
     fn tick(&mut self, path: &str) -> Result<u64, SiteFault>
         ensures cause { HasCause (world_of self.old) (world_of self.new) result }
+        ensures waits { KeepsWait (world_of self.old) (world_of self.new) }
         ensures ticks { IfOk result (λ stamp. Ticks true path.now stamp (world_of self.old) (world_of self.new)) }
         ensures err { OnErr result (TicksOrNot true path.now (world_of self.old) (world_of self.new)) }
         ensures later { IfOk result (λ stamp. stamp ≡ latest (world_of self.old).history + 1) }
@@ -428,6 +463,7 @@ impl<C: Commands> Site for Sim<C> {
 
     fn append(&mut self, path: &str, bytes: &[u8]) -> Result<(), SiteFault>
         ensures cause { HasCause (world_of self.old) (world_of self.new) result }
+        ensures waits { KeepsWait (world_of self.old) (world_of self.new) }
         ensures appends { OnOk result (Appends true path.now bytes.now (world_of self.old) (world_of self.new)) }
         ensures err { OnErr result (AppendsOrNot true path.now bytes.now (world_of self.old) (world_of self.new)) }
         ensures adds { OnOk result (world_of self.new ≡ appended path.now bytes.now (world_of self.old)) }
@@ -446,6 +482,7 @@ impl<C: Commands> Site for Sim<C> {
 
     fn replace(&mut self, path: &str, content: &[u8]) -> Result<(), SiteFault>
         ensures cause { HasCause (world_of self.old) (world_of self.new) result }
+        ensures waits { KeepsWait (world_of self.old) (world_of self.new) }
         ensures writes { OnOk result (Writes true path.now (Some content.now) (world_of self.old) (world_of self.new)) }
         ensures err { OnErr result (WritesOrNot true path.now (Some content.now) (world_of self.old) (world_of self.new)) }
         ensures adds { OnOk result (HasWritten Writer.Program path.now (Some content.now) self.old self.new) }
@@ -459,6 +496,7 @@ impl<C: Commands> Site for Sim<C> {
 
     fn write(&mut self, path: &str, content: &[u8]) -> Result<(), SiteFault>
         ensures cause { HasCause (world_of self.old) (world_of self.new) result }
+        ensures waits { KeepsWait (world_of self.old) (world_of self.new) }
         ensures writes { OnOk result (Writes true path.now (Some content.now) (world_of self.old) (world_of self.new)) }
         ensures err { OnErr result (SpoilsOrNot true path.now (world_of self.old) (world_of self.new)) }
         ensures adds { OnOk result (HasWritten Writer.Program path.now (Some content.now) self.old self.new) }
@@ -472,6 +510,7 @@ impl<C: Commands> Site for Sim<C> {
 
     fn remove(&mut self, path: &str) -> Result<(), SiteFault>
         ensures cause { HasCause (world_of self.old) (world_of self.new) result }
+        ensures waits { KeepsWait (world_of self.old) (world_of self.new) }
         ensures writes { OnOk result (Writes true path.now None (world_of self.old) (world_of self.new)) }
         ensures err { OnErr result (WritesOrNot true path.now None (world_of self.old) (world_of self.new)) }
         ensures adds { OnOk result (HasWritten Writer.Program path.now None self.old self.new) }
@@ -485,6 +524,7 @@ impl<C: Commands> Site for Sim<C> {
     fn make_dirs(&mut self, _path: &str) -> Result<(), SiteFault>
         ensures looks { OnlyLooks true (world_of self.old) (world_of self.new) }
         ensures cause { HasCause (world_of self.old) (world_of self.new) result }
+        ensures waits { KeepsWait (world_of self.old) (world_of self.new) }
         ensures goes { Goes C.outcome Call.MakeDirs self.old self.new result }
     {
         self.pass(Call::MakeDirs)
@@ -493,6 +533,7 @@ impl<C: Commands> Site for Sim<C> {
     fn start(&mut self, job: usize, act: &Act, _console: bool) -> Result<(), SiteFault>
         requires { runs job (world_of self.old).events ≡ false }
         ensures cause { HasCause (world_of self.old) (world_of self.new) result }
+        ensures waits { KeepsWait (world_of self.old) (world_of self.new) }
         ensures starts { OnOk result (Starts true job act.now (world_of self.old) (world_of self.new)) }
         ensures err { OnErr result (StartsOrNot true job act.now (world_of self.old) (world_of self.new)) }
         ensures adds { OnOk result (self.new ≡ launched C.outcome job act.now (called Call.Start self.old)) }
@@ -511,31 +552,30 @@ impl<C: Commands> Site for Sim<C> {
     fn wait_any(&mut self) -> Result<Finished, SiteFault>
         requires { (job : ℕ) × (runs job (world_of self.old).events ≡ true) }
         ensures cause { HasCause (world_of self.old) (world_of self.new) result }
+        ensures waits { NotesWait (world_of self.old) (world_of self.new) result }
         ensures finishes { IfOk result (λ finished. Finishes true finished.job finished.ok (world_of self.old) (world_of self.new)) }
         ensures err { OnErr result (OnlyLooks true (world_of self.old) (world_of self.new)) }
         ensures ends { IfOk result (λ finished. Ends C.outcome finished self.old self.new) }
         ensures goes { GoesWait C.outcome Call.WaitAny self.old self.new result }
     {
-        self.pass(Call::WaitAny)?;
-        let gate = mem::replace(&mut self.gate, 0);
-        if self.jobs.len() < gate {
-            return self.refuse();
+        let stopped = self.jobs.stopped();
+        if stopped {
+            return Err(SiteFault::Stopped);
         }
-        let (job, one) = self.jobs.next(self.order);
-        let Outcome { ok, writes } = outcome_of(self.alloc, &self.commands, &self.history, one)?;
-        self.history
-            .record(job, None, writes, Some(Event::Finish { job, ok }))?;
-        self.jobs.finish(job, ok);
-        Ok(Finished {
-            job,
-            ok,
-            output: Bytes::new(self.alloc),
-        })
+        let failures = self.failures;
+        match self.take_next() {
+            Ok(finished) => Ok(finished),
+            Err(fault) => {
+                self.wait_refused = Some(failures);
+                Err(fault)
+            }
+        }
     }
 
     fn show(&mut self, text: &[u8]) -> Result<(), SiteFault>
         ensures looks { OnlyLooks true (world_of self.old) (world_of self.new) }
         ensures cause { HasCause (world_of self.old) (world_of self.new) result }
+        ensures waits { KeepsWait (world_of self.old) (world_of self.new) }
         ensures goes { Goes C.outcome Call.Show self.old self.new result }
         ensures shows { OnOk result (self.new.shown.items ≡ self.old.shown.items ++ text.now) }
     {
@@ -552,6 +592,7 @@ impl<C: Commands> Site for Sim<C> {
             self.halt();
         }
         self.jobs.restart();
+        self.wait_refused = None;
     }
 
     fn events(&self) -> &[Event] {

@@ -61,6 +61,11 @@ faults = record {
   ];
   stop_unsaid = λ tells B format all wanted old new answer stopped other build. other (build.faults.stopped stopped);
   still_running = λ tells B format all wanted old new answer job none running build. false≢true (sym (build.idle none job) ∙ running);
+  left_running = λ tells B format all wanted old new answer job going none running build. false≢true (sym (build.taken_in going none job) ∙ running);
+  hidden_by_memory = λ tells B format all wanted old new less none build. elim build.answers [
+    | inl same ↦ let eq = same in omega (arith, less, eq)
+    | inr noted ↦ none_some old.failures (sym none ∙ noted)
+  ];
 }
 
 -- ---- moves

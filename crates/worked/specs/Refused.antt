@@ -4,7 +4,7 @@ use Rattle.model.specs.declared.event.Event.TheVariants.{Start}
 use Rattle.model.specs.declared.event.Moment.{Moment}
 use Rattle.model.specs.declared.event.Moment.TheVariants.{Wrote, Happened}
 use Rattle.model.specs.declared.event.Writer.TheVariants.{Program}
-use Rattle.model.specs.declared.fault.SiteFault.TheVariants.{Stopped}
+use Rattle.model.specs.declared.fault.SiteFault.TheVariants.{Stopped, Memory}
 use Rattle.model.specs.declared.graph.Edge.{Edge}
 use Rattle.model.specs.declared.moves.Move.{Move}
 use Rattle.model.specs.declared.moves.Move.TheVariants.{Write, Build}
@@ -63,6 +63,12 @@ pub record RefusedFaults : Type 0 where
   -- a command runs after an answer that is no fault
   pub still_running : (tells : Bool) (B : Behaviour) (format : LogFormat) (own : OwnFiles) (wanted : Asked) (old new : World) (answer : Answer) (job : ℕ)
       → is_fault answer ≡ false → runs job new.events ≡ true → SingleBuild tells B format own wanted old new answer → ⊥
+  -- a command runs, whatever was answered, though no wait was refused and the site has not stopped
+  pub left_running : (tells : Bool) (B : Behaviour) (format : LogFormat) (own : OwnFiles) (wanted : Asked) (old new : World) (answer : Answer) (job : ℕ)
+      → new.stopped ≡ false → new.wait_refused ≡ None → runs job new.events ≡ true → SingleBuild tells B format own wanted old new answer → ⊥
+  -- want of memory is answered after a call was refused, though no wait was
+  pub hidden_by_memory : (tells : Bool) (B : Behaviour) (format : LogFormat) (own : OwnFiles) (wanted : Asked) (old new : World)
+      → old.failures < new.failures → new.wait_refused ≡ None → SingleBuild tells B format own wanted old new (Fault Memory) → ⊥
 
 -- ---- moves
 

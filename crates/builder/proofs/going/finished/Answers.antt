@@ -32,4 +32,4 @@ returns-in-Err-clause-stop g c entry so =
 
 pub returns-in-Err-clause-ended : goal.returns-in-Err-clause-ended
 returns-in-Err-clause-ended g c =
-    refused_cut g.S.Texts.tells c.args.setting.tick.now c.args.setting.graph.now c.args.state.now (g.S.Texts.world c.args.site.now) c.args.stop c.in-Refused.refusal c.in-Refused.is (g.S.Texts.world c.finish.new.site) c.finish.ensures.grows c.in-Err.cut c.fault.result c.fault.ensures c.in-Err.ensures.ran
+    refused_cut g.S.Texts.tells c.args.setting.tick.now c.args.setting.graph.now c.args.state.now (g.S.Texts.world c.args.site.now) c.args.stop c.in-Refused.refusal c.in-Refused.is (g.S.Texts.world c.finish.new.site) c.finish.ensures.grows c.in-Err.cut c.fault.result c.fault.ensures c.in-Err.ensures.left c.in-Err.ensures.ran

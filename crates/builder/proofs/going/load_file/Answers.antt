@@ -22,7 +22,7 @@ given_up-requires-clause-met g c =
 
 pub given_up-requires-clause-stop : goal.given_up-requires-clause-stop
 given_up-requires-clause-stop g c =
-    (g.S.Texts.world c.args.site.now, load_stop g.S.Texts.tells (g.S.Texts.world c.args.site.now) (g.S.Texts.world c.load.new.site) c.in-Err.stop c.load.ensures.looks c.load.ensures.earlier c.in-Err.ensures.refused c.in-Err.ensures.seen c.in-Err.ensures.stop)
+    (g.S.Texts.world c.args.site.now, load_stop g.S.Texts.tells (g.S.Texts.world c.args.site.now) (g.S.Texts.world c.load.new.site) c.in-Err.stop c.load.ensures.looks c.load.ensures.earlier c.in-Err.ensures.refused c.in-Err.ensures.met c.in-Err.ensures.stop)
 
 pub returns-in-Err-clause-same : goal.returns-in-Err-clause-same
 returns-in-Err-clause-same g c =
@@ -31,7 +31,7 @@ returns-in-Err-clause-same g c =
 pub returns-in-Err-clause-stop : goal.returns-in-Err-clause-stop
 returns-in-Err-clause-stop g c =
     c.given_up.ensures.stop (g.S.Texts.world c.args.site.now)
-    (load_stop g.S.Texts.tells (g.S.Texts.world c.args.site.now) (g.S.Texts.world c.load.new.site) c.in-Err.stop c.load.ensures.looks c.load.ensures.earlier c.in-Err.ensures.refused c.in-Err.ensures.seen c.in-Err.ensures.stop)
+    (load_stop g.S.Texts.tells (g.S.Texts.world c.args.site.now) (g.S.Texts.world c.load.new.site) c.in-Err.stop c.load.ensures.looks c.load.ensures.earlier c.in-Err.ensures.refused c.in-Err.ensures.met c.in-Err.ensures.stop)
 
 pub returns-in-Err-clause-halted : goal.returns-in-Err-clause-halted
 returns-in-Err-clause-halted g c =

@@ -40,4 +40,4 @@ returns-in_err-run_plan-in-None-clause-halted g c =
     let failed = err_from_is_err_and c.from_residual-in_err-run_plan-in-None.result c.from_residual-in_err-run_plan-in-None.ensures.1 in
     rw (failed.1, failed.2) (λ course edges phases begins.
     cut_from g.S.Texts.tells c.args.tick.now course edges phases c.args.graph.now c.args.cone.now c.ask_for_sources.new.state (g.S.Texts.world c.ask_for_sources.new.site) (c.in_ok-ask_for_sources-in-None.ensures.asked c.args.tick.now course edges phases begins) c.run_plan.new.state
-    (g.S.Texts.world c.run_plan.new.site) c.run_plan.ensures.grows c.in_err-run_plan-in-None.field-0.0 c.in_err-run_plan-in-None.ensures.ran)
+    (g.S.Texts.world c.run_plan.new.site) c.run_plan.ensures.grows c.in_err-run_plan-in-None.field-0.0 c.in_err-run_plan-in-None.ensures.left c.in_err-run_plan-in-None.ensures.ran)

@@ -1,11 +1,11 @@
-use Rattle.std.proofs.Common.{[], inl, inr, refl, sym, ◌∙◌, ap, subst}
+use Rattle.std.proofs.Common.{[], refl, sym, ◌∙◌, ap, subst}
 use Rattle.model.specs.Records.{file_in, tick_name}
 use Rattle.links.specs.Told.{declared_by}
 use Rattle.builder.specs.declared.report.Report.{Report}
 use Rattle.builder.specs.Build.{Builds, asked_of}
 use Rattle.builder.specs.Reports.{report_in, SaysNoCone}
 use Rattle.builder.proofs.Beginning.{begins_this, begins_here}
-use Rattle.builder.proofs.Builds.{any_own, builds_memory, builds_uncut}
+use Rattle.builder.proofs.Builds.{builds_memory, builds_uncut}
 use Rattle.builder.proofs.Endings.{builds_reported}
 use Rattle.builder.proofs.Looking.{course_of}
 use Rattle.builder.proofs.Stages.{told_by}
@@ -80,7 +80,7 @@ returns g c = (
       let is_tick = c.as_str-2.ensures.value ∙ (c.in_ok-tick.ensures ∙ ap (λ folder. file_in folder tick_name) c.as_str.ensures) in
       let state = c.in_ok-state.state in
       let fresh = c.in_ok-state.ensures.fresh in
-      builds_reported tells graph asked c.args.records course old has c.requires.inputs c.in_ok-cone.cone c.in_ok-cone.ensures.cone _ state c.run_state.new.graph c.run_state.new.cone (g.S.Texts.world c.run_state.new.site)
+      builds_reported tells graph asked c.args.records course old has c.requires.once c.requires.inputs c.in_ok-cone.cone c.in_ok-cone.ensures.cone _ state c.run_state.new.graph c.run_state.new.cone (g.S.Texts.world c.run_state.new.site)
       (report_in c.run_state.result) c.run_state.ensures
       (begins_this tells graph asked c.args.records course old has c.requires.formed c.requires.once c.requires.inputs c.in_ok-cone.cone c.in_ok-cone.ensures.cone state.plan fresh.plan state.looks
       fresh.looks state refl refl fresh.kept fresh.failed fresh.starts _ is_tick)

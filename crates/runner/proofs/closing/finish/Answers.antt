@@ -1,6 +1,6 @@
 use Rattle.model.specs.SingleBuild.{task_of}
 use Rattle.runner.proofs.Counting.{many_by_steps}
-use Rattle.runner.proofs.Cutting.{starts_cut}
+use Rattle.runner.proofs.Cutting.{starts_cut, met_by}
 use Rattle.runner.proofs.Ends.{ran_cut}
 use Rattle.runner.proofs.After.{after_then}
 use Rattle.runner.proofs.closing.finish.Goals as goal
@@ -23,3 +23,6 @@ returns-in-Err-clause-starts g c =
 
 pub returns-in-Err-clause-grows : goal.returns-in-Err-clause-grows
 returns-in-Err-clause-grows g c = after_then g.S.Texts.tells (g.S.Texts.world c.args.site.now) (g.S.Texts.world c.take_in_running.new.site) (g.S.Texts.world c.take_in_rest.new.site) c.take_in_running.ensures.grows c.take_in_rest.ensures.grows
+
+pub returns-in-Err-clause-seen : goal.returns-in-Err-clause-seen
+returns-in-Err-clause-seen g c = c.take_in_rest.ensures.seen (g.S.Texts.world c.args.site.now) (met_by (g.S.Texts.world c.args.site.now) (g.S.Texts.world c.take_in_running.new.site) c.in-Err.cut c.in-Err.ensures.cuts.cause)

@@ -1,4 +1,4 @@
-use Rattle.std.proofs.Common.{◌∙◌}
+use Rattle.std.proofs.Common.{Some, ◌∙◌, ap}
 use Rattle.build_theory.proofs.Calls.{unrefused_call, unrefused_then}
 use Rattle.log_theory.proofs.Ledger.{cut_looks, cut_finishes}
 use Rattle.runner.proofs.Counting.{some_of_many, many_less}
@@ -14,6 +14,9 @@ pub returns-in_err-wait_any-clause-runs : goal.returns-in_err-wait_any-clause-ru
 returns-in_err-wait_any-clause-runs g c = on_err c.from_residual.result
     (some_still g.S.Texts.tells (g.S.Texts.world c.rest.site) (g.S.Texts.world c.wait_any.new.self)
     (some_of_many c.rest.left (g.S.Texts.world c.rest.site).events c.rest.invariant.many c.rest-test.true) c.in_err-wait_any.ensures.err)
+
+pub returns-in_err-wait_any-clause-noted : goal.returns-in_err-wait_any-clause-noted
+returns-in_err-wait_any-clause-noted g c = on_err c.from_residual.result (c.in_err-wait_any.ensures.waits c.rest.invariant.unrefused.goes_on ∙ ap Some c.rest.invariant.unrefused.failures)
 
 pub returns-in_err-wait_any-clause-rest : goal.returns-in_err-wait_any-clause-rest
 returns-in_err-wait_any-clause-rest g c course steps met cut =

@@ -1,6 +1,6 @@
 use Rattle.model.specs.SingleBuild.{task_of}
 use Rattle.runner.proofs.Counting.{many_by_steps}
-use Rattle.runner.proofs.Cutting.{starts_cut}
+use Rattle.runner.proofs.Cutting.{starts_cut, met_by}
 use Rattle.runner.proofs.Ends.{ran_cut}
 use Rattle.runner.proofs.After.{after_then}
 use Rattle.std.proofs.Common.{sym, subst}
@@ -38,3 +38,6 @@ returns-in-Err-clause-grows g c = after_then g.S.Texts.tells (g.S.Texts.world c.
 
 pub returns-in-Ok-clause-looked : goal.returns-in-Ok-clause-looked
 returns-in-Ok-clause-looked g c = subst (λ (l : Looks). LooksUnlessMore g.S.Texts.tells c.args.setting.graph.now (g.S.Texts.world c.args.site.now) (g.S.Texts.world c.run.new.site) c.args.state.now.looks l) (sym {A = Looks} c.paused.ensures.looks) c.in-Ok.ensures.looked
+
+pub returns-in-Err-clause-seen : goal.returns-in-Err-clause-seen
+returns-in-Err-clause-seen g c = c.take_in_rest.ensures.seen (g.S.Texts.world c.args.site.now) (met_by (g.S.Texts.world c.args.site.now) (g.S.Texts.world c.run.new.site) c.in-Err.cut c.in-Err.ensures.cuts.cause)

@@ -92,8 +92,11 @@ returns-in-Err-clause-cuts g c =
     record {
       cause = cause_err (g.S.Texts.world c.args.site.now) (g.S.Texts.world c.wait_any.new.self) c.in-Err.fault c.in-Err.ensures.cause;
       starts = inl c.in-Err.ensures.err.at_start;
-      waits = some_still g.S.Texts.tells (g.S.Texts.world c.args.site.now) (g.S.Texts.world c.wait_any.new.self)
-          (some_runs g.S.Texts.tells going.course c.args.setting.graph.now None c.args.state.now (g.S.Texts.world c.args.site.now) going.on c.requires.waits.1.runs) c.in-Err.ensures.err;
+      waits = record {
+        some = some_still g.S.Texts.tells (g.S.Texts.world c.args.site.now) (g.S.Texts.world c.wait_any.new.self)
+            (some_runs g.S.Texts.tells going.course c.args.setting.graph.now None c.args.state.now (g.S.Texts.world c.args.site.now) going.on c.requires.waits.1.runs) c.in-Err.ensures.err;
+        noted = ((g.S.Texts.world c.args.site.now).failures, c.in-Err.ensures.waits c.requires.running);
+      };
     }
 
 pub returns-in-Err-clause-cut : goal.returns-in-Err-clause-cut

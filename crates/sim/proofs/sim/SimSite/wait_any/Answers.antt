@@ -1,15 +1,6 @@
-use Rattle.sim.specs.declared.faults.Call.TheVariants.{WaitAny}
 use Rattle.sim.specs.Sim.{given_by}
-use Rattle.sim.proofs.Calls.{ends_now}
-use Rattle.sim.proofs.Work.{ends_world, finishes_now}
+use Rattle.sim.proofs.Work.{finishes_now}
 use Rattle.sim.proofs.sim.SimSite.wait_any.Goals as goal
 
-pub returns-clause-ends : goal.returns-clause-ends
-returns-clause-ends g c =
-    ends_now g.C.Commands.outcome WaitAny c.pass.new.self c.args.self.now _ c.next-job.result.0 c.next-job.result.1.now c.in_ok-ok.field-0 c.new.result c.in_ok-pass.ensures.called c.next-job.ensures.next c.next-job.ensures.running c.next-job.ensures.act
-    c.in_ok-ok.ensures c.new.ensures
-    (ends_world c.next-job.result.0 c.in_ok-ok.field-0 c.pass.new.self.history c.record.new.self c.pass.new.self.jobs c.finish.new.self c.pass.new.self.ticked c.pass.new.self.failures c.pass.new.self.failures_at_start c.finish.ensures c.in_ok-record.ensures.ok)
-    c.in_ok-record.ensures.ok
-
-pub returns-clause-finishes : goal.returns-clause-finishes
-returns-clause-finishes g c = let ends = returns-clause-ends g c in finishes_now c.next-job.result.0 c.in_ok-ok.field-0.ok (given_by g.C.Commands.outcome ends.one c.args.self.now.history) _ _ ends.next.running ends.world
+pub returns-in-Ok-clause-finishes : goal.returns-in-Ok-clause-finishes
+returns-in-Ok-clause-finishes g c = let ends = c.in-Ok.ensures.ends in finishes_now c.in-Ok.finished.job c.in-Ok.finished.ok (given_by g.C.Commands.outcome ends.one c.args.self.now.history) _ _ ends.next.running ends.world

@@ -1,0 +1,25 @@
+-- What building promises of what was read.
+use Rattle.std.specs.Prelude.{Bool, List, Result}
+use Rattle.model.specs.declared.graph.BuildGraph.{BuildGraph}
+use Rattle.model.specs.declared.graph.Edge.{Edge}
+use Rattle.model.specs.World.{World}
+use Rattle.paths.specs.Told.{graph_of}
+use Rattle.links.specs.declared.graph.Graph.{Graph}
+use Rattle.links.specs.Told.{declared_by}
+use Rattle.builder.specs.declared.asked.Asked.{Asked}
+use Rattle.builder.specs.declared.reading.Reading.{Reading}
+use Rattle.builder.specs.declared.report.Report.{Report}
+use Rattle.builder.specs.Build.{BuildsFor}
+use Rattle.builder.specs.Reports.{report_in}
+
+-- what was asked for of this graph was built, with some edges at the end
+abbrev pub BuildsAsked : Bool → BuildGraph → Asked → World → World → Report → Type 0
+BuildsAsked tells graph asked old new report = (grown : List Edge) × BuildsFor tells graph asked grown old new report
+
+-- what was read was built: the graph of its very manifest, and what is asked of it
+abbrev pub BuildsReading : Bool → Reading → World → World → Report → Type 0
+BuildsReading tells reading old new report = BuildsAsked tells (graph_of reading.manifest) reading.asked old new report
+
+-- the same of a graph in numbers, where a stage that ends the build gives its report as an error
+abbrev pub BuildsGraph : Bool → Graph → Asked → World → World → Result Report Report → Type 0
+BuildsGraph tells graph asked old new result = BuildsAsked tells (declared_by graph) asked old new (report_in result)
