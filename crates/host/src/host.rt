@@ -2,7 +2,7 @@
 
 ghost use Rattle.std.specs.Prelude.{◌≡◌, ℕ, true, false, IfOk, OnOk, OnErr, IsErr, Ok};
 ghost use Rattle.model.specs.World.{runs};
-ghost use Rattle.model.specs.Calls.{HasCause, OnlyLooks};
+ghost use Rattle.model.specs.Calls.{HasCause, KeepsWait, NotesWait, OnlyLooks};
 ghost use Rattle.host.specs.World.{world_of, fresh};
 
 use crate::commands::{Opened, Printed, SHELL, open_output};
@@ -36,6 +36,8 @@ pub struct Host<'a, W> {
     failures: u64,
     /// How many calls had been refused when the last command was started.
     failures_at_start: u64,
+    /// How many calls had been refused before the last wait that was refused, since the last restart.
+    wait_refused: Option<u64>,
     /// Where texts are shown.
     screen: W,
     trouble: Option<Trouble>,
@@ -54,6 +56,7 @@ impl<'a, W: Write> Host<'a, W> {
             ticked: 0,
             failures: 0,
             failures_at_start: 0,
+            wait_refused: None,
             screen,
             trouble: None,
         }
@@ -62,6 +65,7 @@ impl<'a, W: Write> Host<'a, W> {
     /// The answer of a call about this path: what was done, or the fault, which is counted where the device refused.
     fn noted<T>(&mut self, path: &str, done: io::Result<T>) -> Result<T, SiteFault>
         ensures cause { HasCause (world_of self.old) (world_of self.new) result }
+        ensures waits { KeepsWait (world_of self.old) (world_of self.new) }
         ensures looks { OnlyLooks false (world_of self.old) (world_of self.new) }
         ensures ok { OnOk result (world_of self.new ≡ world_of self.old) }
         ensures done { IfOk result (λ value. done ≡ Ok value) }
@@ -80,10 +84,30 @@ impl<'a, W: Write> Host<'a, W> {
         }
     }
 
+    /// The answer of a wait. That it was refused is noted.
+    fn noted_wait<T>(&mut self, done: io::Result<T>) -> Result<T, SiteFault>
+        ensures cause { HasCause (world_of self.old) (world_of self.new) result }
+        ensures waits { NotesWait (world_of self.old) (world_of self.new) result }
+        ensures looks { OnlyLooks false (world_of self.old) (world_of self.new) }
+        ensures ok { OnOk result (world_of self.new ≡ world_of self.old) }
+        ensures done { IfOk result (λ value. done ≡ Ok value) }
+        ensures err { IsErr result → IsErr done }
+    {
+        let refused = self.failures;
+        match self.noted(SHELL, done) {
+            Ok(done) => Ok(done),
+            Err(fault) => {
+                self.wait_refused = Some(refused);
+                Err(fault)
+            }
+        }
+    }
+
     /// The file into which a command is to print, unless it has the program's own output: one that an earlier command left as good as
     /// new, or a new one.
     fn open_printed(&mut self, console: bool) -> Result<Option<Opened>, SiteFault>
         ensures cause { HasCause (world_of self.old) (world_of self.new) result }
+        ensures waits { KeepsWait (world_of self.old) (world_of self.new) }
         ensures looks { OnlyLooks false (world_of self.old) (world_of self.new) }
         ensures ok { OnOk result (world_of self.new ≡ world_of self.old) }
     {
@@ -211,7 +235,7 @@ impl<'a, W: Write> Site for Host<'a, W> {
     /// Which of several finished commands is taken in is open.
     fn wait_any(&mut self) -> Result<Finished, SiteFault> {
         let finished = self.jobs.wait_any(self.rt);
-        self.noted(SHELL, finished)
+        self.noted_wait(finished)
     }
 
     fn show(&mut self, text: &[u8]) -> Result<(), SiteFault> {
@@ -221,6 +245,7 @@ impl<'a, W: Write> Site for Host<'a, W> {
 
     fn restart(&mut self) {
         self.jobs.restart(self.rt);
+        self.wait_refused = None;
     }
 
     fn events(&self) -> &[Event] {
