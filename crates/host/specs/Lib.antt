@@ -1,3 +1,4 @@
+pub mod Clock
 pub mod Told
 pub mod Inside
 pub mod World

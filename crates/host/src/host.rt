@@ -1,10 +1,13 @@
 //! The site of real files and real commands.
 
-ghost use Rattle.std.specs.Prelude.{◌≡◌, ℕ, true, false, IfOk, OnOk, OnErr, IsErr, Ok};
-ghost use Rattle.model.specs.World.{runs};
-ghost use Rattle.model.specs.Calls.{HasCause, KeepsWait, NotesWait, OnlyLooks};
+ghost use Rattle.std.specs.Prelude.{◌≡◌, ◌≤◌, ℕ, [], true, false, None, IfOk, IfSome, OnOk, OnErr, IsErr, IsOk, IsTrue, Ok};
+ghost use Rattle.model.specs.World.{file_at, runs, stamp_of};
+ghost use Rattle.model.specs.Calls.{HasCause, KeepsWait, NotesWait, OnlyLooks, Sees, Ticks, TicksOrNot};
+ghost use Rattle.host.specs.Clock.{IsStart};
 ghost use Rattle.host.specs.World.{world_of, fresh};
+ghost use Rattle.host.specs.declared.clock.Touches.{Touches};
 
+use crate::clock::Clock;
 use crate::commands::{Opened, Printed, SHELL, open_output};
 use crate::disk::Disk;
 use crate::jobs::Jobs;
@@ -12,9 +15,13 @@ use crate::trouble::Trouble;
 use model::{Act, Event, Finished, SiteFault};
 use site::{Site, Texts};
 use std::alloc::{AllocError, Global};
-use std::io;
 use std::io::{ErrorKind, Write};
+use std::{fmt, io};
 use text::Bytes;
+
+/// What is told where the clock did not go on.
+const STANDS: &str =
+    "the clock of the file system stands still: an edit of this moment may be missed by the next build";
 
 /// What is shown goes there, in messages.
 const OUTPUT: &str = "standard output";
@@ -31,6 +38,8 @@ pub struct Host<'a, W> {
     alloc: Global,
     disk: Disk<'a>,
     jobs: Jobs,
+    /// What the stamps that it told say of the clock.
+    clock: Clock,
     /// What the last tick gave.
     ticked: u64,
     failures: u64,
@@ -53,6 +62,7 @@ impl<'a, W: Write> Host<'a, W> {
             alloc,
             disk: Disk::new(alloc, rt),
             jobs: Jobs::new(alloc),
+            clock: Clock::new(),
             ticked: 0,
             failures: 0,
             failures_at_start: 0,
@@ -70,6 +80,7 @@ impl<'a, W: Write> Host<'a, W> {
         ensures ok { OnOk result (world_of self.new ≡ world_of self.old) }
         ensures done { IfOk result (λ value. done ≡ Ok value) }
         ensures err { IsErr result → IsErr done }
+        ensures clock { self.new.clock ≡ self.old.clock }
     {
         match done {
             Ok(done) => Ok(done),
@@ -138,6 +149,27 @@ impl<'a, W: Write> Host<'a, W> {
     }
 }
 
+impl<'a, W: Write> Host<'a, W> {
+    /// Waits until what is written from now on has a later stamp than each start, so that the next build sees it. To be called at the
+    /// end of a build. It mostly has nothing to wait for: only where the clock of the file system goes by steps, and a command was started
+    /// in a step of which a stamp had been told, as that of an input that was written right before. Then it takes as long as a step. It
+    /// gives up after three seconds, and where the file of the last tick cannot be touched.
+    pub fn wait_for_clock(&mut self) -> Result<(), StandingClock>
+        ensures same { world_of self.new ≡ world_of self.old }
+        ensures passed { OnOk result (self.new.clock.unpassed ≡ None) }
+        ensures at_once { self.old.clock.unpassed ≡ None → IsOk result }
+    {
+        let Some(start) = self.clock.unpassed() else {
+            return Ok(());
+        };
+        if !self.disk.wait_past(start) {
+            return Err(StandingClock);
+        }
+        self.clock.pass();
+        Ok(())
+    }
+}
+
 impl<'a, W: Drop> Host<'a, W> {
     /// Removes the files into which commands printed, and answers what the device refused last, if it refused something and there was
     /// memory for its path.
@@ -150,6 +182,16 @@ impl<'a, W: Drop> Host<'a, W> {
         } = self;
         jobs.remove_unused(rt);
         trouble
+    }
+}
+
+/// The clock of the file system did not go on: what is written now may have the stamp of a start. It prints what a user has to know.
+#[derive(Clone, Copy, Debug)]
+pub struct StandingClock;
+
+impl fmt::Display for StandingClock {
+    fn fmt<W: fmt::Write>(&self, f: &mut fmt::Formatter<W>) -> fmt::Result {
+        f.write_str(STANDS)
     }
 }
 
@@ -185,15 +227,33 @@ impl<'a, W: Write> Site for Host<'a, W> {
 
     ghost outcome = { any_outcome };
 
-    fn stat(&mut self, path: &str) -> Result<Option<u64>, SiteFault> {
+    fn stat(&mut self, path: &str) -> Result<Option<u64>, SiteFault>
+        ensures looks { OnlyLooks false (world_of self.old) (world_of self.new) }
+        ensures cause { HasCause (world_of self.old) (world_of self.new) result }
+        ensures waits { KeepsWait (world_of self.old) (world_of self.new) }
+        ensures stamp { IsTrue false → IfOk result (λ stamp. Sees (λ history. stamp_of (file_at history path.now)) stamp [] []) }
+        ensures told { IfOk result (λ stamp. IfSome stamp (λ stamp. stamp ≤ self.new.clock.told)) }
+    {
         let found = self.disk.stamp(path);
-        self.noted(path, found)
+        let stamp = self.noted(path, found)?;
+        if let Some(stamp) = stamp {
+            self.clock.tell(stamp);
+        }
+        Ok(stamp)
     }
 
-    /// The file holds a byte afterwards that the program writes, whatever it held.
-    fn tick(&mut self, path: &str) -> Result<u64, SiteFault> {
+    /// The file is made anew at the first tick, whatever it held. How the stamp lies between what is written before and after:
+    /// `IsStart`, and `wait_for_clock`.
+    fn tick(&mut self, path: &str) -> Result<u64, SiteFault>
+        ensures cause { HasCause (world_of self.old) (world_of self.new) result }
+        ensures waits { KeepsWait (world_of self.old) (world_of self.new) }
+        ensures ticks { IfOk result (λ stamp. Ticks false path.now stamp (world_of self.old) (world_of self.new)) }
+        ensures err { OnErr result (TicksOrNot false path.now (world_of self.old) (world_of self.new)) }
+        ensures start { IfOk result (λ stamp. (touches : Touches) × IsStart self.old.clock touches stamp self.new.clock) }
+    {
         let touched = self.disk.tick(path);
-        let stamp = self.noted(path, touched)?;
+        let touches = self.noted(path, touched)?;
+        let stamp = self.clock.start(touches);
         self.ticked = stamp;
         Ok(stamp)
     }
