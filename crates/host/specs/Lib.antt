@@ -1,4 +1,5 @@
 pub mod Clock
 pub mod Told
 pub mod Inside
+pub mod Process
 pub mod World

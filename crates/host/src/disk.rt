@@ -1,5 +1,8 @@
 //! Real files, as a site needs them.
 
+ghost use Rattle.std.specs.Prelude.{◌≡◌, true, false};
+ghost use Rattle.std.specs.Fs.{asks_append, asks_truncate};
+
 use crate::clock::Touches;
 use std::alloc::{AllocError, Global};
 use std::fs::{File, Metadata, OpenOptions};
@@ -245,8 +248,11 @@ fn writing() -> OpenOptions {
     how
 }
 
-/// How a file is opened that is appended to.
-fn appending() -> OpenOptions {
+/// How a file is opened that is appended to: what it holds stays.
+fn appending() -> OpenOptions
+    ensures append { asks_append result ≡ true }
+    ensures kept { asks_truncate result ≡ false }
+{
     let mut how = OpenOptions::new();
     how.append(true).create(true);
     how
