@@ -1,5 +1,5 @@
 -- What a command that runs is, as contracts see it.
-use Rattle.std.specs.Prelude.{◌≡◌, ℕ, ◌<◌, ◌↔◌, Bool, List, map, length, pos, Some, IfSome, IsSome, IsTrue, slice_index_or}
+use Rattle.std.specs.Prelude.{◌≡◌, ℕ, ◌<◌, ◌↔◌, List, map, length, pos, Some, IfSome, IsSome, IsTrue, slice_index_or}
 use Rattle.std.specs.Process.{child_status, exit_code}
 use Rattle.host.specs.declared.commands.Running.{Running}
 use Rattle.host.specs.declared.commands.End.{End}

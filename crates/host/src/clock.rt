@@ -1,7 +1,7 @@
 //! What the stamps of files tell of the clock, and which stamp a start gets.
 
-ghost use Rattle.std.specs.Prelude.{◌≡◌, None, max};
-ghost use Rattle.host.specs.Clock.{IsStart};
+ghost use Rattle.std.specs.Prelude.{◌≡◌, None};
+ghost use Rattle.host.specs.Clock.{IsStart, told_of};
 
 /// The stamps of two touches of one file, one right after the other.
 #[derive(Clone, Copy)]
@@ -33,13 +33,12 @@ impl Clock {
 
     /// A stamp is told.
     pub fn tell(&mut self, stamp: u64)
-        ensures told { self.new.told ≡ max self.old.told stamp }
-        ensures unpassed { self.new.unpassed ≡ self.old.unpassed }
+        ensures { self.new ≡ told_of self.old stamp }
     {
         self.told = self.told.max(stamp);
     }
 
-    /// The stamp of a start behind these touches, which is told by that.
+    /// The stamp of a start after these touches, which is told by that.
     ///
     /// Where the touches got two stamps, it is the first: what is written after the second touch has a later one. Where they did not,
     /// the clock goes by steps, and what is written later in this step may get the same stamp. If what was told lies before it, the start
@@ -69,10 +68,9 @@ impl Clock {
         self.unpassed
     }
 
-    /// What is written from now on has a later stamp than each start.
+    /// It is known that what is written from now on has a later stamp than each start.
     pub fn pass(&mut self)
-        ensures told { self.new.told ≡ self.old.told }
-        ensures unpassed { self.new.unpassed ≡ None }
+        ensures { self.new ≡ record self.old { unpassed = None } }
     {
         self.unpassed = None;
     }

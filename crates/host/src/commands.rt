@@ -59,7 +59,8 @@ pub fn open_output(rt: &HostRuntime, path: &str) -> io::Result<(File, bool)> {
     Ok((output, is_locked))
 }
 
-/// Starts a command for a job. It has an empty input and prints into the file; without one it has the program's own input and output.
+/// Starts a command for a job. It has an empty input and prints into the file; without one it has the program's own input and
+/// output.
 pub fn start(
     alloc: Global,
     rt: &HostRuntime,

@@ -26,7 +26,7 @@ const PIECE: usize = 1 << 10;
 
 const NANOS: u64 = 1_000_000_000;
 
-/// How long a rest is between two touches of a file whose clock stands, in milliseconds.
+/// How long a rest is between two touches of a file whose clock does not go on, in milliseconds.
 const REST: u64 = 4;
 
 /// So many rests are at most three seconds.
@@ -39,7 +39,7 @@ pub struct Disk<'a> {
     alloc: Global,
     /// The file of the last tick.
     tick: Option<Kept>,
-    /// Files that were appended to, the last one opened behind.
+    /// Files that were appended to, the last one opened at the end.
     appended: Vec<Kept>,
     /// How many files for what commands print got a path.
     outputs: u64,
@@ -118,7 +118,7 @@ impl<'a> Disk<'a> {
     /// holds one byte, or the same bytes but for the first. At the first tick it is made anew.
     ///
     /// A file is touched by a write to it, since a time that is set is not in line with those of writes. One touch often has
-    /// the time of the write before it or behind it; so there are two.
+    /// the time of the write before it or after it; so there are two.
     pub fn tick(&mut self, path: &str) -> io::Result<Touches> {
         let kept = match self.tick.take() {
             Some(kept) if kept.path.as_str() == path => kept,
@@ -134,7 +134,7 @@ impl<'a> Disk<'a> {
     }
 
     /// Touches the file of the last tick, with rests, until it gets a later stamp than this, and answers whether it came to that:
-    /// not, where the clock stands for three seconds, or where the file cannot be touched.
+    /// not, where the clock does not go on for three seconds, or where the file cannot be touched.
     pub fn wait_past(&self, stamp: u64) -> bool {
         let Some(kept) = &self.tick else {
             return false;
@@ -221,7 +221,7 @@ impl<'a> Disk<'a> {
     }
 
     /// A new and empty file at the path. What stood there is removed and not written to, since it may be a link to a file of
-    /// somebody else; where there is something again right behind that, it is refused.
+    /// somebody else; where there is something again right after that, it is refused.
     fn new_file(&mut self, path: &str, how: &mut OpenOptions) -> io::Result<File> {
         self.remove(path)?;
         how.create_new(true).open(self.rt, path)

@@ -2,8 +2,8 @@
 
 ghost use Rattle.std.specs.Prelude.{◌≡◌, ◌≤◌, ℕ, [], true, false, None, IfOk, IfSome, OnOk, OnErr, IsErr, IsOk, IsTrue, Ok};
 ghost use Rattle.model.specs.World.{file_at, runs, stamp_of};
-ghost use Rattle.model.specs.Calls.{HasCause, KeepsWait, NotesWait, OnlyLooks, Sees, Ticks, TicksOrNot};
-ghost use Rattle.host.specs.Clock.{IsStart};
+ghost use Rattle.model.specs.Calls.{HasCause, KeepsWait, NotesWait, OnlyLooks, Sees, Starts, StartsOrNot, Ticks, TicksOrNot};
+ghost use Rattle.host.specs.Clock.{IsStart, clock_after};
 ghost use Rattle.host.specs.World.{world_of, fresh};
 ghost use Rattle.host.specs.declared.clock.Touches.{Touches};
 
@@ -31,7 +31,8 @@ const OUTPUT: &str = "standard output";
 /// and errors alike, goes to a file of its own, `.nj_out.` and the job's number, beside the file of the last tick. Its input
 /// is empty. It never stops.
 ///
-/// What contracts tell of it: its starts and finishes, and the calls that the device refused. Of files they tell nothing.
+/// What contracts tell of it: its starts and finishes, the calls that the device refused, and the last wait among them. Of files they
+/// tell nothing.
 #[derive(Drop)]
 pub struct Host<'a, W> {
     rt: &'a HostRuntime,
@@ -153,10 +154,12 @@ impl<'a, W: Write> Host<'a, W> {
     /// Waits until what is written from now on has a later stamp than each start, so that the next build sees it. To be called at the
     /// end of a build. It mostly has nothing to wait for: only where the clock of the file system goes by steps, and a command was started
     /// in a step of which a stamp had been told, as that of an input that was written right before. Then it takes as long as a step. It
-    /// gives up after three seconds, and where the file of the last tick cannot be touched.
+    /// gives up after three seconds, and where the file of the last tick cannot be touched. No clause says that it waits: of a disk they
+    /// tell nothing.
     pub fn wait_for_clock(&mut self) -> Result<(), StandingClock>
         ensures same { world_of self.new ≡ world_of self.old }
-        ensures passed { OnOk result (self.new.clock.unpassed ≡ None) }
+        ensures passed { OnOk result (self.new.clock ≡ record self.old.clock { unpassed = None }) }
+        ensures kept { OnErr result (self.new.clock ≡ self.old.clock) }
         ensures at_once { self.old.clock.unpassed ≡ None → IsOk result }
     {
         let Some(start) = self.clock.unpassed() else {
@@ -236,8 +239,8 @@ impl<'a, W: Write> Site for Host<'a, W> {
         ensures looks { OnlyLooks false (world_of self.old) (world_of self.new) }
         ensures cause { HasCause (world_of self.old) (world_of self.new) result }
         ensures waits { KeepsWait (world_of self.old) (world_of self.new) }
-        ensures stamp { IsTrue false → IfOk result (λ stamp. Sees (λ history. stamp_of (file_at history path.now)) stamp [] []) }
-        ensures told { IfOk result (λ stamp. IfSome stamp (λ stamp. stamp ≤ self.new.clock.told)) }
+        ensures stamp { IsTrue false → IfOk result (λ stamp. Sees (λ ms. stamp_of (file_at ms path.now)) stamp [] []) }
+        ensures clock { self.new.clock ≡ clock_after self.old.clock result }
     {
         let found = self.disk.stamp(path);
         let stamp = self.noted(path, found)?;
@@ -255,6 +258,7 @@ impl<'a, W: Write> Site for Host<'a, W> {
         ensures ticks { IfOk result (λ stamp. Ticks false path.now stamp (world_of self.old) (world_of self.new)) }
         ensures err { OnErr result (TicksOrNot false path.now (world_of self.old) (world_of self.new)) }
         ensures start { IfOk result (λ stamp. (touches : Touches) × IsStart self.old.clock touches stamp self.new.clock) }
+        ensures kept { OnErr result (self.new.clock ≡ self.old.clock) }
     {
         let touched = self.disk.tick(path);
         let touches = self.noted(path, touched)?;
@@ -289,7 +293,14 @@ impl<'a, W: Write> Site for Host<'a, W> {
     }
 
     /// Where it fails, the command was not started.
-    fn start(&mut self, job: usize, act: &Act, console: bool) -> Result<(), SiteFault> {
+    fn start(&mut self, job: usize, act: &Act, console: bool) -> Result<(), SiteFault>
+        requires { runs job (world_of self.old).events ≡ false }
+        ensures cause { HasCause (world_of self.old) (world_of self.new) result }
+        ensures waits { KeepsWait (world_of self.old) (world_of self.new) }
+        ensures starts { OnOk result (Starts false job act.now (world_of self.old) (world_of self.new)) }
+        ensures err { OnErr result (StartsOrNot false job act.now (world_of self.old) (world_of self.new)) }
+        ensures unstarted { OnErr result (OnlyLooks false (world_of self.old) (world_of self.new)) }
+    {
         let opened = self.open_printed(console)?;
         let started = self.jobs.start(self.rt, job, act, self.ticked, opened);
         self.noted(SHELL, started)?;

@@ -1,4 +1,4 @@
-use Rattle.std.proofs.Common.{arith, ◌≡◌, ◌+◌, ◌∙◌, sym, ap, cond, ℕ, ◌==◌, length, drop, true}
+use Rattle.std.proofs.Common.{arith, ◌≡◌, ◌+◌, ◌∙◌, sym, ap, cond, ℕ, ◌==◌, drop, true}
 use Rattle.model.specs.World.{runs}
 use Rattle.host.specs.Inside.{times}
 use Rattle.host.specs.Process.{jobs_of}
