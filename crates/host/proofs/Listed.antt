@@ -1,15 +1,18 @@
 -- Which jobs are listed as running.
-use Rattle.std.proofs.Common.{◌≡◌, ℕ, ◌+◌, ◌≤◌, ◌<◌, ◌==◌, Bool, true, false, List, [], ◌∷◌, ◌++◌, length, take, drop, suc, refl, sym, ◌∙◌, ap, cond, arith, length-append}
-use Rattle.std.specs.Prelude.{slice_index_or}
-use Rattle.std.specs.List.{remove}
-use Rattle.std.proofs.Math.Seq.{split_at}
+use Rattle.std.proofs.Common.{◌≡◌, ℕ, ◌+◌, ◌≤◌, ◌<◌, ◌==◌, Bool, true, false, List, [], ◌∷◌, ◌++◌, length, take, drop, refl, sym, ◌∙◌, ap, cond, arith, length-append}
+use Rattle.std.specs.Prelude.{slice_index_or, slice_set}
+use Rattle.std.specs.List.{sum_by, swap_remove}
+use Rattle.std.proofs.Math.Seq.{map-set_same}
 use Rattle.std.proofs.lemmas.Bool.{eqb-true, eq-eqb}
-use Rattle.std.proofs.lemmas.List.{drop-append-le, take-append-le}
+use Rattle.std.proofs.lemmas.List.{drop-append-le, length-map, map-append, take-append-le}
+use Rattle.std.proofs.lemmas.List.Sums.{sum_by-cons, sum_by-swap_remove}
 use Rattle.model.specs.declared.act.Act.{Act}
 use Rattle.model.specs.declared.event.Event.{Event}
 use Rattle.model.specs.declared.event.Event.TheVariants.{Start, Finish}
 use Rattle.model.specs.World.{runs, runs_from, runs_after}
 use Rattle.host.specs.Inside.{times}
+use Rattle.host.specs.Process.{jobs_of}
+use Rattle.host.specs.declared.commands.Running.{Running}
 
 -- ---- the last event decides whether a job runs
 
@@ -26,13 +29,38 @@ times_append : (job : ℕ) (jobs more : List ℕ) → times job (jobs ++ more) �
 times_append job [] more = omega arith
 times_append job (other ∷ jobs) more = let rest = times_append job jobs more in omega (arith, rest)
 
--- one listed job was taken out
-times_removed : (job place default : ℕ) (jobs : List ℕ) → place < length jobs → times job (remove jobs place) + cond (slice_index_or jobs place default == job) 1 0 ≡ times job jobs
-times_removed job place default jobs within =
-    let whole = ap (times job) (split_at jobs place default within) in
-    let parts = times_append job (take place jobs) (slice_index_or jobs place default ∷ drop (suc place) jobs) in
-    let rest = times_append job (take place jobs) (drop (suc place) jobs) in
-    omega (arith, whole, parts, rest)
+times_by : (job : ℕ) (commands : List Running) → times job (jobs_of commands) ≡ sum_by (λ command. count (command.job == job)) commands
+times_by job [] = refl
+times_by job (command ∷ commands) = let rest = times_by job commands in let whole = sum_by-cons (λ (c : Running). count (c.job == job)) command commands in omega (arith, rest, whole)
+
+-- a command was taken out, of some that are of the same jobs as those before
+pub taken : (job other place : ℕ) (command : Running) (before commands left : List Running) → place < length commands → command ≡ slice_index_or commands place command → left ≡ swap_remove commands place command
+    → jobs_of commands ≡ jobs_of before → job ≡ command.job → times other (jobs_of left) + count (job == other) ≡ times other (jobs_of before)
+taken job other place command before commands left within is leaves same own =
+    let whole = times_by other commands in
+    let rest = times_by other (swap_remove commands place command) in
+    let sums = sum_by-swap_remove (λ (c : Running). count (c.job == other)) commands place command within in
+    let here = ap (λ (c : Running). count (c.job == other)) is in
+    let named = ap (λ (j : ℕ). count (j == other)) own in
+    let left_over = ap (λ (cs : List Running). times other (jobs_of cs)) leaves in
+    let as_before = ap (times other) same in
+    omega (arith, whole, rest, sums, here, named, left_over, as_before)
+
+-- a command was added
+pub added : (job : ℕ) (command : Running) (commands new : List Running) → new ≡ commands ++ command ∷ [] → command.job ≡ job → jobs_of new ≡ jobs_of commands ++ job ∷ []
+added job command commands new is own = ap jobs_of is ∙ map-append (λ (c : Running). c.job) commands (command ∷ []) ∙ ap (λ (j : ℕ). jobs_of commands ++ j ∷ []) own
+
+-- one command was asked, and is of the same job still
+pub asked : (place : ℕ) (command was : Running) (commands : List Running) → command.job ≡ was.job → was ≡ slice_index_or commands place was → jobs_of (slice_set commands place command) ≡ jobs_of commands
+asked place command was commands same is = map-set_same (λ (c : Running). c.job) commands place command was (same ∙ ap (λ (c : Running). c.job) is)
+
+-- as many commands as before
+pub as_many : (before commands : List Running) → jobs_of commands ≡ jobs_of before → length commands ≡ length before
+as_many before commands same =
+    let here = length-map commands (λ (c : Running). c.job) in
+    let there = length-map before (λ (c : Running). c.job) in
+    let long = ap length same in
+    omega (arith, here, there, long)
 
 -- ---- one start, one end
 
@@ -47,27 +75,24 @@ listed_start job stamp act jobs after events new is grows idle listed other =
         omega (arith, none)
     by_test false e = let same = listed other in omega (arith, same)
 
-pub listed_finish : (job place default : ℕ) (ok : Bool) (jobs after : List ℕ) (events new : List Event) → place < length jobs → job ≡ slice_index_or jobs place default → after ≡ remove jobs place → new ≡ events ++ Finish job ok ∷ []
+pub listed_finish : (job : ℕ) (ok : Bool) (jobs after : List ℕ) (events new : List Event) → ((other : ℕ) → times other after + count (job == other) ≡ times other jobs) → new ≡ events ++ Finish job ok ∷ []
     → ((other : ℕ) → times other jobs ≡ count (runs other events)) → (other : ℕ) → times other after ≡ count (runs other new)
-listed_finish job place default ok jobs after events new within taken is grows listed other =
-    ap (times other) is ∙ by_tests (job == other) (runs other events) (ap (λ (j : ℕ). j == other) taken) (listed other) ∙ sym (ap count (ap (runs other) grows ∙ runs_push other false events (Finish job ok)))
+listed_finish job ok jobs after events new gone grows listed other =
+    by_tests (job == other) (runs other events) (gone other) (listed other) ∙ sym (ap count (ap (runs other) grows ∙ runs_push other false events (Finish job ok)))
   where
-    by_tests : (b ran : Bool) → b ≡ (slice_index_or jobs place default == other) → times other jobs ≡ cond ran 1 0 → times other (remove jobs place) ≡ cond (cond b false ran) 1 0
-    by_tests true true e was = let gone = times_removed other place default jobs within in let here = ap count e in omega (arith, gone, here, was)
-    by_tests true false e was = let gone = times_removed other place default jobs within in let here = ap count e in omega (arith, gone, here, was)
-    by_tests false ran e was = let gone = times_removed other place default jobs within in let here = ap count e in omega (arith, gone, here, was)
+    by_tests : (b ran : Bool) → times other after + count b ≡ times other jobs → times other jobs ≡ count ran → times other after ≡ count (cond b false ran)
+    by_tests true true less was = omega (arith, less, was)
+    by_tests true false less was = omega (arith, less, was)
+    by_tests false ran less was = omega (arith, less, was)
 
--- a listed job runs
-pub listed_runs : (job place default : ℕ) (jobs : List ℕ) (events : List Event) → place < length jobs → job ≡ slice_index_or jobs place default → times job jobs ≡ count (runs job events) → runs job events ≡ true
-listed_runs job place default jobs events within taken listed =
+-- a job whose command is taken out runs
+pub listed_runs : (job : ℕ) (jobs after : List ℕ) (events : List Event) → times job after + count (job == job) ≡ times job jobs → times job jobs ≡ count (runs job events) → runs job events ≡ true
+listed_runs job jobs after events gone listed =
     by_test (runs job events) listed
   where
-    by_test : (ran : Bool) → times job jobs ≡ cond ran 1 0 → ran ≡ true
+    by_test : (ran : Bool) → times job jobs ≡ count ran → ran ≡ true
     by_test true was = refl
-    by_test false was =
-        let gone = times_removed job place default jobs within in
-        let here = ap (λ (j : ℕ). count (j == job)) (sym taken) ∙ ap count (eq-eqb job job refl) in
-        let never : ⊥ = omega (arith, gone, here, was) in absurd never
+    by_test false was = let here = ap count (eq-eqb job job refl) in let never : ⊥ = omega (arith, gone, here, was) in absurd never
 
 -- ---- events since the last restart
 

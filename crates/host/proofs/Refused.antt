@@ -29,3 +29,8 @@ at_err (Err fault) so = so
 -- a call only looks where what was done before it changed nothing
 pub looks_from : (tells : Bool) (old mid new : World) → mid ≡ old → OnlyLooks tells mid new → OnlyLooks tells old new
 looks_from tells old mid new same looks = subst (λ (world : World). OnlyLooks tells world new) same looks
+
+-- a call only looks where what was refused before it changed nothing, and it was refused for that
+pub looks_at_refusal : {T S E F : Type 0} (tells : Bool) (old mid new : World) (result : Result T E) (done : Result S F) (fault : E) → result ≡ Err fault → (IsErr result → IsErr done) → OnErr done (mid ≡ old)
+    → OnlyLooks tells mid new → OnlyLooks tells old new
+looks_at_refusal tells old mid new result done fault is below same looks = refused_with (OnlyLooks tells old new) result done fault is below (on_err done (λ s. looks_from tells old mid new s looks) same)

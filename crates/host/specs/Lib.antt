@@ -1,3 +1,5 @@
+pub mod Clock
 pub mod Told
 pub mod Inside
+pub mod Process
 pub mod World

@@ -1,8 +1,12 @@
 //! Real commands: starting one, and what it prints.
 
+ghost use Rattle.std.specs.Prelude.{◌≡◌, IfOk, OnOk, IsTrue};
+ghost use Rattle.host.specs.Process.{HasEnded, IsEndOf};
+
 use std::alloc::Global;
 use std::fs::{File, OpenOptions};
 use std::io::{Read, Seek, SeekFrom};
+use std::os::unix::process::ExitStatusExt;
 use std::process::{Child, Command, Stdio};
 use std::{fs, io};
 use text::Bytes;
@@ -13,9 +17,20 @@ pub const SHELL: &str = "/bin/sh";
 /// A command that runs.
 #[derive(Drop)]
 pub struct Running {
+    /// The job that it was started for.
+    pub job: usize,
     child: Child,
     /// What it prints; none where it has the program's own output.
     printed: Option<Printed>,
+}
+
+/// How a command ended.
+#[derive(Clone, Copy)]
+pub struct End {
+    pub job: usize,
+    pub ok: bool,
+    /// The signal that ended it, where one did.
+    pub signal: Option<i32>,
 }
 
 /// A file into which commands print, one after another, each both its output and its errors.
@@ -44,18 +59,23 @@ pub fn open_output(rt: &HostRuntime, path: &str) -> io::Result<(File, bool)> {
     Ok((output, is_locked))
 }
 
-/// Starts a command. It has an empty input and prints into the file; without one it has the program's own input and output.
+/// Starts a command for a job. It has an empty input and prints into the file; without one it has the program's own input and
+/// output.
 pub fn start(
     alloc: Global,
     rt: &HostRuntime,
+    job: usize,
     command: &str,
     opened: Option<Opened>,
-) -> io::Result<Running> {
+) -> io::Result<Running>
+    ensures { IfOk result (λ running. running.job ≡ job) }
+{
     let mut shell = Command::new(alloc, SHELL)?;
     shell.arg("-c")?.arg(command)?;
     let Some(Opened { printed, output }) = opened else {
         let child = shell.spawn(rt)?;
         return Ok(Running {
+            job,
             child,
             printed: None,
         });
@@ -64,26 +84,54 @@ pub fn start(
     shell.stdin(Stdio::null()).stdout(output).stderr(errors);
     let child = shell.spawn(rt)?;
     Ok(Running {
+        job,
         child,
         printed: Some(printed),
     })
 }
 
 impl Running {
-    /// Whether it ended well, once it has ended.
-    pub fn ended(&mut self) -> io::Result<Option<bool>> {
+    /// Whether it has ended.
+    pub fn has_ended(&mut self) -> io::Result<bool>
+        ensures job { self.new.job ≡ self.old.job }
+        ensures ended { IfOk result (λ ended. IsTrue ended → HasEnded self.new) }
+    {
         let status = self.child.try_wait()?;
-        Ok(status.map(|status| status.success()))
+        Ok(status.is_some())
     }
 
-    /// Waits until it has ended, and answers whether it ended well.
-    pub fn wait(&mut self) -> io::Result<bool> {
-        Ok(self.child.wait()?.success())
+    /// Waits until it has ended.
+    pub fn wait(&mut self) -> io::Result<()>
+        ensures job { self.new.job ≡ self.old.job }
+        ensures ended { OnOk result (HasEnded self.new) }
+    {
+        self.child.wait()?;
+        Ok(())
+    }
+
+    /// How it ended.
+    pub fn end(&mut self) -> End
+        requires { HasEnded self.old }
+        ensures { IsEndOf self.old result }
+    {
+        let job = self.job;
+        match self.child.try_wait() {
+            Ok(Some(status)) => End {
+                job,
+                ok: status.success(),
+                signal: status.signal(),
+            },
+            _ => End {
+                job,
+                ok: false,
+                signal: None,
+            },
+        }
     }
 
     /// What it printed so far.
-    pub fn read_printed(&mut self, alloc: Global) -> io::Result<Bytes> {
-        match &mut self.printed {
+    pub fn read_printed(&self, alloc: Global) -> io::Result<Bytes> {
+        match &self.printed {
             Some(printed) => printed.read(alloc),
             None => Ok(Bytes::new(alloc)),
         }
@@ -91,18 +139,19 @@ impl Running {
 
     /// Lets the command go, which has ended, and answers the file into which it printed.
     pub fn into_printed(self) -> Option<Printed> {
-        let Running { child, printed } = self;
+        let Running { child, printed, .. } = self;
         drop(child);
         printed
     }
 }
 
 impl Printed {
-    fn read(&mut self, alloc: Global) -> io::Result<Bytes> {
+    fn read(&self, alloc: Global) -> io::Result<Bytes> {
         let mut bytes = Vec::new(alloc);
         if self.file.metadata()?.len() > 0 {
-            self.file.seek(SeekFrom::Start(0))?;
-            self.file.read_to_end(&mut bytes)?;
+            let mut file = &self.file;
+            file.seek(SeekFrom::Start(0))?;
+            file.read_to_end(&mut bytes)?;
         }
         Ok(Bytes::from_vec(bytes))
     }

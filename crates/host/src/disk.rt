@@ -1,10 +1,15 @@
 //! Real files, as a site needs them.
 
+ghost use Rattle.std.specs.Prelude.{◌≡◌, true, false};
+ghost use Rattle.std.specs.Fs.{asks_append, asks_truncate};
+
+use crate::clock::Touches;
 use std::alloc::{AllocError, Global};
 use std::fs::{File, Metadata, OpenOptions};
 use std::io::{ErrorKind, Read, Write};
 use std::os::unix::fs::{FileExt, MetadataExt};
-use std::{fs, io};
+use std::time::Duration;
+use std::{fs, io, thread};
 use text::Bytes;
 
 /// How many files that are appended to are kept open.
@@ -21,6 +26,12 @@ const PIECE: usize = 1 << 10;
 
 const NANOS: u64 = 1_000_000_000;
 
+/// How long a rest is between two touches of a file whose clock does not go on, in milliseconds.
+const REST: u64 = 4;
+
+/// So many rests are at most three seconds.
+const MOST_RESTS: u64 = 700;
+
 /// The files of the system. Those that get stamps and those that are appended to are kept open.
 #[derive(Drop)]
 pub struct Disk<'a> {
@@ -28,7 +39,7 @@ pub struct Disk<'a> {
     alloc: Global,
     /// The file of the last tick.
     tick: Option<Kept>,
-    /// Files that were appended to, the last one opened behind.
+    /// Files that were appended to, the last one opened at the end.
     appended: Vec<Kept>,
     /// How many files for what commands print got a path.
     outputs: u64,
@@ -102,25 +113,40 @@ impl<'a> Disk<'a> {
         }
     }
 
-    /// Touches the file at the path, and answers a stamp that it got in this call: later than what was written before,
-    /// and earlier than what is written after, where the file system tells such writes apart. The file holds one byte more,
-    /// or the same bytes but for the first.
+    /// Touches the file at the path twice, and answers both stamps: the first is no earlier than that of any file that was
+    /// written before, the second no later than that of any that is written after, as long as the clock does not fall. The file
+    /// holds one byte, or the same bytes but for the first. At the first tick it is made anew.
     ///
     /// A file is touched by a write to it, since a time that is set is not in line with those of writes. One touch often has
-    /// the time of the write before it or behind it. So there are three, and the second counts.
-    pub fn tick(&mut self, path: &str) -> io::Result<u64> {
+    /// the time of the write before it or after it; so there are two.
+    pub fn tick(&mut self, path: &str) -> io::Result<Touches> {
         let kept = match self.tick.take() {
             Some(kept) if kept.path.as_str() == path => kept,
-            _ => {
-                let how = touching();
-                open_kept(self.alloc, self.rt, &how, path)?
-            }
+            _ => Kept {
+                path: String::from_str(self.alloc, path)?,
+                file: self.new_file(path, &mut writing())?,
+            },
         };
-        touch(&kept.file)?;
-        let stamp = touch(&kept.file)?;
-        touch(&kept.file)?;
+        let first = touch(&kept.file)?;
+        let second = touch(&kept.file)?;
         self.tick = Some(kept);
-        Ok(stamp)
+        Ok(Touches { first, second })
+    }
+
+    /// Touches the file of the last tick, with rests, until it gets a later stamp than this, and answers whether it came to that:
+    /// not, where the clock does not go on for three seconds, or where the file cannot be touched.
+    pub fn wait_past(&self, stamp: u64) -> bool {
+        let Some(kept) = &self.tick else {
+            return false;
+        };
+        for _ in 0..MOST_RESTS {
+            match touch(&kept.file) {
+                Ok(touched) if touched > stamp => return true,
+                Ok(_) => thread::sleep(self.rt, Duration::from_millis(REST)),
+                Err(_) => return false,
+            }
+        }
+        false
     }
 
     /// Puts the bytes behind what the file at the path holds. Where it fails, a beginning of them may stand there.
@@ -146,7 +172,9 @@ impl<'a> Disk<'a> {
     pub fn replace(&mut self, path: &str, content: &[u8]) -> io::Result<()> {
         self.close(path);
         let new = format!(in self.alloc; "{path}.new")?;
-        fs::write(self.rt, new.as_str(), content)?;
+        let mut file = self.new_file(new.as_str(), &mut writing())?;
+        file.write_all(content)?;
+        drop(file);
         fs::rename(self.rt, new.as_str(), path)
     }
 
@@ -187,12 +215,16 @@ impl<'a> Disk<'a> {
     /// A new and empty file for what commands print. What was left under its path, perhaps with a command that still
     /// writes into it, is removed.
     pub fn output_file(&mut self, path: &str) -> io::Result<File> {
+        let mut how = OpenOptions::new();
+        how.read(true).append(true);
+        self.new_file(path, &mut how)
+    }
+
+    /// A new and empty file at the path. What stood there is removed and not written to, since it may be a link to a file of
+    /// somebody else; where there is something again right after that, it is refused.
+    fn new_file(&mut self, path: &str, how: &mut OpenOptions) -> io::Result<File> {
         self.remove(path)?;
-        OpenOptions::new()
-            .read(true)
-            .append(true)
-            .create_new(true)
-            .open(self.rt, path)
+        how.create_new(true).open(self.rt, path)
     }
 
     /// Closes the file at the path, where it is open, as it is about to be another file.
@@ -209,15 +241,18 @@ impl<'a> Disk<'a> {
     }
 }
 
-/// How a file is opened that gets stamps.
-fn touching() -> OpenOptions {
+/// How a file is opened that is only written to.
+fn writing() -> OpenOptions {
     let mut how = OpenOptions::new();
-    how.write(true).create(true);
+    how.write(true);
     how
 }
 
-/// How a file is opened that is appended to.
-fn appending() -> OpenOptions {
+/// How a file is opened that is appended to: what it holds stays.
+fn appending() -> OpenOptions
+    ensures append { asks_append result ≡ true }
+    ensures kept { asks_truncate result ≡ false }
+{
     let mut how = OpenOptions::new();
     how.append(true).create(true);
     how

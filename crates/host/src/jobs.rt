@@ -5,7 +5,7 @@ ghost use Rattle.model.specs.World.{runs};
 ghost use Rattle.host.specs.Told.{nothing_told, with_start, with_finish, restarted};
 
 use crate::commands;
-use crate::commands::{Opened, Printed, Running};
+use crate::commands::{End, Opened, Printed, Running};
 use crate::waiting::{wait_all, wait_first};
 use model::{Act, Event, Finished};
 use std::alloc::{AllocError, Global};
@@ -19,10 +19,12 @@ pub struct Jobs {
     events: Vec<Event>,
     /// How many of them came before the last restart.
     before: usize,
-    /// The jobs that run. There is room for the end of each.
-    jobs: Vec<usize>,
-    /// Their commands, in the same order.
+    /// The commands that run, in any order. There is room for the end of each.
     commands: Vec<Running>,
+    /// Where among them the next wait begins to ask.
+    next: usize,
+    /// The signal that ended a command, of the last that one ended.
+    signal: Option<i32>,
     /// Files into which earlier commands printed, as good as new.
     unused: Vec<Printed>,
 }
@@ -47,8 +49,9 @@ impl Jobs {
             alloc,
             events: Vec::new(alloc),
             before: 0,
-            jobs: Vec::new(alloc),
             commands: Vec::new(alloc),
+            next: 0,
+            signal: None,
             unused: Vec::new(alloc),
         }
     }
@@ -74,12 +77,10 @@ impl Jobs {
         ensures err { OnErr result (self.new ≡ self.old) }
     {
         let event = started(job, act, stamp)?;
-        reserve(&mut self.events, self.jobs.len() + 2)?;
-        reserve(&mut self.jobs, 1)?;
+        reserve(&mut self.events, self.commands.len() + 2)?;
         reserve(&mut self.commands, 1)?;
-        let command = commands::start(self.alloc, rt, act.command.as_str(), opened)?;
+        let command = commands::start(self.alloc, rt, job, act.command.as_str(), opened)?;
         push_reserved(&mut self.events, event);
-        push_reserved(&mut self.jobs, job);
         push_reserved(&mut self.commands, command);
         Ok(())
     }
@@ -91,13 +92,20 @@ impl Jobs {
         ensures ok { IfOk result (λ finished. self.new ≡ with_finish finished.job finished.ok self.old) }
         ensures err { OnErr result (self.new ≡ self.old) }
     {
-        let (place, ok) = wait_first(rt, &mut self.commands)?;
+        let place = wait_first(rt, &mut self.commands, self.next)?;
         let output = self.commands[place].read_printed(self.alloc)?;
-        let command = self.commands.remove(place);
+        let mut command = self.commands.swap_remove(place);
+        let End { job, ok, signal } = command.end();
         keep_unused(rt, &mut self.unused, command);
-        let job = self.jobs.remove(place);
+        self.next = place;
+        self.signal = signal.or(self.signal);
         push_reserved(&mut self.events, Event::Finish { job, ok });
         Ok(Finished { job, ok, output })
+    }
+
+    /// The signal that ended a command, of the last that one ended.
+    pub fn signal(&self) -> Option<i32> {
+        self.signal
     }
 
     /// A file into which an earlier command printed, if one is as good as new.
@@ -121,7 +129,6 @@ impl Jobs {
         ensures { self.new ≡ restarted self.old }
     {
         wait_all(rt, mem::replace(&mut self.commands, Vec::new(self.alloc)));
-        self.jobs = Vec::new(self.alloc);
         self.before = self.events.len();
     }
 }

@@ -1,6 +1,7 @@
 //! The site of real files and real commands.
 #![tactic(auto)]
 
+mod clock;
 mod commands;
 mod disk;
 mod host;
@@ -8,5 +9,5 @@ mod jobs;
 mod trouble;
 mod waiting;
 
-pub use host::Host;
+pub use host::{Host, StandingClock};
 pub use trouble::Trouble;
