@@ -13,7 +13,7 @@ use Rattle.nj_run.specs.Asked.{BuildsAsked}
 use Rattle.nj_run.specs.Status.{status_of}
 use Rattle.nj_run.specs.Texts.{Adds, err_of, out_of}
 use Rattle.nj_run.proofs.Telling.{untouched}
-use Rattle.nj_run.specs.Ends.{AreDone, Built, Comes, Ending, Ends, EndsBy, EndsFor, EndsWell, Help, MayEnd, NoFolder, NoMemory, NoWords, exit_status}
+use Rattle.nj_run.specs.Ends.{AreDone, Built, Comes, Ending, Ends, EndsBy, EndsFor, EndsWell, Help, MayEnd, NoFolder, NoMemory, BadWords, exit_status}
 
 -- after a build the status is no 2
 pub built : {F : Type 0} (done told : Result ℕ F) (status : ℕ) → status ≡ result_unwrap_or told 1 → told ≡ done → IfOk done (λ given. given ≤ 1) → status ≡ 2 → ⊥
@@ -34,7 +34,7 @@ explained true kind memory (Err fault) told status is same other cause two =
 pub no_folder : {W E F : Type 0} (asked : Options) (on_out : W → Option Text) (on_err : E → Option Text) (out : W) (old_err new_err : E) (folder : Text) (told : Result ℕ F)
     → asked.folder ≡ Some folder → IfOk told (λ status. status ≡ 1) → Comes (EndsFor asked) on_out on_err out out old_err new_err told
 no_folder asked on_out on_err out old_err new_err folder (Ok status) is one =
-    record { ending = NoFolder folder; may = is; tells = (one, record { shown = out; shows = refl; out = untouched (on_out out); err = tt }) }
+    record { ending = NoFolder folder; may = is; tells = (one, record { shown = out; before = refl; out = untouched (on_out out); err = tt }) }
 no_folder asked on_out on_err out old_err new_err folder (Err fault) is one = record { ending = NoFolder folder; may = is; tells = tt }
 
 -- what a build reported, and what was told of it
@@ -43,7 +43,7 @@ pub reported : {W E F : Type 0} (asked : Options) (on_out : W → Option Text) (
     → OnOk told (Adds (on_out shown) (on_out new_out) (out_of report)) → OnOk told (Adds (on_err old_err) (on_err new_err) (err_of report refused))
     → Comes (EndsFor asked) on_out on_err old_out new_out old_err new_err told
 reported asked on_out on_err old_out shown new_out old_err new_err report refused (Ok status) so is out err =
-    record { ending = Built report refused; may = so; tells = (is, record { shown = shown; shows = tt; out = out; err = err }) }
+    record { ending = Built report refused; may = so; tells = (is, record { shown = shown; before = tt; out = out; err = err }) }
 reported asked on_out on_err old_out shown new_out old_err new_err report refused (Err fault) so is out err = record { ending = Built report refused; may = so; tells = tt }
 
 -- what a run has come to, and its status
@@ -63,7 +63,7 @@ among words error (inr fault) other = fault
 -- words that clap refuses by this error
 pub refused : (words : List Text) (error : Error) → HasKind (fault_of nj words) error → (ending : Ending) → EndsBy (kind_of error) ending → MayEnd words ending
 refused words error has Help so = record { kind = kind_of error; fault = among words error has so.1; so = so }
-refused words error has NoWords so = record { kind = kind_of error; fault = among words error has so.1; so = so }
+refused words error has BadWords so = record { kind = kind_of error; fault = among words error has so.1; so = so }
 refused words error has NoMemory so = tt
 refused words error has (NoFolder folder) so = absurd so
 refused words error has (Built report told) so = absurd so
@@ -71,7 +71,7 @@ refused words error has (Built report told) so = absurd so
 -- words that ask for this
 pub done : (words : List Text) (asked : Options) → fault_of nj words ≡ [] → AreAsked words asked → (ending : Ending) → EndsFor asked ending → MayEnd words ending
 done words asked faultless are Help so = absurd so
-done words asked faultless are NoWords so = absurd so
+done words asked faultless are BadWords so = absurd so
 done words asked faultless are NoMemory so = absurd so
 done words asked faultless are (NoFolder folder) so = record { faultless = faultless; asked = asked; are_asked = are; so = so }
 done words asked faultless are (Built report told) so = record { faultless = faultless; asked = asked; are_asked = are; so = so }
@@ -84,7 +84,7 @@ well_after words (Fault fault) told done zero = absurd (omega (arith, zero))
 
 well_by : (words : List Text) (ending : Ending) → MayEnd words ending → 0 ≡ exit_status ending → EndsWell words
 well_by words Help may zero = inl may
-well_by words NoWords may zero = absurd (omega (arith, zero))
+well_by words BadWords may zero = absurd (omega (arith, zero))
 well_by words NoMemory may zero = absurd (omega (arith, zero))
 well_by words (NoFolder folder) may zero = absurd (omega (arith, zero))
 well_by words (Built report told) may zero = well_after words report told may zero

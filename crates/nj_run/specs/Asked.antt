@@ -35,8 +35,10 @@ pub record AreHandedOn (asked : Asked) (text : List ℕ) (options : Options) (na
 abbrev pub limits_asked : Asked → Limits
 limits_asked asked = record { jobs = asked.jobs; keep = asked.keep }
 
--- What is asked for was built and reported so: by just that build file, within these limits, and just these targets in their order.
--- Or memory was refused before the build began; that is reported, and the site is untouched.
+-- What is asked for was built and reported so: by just that build file, within these limits, and just these targets in their
+-- order. Or memory was refused before the build began; that is reported, and the site is untouched. (What a build shows no
+-- contract tells, so neither the pattern nor `-v` stand here: which ones the build is given says `AreHandedOn`.)
 abbrev pub BuildsAsked : Bool → (Act → View → Outcome) → Asked → World → World → Report → Type 0
 BuildsAsked tells outcome asked old new report =
-    IsBuild tells outcome asked.file (limits_asked asked) asked.targets old new report ⊎ ((report ≡ Fault Memory) × (new ≡ old))
+    IsBuild tells outcome asked.file (limits_asked asked) asked.targets old new report
+    ⊎ ((report ≡ Fault Memory) × (new ≡ old))

@@ -17,7 +17,7 @@ pub data Ending : Type 0 where
   -- help was asked for
   Help : Ending
   -- the words are no command line
-  NoWords : Ending
+  BadWords : Ending
   -- memory was refused before it was known what the words ask for
   NoMemory : Ending
   -- the folder of this path could not be gone to
@@ -27,24 +27,25 @@ pub data Ending : Type 0 where
 
 abbrev pub exit_status : Ending → ℕ
 exit_status Help = 0
-exit_status NoWords = 2
+exit_status BadWords = 2
 exit_status NoMemory = 1
 exit_status (NoFolder folder) = 1
 exit_status (Built report refused) = status_of report
 
--- What is told on the standard output, behind what the build showed there. The text of help is open: no contract tells it.
+-- What is told on the standard output, behind what the build showed there. Help is open (`None`): no contract of clap tells its
+-- text.
 abbrev pub told_on_out : Ending → Option Text
 told_on_out Help = None
-told_on_out NoWords = Some []
+told_on_out BadWords = Some []
 told_on_out NoMemory = Some []
 told_on_out (NoFolder folder) = Some []
 told_on_out (Built report refused) = out_of report
 
--- What is told on the standard error. What is wrong with the words is open, and so is why the system refused the folder; it stands behind
--- the line of N60 and `nj: FOLDER: `.
+-- What is told on the standard error. Open is what clap says of bad words, and of a folder why the system refuses it: that
+-- stands behind the line of N60 and `nj: FOLDER: `.
 abbrev pub told_on_err : Ending → Option Text
 told_on_err Help = Some []
-told_on_err NoWords = None
+told_on_err BadWords = None
 told_on_err NoMemory = Some no_memory
 told_on_err (NoFolder folder) = None
 told_on_err (Built report refused) = err_of report refused
@@ -56,15 +57,21 @@ IsShown kind = (kind ≡ DisplayHelp) ⊎ (kind ≡ DisplayVersion)
 -- how a run ends where clap answers an error of this kind
 abbrev pub EndsBy : ErrorKind → Ending → Type 0
 EndsBy kind Help = IsShown kind × (kind ≢ OutOfMemory)
-EndsBy kind NoWords = (¬ IsShown kind) × (kind ≢ OutOfMemory)
+EndsBy kind BadWords = (¬ IsShown kind) × (kind ≢ OutOfMemory)
 EndsBy kind NoMemory = kind ≡ OutOfMemory
 EndsBy kind (NoFolder folder) = ⊥
 EndsBy kind (Built report refused) = ⊥
 
--- how it ends where this is asked for: what is asked for is built on the site of real files, on which nothing has happened yet
+-- How a run ends where this is asked for: the folder could not be gone to; or there is a later world in which a build of just
+-- this, on the site of real files on which nothing had happened, is reported so.
+--
+-- That world is the host's own, and is gone with it when the run ends, so `run` can only say that there is one. What this
+-- leaves out, namely that `run` hands these very words, and no other site, to `build_on`, and the report of that to
+-- `told::report`, is read in src/program.rt: three calls, one after another. What `build_on` does with any site its own
+-- contract tells.
 abbrev pub EndsFor : Options → Ending → Type 0
 EndsFor asked Help = ⊥
-EndsFor asked NoWords = ⊥
+EndsFor asked BadWords = ⊥
 EndsFor asked NoMemory = ⊥
 EndsFor asked (NoFolder folder) = asked.folder ≡ Some folder
 EndsFor asked (Built report refused) = (later : World) × BuildsAsked false any_outcome asked fresh later report
@@ -82,43 +89,51 @@ pub record AreDone (words : List Text) (ending : Ending) : Type 0 where
   pub are_asked : AreAsked words asked
   pub so : EndsFor asked ending
 
--- a run of these words may end so; want of memory is shown by tests alone
+-- a run of these words may end so; that memory is wanting only where it is refused is shown by tests alone
 abbrev pub MayEnd : List Text → Ending → Type 0
 MayEnd words Help = AreRefused words Help
-MayEnd words NoWords = AreRefused words NoWords
+MayEnd words BadWords = AreRefused words BadWords
 MayEnd words NoMemory = ⊤
 MayEnd words (NoFolder folder) = AreDone words (NoFolder folder)
 MayEnd words (Built report refused) = AreDone words (Built report refused)
 
--- What the standard output was where a build has ended. A build shows on it by way of the host, which keeps it as long as the build lasts, and
--- of what `Site::show` shows contracts tell nothing: it may hold anything then. Where nothing is built, it is as it was.
-abbrev pub Shows : {W : Type 0} → Ending → W → W → Type 0
-Shows Help old shown = shown ≡ old
-Shows NoWords old shown = shown ≡ old
-Shows NoMemory old shown = shown ≡ old
-Shows (NoFolder folder) old shown = shown ≡ old
-Shows (Built report refused) old shown = ⊤
+-- What the standard output was where a build has ended. A build shows on it by way of the host, which keeps it as long as the
+-- build lasts, and of what `Site::show` shows contracts tell nothing: it may hold anything then. Where nothing is built, it is
+-- as it was.
+abbrev pub ShownBefore : {W : Type 0} → Ending → W → W → Type 0
+ShownBefore Help old shown = shown ≡ old
+ShownBefore BadWords old shown = shown ≡ old
+ShownBefore NoMemory old shown = shown ≡ old
+ShownBefore (NoFolder folder) old shown = shown ≡ old
+ShownBefore (Built report refused) old shown = ⊤
 
 -- all was told: on the standard output, behind what was shown there, and on the standard error
-pub record Tells {W E : Type 0} (on_out : W → Option Text) (on_err : E → Option Text) (ending : Ending) (old_out new_out : W) (old_err new_err : E) : Type 0 where
+pub record AllTold {W E : Type 0} (on_out : W → Option Text) (on_err : E → Option Text) (ending : Ending)
+    (old_out new_out : W) (old_err new_err : E) : Type 0 where
   pub shown : W
-  pub shows : Shows ending old_out shown
+  pub before : ShownBefore ending old_out shown
   pub out : Adds (on_out shown) (on_out new_out) (told_on_out ending)
   pub err : Adds (on_err old_err) (on_err new_err) (told_on_err ending)
 
 -- a run has come to an ending of which this holds, and where all was told, this is its status
-pub record Comes (May : Ending → Type 0) {W E F : Type 0} (on_out : W → Option Text) (on_err : E → Option Text) (old_out new_out : W) (old_err new_err : E) (told : Result ℕ F) : Type 0 where
+pub record Comes (May : Ending → Type 0) {W E F : Type 0} (on_out : W → Option Text) (on_err : E → Option Text)
+    (old_out new_out : W) (old_err new_err : E) (told : Result ℕ F) : Type 0 where
   pub ending : Ending
   pub may : May ending
-  pub tells : IfOk told (λ status. (status ≡ exit_status ending) × Tells on_out on_err ending old_out new_out old_err new_err)
+  pub tells : IfOk told (λ status.
+      (status ≡ exit_status ending) × AllTold on_out on_err ending old_out new_out old_err new_err)
 
--- A run of these words ends with this status: that of its ending, where all was told, and 1 where a text could not be written. So it is 0
--- only after a build that succeeded and after help, and 2 only where the words have a fault.
-pub record Ends (words : List Text) {W E : Type 0} (on_out : W → Option Text) (on_err : E → Option Text) (old_out new_out : W) (old_err new_err : E) (status : ℕ) : Type 0 where
+-- A run of these words ends with this status: that of its ending, and all was told; or 1, since a text could not be written, a
+-- cause of which the kit's `Write` tells nothing. So it is 0 only after a build that succeeded and after help, and 2 only where
+-- the words have a fault.
+pub record Ends (words : List Text) {W E : Type 0} (on_out : W → Option Text) (on_err : E → Option Text)
+    (old_out new_out : W) (old_err new_err : E) (status : ℕ) : Type 0 where
   pub ending : Ending
   pub may : MayEnd words ending
-  pub tells : ((status ≡ exit_status ending) × Tells on_out on_err ending old_out new_out old_err new_err) ⊎ (status ≡ 1)
+  pub tells : ((status ≡ exit_status ending) × AllTold on_out on_err ending old_out new_out old_err new_err)
+      ⊎ (status ≡ 1)
 
 -- help was asked for, or what the words ask for was built, with success
 abbrev pub EndsWell : List Text → Type 0
-EndsWell words = AreRefused words Help ⊎ ((started : ℕ) × (refused : Bool) × AreDone words (Built (Success started) refused))
+EndsWell words =
+    AreRefused words Help ⊎ ((started : ℕ) × (refused : Bool) × AreDone words (Built (Success started) refused))

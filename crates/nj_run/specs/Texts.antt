@@ -24,8 +24,8 @@ site_failed = line (codes "nj: error: N60: the site failed")
 abbrev pub after_success : ℕ → List ℕ
 after_success started = if started == 0 then no_work else []
 
--- What is told where the site failed, and whether the device has refused a call: then a line `nj: PATH: REASON` follows, whose reason no
--- contract tells.
+-- What is told where the site failed, and whether the device has refused a call. Then a line `nj: PATH: REASON` follows, and
+-- all is open (`None`).
 abbrev pub after_failure : Bool → Option (List ℕ)
 after_failure refused = if refused then None else Some site_failed
 
@@ -36,8 +36,10 @@ out_of (Failed outputs) = Some []
 out_of (Refused refusal) = Some []
 out_of (Fault fault) = Some []
 
--- What is told of a report on the standard error, and whether the device has refused a call. `None` is a text that is open, since no contract
--- tells how a value in it prints: of a refusal it is `nj: error: ` and the refusal, on a line.
+-- What is told of a report on the standard error, and whether the device has refused a call. `None` is a text that is open. So
+-- is each text with a value in it of which no contract tells how it prints, as a refusal behind `nj: error: `, or an error of
+-- the system: of such a text the kit's `writeln!` promises nothing at all, nor that what the writer held still stands in front
+-- of it.
 abbrev pub err_of : Report → Bool → Option (List ℕ)
 err_of (Success started) refused = Some []
 err_of (Failed outputs) refused = Some (stopped (length outputs))
@@ -46,8 +48,8 @@ err_of (Fault Memory) refused = Some no_memory
 err_of (Fault Device) refused = after_failure refused
 err_of (Fault Stopped) refused = after_failure refused
 
--- An output that held the one bytes holds the other now: the same and this text behind them. It says nothing where the writer does not tell
--- what it holds, and of a text that is open.
+-- An output that held the first bytes holds the second ones now: the same, and this text behind them. It says nothing where the
+-- writer does not tell what it holds, and of a text that is open.
 abbrev pub Adds : Option (List ℕ) → Option (List ℕ) → Option (List ℕ) → Type 0
 Adds old new None = ⊤
 Adds old new (Some text) = Appends old new text
