@@ -62,7 +62,8 @@ fn build_asked<W: Write, E: Write>(
     told::report(&report, trouble.as_ref(), out, err)
 }
 
-/// Builds what is asked for in the working folder. With a fault of the site comes what the device refused last.
+/// Builds what is asked for in the working folder, and waits until what is written from now on is seen to be later than each start. With a
+/// fault of the site comes what the device refused last.
 fn build_here<W: Write>(
     rt: &HostRuntime,
     asked: &Asked<'_>,
@@ -74,6 +75,8 @@ fn build_here<W: Write>(
     let alloc = rt.alloc();
     let mut host = Host::new(alloc, rt, out);
     let report = build_on(alloc, &mut host, asked, pattern);
+    // where the clock stands still for seconds there is nothing more to do about it
+    let _ = host.wait_for_clock();
     (report, host.into_trouble())
 }
 
