@@ -1,2 +1,3 @@
 mod Listed
 mod Refused
+mod Blocks

@@ -3,3 +3,4 @@ pub mod Told
 pub mod Inside
 pub mod Process
 pub mod World
+pub mod Environment

@@ -4,9 +4,12 @@ ghost use Rattle.std.specs.Prelude.{◌≡◌, true, false};
 ghost use Rattle.std.specs.Fs.{asks_append, asks_truncate};
 
 use crate::clock::Touches;
+use crate::content::content_of;
+use crate::held::{Node, node_at, node_of};
+use crate::logs::{Logs, is_log};
 use std::alloc::{AllocError, Global};
 use std::fs::{File, Metadata, OpenOptions};
-use std::io::{ErrorKind, Read, Write};
+use std::io::{ErrorKind, Write};
 use std::os::unix::fs::{FileExt, MetadataExt};
 use std::time::Duration;
 use std::{fs, io, thread};
@@ -14,15 +17,6 @@ use text::Bytes;
 
 /// How many files that are appended to are kept open.
 const MOST_KEPT: usize = 4;
-
-/// A file of this size is read through a room of its own.
-const LARGE: u64 = 1 << 20;
-
-/// How many bytes are read at once.
-const ROOM: usize = 1 << 16;
-
-/// How many bytes are copied at once.
-const PIECE: usize = 1 << 10;
 
 const NANOS: u64 = 1_000_000_000;
 
@@ -32,7 +26,10 @@ const REST: u64 = 4;
 /// So many rests are at most three seconds.
 const MOST_RESTS: u64 = 700;
 
-/// The files of the system. Those that get stamps and those that are appended to are kept open.
+/// How often it is tried to make a file anew, where others do the same.
+const TRIES: u32 = 20;
+
+/// The files of the system. Those that get stamps and those that are appended to are kept open, and so is the build log that was read.
 #[derive(Drop)]
 pub struct Disk<'a> {
     rt: &'a HostRuntime,
@@ -40,9 +37,8 @@ pub struct Disk<'a> {
     /// The file of the last tick.
     tick: Option<Kept>,
     /// Files that were appended to, the last one opened at the end.
-    appended: Vec<Kept>,
-    /// How many files for what commands print got a path.
-    outputs: u64,
+    appended: Vec<Appended>,
+    logs: Logs<'a>,
 }
 
 /// A file that is kept open.
@@ -50,6 +46,13 @@ pub struct Disk<'a> {
 struct Kept {
     path: String,
     file: File,
+}
+
+/// A file that is kept open to be appended to, and which one it is.
+#[derive(Drop)]
+struct Appended {
+    kept: Kept,
+    node: Node,
 }
 
 impl<'a> Disk<'a> {
@@ -60,13 +63,21 @@ impl<'a> Disk<'a> {
             alloc,
             tick: None,
             appended: Vec::new(alloc),
-            outputs: 0,
+            logs: Logs::new(alloc, rt),
         }
     }
 
     /// What the file at the path holds, or nothing where there is no file.
-    pub fn read(&self, path: &str) -> io::Result<Option<Bytes>> {
-        match unless_absent(self.content(path))? {
+    ///
+    /// A build log, whose path ends in `.nj_log`, is locked before, together with other builds that read it or put records behind it, and
+    /// is so from then on. It is waited for while another build replaces it, for ten seconds at most.
+    pub fn read(&mut self, path: &str) -> io::Result<Option<Bytes>> {
+        let found = if is_log(path) {
+            self.logs.read(path)
+        } else {
+            self.content(path)
+        };
+        match unless_absent(found)? {
             Some(content) => Ok(Some(Bytes::from_vec(content))),
             None => Ok(None),
         }
@@ -74,30 +85,9 @@ impl<'a> Disk<'a> {
 
     /// What the file at the path holds.
     fn content(&self, path: &str) -> io::Result<Vec<u8>> {
-        let mut file = File::open(self.rt, path)?;
+        let file = File::open(self.rt, path)?;
         let size = file.metadata()?.len();
-        if size < LARGE {
-            let mut content = Vec::new(self.alloc);
-            file.read_to_end(&mut content)?;
-            return Ok(content);
-        }
-        self.large_content(&mut file, size)
-    }
-
-    /// What a file of about this size holds. It is read through a room that stays in the caches, so that the memory of the
-    /// content is not cleared before it is written.
-    fn large_content(&self, file: &mut File, size: u64) -> io::Result<Vec<u8>> {
-        let mut content = Vec::with_capacity(self.alloc, size as usize)?;
-        let mut room = vec![in self.alloc; 0u8; ROOM]?;
-        for _ in 0..u64::MAX {
-            match file.read(room.as_mut_slice()) {
-                Ok(0) => return Ok(content),
-                Ok(count) => append_pieces(&mut content, &room[..count])?,
-                Err(error) if error.kind() == ErrorKind::Interrupted => {}
-                Err(error) => return Err(error),
-            }
-        }
-        Err(ErrorKind::Other.into())
+        content_of(self.alloc, &file, size)
     }
 
     /// The stamp of the file at the path, or nothing where there is no file, as at a path that no file can have. A depfile may
@@ -149,28 +139,46 @@ impl<'a> Disk<'a> {
         false
     }
 
-    /// Puts the bytes behind what the file at the path holds. Where it fails, a beginning of them may stand there.
+    /// Puts the bytes behind what the file at the path holds. Where it fails, a beginning of them may stand there. A file that was put in
+    /// its place since the last time is seen, by one look at the path.
     pub fn append(&mut self, path: &str, bytes: &[u8]) -> io::Result<()> {
-        let mut kept = match self.take_appended(path) {
-            Some(kept) => kept,
-            None => {
-                let how = appending();
-                open_kept(self.alloc, self.rt, &how, path)?
-            }
-        };
+        let mut appended = self.open_appended(path)?;
         if self.appended.len() >= MOST_KEPT {
             self.appended.clear();
         }
         self.appended.reserve(1)?;
-        kept.file.write_all(bytes)?;
-        self.appended.push(kept).map_err(AllocError::from)?;
+        appended.kept.file.write_all(bytes)?;
+        self.appended.push(appended).map_err(AllocError::from)?;
+        self.logs.grow(path, bytes.len());
         Ok(())
+    }
+
+    /// The file at the path, as it was opened the last time, unless the path leads to another one now.
+    fn open_appended(&mut self, path: &str) -> io::Result<Appended> {
+        if let Some(appended) = self.take_appended(path) {
+            if !is_elsewhere(self.rt, path, appended.node) {
+                return Ok(appended);
+            }
+            if is_log(path) {
+                self.logs.hold(path)?;
+            }
+        }
+        open_appended(self.alloc, self.rt, path)
     }
 
     /// Puts the content in the place of what the file at the path holds, whole or not at all: it is written under the path
     /// with `.new` behind it, and gets its name then.
+    ///
+    /// A log, whose path ends in `.nj_log` or `.nj_deps`, may stay as it is instead, which is no error: where it is one behind which lines may
+    /// be put, since it begins with the first line of the content and ends with the end of a line, it is only replaced if no other build
+    /// has it open, and it is the file that was read, with nothing behind it since but what this site put there. Behind a log that stays, a
+    /// line tells what it tells behind the content, and what others put there stays. Of one that is torn behind what others put there, the
+    /// whole lines stay. Where the file system has no locks, a log is replaced.
     pub fn replace(&mut self, path: &str, content: &[u8]) -> io::Result<()> {
         self.close(path);
+        if is_log(path) {
+            return self.logs.replace(path, content);
+        }
         let new = format!(in self.alloc; "{path}.new")?;
         let mut file = self.new_file(new.as_str(), &mut writing())?;
         file.write_all(content)?;
@@ -196,35 +204,38 @@ impl<'a> Disk<'a> {
         fs::create_dir_all(self.rt, path)
     }
 
-    /// A path that no file for what commands print had before: beside the file of the last tick, and so beside the logs.
-    pub fn output_path(&mut self) -> Result<String, AllocError> {
-        self.outputs = self.outputs.checked_add(1).ok_or(AllocError)?;
-        let number = self.outputs;
-        match self.folder() {
-            Some(folder) => format!(in self.alloc; "{folder}/.nj_out.{number}"),
-            None => format!(in self.alloc; ".nj_out.{number}"),
-        }
-    }
-
     /// The folder of the file of the last tick, if it is named.
-    fn folder(&self) -> Option<&str> {
+    pub fn folder(&self) -> Option<&str> {
         let (folder, _) = self.tick.as_ref()?.path.as_str().rsplit_once('/')?;
         Some(folder)
     }
 
-    /// A new and empty file for what commands print. What was left under its path, perhaps with a command that still
-    /// writes into it, is removed.
-    pub fn output_file(&mut self, path: &str) -> io::Result<File> {
+    /// The file at the path, opened for reading.
+    pub fn open(&self, path: &str) -> io::Result<File> {
+        File::open(self.rt, path)
+    }
+
+    /// The file at the path, opened to append to it.
+    pub fn open_to_append(&self, path: &str) -> io::Result<File> {
         let mut how = OpenOptions::new();
-        how.read(true).append(true);
-        self.new_file(path, &mut how)
+        how.append(true);
+        how.open(self.rt, path)
     }
 
     /// A new and empty file at the path. What stood there is removed and not written to, since it may be a link to a file of
-    /// somebody else; where there is something again right after that, it is refused.
-    fn new_file(&mut self, path: &str, how: &mut OpenOptions) -> io::Result<File> {
+    /// somebody else. Where there is something again right after that, another build may just have made it: it is tried a few times, and
+    /// then refused.
+    pub fn new_file(&mut self, path: &str, how: &mut OpenOptions) -> io::Result<File> {
+        how.create_new(true);
+        for _ in 0..TRIES {
+            self.remove(path)?;
+            let made = how.open(self.rt, path);
+            if !is_taken(&made) {
+                return made;
+            }
+        }
         self.remove(path)?;
-        how.create_new(true).open(self.rt, path)
+        how.open(self.rt, path)
     }
 
     /// Closes the file at the path, where it is open, as it is about to be another file.
@@ -232,24 +243,32 @@ impl<'a> Disk<'a> {
         let _ = self.take_appended(path);
     }
 
-    fn take_appended(&mut self, path: &str) -> Option<Kept> {
+    fn take_appended(&mut self, path: &str) -> Option<Appended> {
         let place = self
             .appended
             .iter()
-            .position(|kept| kept.path.as_str() == path)?;
+            .position(|appended| appended.kept.path.as_str() == path)?;
         Some(self.appended.remove(place))
     }
 }
 
+/// Whether a file was not made since there is something at its path.
+fn is_taken(made: &io::Result<File>) -> bool {
+    match made {
+        Ok(_) => false,
+        Err(error) => error.kind() == ErrorKind::AlreadyExists,
+    }
+}
+
 /// How a file is opened that is only written to.
-fn writing() -> OpenOptions {
+pub fn writing() -> OpenOptions {
     let mut how = OpenOptions::new();
     how.write(true);
     how
 }
 
 /// How a file is opened that is appended to: what it holds stays.
-fn appending() -> OpenOptions
+pub fn appending() -> OpenOptions
     ensures append { asks_append result ≡ true }
     ensures kept { asks_truncate result ≡ false }
 {
@@ -258,11 +277,24 @@ fn appending() -> OpenOptions
     how
 }
 
-fn open_kept(alloc: Global, rt: &HostRuntime, how: &OpenOptions, path: &str) -> io::Result<Kept> {
-    Ok(Kept {
-        path: String::from_str(alloc, path)?,
-        file: how.open(rt, path)?,
+/// Opens the file at the path to be appended to. One that is absent is made.
+fn open_appended(alloc: Global, rt: &HostRuntime, path: &str) -> io::Result<Appended> {
+    let file = appending().open(rt, path)?;
+    let node = node_of(&file.metadata()?);
+    let path = String::from_str(alloc, path)?;
+    Ok(Appended {
+        kept: Kept { path, file },
+        node,
     })
+}
+
+/// Whether the path leads to another file than this one. Where it leads to none, the file was deleted, and what is put behind it is lost,
+/// as the file is.
+fn is_elsewhere(rt: &HostRuntime, path: &str, node: Node) -> bool {
+    match node_at(rt, path) {
+        Some(now) => now != node,
+        None => false,
+    }
 }
 
 /// Writes one byte in place, and answers the stamp of that.
@@ -281,14 +313,6 @@ fn stamp_of(metadata: &Metadata) -> u64 {
     seconds.saturating_mul(NANOS).saturating_add(nanos)
 }
 
-/// Puts bytes at the end, a piece after another.
-fn append_pieces(content: &mut Vec<u8>, bytes: &[u8]) -> Result<(), AllocError> {
-    for piece in bytes.chunks(PIECE) {
-        content.extend_from_slice(piece)?;
-    }
-    Ok(())
-}
-
 /// Whether no file can have the path that was asked for: it has a NUL, or a part of it is too long.
 fn is_no_name(found: &io::Result<Metadata>) -> bool {
     match found {
@@ -302,7 +326,7 @@ fn is_of_a_name(kind: ErrorKind) -> bool {
 }
 
 /// What was found, or nothing where there is no such file.
-fn unless_absent<T>(found: io::Result<T>) -> io::Result<Option<T>> {
+pub fn unless_absent<T>(found: io::Result<T>) -> io::Result<Option<T>> {
     match found {
         Ok(found) => Ok(Some(found)),
         Err(error) => match error.kind() {

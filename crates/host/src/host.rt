@@ -8,10 +8,12 @@ ghost use Rattle.host.specs.World.{world_of, fresh};
 ghost use Rattle.host.specs.declared.clock.Touches.{Touches};
 
 use crate::clock::Clock;
-use crate::commands::{Opened, Printed, SHELL, open_output};
 use crate::disk::Disk;
+use crate::files::{Files, Made, Opened};
 use crate::jobs::Jobs;
+use crate::process::SHELL;
 use crate::trouble::Trouble;
+use crate::watch::Watch;
 use model::{Act, Event, Finished, SiteFault};
 use site::{Site, Texts};
 use std::alloc::{AllocError, Global};
@@ -28,8 +30,8 @@ const OUTPUT: &str = "standard output";
 
 /// The site of real files and real commands: paths are those of the system, taken from the working folder, a stamp is when
 /// a file was written last, in nanoseconds since 1970, and a command is run by `/bin/sh -c`. What a command prints, output
-/// and errors alike, goes to a file of its own, `.nj_out.` and the job's number, beside the file of the last tick. Its input
-/// is empty. It never stops.
+/// and errors alike, goes to a file of its own, `.nj_out.` and a number, beside the file of the last tick. Its input is an empty
+/// file, `.nj_in`, beside them. It never stops.
 ///
 /// What contracts tell of it: its starts and finishes, the calls that the device refused, and the last wait among them. Of files they
 /// tell nothing.
@@ -39,6 +41,9 @@ pub struct Host<'a, W> {
     alloc: Global,
     disk: Disk<'a>,
     jobs: Jobs,
+    /// The files that commands read and print into.
+    files: Files,
+    watch: Watch<'a>,
     /// What the stamps that it told say of the clock.
     clock: Clock,
     /// What the last tick gave.
@@ -63,6 +68,8 @@ impl<'a, W: Write> Host<'a, W> {
             alloc,
             disk: Disk::new(alloc, rt),
             jobs: Jobs::new(alloc),
+            files: Files::new(alloc),
+            watch: Watch::new(alloc, rt),
             clock: Clock::new(),
             ticked: 0,
             failures: 0,
@@ -115,8 +122,8 @@ impl<'a, W: Write> Host<'a, W> {
         }
     }
 
-    /// The file into which a command is to print, unless it has the program's own output: one that an earlier command left as good as
-    /// new, or a new one.
+    /// The files for a command that is to be started, unless it has the program's own input and output: to read the one that all read, to
+    /// print into one that an earlier command left as good as new, or a new one.
     fn open_printed(&mut self, console: bool) -> Result<Option<Opened>, SiteFault>
         ensures cause { HasCause (world_of self.old) (world_of self.new) result }
         ensures waits { KeepsWait (world_of self.old) (world_of self.new) }
@@ -126,31 +133,36 @@ impl<'a, W: Write> Host<'a, W> {
         if console {
             return Ok(None);
         }
-        if let Some(unused) = self.jobs.take_unused() {
-            // a command may have removed it
-            if let Ok((output, is_locked)) = open_output(self.rt, unused.path.as_str()) {
-                let printed = Printed {
-                    is_locked,
-                    ..unused
-                };
-                return Ok(Some(Opened { printed, output }));
-            }
+        if let Some(opened) = self.files.reopen(&mut self.disk) {
+            return Ok(Some(opened));
         }
-        let path = self.disk.output_path()?;
-        let made = self.disk.output_file(path.as_str());
-        let file = self.noted(path.as_str(), made)?;
-        let opened = open_output(self.rt, path.as_str());
-        let (output, is_locked) = self.noted(path.as_str(), opened)?;
-        let printed = Printed {
-            path,
-            file,
-            is_locked,
-        };
-        Ok(Some(Opened { printed, output }))
+        if self.watch.is_inner() {
+            self.files.set_inner();
+        }
+        let Made { path, opened } = self.files.make(&mut self.disk)?;
+        let opened = self.noted(path.as_str(), opened)?;
+        Ok(Some(opened))
     }
 }
 
 impl<'a, W: Write> Host<'a, W> {
+    /// Waits until no other build is in the working folder, and keeps others out from then on. To be called once, before anything is read.
+    /// Where a command of another build in this folder has started the program, it waits for nobody: it is an inner build, whose commands
+    /// read `/dev/null` and print into files that no other build has.
+    pub fn enter_folder(&mut self)
+        ensures { world_of self.new ≡ world_of self.old }
+    {
+        self.watch.enter();
+    }
+
+    /// Waits for commands of an earlier build that was killed, by what it left in this folder, that of the logs; an empty path is that of
+    /// the working folder. Whether it waited: then others may have been there, and everything is to be read anew.
+    pub fn waits_for_left(&mut self, folder: &str) -> bool
+        ensures { world_of self.new ≡ world_of self.old }
+    {
+        self.watch.waits_for_left(folder)
+    }
+
     /// Waits until what is written from now on has a later stamp than each start, so that the next build sees it. To be called at the
     /// end of a build. It mostly has nothing to wait for: only where the clock of the file system goes by steps, and a command was started
     /// in a step of which a stamp had been told, as that of an input that was written right before. Then it takes as long as a step. It
@@ -179,16 +191,19 @@ impl<'a, W: Drop> Host<'a, W> {
         self.jobs.signal()
     }
 
-    /// Removes the files into which commands printed, and answers what the device refused last, if it refused something and there was
-    /// memory for its path.
+    /// Removes the files that commands read and printed into, but for those that one has which still runs, and answers what the device
+    /// refused last, if it refused something and there was memory for its path.
     pub fn into_trouble(self) -> Option<Trouble> {
         let Host {
             rt,
-            mut jobs,
+            jobs,
+            files,
+            watch,
             trouble,
             ..
         } = self;
-        jobs.remove_unused(rt);
+        files.remove(rt, jobs.some_run());
+        watch.keep();
         trouble
     }
 }
@@ -301,8 +316,9 @@ impl<'a, W: Write> Site for Host<'a, W> {
         ensures err { OnErr result (StartsOrNot false job act.now (world_of self.old) (world_of self.new)) }
         ensures unstarted { OnErr result (OnlyLooks false (world_of self.old) (world_of self.new)) }
     {
-        let opened = self.open_printed(console)?;
-        let started = self.jobs.start(self.rt, job, act, self.ticked, opened);
+        let mut opened = self.open_printed(console)?;
+        let started = self.jobs.start(job, act, self.ticked, &mut opened);
+        self.files.take_back(self.rt, opened);
         self.noted(SHELL, started)?;
         self.failures_at_start = self.failures;
         Ok(())
@@ -310,7 +326,9 @@ impl<'a, W: Write> Site for Host<'a, W> {
 
     /// Which of several finished commands is taken in is open.
     fn wait_any(&mut self) -> Result<Finished, SiteFault> {
-        let finished = self.jobs.wait_any(self.rt);
+        let finished = self
+            .jobs
+            .wait_any(self.rt, &mut self.files, &mut self.watch);
         self.noted_wait(finished)
     }
 
@@ -320,7 +338,7 @@ impl<'a, W: Write> Site for Host<'a, W> {
     }
 
     fn restart(&mut self) {
-        self.jobs.restart(self.rt);
+        self.jobs.restart(self.rt, &mut self.watch);
         self.wait_refused = None;
     }
 

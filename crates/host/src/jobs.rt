@@ -1,12 +1,15 @@
 //! The starts and ends of real commands, and which run.
 
-ghost use Rattle.std.specs.Prelude.{◌≡◌, ◌+◌, ◌<◌, ◌≤◌, ℕ, ◌++◌, ◌∷◌, [], true, false, IfOk, OnOk, OnErr, length, vec_capacity, vec_len};
+ghost use Rattle.std.specs.Prelude.{◌≡◌, ◌+◌, ◌<◌, ◌≤◌, ℕ, ◌++◌, ◌∷◌, [], true, false, IfOk, IfSome, IsSome, OnOk, OnErr, length, vec_capacity, vec_len};
 ghost use Rattle.model.specs.World.{runs};
 ghost use Rattle.host.specs.Told.{nothing_told, with_start, with_finish, restarted};
 
 use crate::commands;
-use crate::commands::{End, Opened, Printed, Running};
-use crate::waiting::{wait_all, wait_first};
+use crate::commands::{End, Running};
+use crate::environment::variables;
+use crate::files::{Files, Opened, Taken};
+use crate::waiting::{Round, wait_all, wait_first};
+use crate::watch::Watch;
 use model::{Act, Event, Finished};
 use std::alloc::{AllocError, Global};
 use std::marker::Model;
@@ -21,12 +24,12 @@ pub struct Jobs {
     before: usize,
     /// The commands that run, in any order. There is room for the end of each.
     commands: Vec<Running>,
-    /// Where among them the next wait begins to ask.
-    next: usize,
+    /// Where the next wait goes on to ask them.
+    round: Round,
+    /// The variables that they get, once they were read.
+    environment: Option<Vec<u8>>,
     /// The signal that ended a command, of the last that one ended.
     signal: Option<i32>,
-    /// Files into which earlier commands printed, as good as new.
-    unused: Vec<Printed>,
 }
 
 impl Model for Jobs {
@@ -50,9 +53,9 @@ impl Jobs {
             events: Vec::new(alloc),
             before: 0,
             commands: Vec::new(alloc),
-            next: 0,
+            round: Round { place: 0, left: 0 },
+            environment: None,
             signal: None,
-            unused: Vec::new(alloc),
         }
     }
 
@@ -63,14 +66,14 @@ impl Jobs {
         &self.events
     }
 
-    /// Starts a command. Where it fails, it was not started.
+    /// Starts a command, which takes the opened files. Where it fails, it was not started, and they are left. Commands get the variables
+    /// that the program was started with, which are read for the first of them.
     pub fn start(
         &mut self,
-        rt: &HostRuntime,
         job: usize,
         act: &Act,
         stamp: u64,
-        opened: Option<Opened>,
+        opened: &mut Option<Opened>,
     ) -> io::Result<()>
         requires { runs job self.old.events ≡ false }
         ensures ok { OnOk result (self.new ≡ with_start job act.now stamp self.old) }
@@ -79,25 +82,31 @@ impl Jobs {
         let event = started(job, act, stamp)?;
         reserve(&mut self.events, self.commands.len() + 2)?;
         reserve(&mut self.commands, 1)?;
-        let command = commands::start(self.alloc, rt, job, act.command.as_str(), opened)?;
+        read_once(self.alloc, &mut self.environment)?;
+        let environment = known(&self.environment);
+        let command = commands::start(self.alloc, job, act.command.as_str(), environment, opened)?;
         push_reserved(&mut self.events, event);
         push_reserved(&mut self.commands, command);
         Ok(())
     }
 
     /// Waits until a command has ended, and takes it in. Where it fails, none is taken in.
-    pub fn wait_any(&mut self, rt: &HostRuntime) -> io::Result<Finished>
+    pub fn wait_any(
+        &mut self,
+        rt: &HostRuntime,
+        files: &mut Files,
+        watch: &mut Watch<'_>,
+    ) -> io::Result<Finished>
         requires { (job : ℕ) × (runs job self.old.events ≡ true) }
         ensures ran { IfOk result (λ finished. runs finished.job self.old.events ≡ true) }
         ensures ok { IfOk result (λ finished. self.new ≡ with_finish finished.job finished.ok self.old) }
         ensures err { OnErr result (self.new ≡ self.old) }
     {
-        let place = wait_first(rt, &mut self.commands, self.next)?;
-        let output = self.commands[place].read_printed(self.alloc)?;
-        let mut command = self.commands.swap_remove(place);
+        let place = wait_first(rt, &mut self.commands, &mut self.round, watch)?;
+        let Taken { output, is_unused } = self.commands[place].take_printed(self.alloc)?;
+        let command = self.commands.swap_remove(place);
         let End { job, ok, signal } = command.end();
-        keep_unused(rt, &mut self.unused, command);
-        self.next = place;
+        files.take_in(rt, command.into_printed(), is_unused);
         self.signal = signal.or(self.signal);
         push_reserved(&mut self.events, Event::Finish { job, ok });
         Ok(Finished { job, ok, output })
@@ -108,43 +117,44 @@ impl Jobs {
         self.signal
     }
 
-    /// A file into which an earlier command printed, if one is as good as new.
-    pub fn take_unused(&mut self) -> Option<Printed>
-        ensures { self.new ≡ self.old }
-    {
-        self.unused.pop()
-    }
-
-    /// Removes the files into which earlier commands printed.
-    pub fn remove_unused(&mut self, rt: &HostRuntime)
-        ensures { self.new ≡ self.old }
-    {
-        for printed in mem::replace(&mut self.unused, Vec::new(self.alloc)) {
-            printed.remove(rt);
-        }
+    /// Whether a command runs.
+    pub fn some_run(&self) -> bool {
+        !self.commands.is_empty()
     }
 
     /// Waits until all commands have ended. What was told so far is told of before, and no command runs.
-    pub fn restart(&mut self, rt: &HostRuntime)
+    pub fn restart(&mut self, rt: &HostRuntime, watch: &mut Watch<'_>)
         ensures { self.new ≡ restarted self.old }
     {
-        wait_all(rt, mem::replace(&mut self.commands, Vec::new(self.alloc)));
+        wait_all(
+            rt,
+            mem::replace(&mut self.commands, Vec::new(self.alloc)),
+            watch,
+        );
         self.before = self.events.len();
     }
 }
 
-/// Lets the command go, which has ended, and keeps the file into which it printed for another one, where it is as good as new: to make
-/// a file for each command is dear where many were removed right before.
-fn keep_unused(rt: &HostRuntime, unused: &mut Vec<Printed>, command: Running) {
-    let Some(printed) = command.into_printed() else {
-        return;
-    };
-    if printed.is_unused() {
-        if let Ok(()) = reserve(unused, 1) {
-            return push_reserved(unused, printed);
-        }
+/// Reads the variables that commands get, where they are not known yet. Once they are, they stay.
+fn read_once(alloc: Global, environment: &mut Option<Vec<u8>>) -> io::Result<()>
+    ensures read { OnOk result (IsSome environment.new) }
+    ensures kept { IsSome environment.old → environment.new ≡ environment.old }
+{
+    if environment.is_none() {
+        *environment = Some(variables(alloc)?);
     }
-    printed.remove(rt);
+    Ok(())
+}
+
+/// The variables that are known.
+fn known(environment: &Option<Vec<u8>>) -> &[u8]
+    requires { IsSome environment.now }
+    ensures { IfSome environment.now (λ variables. result.now ≡ variables.items) }
+{
+    match environment {
+        Some(variables) => variables.as_slice(),
+        None => unreachable!(),
+    }
 }
 
 /// The start of a command.

@@ -3,11 +3,21 @@
 
 mod clock;
 mod commands;
+mod content;
 mod disk;
+mod environment;
+mod files;
+mod held;
 mod host;
 mod jobs;
+mod logs;
+mod number;
+mod process;
+mod rests;
 mod trouble;
 mod waiting;
+mod watch;
+mod words;
 
 pub use host::{Host, StandingClock};
 pub use trouble::Trouble;

@@ -4,80 +4,84 @@ ghost use Rattle.std.specs.Prelude.{◌≡◌, ◌<◌, ◌≤◌, IfOk, OnOk, I
 ghost use Rattle.host.specs.Process.{HasEndedAt, jobs_of};
 
 use crate::commands::Running;
+use crate::rests::Rests;
+use crate::watch::Watch;
 use std::io::ErrorKind;
-use std::time::Duration;
-use std::{io, thread};
-
-/// The longest rest between two rounds, in microseconds.
-const LONGEST_REST: u64 = 5000;
+use std::{io, slice};
 
 /// Up to so many commands are asked in each round.
 const FEW: usize = 64;
 
-/// Of more at least so many are asked in a round.
-const LEAST: usize = 256;
+/// Of more so many are asked in a round.
+const MANY: usize = 256;
 
-/// So many rounds ask all.
-const ROUNDS: usize = 6;
+/// Where a round of asking stands.
+#[derive(Clone, Copy)]
+pub struct Round {
+    /// Where among the commands it goes on.
+    pub place: usize,
+    /// How many are asked before the next rest, if none of them has ended.
+    pub left: usize,
+}
 
-/// Waits until one of the commands has ended, and answers its place. One that is left is waited for; several are asked in turn, with
-/// rests that grow with the time waited. The first round begins at this place, each other one where the one before stopped, so that
-/// no command is asked more often than another, and none of thousands is asked later than after six rounds.
-pub fn wait_first(rt: &HostRuntime, commands: &mut Vec<Running>, from: usize) -> io::Result<usize>
+/// Waits until one of the commands has ended, and answers its place. They are asked in turn, with rests that grow with the time waited.
+/// Each round goes on where the one before stopped, so that no command is asked more often than another. Up to 64 are asked in each round,
+/// and at once; of more 256 in each, from one wait to the next, with rests in proportion.
+pub fn wait_first(
+    rt: &HostRuntime,
+    commands: &mut Vec<Running>,
+    round: &mut Round,
+    watch: &mut Watch<'_>,
+) -> io::Result<usize>
     requires { 0 < vec_len commands.old }
     ensures jobs { jobs_of commands.new.items ≡ jobs_of commands.old.items }
     ensures ended { IfOk result (λ place. HasEndedAt place commands.new.items) }
 {
-    if commands.len() == 1 {
-        wait_at(commands, 0)?;
-        return Ok(0);
+    let running = commands.len();
+    let mut rests = Rests::new(if running > FEW {
+        in_a_round(running)
+    } else {
+        0
+    });
+    if running <= FEW {
+        round.left = running;
     }
-    let mut place = from;
-    let mut rest = 1;
     for _ in 0..1u64 << 63 {
-        let (at, has_ended) = ask_round(commands, place)?;
-        if has_ended {
-            return Ok(at);
+        if ask_round(commands, round)? {
+            return Ok(round.place);
         }
-        place = at;
-        thread::sleep(rt, Duration::from_micros(rest));
-        rest = longer(rest);
+        if rests.rest(rt) {
+            watch.has_waited_long(commands.as_slice());
+        }
+        round.left = in_a_round(running);
     }
     Err(io::Error::from(ErrorKind::TimedOut))
-}
-
-/// A rest that is a little longer.
-fn longer(rest: u64) -> u64 {
-    rest.saturating_add(rest / 16 + 2).min(LONGEST_REST)
 }
 
 /// How many of so many commands are asked in a round.
 fn in_a_round(running: usize) -> usize
     ensures few { result ≤ running }
 {
-    if running <= FEW {
-        return running;
-    }
-    (running / ROUNDS + 1).max(LEAST).min(running)
+    running.min(MANY)
 }
 
-/// Asks some of the commands whether they have ended, from this place on and then from the first: the place of the first that has,
-/// or where the next round begins.
-fn ask_round(commands: &mut Vec<Running>, from: usize) -> io::Result<(usize, bool)>
+/// Asks the commands that are left in the round whether they have ended, up to the first one that has: whether there is one. The round
+/// stands there then.
+fn ask_round(commands: &mut Vec<Running>, round: &mut Round) -> io::Result<bool>
     ensures jobs { jobs_of commands.new.items ≡ jobs_of commands.old.items }
-    ensures ended { IfOk result (λ asked. IsTrue asked.1 → HasEndedAt asked.0 commands.new.items) }
+    ensures ended { IfOk result (λ asked. IsTrue asked → HasEndedAt round.new.place commands.new.items) }
 {
-    let mut place = from;
-    for _ in 0..in_a_round(commands.len()) {
-        if place >= commands.len() {
-            place = 0;
+    for _ in 0..round.left.min(commands.len()) {
+        if round.place >= commands.len() {
+            round.place = 0;
         }
-        if ask_at(commands, place)? {
-            return Ok((place, true));
+        if ask_at(commands, round.place)? {
+            return Ok(true);
         }
-        place += 1;
+        round.place += 1;
+        round.left = round.left.saturating_sub(1);
     }
-    Ok((place, false))
+    Ok(false)
 }
 
 /// Whether the command at the place has ended.
@@ -90,21 +94,27 @@ fn ask_at(commands: &mut Vec<Running>, place: usize) -> io::Result<bool>
     commands[place].has_ended()
 }
 
-/// Waits until the command at the place has ended.
-fn wait_at(commands: &mut Vec<Running>, place: usize) -> io::Result<()>
-    requires { place < vec_len commands.old }
-    ensures jobs { jobs_of commands.new.items ≡ jobs_of commands.old.items }
-    ensures ended { OnOk result (HasEndedAt place commands.new.items) }
-{
-    commands[place].wait()
-}
-
-/// Waits until all of the commands have ended.
-pub fn wait_all(rt: &HostRuntime, commands: Vec<Running>) {
+/// Waits until all of the commands have ended, and removes the files into which they printed.
+pub fn wait_all(rt: &HostRuntime, commands: Vec<Running>, watch: &mut Watch<'_>) {
     for mut command in commands {
-        let _ = command.wait();
+        wait_for(rt, &mut command, watch);
         if let Some(printed) = command.into_printed() {
             printed.remove(rt);
+        }
+    }
+}
+
+/// Waits until the command has ended, or nothing can be told of it.
+fn wait_for(rt: &HostRuntime, command: &mut Running, watch: &mut Watch<'_>) {
+    let mut rests = Rests::new(0);
+    for _ in 0..1u64 << 63 {
+        match command.has_ended() {
+            Ok(false) => {
+                if rests.rest(rt) {
+                    watch.has_waited_long(slice::from_ref(command));
+                }
+            }
+            _ => return,
         }
     }
 }

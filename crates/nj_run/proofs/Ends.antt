@@ -9,7 +9,7 @@ use Rattle.model.specs.World.{World}
 use Rattle.builder.specs.declared.report.Report.{Report}
 use Rattle.builder.specs.declared.report.Report.TheVariants.{Success, Failed, Refused, Fault}
 use Rattle.host.specs.World.{any_outcome, fresh}
-use Rattle.nj_run.specs.Asked.{BuildsAsked}
+use Rattle.nj_run.specs.Alone.{BuildsAlone}
 use Rattle.nj_run.specs.Status.{status_of}
 use Rattle.nj_run.specs.Texts.{Adds, err_of, out_of}
 use Rattle.nj_run.proofs.Telling.{untouched}
@@ -39,7 +39,7 @@ no_folder asked on_out on_err out old_err new_err folder (Err fault) is one = re
 
 -- what a build reported, and what was told of it
 pub reported : {W E F : Type 0} (asked : Options) (on_out : W → Option Text) (on_err : E → Option Text) (old_out shown new_out : W) (old_err new_err : E) (report : Report) (refused : Bool) (told : Result ℕ F)
-    → ((later : World) × BuildsAsked false any_outcome asked fresh later report) → IfOk told (λ status. status ≡ status_of report)
+    → ((later : World) × BuildsAlone false any_outcome asked fresh later report) → IfOk told (λ status. status ≡ status_of report)
     → OnOk told (Adds (on_out shown) (on_out new_out) (out_of report)) → OnOk told (Adds (on_err old_err) (on_err new_err) (err_of report refused))
     → Comes (EndsFor asked) on_out on_err old_out new_out old_err new_err told
 reported asked on_out on_err old_out shown new_out old_err new_err report refused (Ok status) so is out err =

@@ -1,3 +1,4 @@
+mod Passing
 mod Ends
 mod Shown
 mod Telling

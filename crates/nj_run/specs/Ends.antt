@@ -8,7 +8,7 @@ use Rattle.command_line.specs.Options.{AreAsked, Options, nj}
 use Rattle.builder.specs.declared.report.Report.{Report}
 use Rattle.builder.specs.declared.report.Report.TheVariants.{Success}
 use Rattle.host.specs.World.{any_outcome, fresh}
-use Rattle.nj_run.specs.Asked.{BuildsAsked}
+use Rattle.nj_run.specs.Alone.{BuildsAlone}
 use Rattle.nj_run.specs.Status.{status_of}
 use Rattle.nj_run.specs.Texts.{Adds, err_of, no_memory, out_of}
 
@@ -74,7 +74,7 @@ EndsFor asked Help = ⊥
 EndsFor asked BadWords = ⊥
 EndsFor asked NoMemory = ⊥
 EndsFor asked (NoFolder folder) = asked.folder ≡ Some folder
-EndsFor asked (Built report refused) = (later : World) × BuildsAsked false any_outcome asked fresh later report
+EndsFor asked (Built report refused) = (later : World) × BuildsAlone false any_outcome asked fresh later report
 
 -- the words have a fault for which a run may end so
 pub record AreRefused (words : List Text) (ending : Ending) : Type 0 where

@@ -1,3 +1,4 @@
+pub mod Alone
 pub mod Asked
 pub mod Ends
 pub mod Status

@@ -5,14 +5,16 @@ ghost use Rattle.clap.specs.Words.{takes};
 ghost use Rattle.model.specs.World.{World, IsIdle};
 ghost use Rattle.command_line.specs.Options.{nj};
 ghost use Rattle.host.specs.World.{any_outcome, fresh};
-ghost use Rattle.nj_run.specs.Asked.{AreHandedOn, BuildsAsked, pattern_text};
+ghost use Rattle.nj_run.specs.Alone.{BuildsAlone};
+ghost use Rattle.nj_run.specs.Asked.{AreHandedOn, pattern_text};
 ghost use Rattle.nj_run.specs.Ends.{Comes, Ends, EndsFor, EndsWell};
 
+use crate::alone::{Alone, build_alone};
 use crate::told;
-use builder::{Options, Report, build};
+use builder::{Options, Report};
 use command_line::{Options as Asked, options};
 use host::{Host, Trouble};
-use site::{Site, SiteFault};
+use site::SiteFault;
 use status::Pattern;
 use std::alloc::{AllocError, Global};
 use std::convert::AsStr;
@@ -70,7 +72,7 @@ fn build_here<W: Write>(
     pattern: Option<&str>,
     out: &mut W,
 ) -> (Report, Option<Trouble>)
-    ensures { (later : World) × BuildsAsked false any_outcome asked.now fresh later result.0 }
+    ensures { (later : World) × BuildsAlone false any_outcome asked.now fresh later result.0 }
 {
     let alloc = rt.alloc();
     let mut host = Host::new(alloc, rt, out);
@@ -80,18 +82,19 @@ fn build_here<W: Write>(
     (report, host.into_trouble())
 }
 
-/// Builds what is asked for on a site, whatever folder is asked for. Where no pattern is given, lines have the default one.
-pub fn build_on<S: Site>(
+/// Builds what is asked for on a site, whatever folder is asked for, once nobody else is at work there. Where no pattern is given,
+/// lines have the default one.
+pub fn build_on<S: Alone>(
     alloc: Global,
     site: &mut S,
     asked: &Asked<'_>,
     pattern: Option<&str>,
 ) -> Report
     requires idle { IsIdle (S.world site.old).events }
-    ensures { BuildsAsked S.tells S.outcome asked.now (S.world site.old) (S.world site.new) result }
+    ensures { BuildsAlone S.tells S.outcome asked.now (S.world site.old) (S.world site.new) result }
 {
     match build_options(alloc, asked, pattern) {
-        Ok((options, targets)) => build(alloc, site, &options, targets.as_slice()),
+        Ok((options, targets)) => build_alone(alloc, site, &options, targets.as_slice()),
         Err(_) => Report::Fault(SiteFault::Memory),
     }
 }

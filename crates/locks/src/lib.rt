@@ -1,0 +1,18 @@
+//! Who may look at files: one build in a folder at a time, and none while a command of an earlier build runs.
+#![tactic(auto)]
+
+mod asked;
+mod entered;
+mod left;
+mod lines;
+mod lists;
+mod names;
+mod pace;
+mod sight;
+mod wait;
+mod watch;
+
+pub use entered::{Entered, enter};
+pub use left::wait_for_left;
+pub use names::{INPUT, OUTPUT};
+pub use watch::Watch;

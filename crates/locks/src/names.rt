@@ -1,0 +1,44 @@
+//! The names of the files by which the commands of a build are known.
+
+ghost use Rattle.std.specs.Prelude.{◌≡◌, ◌↔◌, ◌++◌, IsTrue, IfOk, IfSome, None, codes, string_bytes};
+ghost use Rattle.locks.specs.Names.{BeginsWith, IsLeft, IsOutput};
+
+use std::alloc::{AllocError, Global};
+
+/// The name of the file, beside the logs, whose openings are the inputs of commands.
+pub const INPUT: &str = ".nj_in";
+
+/// With this begin the names of the files, beside the logs, into which commands print.
+pub const OUTPUT: &str = ".nj_out.";
+
+/// Whether a file of this name may be one into which a command prints.
+pub fn is_output(name: &str) -> bool
+    ensures { IsTrue result ↔ IsOutput name.now }
+{
+    begins_with(name, OUTPUT)
+}
+
+/// Whether a text begins with another.
+pub fn begins_with(text: &str, start: &str) -> bool
+    ensures { IsTrue result ↔ BeginsWith start.now text.now }
+{
+    text.as_bytes().starts_with(start.as_bytes())
+}
+
+/// Whether a file of this name may be one by which a command is known.
+pub fn is_left(name: &str) -> bool
+    ensures { IsTrue result ↔ IsLeft name.now }
+{
+    name == INPUT || is_output(name)
+}
+
+/// The path of a name in a folder, of which the working folder is `None`.
+pub fn path_in(alloc: Global, folder: Option<&str>, name: &str) -> Result<String, AllocError>
+    ensures here { folder.entry ≡ None → IfOk result (λ path. string_bytes path ≡ name.now) }
+    ensures below { IfSome folder.entry (λ folder. IfOk result (λ path. string_bytes path ≡ folder.now ++ codes "/" ++ name.now)) }
+{
+    match folder {
+        Some(folder) => format!(in alloc; "{folder}/{name}"),
+        None => String::from_str(alloc, name),
+    }
+}

@@ -1,0 +1,82 @@
+//! A build in a folder in which others may build too.
+
+ghost use Rattle.std.specs.Prelude.{◌≡◌, false, IfOk, IfErr};
+ghost use Rattle.model.specs.World.{IsIdle};
+ghost use Rattle.nj_run.specs.Alone.{IsBuiltAlone, Passes, WasReadAlone, WasUnreadAlone};
+
+use builder::{Options, Reading, Report, build_read, read};
+use depfile::has_reading;
+use deps_log::has_format;
+use dyndep_law::has_reading as has_dyndeps;
+use host::Host;
+use site::Site;
+use std::alloc::Global;
+use std::io::Write;
+use text::Text;
+
+/// So often it is read anew because somebody was waited for; then it is built whoever may be there.
+const ROUNDS: u32 = u32::MAX;
+
+/// A site in whose folder others may build too: other programs, and commands that run on after a build that was killed. No clause
+/// says that it waits for them, since of other programs none tells anything: what one may rest on is that it does nothing else.
+pub trait Alone: Site {
+    /// Waits until no other build is in the working folder, and keeps others out from then on. To be called once, before anything is
+    /// read.
+    fn enter(&mut self)
+        ensures { Passes Self.tells (Self.world self.old) (Self.world self.new) };
+
+    /// Looks in this folder, that of the program's own files, for what a build left that was killed; an empty path is that of the
+    /// working folder. Where a command of it runs still, it waits for that one, and answers that it waited: others may have been
+    /// there meanwhile, so everything is to be read anew.
+    fn has_waited(&mut self, folder: &str) -> bool
+        ensures { Passes Self.tells (Self.world self.old) (Self.world self.new) };
+}
+
+impl<'a, W: Write> Alone for Host<'a, W> {
+    fn enter(&mut self) {
+        self.enter_folder();
+    }
+
+    fn has_waited(&mut self, folder: &str) -> bool {
+        self.waits_for_left(folder)
+    }
+}
+
+/// Builds the targets once nobody else is at work in the folder, as [`builder::build`] does: what it reads is what is there by then.
+pub fn build_alone<S: Alone>(
+    alloc: Global,
+    site: &mut S,
+    options: &Options,
+    targets: &[Text],
+) -> Report
+    requires { IsIdle (S.world site.old).events }
+    ensures { IsBuiltAlone S.tells S.outcome options.now targets.now (S.world site.old) (S.world site.new) result }
+{
+    has_format();
+    has_reading();
+    has_dyndeps();
+    match read_alone(alloc, site, options, targets) {
+        Ok(reading) => build_read(alloc, site, reading, options),
+        Err(report) => report,
+    }
+}
+
+/// Reads the build files, anew each time that somebody was waited for.
+fn read_alone<'a, S: Alone>(
+    alloc: Global,
+    site: &mut S,
+    options: &Options,
+    targets: &'a [Text],
+) -> Result<Reading<'a>, Report>
+    ensures read { IfOk result (WasReadAlone S.tells options.now targets.now (S.world site.old) (S.world site.new)) }
+    ensures unread { IfErr result (WasUnreadAlone S.tells options.now.file (S.world site.old) (S.world site.new)) }
+{
+    site.enter();
+    for _ in 0..ROUNDS {
+        let reading = read(alloc, site, options, targets)?;
+        if !site.has_waited(reading.asked.folder.as_str()) {
+            return Ok(reading);
+        }
+    }
+    read(alloc, site, options, targets)
+}
