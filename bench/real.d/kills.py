@@ -259,6 +259,41 @@ def edits_meanwhile(place, tree, count):
     place.step(f"{count} builds during which sources were edited, each with one behind it")
 
 
+def left_files(tree):
+    """What is there of the files by which commands of a build are known."""
+    return [it for it in os.listdir(tree.folder) if it == ".nj_in" or it.startswith(".nj_out.")]
+
+
+def right_behind(place, tree, count, number):
+    """The signal ends nj alone, and right behind that comes an edit and the next build: its outputs are right, though commands of the
+    build before ran on, and so they stay; nothing is left in the folder."""
+    hits, turn = 0, 0
+    while hits < count:
+        turn += 1
+        tree.edit()
+        build = tree.start()
+        try:
+            build.wait(tree.chance.uniform(0, 0.4))
+        except subprocess.TimeoutExpired:
+            os.kill(build.pid, number)
+            build.wait()
+            hits += 1
+        tree.edit()
+        where = f"right behind {number.name}, {turn}"
+        ran = tree.build()
+        told = tree.wrong_outputs()
+        place.expect(ran.status == 0, where, f"the next build: {ran.text[-900:]}")
+        place.expect(not told, where, ground.in_short(told))
+        place.expect(not left_files(tree), where, f"left: {left_files(tree)}")
+        place.expect(is_idle(tree.build()), where, "the build behind that has something to do")
+        wait_for_session(build.pid)
+        told = tree.wrong_outputs()
+        place.expect(not told, where, f"once all had ended, {ground.in_short(told)}")
+        tree.begun_and_ended()
+    place.count("kills", hits)
+    place.step(f"right behind {number.name} to nj alone: {turn} builds, {hits} of them killed while they ran")
+
+
 def torn(tree):
     """Cuts off a part of what was put last behind a log, as a kill within an append would have: of the build log a record of
     a good end, or of the deps log one whose command has no record of its end. Answers whether there was one."""
@@ -345,6 +380,8 @@ def lanes(many):
     for number in (signal.SIGKILL, signal.SIGINT, signal.SIGTERM):
         for kill, whom in ((kill_all, "nj and all its commands"), (kill_alone, "nj alone")):
             yield f"{number.name} to {whom}", functools.partial(rounds, name=f"{number.name} to {whom}", count=many, kill=kill, number=number)
+    for number in (signal.SIGKILL, signal.SIGINT):
+        yield f"right behind {number.name}", functools.partial(right_behind, count=some, number=number)
     yield "edits meanwhile", functools.partial(edits_meanwhile, count=some)
     yield "appends", functools.partial(appends, count=some)
     yield "calls", functools.partial(calls, count=2 * some)
