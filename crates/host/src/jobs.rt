@@ -8,6 +8,7 @@ use crate::commands;
 use crate::commands::{End, Running};
 use crate::environment::variables;
 use crate::files::{Files, Opened, Taken};
+use crate::signals::tell_signal;
 use crate::waiting::{Round, wait_all, wait_first};
 use crate::watch::Watch;
 use model::{Act, Event, Finished};
@@ -106,6 +107,7 @@ impl Jobs {
         let Taken { output, is_unused } = self.commands[place].take_printed(self.alloc)?;
         let command = self.commands.swap_remove(place);
         let End { job, ok, signal } = command.end();
+        tell_signal(self.alloc, rt, signal);
         files.take_in(rt, command.into_printed(), is_unused);
         self.signal = signal.or(self.signal);
         push_reserved(&mut self.events, Event::Finish { job, ok });

@@ -14,6 +14,7 @@ mod logs;
 mod number;
 mod process;
 mod rests;
+mod signals;
 mod trouble;
 mod waiting;
 mod watch;
