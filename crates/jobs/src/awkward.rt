@@ -1,0 +1,177 @@
+//! `awkward`: a graph as of Fortran or C++20 modules, with a dyndep file for each ten edges, which commands make; and a phony edge over
+//! very many files, below commands that run one after another. Each is built from nothing, and after edits.
+
+use crate::desk::Desk;
+use crate::digest::Digest;
+use crate::random::Random;
+use crate::work::Asked;
+use std::alloc::{AllocError, Global};
+
+const MODULES: &str = "rule dyndep
+  command = cat $out $in
+  restat = 1
+rule compile
+  command = both $out $mod $in
+  description = Building Fortran object $out
+  dyndep = $dd
+rule link
+  command = cat $out $in
+";
+
+const GATHERED: &str = "rule cat\n  command = cat $out $in\n";
+
+/// A graph of each kind.
+pub fn push_awkward(
+    alloc: Global,
+    asked: Asked<'_>,
+    digest: &mut Digest,
+) -> Result<(), AllocError> {
+    push_modules(alloc, asked, digest)?;
+    push_gathered(alloc, asked, digest)
+}
+
+/// A graph of so many modules; in each round one of them is edited.
+fn push_modules(alloc: Global, asked: Asked<'_>, digest: &mut Digest) -> Result<(), AllocError> {
+    let mut random = Random::new(asked.seed);
+    let mut desk = Desk::new(alloc, 4)?;
+    for number in 0..asked.size {
+        put_module(alloc, &mut desk, number, &mut random)?;
+    }
+    put_uses(alloc, &mut desk, asked.size, &mut random)?;
+    let text = modules(alloc, asked.size)?;
+    desk.put("build.ninja", text.as_bytes())?;
+    desk.build(digest)?;
+    for _ in 0..asked.rounds {
+        let number = random.below(asked.size);
+        put_module(alloc, &mut desk, number, &mut random)?;
+        desk.build(digest)?;
+    }
+    for number in 0..asked.size {
+        let path = format!(in alloc; "obj/module{number:04}.o")?;
+        desk.add_file(path.as_str(), digest);
+    }
+    desk.add_logs(digest);
+    Ok(())
+}
+
+fn put_module(
+    alloc: Global,
+    desk: &mut Desk,
+    number: usize,
+    random: &mut Random,
+) -> Result<(), AllocError> {
+    let path = format!(in alloc; "src/module{number:04}.f90")?;
+    let content = format!(in alloc; "{}", random.below(1_000_000))?;
+    desk.put(path.as_str(), content.as_bytes())
+}
+
+/// What the dyndep files are to say: each module uses up to four that stand before it.
+fn put_uses(
+    alloc: Global,
+    desk: &mut Desk,
+    edges: usize,
+    random: &mut Random,
+) -> Result<(), AllocError> {
+    for part in 0..parts(edges) {
+        let mut text = String::from_str(alloc, "ninja_dyndep_version = 1\n")?;
+        for number in members(part, edges) {
+            write!(
+                text,
+                "build obj/module{number:04}.o | mod/module{number:04}.mod: dyndep |"
+            )?;
+            for _ in 0..random.below(5) {
+                let used = random.below(number);
+                if number != 0 {
+                    write!(text, " mod/module{used:04}.mod")?;
+                }
+            }
+            text.push('\n')?;
+        }
+        let path = format!(in alloc; "src/part{part:03}.scan")?;
+        desk.put(path.as_str(), text.as_bytes())?;
+    }
+    Ok(())
+}
+
+fn parts(edges: usize) -> usize {
+    edges.saturating_add(9).checked_div(10).unwrap_or(0)
+}
+
+/// The modules of a part.
+fn members(part: usize, edges: usize) -> std::ops::Range<usize> {
+    let first = part.saturating_mul(10);
+    first..first.saturating_add(10).min(edges)
+}
+
+fn modules(alloc: Global, edges: usize) -> Result<String, AllocError> {
+    let mut text = String::from_str(alloc, MODULES)?;
+    for part in 0..parts(edges) {
+        write!(
+            text,
+            "build dd/part{part:03}.dd: dyndep src/part{part:03}.scan\n"
+        )?;
+        for number in members(part, edges) {
+            write!(
+                text,
+                "build obj/module{number:04}.o: compile src/module{number:04}.f90 || dd/part{part:03}.dd\n"
+            )?;
+            write!(
+                text,
+                "  dd = dd/part{part:03}.dd\n  mod = mod/module{number:04}.mod\n"
+            )?;
+        }
+    }
+    text.push_str("build program: link")?;
+    for number in 0..edges {
+        write!(text, " obj/module{number:04}.o")?;
+    }
+    text.push('\n')?;
+    Ok(text)
+}
+
+/// A chain of so many commands, each of which reads through a phony edge over ten times so many files; in each round one of these
+/// is edited.
+fn push_gathered(alloc: Global, asked: Asked<'_>, digest: &mut Digest) -> Result<(), AllocError> {
+    let mut random = Random::new(asked.seed);
+    let mut desk = Desk::new(alloc, 4)?;
+    let (files, commands) = (asked.size.saturating_mul(10), asked.size);
+    for number in 0..files {
+        put_file(alloc, &mut desk, number, &mut random)?;
+    }
+    desk.put("in/first", b"first")?;
+    let text = gathered(alloc, files, commands)?;
+    desk.put("build.ninja", text.as_bytes())?;
+    desk.build(digest)?;
+    for _ in 0..asked.rounds {
+        let number = random.below(files);
+        put_file(alloc, &mut desk, number, &mut random)?;
+        desk.build(digest)?;
+    }
+    desk.add_logs(digest);
+    Ok(())
+}
+
+fn put_file(
+    alloc: Global,
+    desk: &mut Desk,
+    number: usize,
+    random: &mut Random,
+) -> Result<(), AllocError> {
+    let path = format!(in alloc; "in/file{number:05}.h")?;
+    let content = format!(in alloc; "{}", random.below(1_000_000))?;
+    desk.put(path.as_str(), content.as_bytes())
+}
+
+fn gathered(alloc: Global, files: usize, commands: usize) -> Result<String, AllocError> {
+    let mut text = String::from_str(alloc, GATHERED)?;
+    text.push_str("build files: phony")?;
+    for number in 0..files {
+        write!(text, " in/file{number:05}.h")?;
+    }
+    text.push_str("\nbuild out/0: cat in/first | files\n")?;
+    for number in 1..commands {
+        let before = number.saturating_sub(1);
+        write!(text, "build out/{number}: cat out/{before} | files\n")?;
+    }
+    Ok(text)
+}

@@ -1,0 +1,193 @@
+//! `read`: what a user waits for whose generator has written other build files: they are read, and nothing is built.
+//!
+//! In each round three forms of them: as CMake's, with variables below each edge; as GN's, with a file and a scope for each target; and long
+//! lines, as of archives and programs.
+
+use crate::digest::Digest;
+use crate::random::Random;
+use crate::work::Asked;
+use builder::{Options, Reading, read};
+use paths::{Action, Manifest};
+use sim::{Sim, Toy};
+use status::Pattern;
+use std::alloc::{AllocError, Global};
+use text::Text;
+
+const CMAKE: &str = "rule CXX
+  depfile = $DEP_FILE
+  deps = gcc
+  command = /usr/bin/c++ $DEFINES $INCLUDES $FLAGS -MD -MT $out -MF $DEP_FILE -o $out -c $in
+  description = Building CXX object $out
+";
+
+const GN: &str = "cxx = clang++
+rule stamp
+  command = touch $out
+rule cxx
+  command = $cxx -MMD -MF $out.d $defines $include_dirs $cflags $cflags_cc -c $in -o $out
+  depfile = $out.d
+  deps = gcc
+  description = CXX $out
+";
+
+const LONG: &str = "rule link
+  command = g++ $LINK_FLAGS $in -o $out $LINK_PATH $LINK_LIBRARIES
+  rspfile = $out.rsp
+  rspfile_content = $in_newline $LINK_LIBRARIES
+  pool = links
+pool links
+  depth = 2
+";
+
+/// Reads build files of each form in each round.
+pub fn push_read(alloc: Global, asked: Asked<'_>, digest: &mut Digest) -> Result<(), AllocError> {
+    let mut random = Random::new(asked.seed);
+    for _ in 0..asked.rounds {
+        let mut site = Sim::new(alloc, Toy);
+        put_cmake(alloc, &mut site, asked.size, &mut random)?;
+        add_read(alloc, &mut site, digest)?;
+        put_gn(alloc, &mut site, asked.size, &mut random)?;
+        add_read(alloc, &mut site, digest)?;
+        put_long(alloc, &mut site, asked.size, &mut random)?;
+        add_read(alloc, &mut site, digest)?;
+    }
+    Ok(())
+}
+
+fn put_cmake(
+    alloc: Global,
+    site: &mut Sim<Toy>,
+    edges: usize,
+    random: &mut Random,
+) -> Result<(), AllocError> {
+    let mut text = String::from_str(alloc, CMAKE)?;
+    for edge in 0..edges {
+        let target = edge.checked_div(40).unwrap_or(0);
+        let version = random.below(100_000);
+        write!(
+            text,
+            "build src/CMakeFiles/target{target:03}.dir/file{edge:05}.cpp.o: CXX /home/user/project/src/target{target:03}/file{edge:05}.cpp"
+        )?;
+        write!(
+            text,
+            " || src/target{target:03}/generated.h\n  DEFINES = -DQT_CORE_LIB -DQT_NO_DEBUG -DVERSION=\\\"{version}\\\"\n"
+        )?;
+        write!(
+            text,
+            "  DEP_FILE = src/CMakeFiles/target{target:03}.dir/file{edge:05}.cpp.o.d\n  FLAGS = -O2 -g -DNDEBUG -fPIC -std=gnu++17\n"
+        )?;
+        write!(
+            text,
+            "  INCLUDES = -I/home/user/project/src/target{target:03}/include -I/home/user/project/build/src/target{target:03} -isystem /usr/include/x86_64-linux-gnu/qt5\n"
+        )?;
+        text.push_str("  OBJECT_DIR = src/CMakeFiles/target.dir\n\n")?;
+    }
+    site.put("build.ninja", text.as_bytes())
+}
+
+/// A file for each target of 25 edges.
+fn put_gn(
+    alloc: Global,
+    site: &mut Sim<Toy>,
+    edges: usize,
+    random: &mut Random,
+) -> Result<(), AllocError> {
+    let mut text = String::from_str(alloc, GN)?;
+    for target in 0..edges.checked_div(25).unwrap_or(0) {
+        let path = format!(in alloc; "obj/part{target:03}/target.ninja")?;
+        put_gn_target(alloc, site, path.as_str(), target, random)?;
+        let path = path.as_str();
+        write!(text, "subninja {path}\n")?;
+    }
+    site.put("build.ninja", text.as_bytes())
+}
+
+fn put_gn_target(
+    alloc: Global,
+    site: &mut Sim<Toy>,
+    path: &str,
+    target: usize,
+    random: &mut Random,
+) -> Result<(), AllocError> {
+    let mut text = String::new(alloc);
+    let version = random.below(100_000);
+    write!(
+        text,
+        "defines = -DUSE_AURA=1 -D_FORTIFY_SOURCE=2 -DVERSION=${{cxx}}{version}\n"
+    )?;
+    text.push_str(
+        "include_dirs = -I../.. -Igen -I../../third_party/abseil-cpp -I../../third_party/googletest/src\n",
+    )?;
+    text.push_str(
+        "cflags = -fno-strict-aliasing --param=ssp-buffer-size=4 -fstack-protector -m64 -O2 -g1 $\n  -Wall -Wextra\n",
+    )?;
+    text.push_str("cflags_cc = -std=c++20 -fno-exceptions -fno-rtti\n")?;
+    write!(text, "target_output_name = target{target:03}\n\n")?;
+    for file in 0..25_usize {
+        write!(
+            text,
+            "build obj/part{target:03}/target/file{file:02}.o: cxx ../../part{target:03}/file{file:02}.cc || obj/part{target:03}/inputs.stamp\n"
+        )?;
+    }
+    write!(text, "build obj/part{target:03}/target.stamp: stamp")?;
+    for file in 0..25_usize {
+        write!(text, " obj/part{target:03}/target/file{file:02}.o")?;
+    }
+    text.push('\n')?;
+    site.put(path, text.as_bytes())
+}
+
+/// Edges of 400 inputs, as many as there are inputs as the other forms have edges, four times over.
+fn put_long(
+    alloc: Global,
+    site: &mut Sim<Toy>,
+    edges: usize,
+    random: &mut Random,
+) -> Result<(), AllocError> {
+    let mut text = String::from_str(alloc, LONG)?;
+    for program in 0..edges.checked_div(100).unwrap_or(0) {
+        write!(text, "build bin/program{program:03}: link")?;
+        let first = random.below(edges);
+        for place in 0..400_usize {
+            let number = first.wrapping_add(place);
+            let part = place.checked_div(20).unwrap_or(0);
+            write!(
+                text,
+                " part{part:02}/CMakeFiles/target.dir/file_{number:06}.cpp.o"
+            )?;
+        }
+        write!(
+            text,
+            " | lib/libbase{program:03}.a || bin\n  LINK_FLAGS = -rdynamic -Wl,-O1\n  LINK_PATH = -L/usr/local/lib\n"
+        )?;
+        text.push_str("  LINK_LIBRARIES = -lpthread -ldl -lz -Wl,-rpath,/usr/local/lib\n")?;
+    }
+    site.put("build.ninja", text.as_bytes())
+}
+
+fn add_read(alloc: Global, site: &mut Sim<Toy>, digest: &mut Digest) -> Result<(), AllocError> {
+    let options = Options {
+        file: Text::from_str(alloc, "build.ninja")?,
+        jobs: 1,
+        keep: 1,
+        verbose: false,
+        pattern: Pattern::parse(alloc, Pattern::DEFAULT)?,
+    };
+    match read(alloc, site, &options, &[]) {
+        Ok(Reading { manifest, .. }) => add_manifest(&manifest, digest),
+        Err(_) => digest.number(1),
+    }
+    Ok(())
+}
+
+/// Takes in how much the build files declare, and each command.
+fn add_manifest(manifest: &Manifest, digest: &mut Digest) {
+    digest.number(manifest.paths.len() as u64);
+    digest.number(manifest.lines.len() as u64);
+    for action in manifest.actions.as_slice() {
+        match action {
+            Action::Alias => digest.number(0),
+            Action::Command(command) => digest.bytes(command.act.command.as_str().as_bytes()),
+        }
+    }
+}
