@@ -61,7 +61,7 @@ pub ends_late : (bytes parts : List ℕ) (begins : Bool) (i : ℕ) → bytes ≡
 ends_late bytes parts begins i same high kept =
     ap (plain_from begins) (sym (drop_all i bytes high)) ∙ (kept ∙ (plain_is bytes ∙ ap (λ (l : List ℕ). list_all is_plain (slice_split slash l)) same))
 
-both : (a b : Bool) → (a && b) ≡ true → (a ≡ true) × (b ≡ true)
+pub both : (a b : Bool) → (a && b) ≡ true → (a ≡ true) × (b ≡ true)
 both true b e = (refl, e)
 both false b e = absurd (false≢true e)
 
@@ -70,7 +70,7 @@ plain_named [] e = absurd (false≢true e)
 plain_named (b ∷ []) e = e
 plain_named (b ∷ c ∷ bs) e = refl
 
-all_named : (parts : List Part) → list_all is_plain parts ≡ true → filter is_named parts ≡ parts
+pub all_named : (parts : List Part) → list_all is_plain parts ≡ true → filter is_named parts ≡ parts
 all_named [] e = refl
 all_named (part ∷ parts) e =
     let each = both (is_plain part) (list_all is_plain parts) e in
@@ -80,19 +80,19 @@ no_parent : (front back : List Part) → list_all is_plain (front ++ parent ∷ 
 no_parent [] back e = absurd (false≢true e)
 no_parent (part ∷ front) back e = no_parent front back (both (is_plain part) (list_all is_plain (front ++ parent ∷ back)) e).1
 
-plain_final : (rooted : Bool) (parts : List Part) → list_all is_plain parts ≡ true → IsFinal rooted parts
+pub plain_final : (rooted : Bool) (parts : List Part) → list_all is_plain parts ≡ true → IsFinal rooted parts
 plain_final rooted parts plain next s =
     elim s [
       | inl f ↦ no_parent (f.front ++ f.part ∷ []) f.back (ap (list_all is_plain) (append_assoc f.front (f.part ∷ []) (parent ∷ f.back) ∙ sym f.before) ∙ plain)
       | inr c ↦ no_parent [] next (ap (list_all is_plain) (sym c.before) ∙ plain)
     ]
 
-spelled_parts : (parts : List Part) → parts ≢ [] → spelled false parts ≡ join_with_byte 47 parts
+pub spelled_parts : (parts : List Part) → parts ≢ [] → spelled false parts ≡ join_with_byte 47 parts
 spelled_parts [] some = absurd (some refl)
 spelled_parts (part ∷ parts) some = refl
 
 -- a text whose parts are all plain does not begin at the root
-unrooted : (text : List ℕ) → list_all is_plain (slice_split slash text) ≡ true → is_rooted text ≡ false
+pub unrooted : (text : List ℕ) → list_all is_plain (slice_split slash text) ≡ true → is_rooted text ≡ false
 unrooted [] plain = refl
 unrooted (b ∷ bs) plain = by (b == 47) refl
   where
@@ -121,16 +121,19 @@ rooted_canonical text plain = record {
   text_is = ap (λ (l : List ℕ). 47 ∷ l) (sym (join_with_byte-slice_split 47 text));
 }
 
+pub rooted_behind : (text rest : List ℕ) → Some rest ≡ behind 47 text → list_all is_plain (slice_split slash rest) ≡ true → IsCanonical text text
+rooted_behind text rest is plain = subst (λ (path : List ℕ). IsCanonical path path) (sym (stripped_is text is)) (rooted_canonical rest plain)
+  where
+    stripped_is : (path : List ℕ) → Some rest ≡ behind 47 path → path ≡ 47 ∷ rest
+    stripped_is [] e = cc
+    stripped_is (b ∷ bs) e = by (eqb b 47) refl e
+      where
+        by : (t : Bool) → eqb b 47 ≡ t → Some rest ≡ cond t (Some bs) None → b ∷ bs ≡ 47 ∷ rest
+        by true is e = let first : b ≡ 47 = eqb-true b 47 is in cc
+        by false is e = absurd cc
+
 pub settled : (path : Bor (List ℕ)) (stripped : Option (Bor (List ℕ))) (parts : Bor (List ℕ)) (plain : Bool) → option_map (λ rest. rest.now) stripped ≡ behind 47 path.now → parts ≡ unwrap_or stripped path
     → plain ≡ list_all is_plain (slice_split slash parts.now) → plain ≡ true → IsCanonical path.now path.now
 settled path None parts plain is same found so = plain_canonical path.now (ap (λ (p : Bor (List ℕ)). list_all is_plain (slice_split slash p.now)) (sym same) ∙ (sym found ∙ so))
 settled path (Some rest) parts plain is same found so =
-    subst (λ (text : List ℕ). IsCanonical text text) (sym (stripped_is path.now is)) (rooted_canonical rest.now (ap (λ (p : Bor (List ℕ)). list_all is_plain (slice_split slash p.now)) (sym same) ∙ (sym found ∙ so)))
-  where
-    stripped_is : (text : List ℕ) → Some rest.now ≡ behind 47 text → text ≡ 47 ∷ rest.now
-    stripped_is [] e = cc
-    stripped_is (b ∷ bs) e = by (eqb b 47) refl e
-      where
-        by : (t : Bool) → eqb b 47 ≡ t → Some rest.now ≡ cond t (Some bs) None → b ∷ bs ≡ 47 ∷ rest.now
-        by true is e = let first : b ≡ 47 = eqb-true b 47 is in cc
-        by false is e = absurd cc
+    rooted_behind path.now rest.now is (ap (λ (p : Bor (List ℕ)). list_all is_plain (slice_split slash p.now)) (sym same) ∙ (sym found ∙ so))
