@@ -27,3 +27,7 @@ run_of class (b ∷ bytes) = cond (is_of class b) (b ∷ run_of class bytes) []
 abbrev pub behind_run : Class → List ℕ → List ℕ
 behind_run class [] = []
 behind_run class (b ∷ bytes) = cond (is_of class b) (behind_run class bytes) (b ∷ bytes)
+
+-- where a run ends
+abbrev pub is_stop : Class → ℕ → Bool
+is_stop class b = not (is_of class b)

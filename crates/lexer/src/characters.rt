@@ -4,6 +4,8 @@ ghost use Rattle.std.specs.Prelude.{◌≡◌, ◌++◌, ◌∷◌, ◌<◌, Lis
 ghost use Rattle.lexer.specs.Characters.{is_name, is_of, run_of, behind_run};
 ghost use Rattle.lexer.specs.Tokens.{behind, quoted};
 
+use crate::runs::run_len;
+
 /// Characters that go together, where they stand one behind another.
 #[derive(Clone, Copy, Debug, PartialEq, Eq)]
 pub enum Class {
@@ -50,13 +52,7 @@ pub fn split_run(text: &str, class: Class) -> (&str, &str)
     ensures run { result.0.now ≡ run_of class text.now }
     ensures rest { result.1.now ≡ behind_run class text.now }
 {
-    let bytes = text.as_bytes();
-    for (i, byte) in bytes.iter().enumerate() {
-        if !is_of(class, *byte) {
-            return text.split_at(i);
-        }
-    }
-    text.split_at(text.len())
+    text.split_at(run_len(text.as_bytes(), class))
 }
 
 /// What stands behind this ASCII character, where it stands first.

@@ -11,6 +11,7 @@ mod forms;
 mod lines;
 mod path;
 mod paths;
+mod runs;
 mod shell;
 mod statement;
 mod steps;

@@ -1,0 +1,10 @@
+use Rattle.std.proofs.Common.{◌≡◌, ◌+◌, ◌-◌, ◌≤◌, length, drop}
+use Rattle.std.specs.List.{prefix_len}
+use Rattle.lexer.specs.Characters.{is_of}
+use Rattle.lexer.proofs.runs.run_end.Given as goal
+
+abbrev pub invariant-loop-i : goal.invariant-loop-i
+invariant-loop-i l = (l.from + prefix_len (is_of l.class) (drop l.from l.bytes) ≡ l.i + prefix_len (is_of l.class) (drop l.i l.bytes)) × (l.i ≤ length l.bytes)
+
+abbrev pub decreases-loop-i : goal.decreases-loop-i
+decreases-loop-i l = length l.bytes - l.i
