@@ -10,12 +10,13 @@ use std::simd::prelude::*;
 
 /// How many bytes of the class stand in front.
 ///
-/// Each class is named in a call of its own, so that each gets a search of its own, in which nothing asks for the class.
+/// Each class is named in a call of its own, so that each gets a search of its own, in which nothing asks for the
+/// class. Spaces are few where they stand at all, and are looked at one by one.
 pub fn run_len(bytes: &[u8], class: Class) -> usize
     ensures { result ≡ prefix_len (is_of class) bytes.now }
 {
     match class {
-        Class::Space => run_len_of(bytes, Class::Space),
+        Class::Space => run_end(bytes, 0, Class::Space),
         Class::Name => run_len_of(bytes, Class::Name),
         Class::BareName => run_len_of(bytes, Class::BareName),
         Class::Path => run_len_of(bytes, Class::Path),
