@@ -27,3 +27,4 @@ pub mod Extending
 pub mod Undoing
 pub mod TakingBack
 pub mod Same
+pub mod Laying

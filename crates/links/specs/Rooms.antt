@@ -29,3 +29,11 @@ pub record IsMoved (old new list : List ℕ) (stop : ℕ) : Type 0 where
 pub record AreRooms (items : List ℕ) (rooms : List Room) : Type 0 where
   pub within : (k : ℕ) → IsRoomIn (length items) (get_or rooms k no_room)
   pub apart : (j k : ℕ) → j ≢ k → AreApart (get_or rooms j no_room) (get_or rooms k no_room)
+
+-- so many empty rooms, each of which begins where the one before it ends
+pub record AreLaid (count end : ℕ) (rooms : List Room) : Type 0 where
+  pub fits : length rooms ≡ count
+  pub empty : (k : ℕ) → (get_or rooms k no_room).stop ≡ (get_or rooms k no_room).start
+  pub in_order : (k : ℕ) → (get_or rooms k no_room).stop ≤ (get_or rooms k no_room).end
+  pub within : (k : ℕ) → (get_or rooms k no_room).end ≤ end
+  pub apart : (j k : ℕ) → j ≢ k → AreApart (get_or rooms j no_room) (get_or rooms k no_room)

@@ -1,6 +1,6 @@
 //! From a manifest to a graph.
 
-ghost use Rattle.std.specs.Prelude.{◌≡◌, ◌<◌, ℕ, List, [], length, IfOk, IfErr, OnOk};
+ghost use Rattle.std.specs.Prelude.{◌≡◌, ◌<◌, ℕ, All, List, [], length, IfOk, IfErr, OnOk};
 ghost use Rattle.std.proofs.Math.ListN.{replicate};
 ghost use Rattle.model.specs.Graph.{IsMadeOnce};
 ghost use Rattle.model.specs.SingleBuild.{NamesOther};
@@ -15,7 +15,7 @@ use crate::graph::Graph;
 use crate::makers::makers_of;
 use crate::recorded::Recorded;
 use crate::users::Users;
-use paths::Manifest;
+use paths::{Manifest, PathId};
 use std::alloc::{AllocError, Global};
 
 impl Graph {
@@ -47,10 +47,35 @@ pub(crate) fn users_of(alloc: Global, manifest: &Manifest) -> Result<Users, Allo
     ensures users { IfOk result (AreUsers manifest.now (replicate (length manifest.now.lines) [])) }
     ensures apart { OnOk result (HaveOnePlace manifest.now.paths) }
 {
-    let mut users = Users::none(alloc, manifest.paths.len())?;
+    let counts = input_counts(alloc, manifest)?;
+    let mut users = Users::with_rooms(alloc, &counts)?;
     for place in 0..manifest.lines.len() {
         let edge = manifest.edge(place);
         users.push_all(manifest.lines.inputs(edge), edge)?;
     }
     Ok(users)
+}
+
+/// How often each path is an input: so much room it takes at once.
+fn input_counts(alloc: Global, manifest: &Manifest) -> Result<Vec<usize>, AllocError>
+    ensures fits { IfOk result (λ counts. length counts.items ≡ length manifest.now.paths) }
+    ensures apart { OnOk result (HaveOnePlace manifest.now.paths) }
+{
+    let mut counts = vec![in alloc; 0usize; manifest.paths.len()]?;
+    for place in 0..manifest.lines.len() {
+        let edge = manifest.edge(place);
+        count_paths(&mut counts, manifest.lines.inputs(edge));
+    }
+    Ok(counts)
+}
+
+/// Each of these paths is counted once more.
+fn count_paths(counts: &mut [usize], paths: &[PathId])
+    requires { All (λ p. p < length counts.old) paths.now }
+    ensures { length counts.new ≡ length counts.old }
+{
+    for path in paths {
+        let count = counts[path.index()];
+        counts[path.index()] = count.saturating_add(1);
+    }
 }

@@ -3,7 +3,7 @@
 ghost use Rattle.std.specs.Prelude.{◌≡◌, ◌<◌, ◌+◌, ◌++◌, ◌∷◌, ◌-◌, ◌≤◌, ℕ, List, All, [], length, take, drop, IfOk, OnOk, OnErr};
 ghost use Rattle.std.proofs.Math.ListN.{replicate};
 ghost use Rattle.paths.specs.Lists.{between, Extends};
-ghost use Rattle.links.specs.Rooms.{IsMoved};
+ghost use Rattle.links.specs.Rooms.{IsMoved, AreLaid};
 ghost use Rattle.links.specs.Held.{list_at, push_at, pushed, pop_at};
 
 use paths::{EdgeId, PathId};
@@ -54,6 +54,19 @@ impl Users {
         Ok(Users {
             edges: Vec::new(alloc),
             rooms: vec![in alloc; Room::NONE; paths]?,
+        })
+    }
+
+    /// As many paths as counts, which no edge names, each with room for so many edges: where no more are put behind a path, no list
+    /// moves.
+    pub(crate) fn with_rooms(alloc: Global, counts: &[usize]) -> Result<Users, AllocError>
+        ensures { IfOk result (λ users. users ≡ replicate (length counts.now) []) }
+    {
+        let mut rooms = Vec::with_capacity(alloc, counts.len())?;
+        let end = lay_rooms(&mut rooms, counts)?;
+        Ok(Users {
+            edges: vec![in alloc; EdgeId::at_below(0); end]?,
+            rooms,
         })
     }
 
@@ -174,6 +187,26 @@ impl Users {
             };
         }
     }
+}
+
+/// Puts an empty room for each count behind the one before it, of which there is none yet, and gives the end of the last.
+fn lay_rooms(rooms: &mut Vec<Room>, counts: &[usize]) -> Result<usize, AllocError>
+    requires { rooms.old.items ≡ [] }
+    ensures { IfOk result (λ end. AreLaid (length counts.now) end rooms.new.items) }
+{
+    let mut end = 0usize;
+    for count in counts {
+        let Some(next) = end.checked_add(*count) else {
+            return Err(AllocError);
+        };
+        rooms.push(Room {
+            start: end,
+            stop: end,
+            end: next,
+        })?;
+        end = next;
+    }
+    Ok(end)
 }
 
 /// Copies what stands between two places to the end, puts an edge behind it, and makes as many places again. Gives the
