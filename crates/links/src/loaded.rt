@@ -127,7 +127,7 @@ fn grown_lines(
     requires below { AreChoicesBelow (length gains.now) chosen.now }
     ensures { IfOk result (λ grown. AreGrownLines lines.now chosen.now gains.now grown) }
 {
-    let mut grown = Lines::new(alloc);
+    let mut grown = Lines::with_room_for(alloc, lines)?;
     for (place, choice) in chosen.iter().enumerate() {
         push_line(&mut grown, lines, EdgeId::at_below(place), *choice, gains)?;
     }

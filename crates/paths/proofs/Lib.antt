@@ -1,3 +1,4 @@
 pub mod Places
 pub mod Flat
 pub mod Naming
+pub mod Moving

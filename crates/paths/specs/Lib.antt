@@ -2,3 +2,4 @@ pub mod Numbers
 pub mod Lists
 pub mod Commands
 pub mod Told
+pub mod Moved

@@ -1,6 +1,6 @@
-use Rattle.std.proofs.Common.{◌≡◌, ◌∙◌, ◌<◌, ◌+◌, ◌≤◌, ℕ, suc, ap, sym, subst, false, List, length, take, arith}
+use Rattle.std.proofs.Common.{◌≡◌, ◌∙◌, ◌+◌, ℕ, suc, ap, sym, subst, false, List, take, arith}
 use Rattle.model.specs.Graph.{has_number}
-use Rattle.paths.specs.Lists.{line_at, line_paths, all_paths}
+use Rattle.paths.specs.Lists.{all_paths}
 use Rattle.paths.proofs.Naming.{named_here, named_next}
 use Rattle.paths.proofs.lines.Lines.name.Goals as goal
 
