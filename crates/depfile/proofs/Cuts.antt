@@ -1,12 +1,14 @@
 -- Where a run of characters ends, and that a text may be cut there.
-use Rattle.std.proofs.Common.{◌≡◌, ℕ, ◌<◌, ◌≤◌, Bool, true, false, List, [], ◌∷◌, length, take, drop, get_or, arith, add-one, ap, refl, None, ◌==◌, ◌++◌, ◌-◌, ◌+◌, ◌∙◌, length-append, subst}
+use Rattle.std.proofs.Common.{◌≡◌, ℕ, ◌<◌, ◌≤◌, Bool, true, false, List, [], ◌∷◌, length, take, drop, get_or, arith, add-one, ap, refl, None, ◌==◌, ◌++◌, ◌-◌, ◌+◌, ◌∙◌, length-append, subst, inl, inr}
 use Prim.Native.Nat.{zero, suc}
 use Rattle.std.specs.Str.{IsUtf8, IsCharBoundary}
 use Rattle.std.specs.List.{AllByRecursion}
 use Rattle.std.proofs.lemmas.Bool.Decides.{nat_tests}
-use Rattle.std.proofs.lemmas.Str.{IsCharBoundary-start, IsCharBoundary-after_ascii, IsCharBoundary-before_ascii, IsCharBoundary-at_seam}
+use Rattle.std.proofs.lemmas.Str.{IsCharBoundary-start, IsCharBoundary-after_ascii, IsCharBoundary-before_ascii, IsCharBoundary-at_seam, IsCharBoundary-end}
 use Rattle.depfile.specs.declared.characters.Class.{Class}
 use Rattle.depfile.specs.declared.characters.Class.TheVariants.{Plain, Backslash}
+use Rattle.std.proofs.lemmas.Bool.{cases_lt}
+use Rattle.depfile.specs.Runs.{IsRunEnd}
 use Rattle.depfile.specs.Pieces.{is_of, run_of, behind_run, behind}
 
 abbrev pub AllPass : (ℕ → Bool) → List ℕ → Type 0
@@ -43,14 +45,22 @@ run_at class (b ∷ bytes) (suc i) all ends =
       rw all.0 more.1,
     )
 
-pub run_to_end : (class : Class) (bytes : List ℕ) (i : ℕ) → AllPass (is_of class) (take i bytes) → length bytes ≤ i → (run_of class bytes ≡ take (length bytes) bytes) × (behind_run class bytes ≡ drop (length bytes) bytes)
-run_to_end class [] i all past = (refl, refl)
-run_to_end class (b ∷ bytes) zero all past = absurd (omega arith)
-run_to_end class (b ∷ bytes) (suc i) all past =
-    let more = run_to_end class bytes i all.1 (omega arith) in (
-      rw all.0 (ap (λ (xs : List ℕ). b ∷ xs) more.0),
-      rw all.0 more.1,
-    )
+all_from_places : (test : ℕ → Bool) (bytes : List ℕ) (i : ℕ) → i ≤ length bytes → ((k : ℕ) → k < i → test (get_or bytes k 0) ≡ true) → AllPass test (take i bytes)
+all_from_places test [] zero le at = tt
+all_from_places test [] (suc i) le at = absurd (omega arith)
+all_from_places test (b ∷ bytes) zero le at = tt
+all_from_places test (b ∷ bytes) (suc i) le at = (at 0 (omega arith), all_from_places test bytes i (omega arith) (λ k lt. at (suc k) (omega arith)))
+
+-- the place where a run ends parts it from what stands behind it
+pub parted_at : (class : Class) (bytes : List ℕ) (end : ℕ) → IsRunEnd class bytes 0 end → (run_of class bytes ≡ take end bytes) × (behind_run class bytes ≡ drop end bytes)
+parted_at class bytes end is = run_at class bytes end (all_from_places (is_of class) bytes end is.1 (λ k lt. is.2 k (omega arith) lt)) is.3
+
+pub cut_at_end : (class : Class) (bytes : List ℕ) (end : ℕ) → IsUtf8 bytes → IsRunEnd class bytes 0 end → IsCharBoundary bytes end
+cut_at_end class bytes end utf8 is =
+    elim (cases_lt end (length bytes)) [
+      | inl lt ↦ cut_behind_run class bytes end utf8 lt (all_from_places (is_of class) bytes end is.1 (λ k below. is.2 k (omega arith) below)) (is.3 lt)
+      | inr past ↦ let whole : length bytes ≡ end = omega (arith, is.1) in subst (IsCharBoundary bytes) whole (IsCharBoundary-end bytes)
+    ]
 
 -- the run is of its class, and what stands behind it does not begin so
 pub run_passes : (class : Class) (bytes : List ℕ) → AllPass (is_of class) (run_of class bytes)

@@ -1,4 +1,5 @@
 pub mod Cuts
+pub mod Stops
 pub mod Escapes
 pub mod Fronts
 pub mod Parts

@@ -3,6 +3,8 @@
 ghost use Rattle.std.specs.Prelude.{◌≡◌, ◌++◌, ◌<◌, option_map};
 ghost use Rattle.depfile.specs.Pieces.{is_of, run_of, behind_run, behind};
 
+use crate::runs::end_of;
+
 /// Characters that go together, where they stand one behind another.
 #[derive(Clone, Copy, Debug, PartialEq, Eq)]
 pub enum Class {
@@ -23,18 +25,13 @@ pub fn is_of(class: Class, byte: u8) -> bool
 }
 
 /// The longest front of the text that is of the class, and what stands behind it.
+#[inline(always)]
 pub fn split_run(text: &str, class: Class) -> (&str, &str)
     ensures spelled { text.now ≡ result.0.now ++ result.1.now }
     ensures run { result.0.now ≡ run_of class text.now }
     ensures rest { result.1.now ≡ behind_run class text.now }
 {
-    let bytes = text.as_bytes();
-    for (i, byte) in bytes.iter().enumerate() {
-        if !is_of(class, *byte) {
-            return text.split_at(i);
-        }
-    }
-    text.split_at(text.len())
+    text.split_at(end_of(text.as_bytes(), class))
 }
 
 /// What stands behind this ASCII character, where it stands first.

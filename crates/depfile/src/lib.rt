@@ -7,6 +7,7 @@ mod laws;
 mod pieces;
 mod reading;
 mod rules;
+mod runs;
 mod separators;
 mod words;
 
