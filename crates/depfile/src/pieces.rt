@@ -5,7 +5,7 @@ ghost use Rattle.depfile.specs.Signs.{spelled};
 ghost use Rattle.depfile.specs.Pieces.{IsPiece, IsEscape, AllBackslashes, NoWord, run_of, behind, separator_of, is_itself, is_colon, signs_of};
 
 use crate::characters::{Class, split_run, strip_one};
-use crate::separators::{separator_at, strip_newline};
+use crate::separators::{is_word_end, strip_newline};
 use std::alloc::AllocError;
 
 /// A piece of a word.
@@ -27,7 +27,7 @@ pub fn piece_at(text: &str) -> Option<(Piece<'_>, &str)>
     ensures piece { IfSome result (λ found. IsPiece text.now found.0 found.1.now) }
     ensures none { IfNone result (NoWord text.now) }
 {
-    if text.is_empty() || separator_at(text).is_some() {
+    if is_word_end(text) {
         return None;
     }
     let (plain, after) = split_run(text, Class::Plain);

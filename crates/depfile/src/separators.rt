@@ -1,7 +1,7 @@
 //! What stands between words.
 
-ghost use Rattle.std.specs.Prelude.{◌≡◌, option_map, IfSome};
-ghost use Rattle.depfile.specs.Pieces.{IsSeparated, newline_of, separator_of, sign_of};
+ghost use Rattle.std.specs.Prelude.{◌≡◌, ◌≢◌, [], None, false, option_map, IfSome, IsTrue};
+ghost use Rattle.depfile.specs.Pieces.{IsSeparated, NoWord, newline_of, separator_of, sign_of};
 
 use crate::characters::strip_one;
 
@@ -41,4 +41,13 @@ pub fn separator_at(text: &str) -> Option<(Separator, &str)>
     }
     let joined = strip_newline(strip_one(text, b'\\')?)?;
     Some((Separator::Blank, joined))
+}
+
+/// Whether no word goes on here: the text ends, or a separator stands first.
+#[inline(always)]
+pub fn is_word_end(text: &str) -> bool
+    ensures ends { IsTrue result → NoWord text.now }
+    ensures goes_on { result ≡ false → (text.now ≢ []) × (separator_of text.now ≡ None) }
+{
+    text.is_empty() || separator_at(text).is_some()
 }

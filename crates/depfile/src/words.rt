@@ -6,8 +6,9 @@ ghost use Rattle.depfile.specs.Signs.Sign.{blank};
 ghost use Rattle.depfile.specs.Pieces.{NoWord, separator_of};
 ghost use Rattle.depfile.specs.Words.{IsWord, IsToken, IsBehindBlanks, front_word, is_at_blank};
 
+use crate::characters::{Class, split_run};
 use crate::pieces::piece_at;
-use crate::separators::{Separator, separator_at};
+use crate::separators::{Separator, is_word_end, separator_at};
 use std::alloc::{AllocError, Global};
 
 /// A word as it stands.
@@ -32,7 +33,38 @@ pub enum Token<'a> {
 }
 
 /// The word that stands first, and what stands behind it. None where no word stands.
+#[inline(always)]
 pub fn word_at(text: &str) -> Option<(Word<'_>, &str)>
+    ensures word { IfSome result (λ found. IsWord text.now found.0 found.1.now) }
+    ensures none { IfNone result (NoWord text.now) }
+{
+    if let Some(found) = plain_word_at(text) {
+        return Some(found);
+    }
+    word_of_pieces(text)
+}
+
+/// The word that stands first, where it is one run of plain characters, as most are. None where it is another, or
+/// no word stands.
+#[inline(always)]
+fn plain_word_at(text: &str) -> Option<(Word<'_>, &str)>
+    ensures { IfSome result (λ found. IsWord text.now found.0 found.1.now) }
+{
+    let (written, after) = split_run(text, Class::Plain);
+    if written.is_empty() || !is_word_end(after) {
+        return None;
+    }
+    let word = Word {
+        written,
+        from: text,
+        is_plain: true,
+        ends_with_colon: false,
+    };
+    Some((word, after))
+}
+
+/// The word that stands first, piece by piece, and what stands behind it. None where no word stands.
+fn word_of_pieces(text: &str) -> Option<(Word<'_>, &str)>
     ensures word { IfSome result (λ found. IsWord text.now found.0 found.1.now) }
     ensures none { IfNone result (NoWord text.now) }
 {
@@ -81,6 +113,7 @@ fn skip_blanks(text: &str) -> &str
 
 /// The word or the end of a rule that stands first, and what stands behind it. The end of the text ends a
 /// rule.
+#[inline(always)]
 pub fn token_at(text: &str) -> (Token<'_>, &str)
     ensures { IsToken text.now result.0 result.1.now }
 {

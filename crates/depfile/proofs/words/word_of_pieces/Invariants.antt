@@ -2,7 +2,7 @@ use Rattle.std.proofs.Common.{length}
 use denote.Text.{Utf8}
 use denote.Shadow.{shadow}
 use Rattle.depfile.proofs.Fronts.{WordSoFar}
-use Rattle.depfile.proofs.words.word_at.Given as goal
+use Rattle.depfile.proofs.words.word_of_pieces.Given as goal
 
 abbrev pub invariant-pieces : goal.invariant-pieces
 invariant-pieces l = record {

@@ -2,8 +2,8 @@ use Rattle.std.proofs.Common.{◌≡◌, true, sym, ◌∙◌, refl, rules}
 use Rattle.depfile.proofs.Cuts.{cut_at_rest}
 use Rattle.depfile.proofs.Fronts.{word_begins, word_goes_on, word_ends}
 use Rattle.depfile.specs.Pieces.{is_itself}
-use Rattle.depfile.proofs.words.word_at.Goals as goal
-use Rattle.depfile.proofs.words.word_at.Goals.{then-is_plain, else-is_plain}
+use Rattle.depfile.proofs.words.word_of_pieces.Goals as goal
+use Rattle.depfile.proofs.words.word_of_pieces.Goals.{then-is_plain, else-is_plain}
 
 pub pieces-init : goal.pieces-init
 pieces-init c = record {
