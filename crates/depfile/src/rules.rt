@@ -13,6 +13,12 @@ use indexmap::IndexSet;
 use lexer::{ReadFault, canonical};
 use std::alloc::Global;
 
+/// About how many bytes of a depfile a path takes, with what parts it from the next.
+const BYTES_OF_PATH: usize = 32;
+
+/// For how many paths more than one there is room from the start, at most.
+const MOST_ROOM: usize = 4096;
+
 /// What stands behind the targets of a rule.
 #[derive(Clone, Copy, Debug)]
 pub enum Behind<'a> {
@@ -78,8 +84,23 @@ fn add_path(alloc: Global, word: &Word<'_>, paths: &mut IndexSet<String>) -> Res
     ensures adds { OnOk result ((all : List (List ℕ)) → AreKept all paths.old.keys → AddsPath (spelled (front_word (signs word.now.from.now))) all paths.new.keys) }
     ensures memory { IfErr result (λ error. error ≡ ReadError.Memory) }
 {
+    make_room(paths, word.from)?;
     let path = path_of(alloc, word)?;
     paths.insert(path)?;
+    Ok(())
+}
+
+/// Makes room for about as many paths as the text may hold, before the first of them is added. It would grow in
+/// many small steps else; where there are more of them, it grows later.
+#[inline(always)]
+fn make_room(paths: &mut IndexSet<String>, text: &str) -> Result<(), ReadError>
+    ensures keys { paths.new.keys ≡ paths.old.keys }
+    ensures memory { IfErr result (λ error. error ≡ ReadError.Memory) }
+{
+    if paths.is_empty() {
+        let others = text.len() / BYTES_OF_PATH;
+        paths.reserve(1 + others.min(MOST_ROOM))?;
+    }
     Ok(())
 }
 
