@@ -1,17 +1,17 @@
 -- What is taken in by what was seen of paths, and what phony edges read in sum.
-use Rattle.std.proofs.Common.{◌≡◌, inl, inr, ℕ, suc, ◌+◌, ◌<◌, ◌==◌, Bool, true, false, List, [], ◌∷◌, ◌++◌, Option, Some, None, cond, length, take, get_or, refl, sym, ◌∙◌, ap, subst, append_assoc}
+use Rattle.std.proofs.Common.{◌≡◌, inl, inr, ℕ, suc, ◌+◌, ◌<◌, ◌==◌, ◌||◌, not, Bool, true, false, List, [], ◌∷◌, ◌++◌, Option, Some, None, is_some, if◌then◌else◌, cond, length, take, get_or, refl, sym, ◌∙◌, ap, subst, append_assoc}
 use Rattle.std.specs.List.{flat_map}
-use Rattle.std.proofs.lemmas.Bool.{false≢true, or_left, or_right, eq-eqb, eqb-true}
+use Rattle.std.proofs.lemmas.Bool.{false≢true, or_left, or_right, eq-eqb, eqb-true, false_from_ne_true}
 use Rattle.std.proofs.lemmas.List.{append-nil, take_more}
 use Rattle.std.proofs.lemmas.Grind.{flat_map-append}
 use Rattle.model.specs.declared.event.Moment.{Moment}
 use Rattle.model.specs.Graph.{has_number}
 use Rattle.model.specs.Reading.{IsRead}
 use Rattle.model.specs.Judgement.{InputFacts}
-use Rattle.build_theory.proofs.Lists.{all_append, has_number-left, has_number-right, has_number-cases, has_number-is}
+use Rattle.build_theory.proofs.Lists.{all_append, has_number-left, has_number-right, has_number-cases, has_number-is, has_number-push, has_number-push_other}
 use Rattle.links.specs.declared.graph.Graph.{Graph}
-use Rattle.links.specs.Links.{links_of}
-use Rattle.links.specs.Alias.{alias_at}
+use Rattle.links.specs.Links.{Links, links_of}
+use Rattle.links.specs.Alias.{alias_at, counts_if_present}
 use Rattle.links.specs.ReadingOf.{IsReadingOf}
 use Rattle.links.specs.Told.{declared_by}
 use Rattle.links.proofs.ReadThrough.{read_by_step, read_counted, read_through}
@@ -21,6 +21,7 @@ use Rattle.dirty.specs.declared.inputs.Inputs.{Inputs}
 use Rattle.dirty.specs.Summaries.{AreInputs}
 use Rattle.verdict.specs.declared.sums.Sums.{Sums}
 use Rattle.verdict.specs.Facts.{stamp_at, one_input, all_inputs, AreIn, IsReadBy, seen_stamp, seen_inputs, AreAsked, HasTaken}
+use Rattle.verdict.specs.Lasting.{is_made, any_made, read_made, IsLasting, AreLasting, AreMarked, KeepsUnmade}
 use Rattle.verdict.specs.Summed.{IsSum, AreSums, HasJoined}
 use Rattle.verdict.proofs.Taking.{flat_more}
 
@@ -40,6 +41,35 @@ seen_of (Some stamp) = refl
 
 pub stamp_by : (stamp : Option ℕ) (look : Look) → look ≡ look_of stamp → seen_stamp look ≡ stamp
 stamp_by stamp look is = ap seen_stamp is ∙ seen_of stamp
+
+-- what is not in a list was not in it before one came behind, if one did
+pub not_before : (pushed : Bool) (xs ys : List ℕ) (e q : ℕ) → ys ≡ (if pushed then xs ++ e ∷ [] else xs) → has_number ys q ≡ false → has_number xs q ≡ false
+not_before true xs ys e q is absent =
+    false_from_ne_true (has_number xs q) (λ has. false≢true (sym absent ∙ (ap (λ (l : List ℕ). has_number l q) is ∙ has_number-left xs (e ∷ []) q has)))
+not_before false xs ys e q is absent = ap (λ (l : List ℕ). has_number l q) (sym is) ∙ absent
+
+pub is_behind : (pushed : Bool) (xs ys : List ℕ) (e : ℕ) → ys ≡ (if pushed then xs ++ e ∷ [] else xs) → pushed ≡ true → has_number ys e ≡ true
+is_behind true xs ys e is yes_ = ap (λ (l : List ℕ). has_number l e) is ∙ has_number-push xs e
+is_behind false xs ys e is yes_ = absurd (false≢true yes_)
+
+-- a test that is not so is false
+pub turned : (b : Bool) → not b ≡ true → b ≡ false
+turned true is = absurd (false≢true is)
+turned false is = refl
+
+no_sum : (inputs : Inputs) → None ≡ Some inputs → ⊥
+no_sum inputs is = cc
+
+popped_by : (rest : List ℕ) (x q : ℕ) (old new : Option Inputs) (inputs : Inputs) (b : Bool) → (x == q) ≡ b → new ≡ cond b None old → new ≡ Some inputs → has_number rest q ≡ false
+    → (old ≡ Some inputs) × (has_number (rest ++ x ∷ []) q ≡ false)
+popped_by rest x q old new inputs true same is has other = absurd (no_sum inputs (sym is ∙ has))
+popped_by rest x q old new inputs false same is has other =
+    (sym is ∙ has, has_number-push_other rest x q (λ one. false≢true (sym same ∙ eq-eqb x q one)) ∙ other)
+
+-- what is left of sums and of the marked edges, when the last of these is taken out of both, was there before and is not marked
+pub popped : (rest : List ℕ) (x q : ℕ) (old new : Option Inputs) (inputs : Inputs) → new ≡ cond (x == q) None old → new ≡ Some inputs → has_number rest q ≡ false
+    → (old ≡ Some inputs) × (has_number (rest ++ x ∷ []) q ≡ false)
+popped rest x q old new inputs is has other = popped_by rest x q old new inputs (x == q) refl is has other
 
 asked_stays : (seen new : List Look) → Stays seen new → (ns : List ℕ) → AreAsked seen ns → AreAsked new ns
 asked_stays seen new stays [] asked = tt
@@ -100,6 +130,21 @@ module _ (graph : Graph) (flags : List Bool) where
   pub sums_stay : (seen new : List Look) → Stays seen new → (sums : Sums) → AreSums graph flags seen sums → AreSums graph flags new sums
   sums_stay seen new stays sums so e inputs is = sum_stays seen new stays e inputs (so e inputs is)
 
+  -- what lasts does so by what was seen since
+  lasting_stays : (seen new : List Look) → Stays seen new → (e : ℕ) (inputs : Inputs) → IsLasting graph flags seen e inputs → IsLasting graph flags new e inputs
+  lasting_stays seen new stays e inputs lasting = record {
+    sum = record {
+      edges = lasting.sum.edges;
+      read = lasting.sum.read;
+      asked = asked_stays seen new stays (flat_map (links_of graph).regular lasting.sum.edges) lasting.sum.asked;
+      are = subst (λ (l : List InputFacts). AreInputs l inputs) (inputs_same false seen new stays (flat_map (links_of graph).regular lasting.sum.edges) lasting.sum.asked) lasting.sum.are;
+    };
+    unmade = lasting.unmade;
+  }
+
+  pub marks_stay : (seen new : List Look) → Stays seen new → (sums : Sums) → AreMarked graph flags seen sums → AreMarked graph flags new sums
+  marks_stay seen new stays sums so e inputs is other = lasting_stays seen new stays e inputs (so e inputs is other)
+
   noted_by : (seen : List Look) (e q : ℕ) (sum : Inputs) (old new : Option Inputs) (b : Bool) → (b ≡ true → e ≡ q) → new ≡ cond b (Some sum) old → IsSum graph flags seen e sum
       → ((inputs : Inputs) → old ≡ Some inputs → IsSum graph flags seen q inputs) → (inputs : Inputs) → new ≡ Some inputs → IsSum graph flags seen q inputs
   noted_by seen e q sum old new true same is noted so inputs has =
@@ -111,10 +156,34 @@ module _ (graph : Graph) (flags : List Bool) where
       → ((inputs : Inputs) → old ≡ Some inputs → IsSum graph flags seen q inputs) → (inputs : Inputs) → new ≡ Some inputs → IsSum graph flags seen q inputs
   sum_noted seen e q sum old new is = noted_by seen e q sum old new (e == q) (λ same. eqb-true e q same) is
 
+  -- so is one that lasts or is marked
+  lasting_noted_by : (seen : List Look) (e q : ℕ) (sum : Inputs) (old new : Option Inputs) (b : Bool) → (b ≡ true → e ≡ q) → new ≡ cond b (Some sum) old → (e ≡ q → IsLasting graph flags seen e sum)
+      → ((inputs : Inputs) → old ≡ Some inputs → IsLasting graph flags seen q inputs) → (inputs : Inputs) → new ≡ Some inputs → IsLasting graph flags seen q inputs
+  lasting_noted_by seen e q sum old new true same is noted so inputs has =
+      subst (λ (n : ℕ). IsLasting graph flags seen n inputs) (same refl) (subst (IsLasting graph flags seen e) (sum_same sum inputs (sym is ∙ has)) (noted (same refl)))
+  lasting_noted_by seen e q sum old new false same is noted so inputs has = so inputs (sym is ∙ has)
+
+  unless_marked : (passing : List ℕ) (e q : ℕ) (sum : Inputs) (seen : List Look) (lasts : Bool) → (lasts ≡ true → IsLasting graph flags seen e sum) → (lasts ≡ false → has_number passing e ≡ true)
+      → has_number passing q ≡ false → e ≡ q → IsLasting graph flags seen e sum
+  unless_marked passing e q sum seen true lasting marked other same = lasting refl
+  unless_marked passing e q sum seen false lasting marked other same = absurd (false≢true (sym other ∙ (ap (has_number passing) (sym same) ∙ marked refl)))
+
+  pub lasting_noted : (seen : List Look) (passing : List ℕ) (e q : ℕ) (lasts : Bool) (sum : Inputs) (old new : Option Inputs) → new ≡ cond (e == q) (Some sum) old
+      → (lasts ≡ true → IsLasting graph flags seen e sum) → (lasts ≡ false → has_number passing e ≡ true)
+      → ((inputs : Inputs) → old ≡ Some inputs → IsLasting graph flags seen q inputs) → (inputs : Inputs) → new ≡ Some inputs → has_number passing q ≡ false → IsLasting graph flags seen q inputs
+  lasting_noted seen passing e q lasts sum old new is lasting marked so inputs has other =
+      lasting_noted_by seen e q sum old new (e == q) (λ same. eqb-true e q same) is (unless_marked passing e q sum seen lasts lasting marked other) so inputs has
+
   -- what an edge reads in sum, where all of it was taken in after nothing
   pub sum_taken : (seen : List Look) (e : ℕ) (edges : List ℕ) (none inputs : Inputs) → IsReadingOf graph e edges → AreInputs [] none
       → HasTaken graph flags false seen (flat_map (links_of graph).regular edges) none inputs → IsSum graph flags seen e inputs
   sum_taken seen e edges none inputs reading of taken = record { edges = edges; read = reading.read; asked = taken.asked; are = taken.takes [] of }
+
+  -- what an edge reads in sum lasts, where no command makes any of it
+  pub lasting_taken : (seen : List Look) (e : ℕ) (edges : List ℕ) (none inputs : Inputs) → IsReadingOf graph e edges → AreInputs [] none
+      → HasTaken graph flags false seen (flat_map (links_of graph).regular edges) none inputs → read_made (links_of graph) edges ≡ false → IsLasting graph flags seen e inputs
+  lasting_taken seen e edges none inputs reading of taken unmade =
+      record { sum = record { edges = edges; read = reading.read; asked = taken.asked; are = taken.takes [] of }; unmade = unmade }
 
   -- ---- what is read through phony edges
 
@@ -219,3 +288,66 @@ module _ (graph : Graph) (flags : List Bool) where
       subst (λ (l : List InputFacts). AreInputs (l ++ all_inputs graph flags true files ms) all) (seen_are false set files seen are ns first.asked in_ns)
       (subst (λ (l : List InputFacts). AreInputs (seen_inputs graph flags false seen ns ++ l) all) (seen_are true set files seen are ms second.asked in_ms)
       (second.takes (seen_inputs graph flags false seen ns) (first.takes [] of)))
+
+-- ---- what no command makes
+
+neither : (a b : Bool) → (a || b) ≡ false → (a ≡ false) × (b ≡ false)
+neither true b is = absurd (false≢true (sym is))
+neither false b is = (refl, is)
+
+both_not : (a b : Bool) → a ≡ false → b ≡ false → (a || b) ≡ false
+both_not true b first second = absurd (false≢true (sym first))
+both_not false b first second = second
+
+none_made : (links : Links) (xs ys : List ℕ) → any_made links xs ≡ false → any_made links ys ≡ false → any_made links (xs ++ ys) ≡ false
+none_made links [] ys free rest = rest
+none_made links (x ∷ xs) ys free rest =
+    let parts = neither (is_made links x) (any_made links xs) free in
+    both_not (is_made links x) (any_made links (xs ++ ys)) parts.0 (none_made links xs ys parts.1 rest)
+
+none_read : (links : Links) (es : List ℕ) → read_made links es ≡ false → any_made links (flat_map links.regular es) ≡ false
+none_read links [] free = refl
+none_read links (e ∷ es) free =
+    let parts = neither (any_made links (links.regular e)) (read_made links es) free in
+    none_made links (links.regular e) (flat_map links.regular es) parts.0 (none_read links es parts.1)
+
+module _ (graph : Graph) (f g : List Bool) (seen new : List Look) (keeps : KeepsUnmade graph f seen g new) where
+  asked_kept : (ns : List ℕ) → any_made (links_of graph) ns ≡ false → AreAsked seen ns → AreAsked new ns
+  asked_kept [] free asked = tt
+  asked_kept (n ∷ ns) free asked =
+      let parts = neither (is_made (links_of graph) n) (any_made (links_of graph) ns) free in
+      (ap is_asked (keeps.looks n parts.0 asked.0) ∙ asked.0, asked_kept ns parts.1 asked.1)
+
+  input_kept : (n : ℕ) → is_made (links_of graph) n ≡ false → is_asked (look_at seen n) ≡ true
+      → one_input graph f false n (seen_stamp (look_at seen n)) ≡ one_input graph g false n (seen_stamp (look_at new n))
+  input_kept n free asked =
+      ap (λ (look : Look). one_input graph f false n (seen_stamp look)) (sym (keeps.looks n free asked))
+      ∙ ap (λ (b : Bool). if false || (is_some (seen_stamp (look_at new n)) || not (counts_if_present (links_of graph) n)) then record { stamp = seen_stamp (look_at new n); changed = b } ∷ [] else [])
+      (sym (keeps.flags n free))
+
+  inputs_kept : (ns : List ℕ) → any_made (links_of graph) ns ≡ false → AreAsked seen ns → seen_inputs graph f false seen ns ≡ seen_inputs graph g false new ns
+  inputs_kept [] free asked = refl
+  inputs_kept (n ∷ ns) free asked =
+      let parts = neither (is_made (links_of graph) n) (any_made (links_of graph) ns) free in
+      ap (λ (l : List InputFacts). l ++ seen_inputs graph f false seen ns) (input_kept n parts.0 asked.0)
+      ∙ ap (λ (l : List InputFacts). one_input graph g false n (seen_stamp (look_at new n)) ++ l) (inputs_kept ns parts.1 asked.1)
+
+  lasting_kept : (e : ℕ) (inputs : Inputs) → IsLasting graph f seen e inputs → IsLasting graph g new e inputs
+  lasting_kept e inputs lasting =
+      let none = none_read (links_of graph) lasting.sum.edges lasting.unmade in
+      record {
+        sum = record {
+          edges = lasting.sum.edges;
+          read = lasting.sum.read;
+          asked = asked_kept (flat_map (links_of graph).regular lasting.sum.edges) none lasting.sum.asked;
+          are = subst (λ (l : List InputFacts). AreInputs l inputs) (inputs_kept (flat_map (links_of graph).regular lasting.sum.edges) none lasting.sum.asked) lasting.sum.are;
+        };
+        unmade = lasting.unmade;
+      }
+
+  -- what lasts is right where all that no command makes is known still, and lasts
+  pub sums_last : (sums : Sums) → AreLasting graph f seen sums → AreSums graph g new sums
+  sums_last sums lasting e inputs is = (lasting_kept e inputs (lasting e inputs is)).sum
+
+  pub marks_last : (sums : Sums) → AreLasting graph f seen sums → AreMarked graph g new sums
+  marks_last sums lasting e inputs is other = lasting_kept e inputs (lasting e inputs is)

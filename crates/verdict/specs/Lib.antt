@@ -1,3 +1,4 @@
 pub mod Facts
 pub mod Judged
+pub mod Lasting
 pub mod Summed

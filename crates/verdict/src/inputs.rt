@@ -8,8 +8,10 @@ ghost use Rattle.links.specs.Links.{links_of};
 ghost use Rattle.links.specs.ReadingOf.{edges_in};
 ghost use Rattle.looks.specs.Looking.{HasLooked};
 ghost use Rattle.verdict.specs.Facts.{AreInputsOf, HasTaken, TakesOne, flag_at};
+ghost use Rattle.verdict.specs.Lasting.{IsLasting, StayMarked};
 ghost use Rattle.verdict.specs.Summed.{AreSums, HasJoined, IsSum};
 
+use crate::lasting::reads_made;
 use crate::stamps::stamp_of;
 use crate::sums::Sums;
 use dirty::Inputs;
@@ -38,6 +40,7 @@ pub(crate) fn inputs_of<S: Site>(
     ensures looked { HasLooked S.tells graph.now (S.world site.old) (S.world site.new) looks.old looks.new }
     ensures cause { HasCause (S.world site.old) (S.world site.new) result }
     ensures summed { AreSums graph.now changed.now looks.new.seen.items sums.new }
+    ensures marked { StayMarked graph.now changed.now looks.old.seen.items looks.new.seen.items sums.old sums.new }
     ensures inputs { IfOk result (λ inputs. AreInputsOf graph.now S.tells changed.now edge (S.world site.old) (S.world site.new) looks.old.seen.items inputs) }
 {
     looks_follow();
@@ -77,6 +80,7 @@ fn add_aliases<S: Site>(
     ensures looked { HasLooked S.tells graph.now (S.world site.old) (S.world site.new) looks.old looks.new }
     ensures cause { HasCause (S.world site.old) (S.world site.new) result }
     ensures summed { AreSums graph.now changed.now looks.new.seen.items sums.new }
+    ensures marked { StayMarked graph.now changed.now looks.old.seen.items looks.new.seen.items sums.old sums.new }
     ensures joined { OnOk result (HasJoined graph.now changed.now looks.new.seen.items paths.now inputs.old inputs.new) }
 {
     looks_follow();
@@ -103,6 +107,7 @@ fn add_alias<S: Site>(
     ensures looked { HasLooked S.tells graph.now (S.world site.old) (S.world site.new) looks.old looks.new }
     ensures cause { HasCause (S.world site.old) (S.world site.new) result }
     ensures summed { AreSums graph.now changed.now looks.new.seen.items sums.new }
+    ensures marked { StayMarked graph.now changed.now looks.old.seen.items looks.new.seen.items sums.old sums.new }
     ensures joined { OnOk result (HasJoined graph.now changed.now looks.new.seen.items (path ∷ []) inputs.old inputs.new) }
 {
     looks_follow();
@@ -130,18 +135,19 @@ fn sum_of<S: Site>(
     ensures looked { HasLooked S.tells graph.now (S.world site.old) (S.world site.new) looks.old looks.new }
     ensures cause { HasCause (S.world site.old) (S.world site.new) result }
     ensures summed { AreSums graph.now changed.now looks.new.seen.items sums.new }
+    ensures marked { StayMarked graph.now changed.now looks.old.seen.items looks.new.seen.items sums.old sums.new }
     ensures sum { IfOk result (IsSum graph.now changed.now looks.new.seen.items edge) }
 {
     looks_follow();
     if let Some(sum) = sums.get(edge) {
         return Ok(sum);
     }
-    let sum = read_by(alloc, site, graph, looks, changed, edge)?;
-    sums.note(edge, sum)?;
+    let (sum, lasts) = read_by(alloc, site, graph, looks, changed, edge)?;
+    sums.note(edge, sum, lasts)?;
     Ok(sum)
 }
 
-/// What the edge reads comes to.
+/// What the edge reads comes to, and whether no command makes any of it.
 fn read_by<S: Site>(
     alloc: Global,
     site: &mut S,
@@ -149,19 +155,21 @@ fn read_by<S: Site>(
     looks: &mut Looks,
     changed: &[bool],
     edge: EdgeId,
-) -> Result<Inputs, SiteFault>
+) -> Result<(Inputs, bool), SiteFault>
     requires running { (S.world site.old).stopped ≡ false }
     requires fits { length looks.old.seen.items ≡ length graph.now.manifest.paths }
     requires within { edge < length graph.now.manifest.lines }
     ensures looked { HasLooked S.tells graph.now (S.world site.old) (S.world site.new) looks.old looks.new }
     ensures cause { HasCause (S.world site.old) (S.world site.new) result }
-    ensures sum { IfOk result (IsSum graph.now changed.now looks.new.seen.items edge) }
+    ensures sum { IfOk result (λ read. IsSum graph.now changed.now looks.new.seen.items edge read.0) }
+    ensures lasts { IfOk result (λ read. read.1 ≡ true → IsLasting graph.now changed.now looks.new.seen.items edge read.0) }
 {
     looks_follow();
     let reading = graph.reading(alloc, edge)?;
     let mut inputs = Inputs::new();
-    add_edges(site, graph, looks, changed, edges_of(&reading), &mut inputs)?;
-    Ok(inputs)
+    let edges = edges_of(&reading);
+    add_edges(site, graph, looks, changed, edges, &mut inputs)?;
+    Ok((inputs, !reads_made(graph, edges)))
 }
 
 /// The edges whose regular inputs are read.

@@ -13,6 +13,7 @@ ghost use Rattle.looks.specs.Looking.{HasLooked};
 ghost use Rattle.looks.specs.Seen.{IfKept};
 ghost use Rattle.records.specs.Known.{AreKnown};
 ghost use Rattle.verdict.specs.Judged.{IsAnswer, KeepsDepfile};
+ghost use Rattle.verdict.specs.Lasting.{StayMarked};
 ghost use Rattle.verdict.specs.Summed.{AreSums};
 
 use crate::depfile::has_depfile;
@@ -54,6 +55,7 @@ pub fn reason<S: Site>(
     ensures looked { HasLooked S.tells graph.now (S.world site.old) (S.world site.new) looks.old looks.new }
     ensures cause { HasCause (S.world site.old) (S.world site.new) result }
     ensures summed { AreSums graph.now changed.now looks.new.seen.items sums.new }
+    ensures marked { StayMarked graph.now changed.now looks.old.seen.items looks.new.seen.items sums.old sums.new }
     ensures reason { IfOk result (λ reason. (rs : List Record) (ds : List DepsRecord) → AreKnown graph.now rs ds records.now → KeepsDepfile S.tells (declared_by graph.now).edges (S.world site.old) (S.world site.new) (suc edge) → IfKept S.tells graph.now.manifest.paths (S.world site.old) (S.world site.new) looks.old.seen.items (IsAnswer graph.now rs ds changed.now edge reason)) }
 {
     looks_follow();

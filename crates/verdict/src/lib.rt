@@ -4,6 +4,7 @@
 mod depfile;
 mod inputs;
 mod judgement;
+mod lasting;
 mod outputs;
 mod stamps;
 mod sums;

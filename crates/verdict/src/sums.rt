@@ -1,8 +1,10 @@
 //! What the inputs of phony edges come to.
 
-ghost use Rattle.std.specs.Prelude.{List, Bool, IfSome};
+ghost use Rattle.std.specs.Prelude.{◌≡◌, ℕ, List, Bool, true, false, IfSome};
+ghost use Rattle.model.specs.Graph.{has_number};
 ghost use Rattle.links.specs.declared.graph.Graph.{Graph};
 ghost use Rattle.looks.specs.declared.table.Look.{Look};
+ghost use Rattle.verdict.specs.Lasting.{AreMarked, LeavesLasting, StayMarkedWith};
 ghost use Rattle.verdict.specs.Summed.{IsSum, AreSums};
 
 use dirty::Inputs;
@@ -11,29 +13,46 @@ use paths::EdgeId;
 use std::alloc::{AllocError, Global};
 
 /// What the inputs that phony edges read come to, so that many edges that read through one do not look at each of them again. It is
-/// right as long as what was seen of files is not forgotten, no path is made anew and the graph stays.
+/// right as long as what was seen of files is not forgotten, no path is made anew and the graph stays. At the end of a command that
+/// happens only to paths that commands make, so just the sums of such paths are forgotten then.
 #[derive(Drop)]
 pub struct Sums {
     alloc: Global,
     pub by_edge: IndexMap<EdgeId, Inputs>,
+    /// Those of these edges that read what a command makes: an end of a command can change what they come to.
+    passing: Vec<EdgeId>,
 }
 
 impl Sums {
     /// Nothing is known.
     pub fn new(alloc: Global) -> Sums
-        ensures { (graph : Graph) (flags : List Bool) (seen : List Look) → AreSums graph flags seen result }
+        ensures summed { (graph : Graph) (flags : List Bool) (seen : List Look) → AreSums graph flags seen result }
+        ensures marked { (graph : Graph) (flags : List Bool) (seen : List Look) → AreMarked graph flags seen result }
     {
         Sums {
             alloc,
             by_edge: IndexMap::new(alloc),
+            passing: Vec::new(alloc),
         }
     }
 
     /// Forgets all that is known, and its memory.
     pub fn clear(&mut self)
-        ensures { (graph : Graph) (flags : List Bool) (seen : List Look) → AreSums graph flags seen self.new }
+        ensures summed { (graph : Graph) (flags : List Bool) (seen : List Look) → AreSums graph flags seen self.new }
+        ensures marked { (graph : Graph) (flags : List Bool) (seen : List Look) → AreMarked graph flags seen self.new }
     {
         self.by_edge = IndexMap::new(self.alloc);
+        self.passing = Vec::new(self.alloc);
+    }
+
+    /// Forgets what was made of paths that commands make, as is needed where one has ended. It takes a step for each sum that it
+    /// forgets.
+    pub fn forget_made(&mut self)
+        ensures { LeavesLasting self.old self.new }
+    {
+        while let Some(edge) = self.passing.pop() {
+            self.by_edge.swap_remove(&edge);
+        }
     }
 
     /// What the phony edge reads comes to, where that is known.
@@ -43,11 +62,30 @@ impl Sums {
         self.by_edge.get(&edge).copied()
     }
 
-    /// Notes what the phony edge reads comes to.
-    pub(crate) fn note(&mut self, edge: EdgeId, inputs: Inputs) -> Result<(), AllocError>
-        ensures { (graph : Graph) (flags : List Bool) (seen : List Look) → AreSums graph flags seen self.old → IsSum graph flags seen edge inputs → AreSums graph flags seen self.new }
+    /// Notes what the phony edge reads comes to, and whether that lasts. One that does not is noted only where there is room to
+    /// say so.
+    pub(crate) fn note(
+        &mut self,
+        edge: EdgeId,
+        inputs: Inputs,
+        lasts: bool,
+    ) -> Result<(), AllocError>
+        ensures summed { (graph : Graph) (flags : List Bool) (seen : List Look) → AreSums graph flags seen self.old → IsSum graph flags seen edge inputs → AreSums graph flags seen self.new }
+        ensures marked { StayMarkedWith lasts edge inputs self.old self.new }
     {
+        if !self.mark(edge, lasts) {
+            return Ok(());
+        }
         self.by_edge.insert(edge, inputs)?;
         Ok(())
+    }
+
+    /// Marks the edge as one whose sum does not last, where it does not. Says whether there was room for that.
+    fn mark(&mut self, edge: EdgeId, lasts: bool) -> bool
+        ensures by_edge { self.new.by_edge ≡ self.old.by_edge }
+        ensures others { (q : ℕ) → has_number self.new.passing.items q ≡ false → has_number self.old.passing.items q ≡ false }
+        ensures marked { result ≡ true → lasts ≡ false → has_number self.new.passing.items edge ≡ true }
+    {
+        lasts || self.passing.push(edge).is_ok()
     }
 }

@@ -20,7 +20,7 @@ loop-edge-init g c =
     record {
       looked = looked_none g.S.Texts.tells c.args.graph.now (g.S.Texts.world c.args.site.now) c.args.looks.now;
       unrefused = unrefused_none (g.S.Texts.world c.args.site.now) c.requires.running;
-      summed = c.new-sums.ensures c.args.graph.now [] c.args.looks.now.seen.items;
+      summed = c.new-sums.ensures.summed c.args.graph.now [] c.args.looks.now.seen.items;
       fits = search rules;
       due = λ store targets before way keeps told set kept seen has files alike.
           subst (λ (l : List Bool). AreDue (declared_by c.args.graph.now).edges store before files [] l) (sym none) (none_due (declared_by c.args.graph.now).edges store before files c.edges.result);

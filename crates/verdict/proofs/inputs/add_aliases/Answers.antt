@@ -11,6 +11,7 @@ loop-path-init g c = record {
   looked = looked_none g.S.Texts.tells c.args.graph.now (g.S.Texts.world c.args.site.now) c.args.looks.now;
   unrefused = unrefused_none (g.S.Texts.world c.args.site.now) c.requires.running;
   summed = c.requires.summed;
+  marked = λ marked. marked;
   joined = joined_none c.args.graph.now c.args.changed.now c.args.looks.now.seen.items c.args.inputs.now;
 }
 
@@ -33,6 +34,7 @@ loop-path-preserved g c =
       looked = (c.looks_follow.ensures.follow tells a b d).looked graph c.args.looks.now c.loop-path.looks c.add_alias.new.looks c.loop-path.invariant.looked c.add_alias.ensures.looked;
       unrefused = unrefused_then a b d c.loop-path.invariant.unrefused (unrefused_call b d _ c.in_ok-add_alias.ensures.cause);
       summed = c.add_alias.ensures.summed;
+      marked = λ marked. c.add_alias.ensures.marked (c.loop-path.invariant.marked marked);
       joined = joined_more graph flags seen new c.add_alias.ensures.looked.stays c.args.paths.now c.loop-path.path-index c.path-item.result c.loop-path-test.true c.args.inputs.now c.loop-path.inputs c.add_alias.new.inputs c.loop-path.invariant.joined
           (subst (λ (p : ℕ). HasJoined graph flags new (p ∷ []) c.loop-path.inputs c.add_alias.new.inputs) c.path-item.is c.in_ok-add_alias.ensures.joined);
     }
@@ -41,3 +43,6 @@ pub returns-clause-joined : goal.returns-clause-joined
 returns-clause-joined g c =
     subst (λ (l : List ℕ). HasJoined c.args.graph.now c.args.changed.now c.loop-path.looks.seen.items l c.args.inputs.now c.loop-path.inputs)
     (take_all c.loop-path.path-index c.args.paths.now (omega arith)) c.loop-path.invariant.joined
+
+pub returns-in_err-add_alias-clause-marked : goal.returns-in_err-add_alias-clause-marked
+returns-in_err-add_alias-clause-marked g c marked = c.add_alias.ensures.marked (c.loop-path.invariant.marked marked)

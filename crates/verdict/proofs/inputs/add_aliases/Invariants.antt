@@ -1,4 +1,5 @@
 use Rattle.std.proofs.Common.{take}
+use Rattle.verdict.specs.Lasting.{AreMarked}
 use Rattle.verdict.specs.Summed.{AreSums, HasJoined}
 use Rattle.build_theory.specs.Seen.{Unrefused}
 use Rattle.looks.specs.Looking.{HasLooked}
@@ -9,5 +10,6 @@ invariant-loop-path g l = record {
   looked : HasLooked g.S.Texts.tells l.graph (g.S.Texts.world l.fn.site) (g.S.Texts.world l.site) l.fn.looks l.looks;
   unrefused : Unrefused (g.S.Texts.world l.fn.site) (g.S.Texts.world l.site);
   summed : AreSums l.graph l.changed l.looks.seen.items l.sums;
+  marked : AreMarked l.graph l.changed l.fn.looks.seen.items l.fn.sums → AreMarked l.graph l.changed l.looks.seen.items l.sums;
   joined : HasJoined l.graph l.changed l.looks.seen.items (take l.path-index l.paths) l.fn.inputs l.inputs;
 }

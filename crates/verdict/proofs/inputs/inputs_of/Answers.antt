@@ -1,11 +1,10 @@
 use Rattle.std.proofs.Common.{◌∷◌, List, ℕ, true, false, length, subst}
 use Rattle.links.specs.Links.{links_of}
-use Rattle.looks.specs.Looking.{HasLooked}
 use Rattle.looks.proofs.Stays.{looked_then}
 use Rattle.verdict.specs.Facts.{HasTaken}
 use Rattle.verdict.specs.Summed.{HasJoined}
 use Rattle.verdict.proofs.Reasons.{within_by}
-use Rattle.verdict.proofs.Summing.{taken_stays, taken_then, sums_stay, read_by_all, has_all}
+use Rattle.verdict.proofs.Summing.{taken_stays, taken_then, sums_stay, marks_stay, read_by_all, has_all}
 use Rattle.verdict.proofs.inputs.inputs_of.Goals as goal
 
 pub add_paths-requires-clause-within : goal.add_paths-requires-clause-within
@@ -30,6 +29,23 @@ add_aliases-requires-clause-summed g c = sums_stay c.args.graph.now c.args.chang
 
 pub returns-clause-summed : goal.returns-clause-summed
 returns-clause-summed g c = sums_stay c.args.graph.now c.args.changed.now c.add_aliases.new.looks.seen.items c.add_paths-2.new.looks.seen.items c.add_paths-2.ensures.looked.stays c.add_aliases.new.sums c.add_aliases.ensures.summed
+
+pub returns-in_err-add_paths-clause-marked : goal.returns-in_err-add_paths-clause-marked
+returns-in_err-add_paths-clause-marked g c = marks_stay c.args.graph.now c.args.changed.now c.args.looks.now.seen.items c.add_paths.new.looks.seen.items c.add_paths.ensures.looked.stays c.args.sums.now
+
+pub returns-in_err-add_aliases-clause-marked : goal.returns-in_err-add_aliases-clause-marked
+returns-in_err-add_aliases-clause-marked g c marked =
+    c.add_aliases.ensures.marked (marks_stay c.args.graph.now c.args.changed.now c.args.looks.now.seen.items c.add_paths.new.looks.seen.items c.add_paths.ensures.looked.stays c.args.sums.now marked)
+
+pub returns-in_err-add_paths-2-clause-marked : goal.returns-in_err-add_paths-2-clause-marked
+returns-in_err-add_paths-2-clause-marked g c marked =
+    marks_stay c.args.graph.now c.args.changed.now c.add_aliases.new.looks.seen.items c.add_paths-2.new.looks.seen.items c.add_paths-2.ensures.looked.stays c.add_aliases.new.sums
+    (c.add_aliases.ensures.marked (marks_stay c.args.graph.now c.args.changed.now c.args.looks.now.seen.items c.add_paths.new.looks.seen.items c.add_paths.ensures.looked.stays c.args.sums.now marked))
+
+pub returns-clause-marked : goal.returns-clause-marked
+returns-clause-marked g c marked =
+    marks_stay c.args.graph.now c.args.changed.now c.add_aliases.new.looks.seen.items c.add_paths-2.new.looks.seen.items c.add_paths-2.ensures.looked.stays c.add_aliases.new.sums
+    (c.add_aliases.ensures.marked (marks_stay c.args.graph.now c.args.changed.now c.args.looks.now.seen.items c.add_paths.new.looks.seen.items c.add_paths.ensures.looked.stays c.args.sums.now marked))
 
 pub returns-in_err-add_aliases-clause-looked : goal.returns-in_err-add_aliases-clause-looked
 returns-in_err-add_aliases-clause-looked g c =

@@ -11,7 +11,7 @@ use Rattle.verdict.proofs.Reasons.{within_by}
 use Rattle.verdict.proofs.Known.{known_of}
 use Rattle.verdict.proofs.Taking.{looked_still, with_outputs, behind, depfile_later}
 use Rattle.verdict.proofs.Answering.{is_answer}
-use Rattle.verdict.proofs.Summing.{sums_stay}
+use Rattle.verdict.proofs.Summing.{sums_stay, marks_stay}
 use Rattle.verdict.proofs.judgement.reason.Goals as goal
 
 pub outputs_of-requires-clause-within : goal.outputs_of-requires-clause-within
@@ -29,6 +29,17 @@ returns-in_err-outputs-clause-summed g c = sums_stay c.args.graph.now c.args.cha
 
 pub inputs_of-requires-clause-summed : goal.inputs_of-requires-clause-summed
 inputs_of-requires-clause-summed g c = sums_stay c.args.graph.now c.args.changed.now c.args.looks.now.seen.items c.outputs_of.new.looks.seen.items c.outputs_of.ensures.looked.stays c.args.sums.now c.requires.summed
+
+pub returns-in_err-outputs-clause-marked : goal.returns-in_err-outputs-clause-marked
+returns-in_err-outputs-clause-marked g c = marks_stay c.args.graph.now c.args.changed.now c.args.looks.now.seen.items c.outputs_of.new.looks.seen.items c.outputs_of.ensures.looked.stays c.args.sums.now
+
+pub returns-in_err-inputs-clause-marked : goal.returns-in_err-inputs-clause-marked
+returns-in_err-inputs-clause-marked g c marked =
+    c.inputs_of.ensures.marked (marks_stay c.args.graph.now c.args.changed.now c.args.looks.now.seen.items c.outputs_of.new.looks.seen.items c.outputs_of.ensures.looked.stays c.args.sums.now marked)
+
+pub returns-clause-marked : goal.returns-clause-marked
+returns-clause-marked g c marked =
+    c.inputs_of.ensures.marked (marks_stay c.args.graph.now c.args.changed.now c.args.looks.now.seen.items c.outputs_of.new.looks.seen.items c.outputs_of.ensures.looked.stays c.args.sums.now marked)
 
 pub returns-in_err-outputs-clause-looked : goal.returns-in_err-outputs-clause-looked
 returns-in_err-outputs-clause-looked g c =
