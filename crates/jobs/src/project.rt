@@ -56,7 +56,8 @@ pub fn push_edited(alloc: Global, asked: Asked<'_>, digest: &mut Digest) -> Resu
     project.begin(&mut desk)?;
     desk.build(digest)?;
     for _ in 0..asked.rounds {
-        let unit = project.random.below(project.units);
+        let units = project.units;
+        let unit = project.random.below(units);
         project.put_unit(&mut desk, unit)?;
         desk.build(digest)?;
     }

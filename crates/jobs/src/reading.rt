@@ -6,7 +6,7 @@
 use crate::digest::Digest;
 use crate::random::Random;
 use crate::work::Asked;
-use builder::{Options, Reading, read};
+use builder::{Options, read};
 use paths::{Action, Manifest};
 use sim::{Sim, Toy};
 use status::Pattern;
@@ -174,7 +174,7 @@ fn add_read(alloc: Global, site: &mut Sim<Toy>, digest: &mut Digest) -> Result<(
         pattern: Pattern::parse(alloc, Pattern::DEFAULT)?,
     };
     match read(alloc, site, &options, &[]) {
-        Ok(Reading { manifest, .. }) => add_manifest(&manifest, digest),
+        Ok(reading) => add_manifest(&reading.manifest, digest),
         Err(_) => digest.number(1),
     }
     Ok(())
