@@ -1,5 +1,6 @@
 pub mod Cuts
 pub mod Stops
+pub mod PlainWords
 pub mod Escapes
 pub mod Fronts
 pub mod Parts

@@ -1,12 +1,12 @@
 //! The words of a depfile and where rules end.
 
-ghost use Rattle.std.specs.Prelude.{◌≡◌, false, IfOk, IfSome, IfNone, string_bytes};
+ghost use Rattle.std.specs.Prelude.{◌≡◌, true, false, IfOk, IfSome, IfNone, string_bytes};
 ghost use Rattle.depfile.specs.Signs.{signs, spelled};
 ghost use Rattle.depfile.specs.Signs.Sign.{blank};
 ghost use Rattle.depfile.specs.Pieces.{NoWord, separator_of};
 ghost use Rattle.depfile.specs.Words.{IsWord, IsToken, IsBehindBlanks, front_word, is_at_blank};
 
-use crate::characters::{Class, split_run};
+use crate::characters::{Class, split_run, strip_one};
 use crate::pieces::piece_at;
 use crate::separators::{Separator, is_word_end, separator_at};
 use std::alloc::{AllocError, Global};
@@ -44,23 +44,41 @@ pub fn word_at(text: &str) -> Option<(Word<'_>, &str)>
     word_of_pieces(text)
 }
 
-/// The word that stands first, where it is one run of plain characters, as most are. None where it is another, or
-/// no word stands.
+/// The word that stands first, where it is one run of plain characters, as most are: an input, or a target with the
+/// colon behind it. None where it is another, or no word stands.
 #[inline(always)]
 fn plain_word_at(text: &str) -> Option<(Word<'_>, &str)>
     ensures { IfSome result (λ found. IsWord text.now found.0 found.1.now) }
 {
-    let (written, after) = split_run(text, Class::Plain);
-    if written.is_empty() || !is_word_end(after) {
+    let (run, after) = split_run(text, Class::Plain);
+    if run.is_empty() {
         return None;
     }
-    let word = Word {
+    if is_word_end(after) {
+        return Some((plain_word(text, run, false), after));
+    }
+    let behind = strip_one(after, b':')?;
+    if !is_word_end(behind) {
+        return None;
+    }
+    let (written, _) = text.split_at(text.len() - behind.len());
+    Some((plain_word(text, written, true), behind))
+}
+
+/// A word that is written as it is spelled.
+#[inline(always)]
+fn plain_word<'a>(from: &'a str, written: &'a str, ends_with_colon: bool) -> Word<'a>
+    ensures from { result.from.now ≡ from.now }
+    ensures written { result.written.now ≡ written.now }
+    ensures is_plain { result.is_plain ≡ true }
+    ensures ends { result.ends_with_colon ≡ ends_with_colon }
+{
+    Word {
         written,
-        from: text,
+        from,
         is_plain: true,
-        ends_with_colon: false,
-    };
-    Some((word, after))
+        ends_with_colon,
+    }
 }
 
 /// The word that stands first, piece by piece, and what stands behind it. None where no word stands.
