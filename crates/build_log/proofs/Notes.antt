@@ -1,5 +1,5 @@
 -- What is noted of texts, and fields that stand in front of bytes.
-use Rattle.std.proofs.Common.{◌≡◌, ◌≢◌, inl, inr, ℕ, ◌+◌, ◌-◌, ◌<◌, ◌≤◌, ◌∷◌, ◌++◌, [], List, length, take, get_or, set, Option, Some, None, slice_get, Bor, refl, sym, ap, ◌∙◌, subst, arith}
+use Rattle.std.proofs.Common.{◌≡◌, ◌≢◌, inl, inr, ℕ, zero, suc, ◌+◌, ◌-◌, ◌<◌, ◌≤◌, ◌∷◌, ◌++◌, [], List, length, take, get_or, set, Option, Some, None, slice_get, Bor, refl, sym, ap, ◌∙◌, subst, arith}
 use Rattle.std.specs.Prelude.{IfSome, IfNone, MatchOption}
 use Rattle.std.specs.List.{flat_map}
 use Rattle.std.specs.Str.{IsUtf8}
@@ -51,6 +51,33 @@ notes_push texts notes text are n note at = elim (get_push notes (record { next 
       record { next = guess_grown texts (text ∷ []) note.next is.next; other = guess_grown texts (text ∷ []) note.other is.other }
   | inr end ↦ subst (IsNoteIn (texts ++ text ∷ [])) end.1 (record { next = tt; other = tt })
 ]
+
+-- a note more, in which nothing is guessed
+pub notes_none : (texts : List (List ℕ)) (notes : List Note) → AreNotesOf texts notes → AreNotesOf texts (notes ++ record { next = None; other = None } ∷ [])
+notes_none texts notes are n note at = elim (get_push notes (record { next = None; other = None }) n note at) [
+  | inl old ↦ are n note old
+  | inr end ↦ subst (IsNoteIn texts) end.1 (record { next = tt; other = tt })
+]
+
+-- notes of some texts are notes of these and more
+pub notes_grown : (texts more : List (List ℕ)) (notes : List Note) → AreNotesOf texts notes → AreNotesOf (texts ++ more) notes
+notes_grown texts more notes are n note at =
+    let is = are n note at in
+    record { next = guess_grown texts more note.next is.next; other = guess_grown texts more note.other is.other }
+
+-- notes and others behind them
+pub notes_append : (texts : List (List ℕ)) (xs ys : List Note) → AreNotesOf texts xs → AreNotesOf texts ys → AreNotesOf texts (xs ++ ys)
+notes_append texts [] ys are others n note at = others n note at
+notes_append texts (x ∷ xs) ys are others zero note at = are zero note at
+notes_append texts (x ∷ xs) ys are others (suc n) note at = notes_append texts xs ys (λ m t here. are (suc m) t here) others n note at
+
+-- what is guessed is the number of a plain text
+pub guess_plain : (texts : List (List ℕ)) (guess : Option Guess) → IsGuessIn texts guess → IfSome guess (λ g. IsPlainAt texts g.number)
+guess_plain texts None is = tt
+guess_plain texts (Some guess) is = is
+
+pub note_read : (notes slice : List Note) (n : ℕ) (note : Note) → n < length slice → note ≡ get_or slice n note → slice ≡ notes → slice_get notes n ≡ Some note
+note_read notes slice n note within read same = subst (λ (l : List Note). slice_get l n ≡ Some note) same (slice_get_read slice (length slice) n note refl within read)
 
 -- another note in the place of one
 pub notes_set : (texts : List (List ℕ)) (notes : List Note) (k : ℕ) (new : Note) → AreNotesOf texts notes → k < length notes → IsNoteIn texts new → AreNotesOf texts (set notes k new)
@@ -176,8 +203,8 @@ front_taken known bytes count numbers after front are e =
 pub runs_grown : (texts more : List (List ℕ)) (runs : List Run) → AreRunsOf texts runs → AreRunsOf (texts ++ more) runs
 runs_grown texts more runs are n run at = taken_grown texts more run.bytes (length run.numbers) run.numbers [] (are n run at)
 
-pub runs_push : (texts : List (List ℕ)) (runs : List Run) (numbers bytes : List ℕ) → AreRunsOf texts runs → AreTakenFrom texts bytes (length numbers) numbers [] → AreRunsOf texts (runs ++ record { numbers = numbers; bytes = bytes } ∷ [])
-runs_push texts runs numbers bytes are taken n run at = elim (get_push runs (record { numbers = numbers; bytes = bytes }) n run at) [
+pub runs_push : (texts : List (List ℕ)) (runs : List Run) (new : Run) → AreRunsOf texts runs → AreTakenFrom texts new.bytes (length new.numbers) new.numbers [] → AreRunsOf texts (runs ++ new ∷ [])
+runs_push texts runs new are taken n run at = elim (get_push runs new n run at) [
   | inl old ↦ are n run old
   | inr end ↦ subst (λ (r : Run). AreTakenFrom texts r.bytes (length r.numbers) r.numbers []) end.1 taken
 ]

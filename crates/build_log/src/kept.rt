@@ -184,6 +184,10 @@ impl<T: Drop> Kept<T> {
         ensures grown { IsGrown self.old self.new }
         ensures taken { TakesSome result self.new.outputs bytes.now most numbers.old.items numbers.new.items }
     {
+        if let Some((number, after)) = self.outputs.take_known(last, bytes) {
+            numbers.push(number)?;
+            return Ok(Some(after));
+        }
         if self.outputs.follow(last, bytes).is_none() {
             let found = self.push_unknown(alloc, last, bytes, numbers)?;
             return Ok(found);
@@ -237,7 +241,7 @@ impl<T: Drop> Kept<T> {
             return Ok(None);
         };
         let number = self.number(alloc, text)?;
-        self.outputs.note(last, number, text);
+        self.outputs.note(alloc, last, number, text);
         Ok(Some((number, after)))
     }
 

@@ -5,7 +5,7 @@ ghost use Rattle.std.specs.Option.{option_map};
 ghost use Rattle.std.specs.Str.{IsUtf8};
 ghost use Rattle.model.specs.Graph.{has};
 ghost use Rattle.build_log.specs.Line.{field_and_tab, IsPlain};
-ghost use Rattle.build_log.specs.Noted.{IsPlainAt, IsNumberOf, IsRunFrom};
+ghost use Rattle.build_log.specs.Noted.{IsPlainAt, IsGuessIn, IsNoteIn, IsRunFrom, AreNotesOf};
 ghost use Rattle.build_log.specs.Taken.{AreTaken, IsTaken};
 
 use bstr::ByteSlice;
@@ -26,13 +26,18 @@ pub struct Texts {
     runs: Vec<Run>,
     /// For the first texts the places of runs that came behind them.
     places: Vec<Places>,
+    /// By the sum of what stands in front: what is guessed of the text there. It is as long as a power of two, or empty.
+    table: Vec<Note>,
 }
 
-/// Texts whose fields came one behind another: their numbers, and the bytes of their fields.
+/// Texts whose fields came one behind another: their numbers, and the bytes of their fields. They are told from others at a glance
+/// by the byte that they have at one place.
 #[derive(Drop)]
 pub struct Run {
     pub numbers: Items<usize>,
     pub bytes: Bytes,
+    pub place: usize,
+    pub byte: u8,
 }
 
 /// The places of runs that came behind a text.
@@ -51,7 +56,7 @@ impl Places {
     };
 }
 
-/// Texts that came behind a text, none of which has a byte that is written as two. They are guesses: what stands there is
+/// Two texts that came behind a text or have a place in a table, none of which has a byte that is written as two. They are guesses: what stands there is
 /// compared each time.
 #[derive(Clone, Copy)]
 pub struct Note {
@@ -59,12 +64,19 @@ pub struct Note {
     pub other: Option<Guess>,
 }
 
+impl Note {
+    const NONE: Note = Note {
+        next: None,
+        other: None,
+    };
+}
+
 /// A text by its number, and how it is told from others at a glance: its length, and the byte that it has at one place.
 #[derive(Clone, Copy)]
 pub struct Guess {
     pub number: u32,
-    pub len: u32,
-    pub place: u32,
+    pub len: u16,
+    pub place: u16,
     pub byte: u8,
 }
 
@@ -77,7 +89,7 @@ impl Model for Texts {
 
     ghost view = { λ texts. texts_of texts.texts.keys };
 
-    ghost invariant = { λ texts. AreNotesOf (texts_of texts.texts.keys) texts.notes.items × AreRunsOf (texts_of texts.texts.keys) texts.runs.items };
+    ghost invariant = { λ texts. AreNotesOf (texts_of texts.texts.keys) texts.notes.items × AreRunsOf (texts_of texts.texts.keys) texts.runs.items × AreNotesOf (texts_of texts.texts.keys) texts.table.items };
 }
 
 impl Texts {
@@ -90,6 +102,7 @@ impl Texts {
             notes: Vec::new(alloc),
             runs: Vec::new(alloc),
             places: Vec::new(alloc),
+            table: Vec::new(alloc),
         }
     }
 
@@ -120,35 +133,97 @@ impl Texts {
         let own = String::from_str(alloc, text)?;
         self.notes.reserve(1)?;
         let (number, _) = self.texts.insert_full(own)?;
-        self.notes.push(Note {
-            next: None,
-            other: None,
-        })?;
+        self.notes.push(Note::NONE)?;
         Ok(number)
     }
 
     /// The number of the text whose field stands in front, and what stands behind the field and its tab, where it is a text
     /// that came behind `last` before.
+    #[inline(always)]
     pub(crate) fn follow<'a>(&self, last: usize, bytes: &'a [u8]) -> Option<(usize, &'a [u8])>
         ensures { IfSome result (λ parts. IsTaken self.now bytes.now parts.0 parts.1.now) }
     {
-        let number = self.guess(last, bytes)?;
+        let guess = self.guess(last, bytes)?;
+        let number = guess.number as usize;
         let after = self.behind(number, bytes)?;
         Some((number, after))
     }
 
-    /// The number of a text that came behind `last` before, and of which it may be that it stands in front.
-    fn guess(&self, last: usize, bytes: &[u8]) -> Option<usize>
-        ensures { IfSome result (IsPlainAt self.now) }
+    /// The guess at a text that came behind `last` before, and of which it may be that it stands in front.
+    #[inline(always)]
+    fn guess(&self, last: usize, bytes: &[u8]) -> Option<Guess>
+        ensures { IfSome result (λ guess. IsPlainAt self.now guess.number) }
     {
         let note = self.notes.get(last)?;
-        match may_stand(note.next, bytes) {
-            Some(number) => Some(number),
-            None => may_stand(note.other, bytes),
+        standing(*note, bytes)
+    }
+
+    /// The same as `follow`, where no run is to begin behind `last`: of a text that was noted there, or has the sum of what
+    /// stands in front and is noted there from now on.
+    #[inline(always)]
+    pub(crate) fn take_known<'a>(
+        &mut self,
+        last: usize,
+        bytes: &'a [u8],
+    ) -> Option<(usize, &'a [u8])>
+        ensures same { self.new ≡ self.old }
+        ensures taken { IfSome result (λ parts. IsTaken self.new bytes.now parts.0 parts.1.now) }
+    {
+        if let Some((number, after)) = self.follow(last, bytes) {
+            if self.has_room(last) {
+                return None;
+            }
+            return Some((number, after));
+        }
+        let (guess, after) = self.look(last, bytes)?;
+        self.note_guess(last, Some(guess));
+        Some((guess.number as usize, after))
+    }
+
+    /// The guess at the text whose field stands in front, and what stands behind the field and its tab, where the table has it.
+    #[inline(always)]
+    fn look<'a>(&self, last: usize, bytes: &'a [u8]) -> Option<(Guess, &'a [u8])>
+        ensures taken { IfSome result (λ parts. IsTaken self.now bytes.now parts.0.number parts.1.now) }
+        ensures plain { IfSome result (λ parts. IsPlainAt self.now parts.0.number) }
+    {
+        let field = self.field_in(last, bytes)?;
+        let guess = self.guess_at(sum_of(field), bytes)?;
+        let after = self.behind(guess.number as usize, bytes)?;
+        Some((guess, after))
+    }
+
+    /// The field that seems to stand in front: texts in turn are often of one length, so a tab is looked for where it would stand
+    /// behind the last text, and searched for where it is not there.
+    #[inline(always)]
+    fn field_in<'a>(&self, last: usize, bytes: &'a [u8]) -> Option<&'a [u8]> {
+        if let Some(text) = self.at(last) {
+            let len = text.len();
+            if byte_at(bytes, len) == b'\t' {
+                return bytes.get(..len);
+            }
+        }
+        bytes.get(..bytes.find_byte(b'\t')?)
+    }
+
+    /// The guess at a text with this sum, of which it may be that it stands in front.
+    #[inline(always)]
+    fn guess_at(&self, sum: u64, bytes: &[u8]) -> Option<Guess>
+        ensures { IfSome result (λ guess. IsPlainAt self.now guess.number) }
+    {
+        let note = self.table.get(slot_of(sum, self.table.len()))?;
+        standing(*note, bytes)
+    }
+
+    /// Whether fewer than three runs came behind a text.
+    fn has_room(&self, last: usize) -> bool {
+        match self.places.get(last) {
+            Some(places) => places.third.is_none(),
+            None => true,
         }
     }
 
     /// What stands behind the field of the text with this number and its tab, where they stand in front.
+    #[inline(always)]
     fn behind<'a>(&self, number: usize, bytes: &'a [u8]) -> Option<&'a [u8]>
         requires { IsPlainAt self.now number }
         ensures { IfSome result (λ after. IsTaken self.now bytes.now number after.now) }
@@ -158,18 +233,59 @@ impl Texts {
         Some(after)
     }
 
-    /// Notes that a text with this number, of which no byte is written as two, came behind another.
-    pub(crate) fn note(&mut self, last: usize, number: usize, text: &str)
+    /// Notes that a text with this number, of which no byte is written as two, came behind another, and which sum it has. Where
+    /// memory is refused, less is noted.
+    pub(crate) fn note(&mut self, alloc: Global, last: usize, number: usize, text: &str)
         requires at { slice_get self.old number ≡ Some text.now }
         requires plain { IsPlain text.now }
+        ensures { self.new ≡ self.old }
+    {
+        let guess = guess_of(number, text);
+        self.widen(alloc);
+        self.note_sum(sum_of(text.as_bytes()), guess);
+        self.note_guess(last, guess);
+    }
+
+    /// Notes a guess at a text that came behind another.
+    #[inline(always)]
+    fn note_guess(&mut self, last: usize, guess: Option<Guess>)
+        requires { IsGuessIn self.old guess }
         ensures { self.new ≡ self.old }
     {
         if last < self.notes.len() {
             let note = self.notes[last];
             self.notes[last] = Note {
-                next: guess_of(number, text),
+                next: guess,
                 other: note.next,
             };
+        }
+    }
+
+    /// Notes a guess at a text with this sum.
+    fn note_sum(&mut self, sum: u64, guess: Option<Guess>)
+        requires { IsGuessIn self.old guess }
+        ensures { self.new ≡ self.old }
+    {
+        let slot = slot_of(sum, self.table.len());
+        if slot < self.table.len() {
+            let note = self.table[slot];
+            self.table[slot] = Note {
+                next: guess,
+                other: note.next,
+            };
+        }
+    }
+
+    /// Makes the table twice as long where there are more than two texts for each of its places. Where memory is refused, it
+    /// stays as it is.
+    fn widen(&mut self, alloc: Global)
+        ensures { self.new ≡ self.old }
+    {
+        if self.texts.len() / 2 < self.table.len() {
+            return;
+        }
+        match double(alloc, &mut self.table) {
+            Ok(()) | Err(_) => {}
         }
     }
 
@@ -220,6 +336,7 @@ impl Texts {
     }
 
     /// The same, of the run at this place.
+    #[inline(always)]
     fn run_at<'s, 'a>(
         &'s self,
         place: Option<u32>,
@@ -231,6 +348,9 @@ impl Texts {
         let run = self.runs.get(place? as usize)?;
         let count = run.numbers.len();
         if count == 0 || most < count {
+            return None;
+        }
+        if byte_at(bytes, run.place) != run.byte {
             return None;
         }
         let after = behind_start(run.bytes.as_slice(), bytes)?;
@@ -255,9 +375,16 @@ impl Texts {
         let Some(places) = with_place(self.places[last], small(self.runs.len())) else {
             return Ok(());
         };
+        let place = telling_place(bytes);
+        let byte = byte_at(bytes, place);
         let numbers = Items::from_vec(Vec::from_slice(alloc, numbers)?);
         let bytes = Bytes::from_vec(Vec::from_slice(alloc, bytes)?);
-        self.runs.push(Run { numbers, bytes })?;
+        self.runs.push(Run {
+            numbers,
+            bytes,
+            place,
+            byte,
+        })?;
         self.places[last] = places;
         Ok(())
     }
@@ -310,20 +437,25 @@ fn with_place(places: Places, place: Option<u32>) -> Option<Places> {
     None
 }
 
-/// How a text with this number is told from others: texts that come in turn are often names of files that differ before the
-/// dot. One that is too long, or whose number is too large, is not told.
+/// How a text with this number is told from others. One that is too long, or whose number is too large, is not told.
 fn guess_of(number: usize, text: &str) -> Option<Guess>
     ensures { IfSome result (λ guess. guess.number ≡ number) }
 {
     let bytes = text.as_bytes();
-    let end = bytes.rfind_byte(b'.').unwrap_or(bytes.len());
-    let place = end.saturating_sub(1);
+    let place = telling_place(bytes);
     Some(Guess {
         number: small(number)?,
-        len: small(bytes.len())?,
-        place: small(place)?,
+        len: u16::try_from(bytes.len()).ok()?,
+        place: u16::try_from(place).ok()?,
         byte: byte_at(bytes, place),
     })
+}
+
+/// The place at which fields are most likely told from others: those that come in turn are often names of files that differ
+/// before the dot.
+fn telling_place(bytes: &[u8]) -> usize {
+    let end = bytes.rfind_byte(b'.').unwrap_or(bytes.len());
+    end.saturating_sub(1)
 }
 
 /// The same number in 32 bits, where it has room there.
@@ -334,6 +466,7 @@ fn small(number: usize) -> Option<u32>
 }
 
 /// The byte at this place, or 0.
+#[inline(always)]
 fn byte_at(bytes: &[u8], place: usize) -> u8 {
     match bytes.get(place) {
         Some(byte) => *byte,
@@ -341,18 +474,80 @@ fn byte_at(bytes: &[u8], place: usize) -> u8 {
     }
 }
 
-/// The number of a guess, where it may be right that its text stands in front. What stands there is compared.
-fn may_stand(guess: Option<Guess>, bytes: &[u8]) -> Option<usize>
-    ensures { IfSome result (IsNumberOf guess) }
+/// The one of the guesses of a note of which it may be right that its text stands in front.
+#[inline(always)]
+fn standing(note: Note, bytes: &[u8]) -> Option<Guess>
+    ensures { (texts : List (List ℕ)) → IsNoteIn texts note → IsGuessIn texts result }
 {
-    let guess = guess?;
-    if byte_at(bytes, guess.len as usize) != b'\t' {
-        return None;
+    if may_stand(note.next, bytes) {
+        return note.next;
     }
-    if byte_at(bytes, guess.place as usize) != guess.byte {
-        return None;
+    if may_stand(note.other, bytes) {
+        return note.other;
     }
-    Some(guess.number as usize)
+    None
+}
+
+/// Whether a guess may be right that its text stands in front. What stands there is compared.
+#[inline(always)]
+fn may_stand(guess: Option<Guess>, bytes: &[u8]) -> bool {
+    match guess {
+        Some(guess) => {
+            byte_at(bytes, guess.len as usize) == b'\t'
+                && byte_at(bytes, guess.place as usize) == guess.byte
+        }
+        None => false,
+    }
+}
+
+/// Makes a table twice as long: what stood at a place stands at both places that come of it.
+fn double(alloc: Global, table: &mut Vec<Note>) -> Result<(), AllocError>
+    ensures { (texts : List (List ℕ)) → AreNotesOf texts table.old.items → AreNotesOf texts table.new.items }
+{
+    if table.is_empty() {
+        table.push(Note::NONE)?;
+        return Ok(());
+    }
+    let copy = Vec::from_slice(alloc, table.as_slice())?;
+    table.extend_from_slice(copy.as_slice())?;
+    Ok(())
+}
+
+/// The place of this sum in a table of this length.
+#[inline(always)]
+fn slot_of(sum: u64, len: usize) -> usize {
+    (sum as usize) & len.wrapping_sub(1)
+}
+
+/// A number that is made of the length and the bytes of a text, and for most other texts is another one.
+#[inline(always)]
+fn sum_of(text: &[u8]) -> u64 {
+    let mut sum = text.len() as u64;
+    let mut rest = text;
+    while let Some((front, word)) = rest.split_last_chunk::<8>() {
+        sum = sum_with(sum, u64::from_le_bytes(*word));
+        rest = front;
+    }
+    match text.first_chunk::<8>() {
+        Some(word) => sum_with(sum, u64::from_le_bytes(*word)),
+        None => sum_with(sum, word_of(text)),
+    }
+}
+
+/// The word of less than eight bytes.
+fn word_of(bytes: &[u8]) -> u64 {
+    let mut word = 0;
+    for byte in bytes {
+        word = (word << 8) | u64::from(*byte);
+    }
+    word
+}
+
+/// A sum with a word more.
+#[inline(always)]
+fn sum_with(sum: u64, word: u64) -> u64 {
+    let product = (sum ^ word).wrapping_mul(0x9e37_79b9_7f4a_7c15);
+    product ^ (product >> 32)
 }
 
 /// What stands behind the field of a plain text and its tab, where they stand in front.

@@ -1,4 +1,4 @@
-use Rattle.std.proofs.Common.{◌≡◌, ◌∷◌, ◌++◌, List, ℕ, sym, ap, ◌∙◌, subst}
+use Rattle.std.proofs.Common.{◌∷◌, ◌++◌, List, ℕ, sym, ap, ◌∙◌, subst}
 use Rattle.text.specs.Marks.{Lacks}
 use Rattle.build_log.specs.Line.{field_and_tab, IsPlain}
 use Rattle.build_log.proofs.Bytes.{Lacks-front, Lacks-back}

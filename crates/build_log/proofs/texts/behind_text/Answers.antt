@@ -1,4 +1,4 @@
-use Rattle.std.proofs.Common.{◌≡◌, ◌++◌, List, ℕ, ap, ◌∙◌}
+use Rattle.std.proofs.Common.{◌++◌, List, ℕ, ap, ◌∙◌}
 use Rattle.build_log.proofs.Notes.{field_in_front}
 use Rattle.build_log.proofs.texts.behind_text.Goals as goal
 

@@ -1,4 +1,4 @@
-use Rattle.std.proofs.Common.{ℕ, length, ◌+◌, ◌-◌}
+use Rattle.std.proofs.Common.{length, ◌+◌, ◌-◌}
 use Rattle.build_log.proofs.texts.reach.Given as goal
 
 abbrev pub decreases-loop-places : goal.decreases-loop-places

@@ -1,4 +1,4 @@
-use Rattle.std.proofs.Common.{◌≡◌, ◌∷◌, [], List, ℕ, arith}
+use Rattle.std.proofs.Common.{◌∷◌, [], arith}
 use Rattle.build_log.proofs.Notes.{at_some, taken_one}
 use Rattle.build_log.proofs.kept.Kept.push_unknown.Goals as goal
 

@@ -1,9 +1,8 @@
-use Rattle.std.proofs.Common.{◌≡◌, ◌∷◌, [], ◌++◌, List, ℕ, Some, None, sym, ap, ◌∙◌, subst, string_bytes}
+use Rattle.std.proofs.Common.{◌≡◌, ◌∷◌, [], ◌++◌, List, ℕ, Some, None, sym, ap, ◌∙◌, string_bytes}
 use Rattle.model.specs.Graph.{has}
-use Rattle.build_log.specs.Noted.{AreNotesOf}
 use Rattle.build_log.specs.declared.texts.Note.{Note}
 use Rattle.build_log.proofs.Keeping.{stored, put_in, texts_have}
-use Rattle.build_log.proofs.Notes.{notes_push, runs_grown}
+use Rattle.build_log.proofs.Notes.{notes_push, notes_grown, runs_grown}
 use Rattle.build_log.proofs.texts.Texts.add.Goals as goal
 
 pub returns-clause-added : goal.returns-clause-added
@@ -20,7 +19,7 @@ invariant_of-self-2 c =
     let none = sym (sym (texts_have keys q) ∙ (ap (λ v. has v q) c.self.view_is ∙ c.requires.absent)) in
     let texts = put_in keys c.insert_full.new.self.keys c.in_ok-own.own q none c.in_ok-own.ensures.ok c.in_ok-number.ensures.keys in
     let notes : c.push.new.self.items ≡ c.self.inside.notes.items ++ record { next = None; other = None } ∷ [] = c.in_ok-push.ensures.items ∙ ap (λ (xs : List Note). xs ++ record { next = None; other = None } ∷ []) c.in_ok-reserve.ensures.items in
-    rw (texts, notes) (notes_push _ c.self.inside.notes.items q c.self.invariant.0, runs_grown _ (q ∷ []) c.self.inside.runs.items c.self.invariant.1)
+    rw (texts, notes) (notes_push _ c.self.inside.notes.items q c.self.invariant.0, runs_grown _ (q ∷ []) c.self.inside.runs.items c.self.invariant.1, notes_grown _ (q ∷ []) c.self.inside.table.items c.self.invariant.2)
 
 pub returns-clause-number : goal.returns-clause-number
 returns-clause-number c =

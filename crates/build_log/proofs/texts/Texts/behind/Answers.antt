@@ -1,4 +1,4 @@
-use Rattle.std.proofs.Common.{◌≡◌, Some, sym, ◌∙◌, subst, Option, List, ℕ}
+use Rattle.std.proofs.Common.{sym, ◌∙◌, subst}
 use Rattle.build_log.specs.Line.{IsPlain}
 use Rattle.build_log.proofs.Notes.{same_some}
 use Rattle.build_log.proofs.texts.Texts.behind.Goals as goal

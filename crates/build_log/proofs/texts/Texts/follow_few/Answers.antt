@@ -1,4 +1,4 @@
-use Rattle.std.proofs.Common.{◌≡◌, ◌<◌, ◌≤◌, ◌+◌, ◌∷◌, [], ◌++◌, List, ℕ, ap, ◌∙◌, length, arith}
+use Rattle.std.proofs.Common.{◌≡◌, ◌+◌, ◌∷◌, [], ap, ◌∙◌, length, arith}
 use Rattle.std.proofs.lemmas.List.{length-append}
 use Rattle.build_log.proofs.Notes.{taken_push}
 use Rattle.build_log.proofs.texts.Texts.follow_few.Goals as goal

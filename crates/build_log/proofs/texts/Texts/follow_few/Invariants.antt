@@ -1,4 +1,4 @@
-use Rattle.std.proofs.Common.{◌≡◌, ◌≤◌, ◌-◌, length}
+use Rattle.std.proofs.Common.{◌≤◌, ◌-◌, length}
 use Rattle.build_log.specs.Taken.{AreTakenFrom}
 use Rattle.build_log.proofs.texts.Texts.follow_few.Given as goal
 

@@ -1,4 +1,4 @@
-use Rattle.std.proofs.Common.{◌≡◌, ◌<◌, ◌≤◌, ◌++◌, [], List, ℕ, Some, ap, ◌∙◌, sym, subst, length, slice_get, arith}
+use Rattle.std.proofs.Common.{◌≡◌, ◌<◌, ◌≤◌, ◌++◌, [], List, ℕ, ap, ◌∙◌, sym, subst, length, arith}
 use Rattle.build_log.specs.Taken.{AreTakenFrom}
 use Rattle.build_log.specs.Noted.{IsRunFrom}
 use Rattle.build_log.proofs.Notes.{run_read, taken_whole}
