@@ -23,13 +23,13 @@ pub record IsNoteIn (texts : List (List ℕ)) (note : Note) : Type 0 where
 abbrev pub AreNotesOf : List (List ℕ) → List Note → Type 0
 AreNotesOf texts notes = (n : ℕ) (note : Note) → slice_get notes n ≡ Some note → IsNoteIn texts note
 
-abbrev pub IsNumberOf : Option Guess → ℕ → Type 0
-IsNumberOf None number = ⊥
-IsNumberOf (Some guess) number = guess.number ≡ number
-
 -- the bytes of a run are the fields of the texts with its numbers
 abbrev pub AreRunsOf : List (List ℕ) → List Run → Type 0
 AreRunsOf texts runs = (n : ℕ) (run : Run) → slice_get runs n ≡ Some run → AreTakenFrom texts run.bytes (length run.numbers) run.numbers []
+
+-- what is noted of texts: guesses by the text in front, runs, and guesses by a sum
+abbrev pub AreNoted : List (List ℕ) → List Note → List Run → List Note → Type 0
+AreNoted texts notes runs table = AreNotesOf texts notes × AreRunsOf texts runs × AreNotesOf texts table
 
 -- the fields of texts with these numbers, one at least and so many at most, stand in front of the bytes, and the rest behind them
 pub record IsRunFrom (known : List (List ℕ)) (bytes : List ℕ) (most : ℕ) (numbers rest : List ℕ) : Type 0 where

@@ -30,8 +30,8 @@ pub struct Texts {
     table: Vec<Note>,
 }
 
-/// Texts whose fields came one behind another: their numbers, and the bytes of their fields. They are told from others at a glance
-/// by the byte that they have at one place.
+/// Texts whose fields came one behind another: their numbers, and the bytes of their fields. They are told from others at a
+/// glance by the byte that they have at one place.
 #[derive(Drop)]
 pub struct Run {
     pub numbers: Items<usize>,
@@ -56,8 +56,8 @@ impl Places {
     };
 }
 
-/// Two texts that came behind a text or have a place in a table, none of which has a byte that is written as two. They are guesses: what stands there is
-/// compared each time.
+/// Two texts that came behind a text, or that have one place in the table; none of them has a byte that is written as two.
+/// They are guesses: what stands there is compared each time.
 #[derive(Clone, Copy)]
 pub struct Note {
     pub next: Option<Guess>,
@@ -83,13 +83,13 @@ pub struct Guess {
 impl Model for Texts {
     ghost use Rattle.std.specs.Prelude.{ℕ, List};
     ghost use Rattle.build_log.specs.Kept.{texts_of};
-    ghost use Rattle.build_log.specs.Noted.{AreNotesOf, AreRunsOf};
+    ghost use Rattle.build_log.specs.Noted.{AreNoted};
 
     ghost Value = { List (List ℕ) };
 
     ghost view = { λ texts. texts_of texts.texts.keys };
 
-    ghost invariant = { λ texts. AreNotesOf (texts_of texts.texts.keys) texts.notes.items × AreRunsOf (texts_of texts.texts.keys) texts.runs.items × AreNotesOf (texts_of texts.texts.keys) texts.table.items };
+    ghost invariant = { λ texts. AreNoted (texts_of texts.texts.keys) texts.notes.items texts.runs.items texts.table.items };
 }
 
 impl Texts {
@@ -180,7 +180,8 @@ impl Texts {
         Some((guess.number as usize, after))
     }
 
-    /// The guess at the text whose field stands in front, and what stands behind the field and its tab, where the table has it.
+    /// The guess at the text whose field stands in front, and what stands behind the field and its tab, where the table has
+    /// one.
     #[inline(always)]
     fn look<'a>(&self, last: usize, bytes: &'a [u8]) -> Option<(Guess, &'a [u8])>
         ensures taken { IfSome result (λ parts. IsTaken self.now bytes.now parts.0.number parts.1.now) }
@@ -192,8 +193,8 @@ impl Texts {
         Some((guess, after))
     }
 
-    /// The field that seems to stand in front: texts in turn are often of one length, so a tab is looked for where it would stand
-    /// behind the last text, and searched for where it is not there.
+    /// The field that seems to stand in front: texts in turn are often of one length, so a tab is looked for where it would
+    /// stand behind the last text, and searched for where it is not there.
     #[inline(always)]
     fn field_in<'a>(&self, last: usize, bytes: &'a [u8]) -> Option<&'a [u8]> {
         if let Some(text) = self.at(last) {
