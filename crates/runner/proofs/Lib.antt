@@ -7,6 +7,7 @@ pub mod Noticed
 pub mod Places
 pub mod Launching
 pub mod Results
+pub mod Unmade
 pub mod Work
 pub mod Cutting
 pub mod Settled

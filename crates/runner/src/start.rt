@@ -48,6 +48,8 @@ pub fn start_edge<S: Site>(
     ensures some { OnOk result ((S.world site.new).events ≡ (S.world site.old).events → ⊥) }
     ensures nearer { OnOk result (work_left state.new.plan.standings.items < work_left state.old.plan.standings.items) }
     ensures set { state.new.set ≡ state.old.set }
+    ensures looks { state.new.looks ≡ state.old.looks }
+    ensures changed { state.new.plan.changed ≡ state.old.plan.changed }
     ensures on { OnOk result ((course : Course) → Suits course setting.entry.tick.now setting.entry.graph.now → (on : IsOn S.tells course setting.entry.graph.now None state.old (S.world site.old)) → IsSaid course setting.entry.graph.now on.steps (step.Start edge) → IsOn S.tells course setting.entry.graph.now None state.new (S.world site.new)) }
     ensures cut { OnErr result ((course : Course) → Suits course setting.entry.tick.now setting.entry.graph.now → (on : IsOn S.tells course setting.entry.graph.now None state.old (S.world site.old)) → IsSaid course setting.entry.graph.now on.steps (step.Start edge) → IsCut S.tells course setting.entry.graph.now state.new.plan (S.world site.new)) }
 {
@@ -93,6 +95,8 @@ fn launch<S: Site>(
     ensures some { OnOk result ((S.world site.new).events ≡ (S.world site.old).events → ⊥) }
     ensures nearer { OnOk result (work_left state.new.plan.standings.items < work_left state.old.plan.standings.items) }
     ensures set { state.new.set ≡ state.old.set }
+    ensures looks { state.new.looks ≡ state.old.looks }
+    ensures changed { state.new.plan.changed ≡ state.old.plan.changed }
     ensures on { OnOk result ((course : Course) → Suits course setting.entry.tick.now setting.entry.graph.now → IsBegun S.tells course setting.entry.graph.now (suc edge) state.old (S.world site.old) → IsOn S.tells course setting.entry.graph.now None state.new (S.world site.new)) }
     ensures cut { OnErr result ((course : Course) → Suits course setting.entry.tick.now setting.entry.graph.now → IsBegun S.tells course setting.entry.graph.now (suc edge) state.old (S.world site.old) → IsCut S.tells course setting.entry.graph.now state.new.plan (S.world site.new)) }
 {

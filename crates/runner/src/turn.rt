@@ -2,6 +2,7 @@
 
 ghost use Rattle.std.specs.Prelude.{◌≡◌, ◌<◌, None, true, false, IfOk, OnOk, OnErr, MatchOption};
 ghost use Rattle.runner.specs.After.{ComesAfter, LooksUnlessMore};
+ghost use Rattle.verdict.specs.Lasting.{AreMarked};
 ghost use Rattle.verdict.specs.Summed.{AreSums};
 ghost use Rattle.runner.specs.Course.{Course, goes_on, Suits, IsOn};
 ghost use Rattle.runner.specs.Going.{IsGoing, IsHalted, IsCut, AreSet, work_left};
@@ -27,7 +28,8 @@ pub enum Halt {
     Ended(End),
 }
 
-/// Takes one step of the plan, where that says one. Behind a start or an end the sums are forgotten: what was seen of outputs is.
+/// Takes one step of the plan, where that says one. A start changes nothing of what was seen; behind an end, where what was seen of
+/// its outputs is forgotten, so are the sums of what commands make.
 pub fn go_on<S: Site>(
     site: &mut S,
     setting: Setting<'_>,
@@ -38,11 +40,13 @@ pub fn go_on<S: Site>(
     requires going { (going : IsGoing S.tells setting.tick.now setting.graph.now state.old (S.world site.old)) × (goes_on going.course ≡ true) }
     requires enough { AreSet setting.graph.now state.old.set.items }
     requires summed { AreSums setting.graph.now state.old.plan.changed.items state.old.looks.seen.items sums.old }
+    requires marked { AreMarked setting.graph.now state.old.plan.changed.items state.old.looks.seen.items sums.old }
     ensures cuts { Cuts (S.world site.old) (S.world site.new) result }
     ensures grows { ComesAfter S.tells (S.world site.old) (S.world site.new) }
     ensures looked { OnOk result (LooksUnlessMore S.tells setting.entry.graph.now (S.world site.old) (S.world site.new) state.old.looks state.new.looks) }
     ensures nearer { IfOk result (λ halt. MatchOption halt (work_left state.new.plan.standings.items < work_left state.old.plan.standings.items) (λ halt. Unit {0})) }
     ensures summed { OnOk result (AreSums setting.entry.graph.now state.new.plan.changed.items state.new.looks.seen.items sums.new) }
+    ensures marked { OnOk result (AreMarked setting.entry.graph.now state.new.plan.changed.items state.new.looks.seen.items sums.new) }
     ensures set { state.new.set ≡ state.old.set }
     ensures on { IfOk result (λ halt. (course : Course) → Suits course setting.entry.tick.now setting.entry.graph.now → goes_on course ≡ true → IsOn S.tells course setting.entry.graph.now None state.old (S.world site.old) → MatchOption halt (IsOn S.tells course setting.entry.graph.now None state.new (S.world site.new)) (IsHalted S.tells course setting.entry.graph.now state.new (S.world site.new))) }
     ensures cut { OnErr result ((course : Course) → Suits course setting.entry.tick.now setting.entry.graph.now → goes_on course ≡ true → IsOn S.tells course setting.entry.graph.now None state.old (S.world site.old) → IsCut S.tells course setting.entry.graph.now state.new.plan (S.world site.new)) }
@@ -54,12 +58,11 @@ pub fn go_on<S: Site>(
         }
         Step::Start(edge) => {
             start_edge(site, setting, state, edge).map_err(Cut::Other)?;
-            sums.clear();
             Ok(None)
         }
         Step::Wait => {
             take_in(site, setting, state)?;
-            sums.clear();
+            sums.forget_made();
             Ok(None)
         }
         Step::Load(file) => Ok(Some(Halt::Load(file))),

@@ -6,8 +6,9 @@ use Rattle.looks.specs.Seen.{IfKept}
 use Rattle.looks.proofs.Stays.{looked_then}
 use Rattle.plan.specs.Planned.{is_stale}
 use Rattle.records.specs.Known.{AreKnown}
+use Rattle.verdict.specs.Lasting.{AreMarked}
 use Rattle.verdict.specs.Summed.{AreSums}
-use Rattle.verdict.proofs.Summing.{sums_stay}
+use Rattle.verdict.proofs.Summing.{sums_stay, marks_stay}
 use Rattle.verdict.specs.Judged.{IsAnswer, KeepsDepfile}
 use Rattle.runner.proofs.Work.{judged_less}
 use Rattle.runner.proofs.Noticed.{with_looks, on_looked}
@@ -44,6 +45,28 @@ pub returns-clause-summed : goal.returns-clause-summed
 returns-clause-summed g c =
     subst (λ (flags : List Bool). AreSums c.args.setting.graph.now flags c.reason.new.looks.seen.items c.reason.new.sums)
     (c.deref.ensures.value ∙ sym (ap (λ (it : _). it.items) c.judged.ensures.flags)) c.reason.ensures.summed
+
+-- the marks are right by what was seen before the judgement
+pub returns-in_err-ask_before-clause-marked : goal.returns-in_err-ask_before-clause-marked
+returns-in_err-ask_before-clause-marked g c =
+    let state = c.args.state.now in
+    marks_stay c.args.setting.graph.now state.plan.changed.items state.looks.seen.items c.ask_before.new.looks.seen.items c.ask_before.ensures.looked.stays c.args.sums.now c.requires.marked
+
+pub returns-in_err-reason-clause-marked : goal.returns-in_err-reason-clause-marked
+returns-in_err-reason-clause-marked g c =
+    let state = c.args.state.now in
+    let graph = c.args.setting.graph.now in
+    subst (λ (flags : List Bool). AreMarked graph flags c.reason.new.looks.seen.items c.reason.new.sums) c.deref.ensures.value
+    (c.reason.ensures.marked (subst (λ (flags : List Bool). AreMarked graph flags c.ask_before.new.looks.seen.items c.args.sums.now) (sym {A = List Bool} c.deref.ensures.value)
+    (marks_stay graph state.plan.changed.items state.looks.seen.items c.ask_before.new.looks.seen.items c.ask_before.ensures.looked.stays c.args.sums.now c.requires.marked)))
+
+pub returns-clause-marked : goal.returns-clause-marked
+returns-clause-marked g c =
+    let state = c.args.state.now in
+    let graph = c.args.setting.graph.now in
+    subst (λ (flags : List Bool). AreMarked graph flags c.reason.new.looks.seen.items c.reason.new.sums) (c.deref.ensures.value ∙ sym (ap (λ (it : _). it.items) c.judged.ensures.flags))
+    (c.reason.ensures.marked (subst (λ (flags : List Bool). AreMarked graph flags c.ask_before.new.looks.seen.items c.args.sums.now) (sym {A = List Bool} c.deref.ensures.value)
+    (marks_stay graph state.plan.changed.items state.looks.seen.items c.ask_before.new.looks.seen.items c.ask_before.ensures.looked.stays c.args.sums.now c.requires.marked)))
 
 pub returns-clause-nearer : goal.returns-clause-nearer
 returns-clause-nearer g c = judged_less c.args.state.now.plan c.judged.new.self.standings.items c.args.edge c.verdict_of-verdict.result c.requires.offered c.judged.ensures.stands

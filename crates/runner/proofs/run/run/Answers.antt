@@ -1,12 +1,29 @@
-use Rattle.std.proofs.Common.{None, ◌∙◌}
+use Rattle.std.proofs.Common.{None, inl, refl, ◌∙◌}
 use Rattle.runner.specs.Course.{IsOn}
 use Rattle.runner.specs.Going.{IsHalted}
 use Rattle.runner.proofs.Results.{some_of, on_err}
 use Rattle.runner.proofs.Nothing.{none_of}
-use Rattle.runner.proofs.After.{after_then, looks_then_looks}
-use Rattle.build_theory.proofs.Calls.{unrefused_call, unrefused_then}
+use Rattle.runner.proofs.After.{after_then, after_same, looks_then_looks}
+use Rattle.build_theory.proofs.Calls.{unrefused_none, unrefused_call, unrefused_then}
+use Rattle.looks.proofs.Stays.{looked_none}
 use Rattle.runner.proofs.Cutting.{starts_then}
 use Rattle.runner.proofs.run.run.Goals as goal
+
+pub run-init : goal.run-init
+run-init g c =
+    let now = g.S.Texts.world c.args.site.now in
+    let graph = c.args.setting.graph.now in
+    let state = c.args.state.now in
+    record {
+      unrefused = unrefused_none now c.requires.running;
+      starts = inl refl;
+      summed = c.new-sums.ensures.summed graph state.plan.changed.items state.looks.seen.items;
+      marked = c.new-sums.ensures.marked graph state.plan.changed.items state.looks.seen.items;
+      set = refl;
+      grows = after_same g.S.Texts.tells now;
+      looked = λ same. looked_none g.S.Texts.tells graph now state.looks;
+      on = λ course suits goes on. on;
+    }
 
 pub go_on-requires-clause-going : goal.go_on-requires-clause-going
 go_on-requires-clause-going g c =
@@ -36,6 +53,7 @@ run-preserved g c = record {
   unrefused = unrefused_then (g.S.Texts.world c.args.site.now) (g.S.Texts.world c.run.site) (g.S.Texts.world c.go_on.new.site) c.run.invariant.unrefused (unrefused_call (g.S.Texts.world c.run.site) (g.S.Texts.world c.go_on.new.site) _ c.in_ok-halt.ensures.cuts.cause);
   starts = starts_then (g.S.Texts.world c.args.site.now) (g.S.Texts.world c.run.site) (g.S.Texts.world c.go_on.new.site) c.run.invariant.unrefused c.run.invariant.starts c.in_ok-halt.ensures.cuts.starts;
   summed = c.in_ok-halt.ensures.summed;
+  marked = c.in_ok-halt.ensures.marked;
   set = c.go_on.ensures.set ∙ c.run.invariant.set;
   grows = after_then g.S.Texts.tells (g.S.Texts.world c.args.site.now) (g.S.Texts.world c.run.site) (g.S.Texts.world c.go_on.new.site) c.run.invariant.grows c.go_on.ensures.grows;
   looked = looks_then_looks g.S.Texts.tells c.args.setting.graph.now (g.S.Texts.world c.args.site.now) (g.S.Texts.world c.run.site) (g.S.Texts.world c.go_on.new.site) c.args.state.now.looks c.run.state.looks c.go_on.new.state.looks c.run.invariant.grows c.go_on.ensures.grows c.run.invariant.looked c.in_ok-halt.ensures.looked;

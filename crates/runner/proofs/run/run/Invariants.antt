@@ -1,5 +1,6 @@
 use Rattle.std.proofs.Common.{◌≡◌, true, None}
 use Rattle.build_theory.specs.Seen.{Unrefused, StartsUnrefused}
+use Rattle.verdict.specs.Lasting.{AreMarked}
 use Rattle.verdict.specs.Summed.{AreSums}
 use Rattle.runner.specs.After.{ComesAfter, LooksUnlessMore}
 use Rattle.runner.specs.Course.{Course, goes_on, Suits, IsOn}
@@ -11,6 +12,7 @@ invariant-run g l = record {
   unrefused : Unrefused (g.S.Texts.world l.fn.site) (g.S.Texts.world l.site);
   starts : StartsUnrefused (g.S.Texts.world l.fn.site) (g.S.Texts.world l.site);
   summed : AreSums l.setting.graph.now l.state.plan.changed.items l.state.looks.seen.items l.sums;
+  marked : AreMarked l.setting.graph.now l.state.plan.changed.items l.state.looks.seen.items l.sums;
   set : l.state.set ≡ l.fn.state.set;
   grows : ComesAfter g.S.Texts.tells (g.S.Texts.world l.fn.site) (g.S.Texts.world l.site);
   looked : LooksUnlessMore g.S.Texts.tells l.setting.graph.now (g.S.Texts.world l.fn.site) (g.S.Texts.world l.site) l.fn.state.looks l.state.looks;

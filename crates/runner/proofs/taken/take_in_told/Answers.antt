@@ -1,4 +1,4 @@
-use Rattle.std.proofs.Common.{suc, None, refl, ◌∙◌}
+use Rattle.std.proofs.Common.{suc, None, refl, sym, subst, ◌∙◌}
 use Rattle.links.specs.Told.{declared_by}
 use Rattle.model.specs.Graph.{edge_at}
 use Rattle.runner.proofs.Ends.{cut_looking}
@@ -8,6 +8,10 @@ use Rattle.runner.proofs.Recording.{on_shown}
 use Rattle.runner.proofs.Removing.{removing_then, removing_after}
 use Rattle.runner.proofs.Results.{on_ok, on_err, ok_by, err_by}
 use Rattle.runner.proofs.After.{after_then, after_looks}
+use Rattle.looks.specs.declared.table.Looks.{Looks}
+use Rattle.plan.specs.declared.plan.Plan.{Plan}
+use Rattle.verdict.specs.Lasting.{KeepsUnmade}
+use Rattle.runner.proofs.Unmade.{ended_keeps}
 use Rattle.runner.proofs.taken.take_in_told.Goals as goal
 
 pub note_end-requires-clause-running : goal.note_end-requires-clause-running
@@ -69,3 +73,16 @@ returns-in_err-map_err-2-clause-grows g c = after_then g.S.Texts.tells (g.S.Text
 
 pub returns-clause-grows : goal.returns-clause-grows
 returns-clause-grows g c = after_then g.S.Texts.tells (g.S.Texts.world c.args.site.now) (g.S.Texts.world c.record_end.new.site) (g.S.Texts.world c.show_end.new.site) (after_then g.S.Texts.tells (g.S.Texts.world c.args.site.now) (g.S.Texts.world c.note_end.new.site) (g.S.Texts.world c.record_end.new.site) (after_looks g.S.Texts.tells (g.S.Texts.world c.args.site.now) (g.S.Texts.world c.note_end.new.site) c.note_end.ensures.looks) c.record_end.ensures.grows) (after_looks g.S.Texts.tells (g.S.Texts.world c.record_end.new.site) (g.S.Texts.world c.show_end.new.site) c.show_end.ensures.looks)
+
+pub returns-clause-kept : goal.returns-clause-kept
+returns-clause-kept g c =
+    let graph = c.args.setting.graph.now in
+    let flags = c.args.state.now.plan.changed.items in
+    let seen = c.args.state.now.looks.seen.items in
+    let noted = c.note_end.new.state in
+    let command = ending_command g.S.Texts.tells c.requires.ending.0 c.args.setting.tick.now graph c.requires.ending.1 c.args.state.now (g.S.Texts.world c.args.site.now) c.args.edge c.args.finished.ok c.ended-finished.result.ok c.args.told c.ended-finished.ensures.ok c.one_answer.ensures c.requires.ending.2 in
+    let kept = ended_keeps g.S.Texts.tells graph c.args.edge c.ended-finished.result.ok (g.S.Texts.world c.args.site.now) (g.S.Texts.world c.note_end.new.site) c.args.state.now noted (c.lists_stand.ensures.phony_is c.args.edge ∙ command)
+    (ok_by c.note_end.result c.map_err.result _ c.map_err.ensures.variant c.in_ok-map_err.was c.note_end.ensures.ended) in
+    on_ok c.map_err-3.result
+    (subst (λ (plan : Plan). KeepsUnmade graph flags seen plan.changed.items c.record_end.new.state.looks.seen.items) (sym c.record_end.ensures.plan)
+    (subst (λ (looks : Looks). KeepsUnmade graph flags seen noted.plan.changed.items looks.seen.items) (sym c.record_end.ensures.looks) kept))

@@ -1,3 +1,7 @@
+use Rattle.std.proofs.Common.{Bool, Vec, Global, sym, subst}
+use Rattle.looks.specs.declared.table.Looks.{Looks}
+use Rattle.verdict.specs.Lasting.{AreMarked}
+use Rattle.verdict.proofs.Summing.{sums_last, marks_last}
 use Rattle.runner.proofs.Results.{on_err, ok_by, err_by}
 use Rattle.runner.proofs.Ends.{cut_looking, at_load}
 use Rattle.runner.proofs.Onward.{said_next, may_wait}
@@ -88,3 +92,25 @@ returns-in-Ended-clause-grows g c = after_same g.S.Texts.tells (g.S.Texts.world 
 
 pub returns-in-Ended-clause-looked : goal.returns-in-Ended-clause-looked
 returns-in-Ended-clause-looked g c same = looked_none g.S.Texts.tells c.args.setting.graph.now (g.S.Texts.world c.args.site.now) c.args.state.now.looks
+
+-- a start changes nothing of what the sums are of
+pub returns-in_ok-map_err-in-Start-clause-marked : goal.returns-in_ok-map_err-in-Start-clause-marked
+returns-in_ok-map_err-in-Start-clause-marked g c =
+    let graph = c.args.setting.graph.now in
+    subst (λ (flags : Vec Bool Global). AreMarked graph flags.items c.start_edge.new.state.looks.seen.items c.args.sums.now) (sym c.start_edge.ensures.changed)
+    (subst (λ (looks : Looks). AreMarked graph c.args.state.now.plan.changed.items looks.seen.items c.args.sums.now) (sym c.start_edge.ensures.looks) c.requires.marked)
+
+-- an end keeps what no command makes
+pub returns-in_ok-take_in-in-Wait-clause-summed : goal.returns-in_ok-take_in-in-Wait-clause-summed
+returns-in_ok-take_in-in-Wait-clause-summed g c =
+    let graph = c.args.setting.graph.now in
+    let flags = c.args.state.now.plan.changed.items in
+    let seen = c.args.state.now.looks.seen.items in
+    sums_last graph flags c.take_in.new.state.plan.changed.items seen c.take_in.new.state.looks.seen.items c.in_ok-take_in-in-Wait.ensures.kept c.forget_made.new.self (c.forget_made.ensures graph flags seen c.requires.marked)
+
+pub returns-in_ok-take_in-in-Wait-clause-marked : goal.returns-in_ok-take_in-in-Wait-clause-marked
+returns-in_ok-take_in-in-Wait-clause-marked g c =
+    let graph = c.args.setting.graph.now in
+    let flags = c.args.state.now.plan.changed.items in
+    let seen = c.args.state.now.looks.seen.items in
+    marks_last graph flags c.take_in.new.state.plan.changed.items seen c.take_in.new.state.looks.seen.items c.in_ok-take_in-in-Wait.ensures.kept c.forget_made.new.self (c.forget_made.ensures graph flags seen c.requires.marked)
