@@ -8,3 +8,4 @@ pub mod Ran
 pub mod Cutting
 pub mod Telling
 pub mod After
+pub mod Unmade

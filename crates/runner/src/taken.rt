@@ -20,7 +20,7 @@ ghost use Rattle.runner.specs.Restat.{is_same_look, IsForgotten, LooksAnew};
 ghost use Rattle.runner.specs.Starting.{IsTakenIn};
 ghost use Rattle.runner.specs.Cutting.{Cuts, IfWaiting, IsOfWait};
 ghost use Rattle.runner.specs.Telling.{IsEnding, ended_well};
-ghost use Rattle.verdict.specs.Lasting.{KeepsUnmade};
+ghost use Rattle.runner.specs.Unmade.{KnowsUnmade};
 
 use crate::counts::progress;
 use crate::cut::Cut;
@@ -54,7 +54,7 @@ pub fn take_in<S: Site>(
     ensures of_wait { IfErr result (IsOfWait (S.world site.old) (S.world site.new)) }
     ensures nearer { OnOk result (work_left state.new.plan.standings.items < work_left state.old.plan.standings.items) }
     ensures set { state.new.set ≡ state.old.set }
-    ensures kept { OnOk result (KeepsUnmade setting.entry.graph.now state.old.plan.changed.items state.old.looks.seen.items state.new.plan.changed.items state.new.looks.seen.items) }
+    ensures kept { OnOk result (KnowsUnmade setting.entry.graph.now state.old state.new) }
     ensures removed { OnOk result ((i : ℕ) → (S.world site.new).events ≡ (S.world site.old).events ++ Finish i true ∷ [] → state.new.failed ≡ state.old.failed → EndsByRemoving S.tells (edge_at (declared_by setting.entry.graph.now).edges i).act (S.world site.old) (S.world site.new)) }
     ensures on { OnOk result ((course : Course) → Suits course setting.entry.tick.now setting.entry.graph.now → (on : IsOn S.tells course setting.entry.graph.now None state.old (S.world site.old)) → MayTakeIn course on.steps → IsOn S.tells course setting.entry.graph.now None state.new (S.world site.new)) }
     ensures cut { OnErr result ((course : Course) → Suits course setting.entry.tick.now setting.entry.graph.now → (on : IsOn S.tells course setting.entry.graph.now None state.old (S.world site.old)) → MayTakeIn course on.steps → IsCut S.tells course setting.entry.graph.now state.new.plan (S.world site.new)) }
@@ -92,7 +92,7 @@ fn take_in_told<S: Site>(
     ensures of_wait { IfErr result (λ cut. IfWaiting cut ⊥) }
     ensures nearer { OnOk result (work_left state.new.plan.standings.items < work_left state.old.plan.standings.items) }
     ensures set { state.new.set ≡ state.old.set }
-    ensures kept { OnOk result (KeepsUnmade setting.entry.graph.now state.old.plan.changed.items state.old.looks.seen.items state.new.plan.changed.items state.new.looks.seen.items) }
+    ensures kept { OnOk result (KnowsUnmade setting.entry.graph.now state.old state.new) }
     ensures noted { OnOk result (state.new.failed.items ≡ failed_after state.old.failed.items edge (ended_well finished.ok told)) }
     ensures removed { OnOk result (ended_well finished.ok told ≡ true → EndsByRemoving S.tells (edge_at (declared_by setting.entry.graph.now).edges (suc edge)).act (S.world site.old) (S.world site.new)) }
     ensures on { OnOk result ((course : Course) → Suits course setting.entry.tick.now setting.entry.graph.now → IsEnding S.tells course setting.entry.graph.now (suc edge) finished.ok told state.old (S.world site.old) → IsOn S.tells course setting.entry.graph.now None state.new (S.world site.new)) }
