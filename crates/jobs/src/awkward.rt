@@ -49,7 +49,10 @@ fn push_modules(alloc: Global, asked: Asked<'_>, digest: &mut Digest) -> Result<
     for number in 0..asked.size {
         let path = format!(in alloc; "obj/module{number:04}.o")?;
         desk.add_file(path.as_str(), digest);
+        let path = format!(in alloc; "mod/module{number:04}.mod")?;
+        desk.add_file(path.as_str(), digest);
     }
+    desk.add_file("program", digest);
     desk.add_logs(digest);
     Ok(())
 }
@@ -146,6 +149,10 @@ fn push_gathered(alloc: Global, asked: Asked<'_>, digest: &mut Digest) -> Result
         let number = random.below(files);
         put_file(alloc, &mut desk, number, &mut random)?;
         desk.build(digest)?;
+    }
+    for number in 0..commands {
+        let path = format!(in alloc; "out/{number}")?;
+        desk.add_file(path.as_str(), digest);
     }
     desk.add_logs(digest);
     Ok(())

@@ -3,6 +3,21 @@
 use crate::random::Random;
 use std::alloc::{AllocError, Global};
 
+/// Words in the names of headers, so that these are of many lengths.
+const WORDS: [&str; 11] = [
+    "io",
+    "buffer",
+    "string_view",
+    "map",
+    "allocator_traits",
+    "hash",
+    "vector",
+    "thread_pool",
+    "x",
+    "type_list",
+    "config",
+];
+
 /// The headers of a project, and about how many of them a unit reads.
 #[derive(Drop)]
 pub struct Headers {
@@ -25,7 +40,8 @@ impl Headers {
         let mut paths = Vec::new(alloc);
         for number in 0..count {
             let part = number.checked_div(20).unwrap_or(0);
-            paths.push(format!(in alloc; "{top}/include/part{part:02}/header_{number:04}.h")?)?;
+            let word = word_of(number);
+            paths.push(format!(in alloc; "{top}/include/part{part}/{word}_{number}.h")?)?;
         }
         Ok(Headers {
             paths,
@@ -52,6 +68,12 @@ impl Headers {
         }
         Ok(text)
     }
+}
+
+/// A word in the name of a header.
+fn word_of(number: usize) -> &'static str {
+    let place = number.checked_rem(WORDS.len()).unwrap_or(0);
+    WORDS.get(place).copied().unwrap_or("")
 }
 
 /// The path of a unit's source, without its ending.

@@ -3,11 +3,13 @@
 //! In each round three forms of them: as CMake's, with variables below each edge; as GN's, with a file and a scope for each target; and long
 //! lines, as of archives and programs.
 
+ghost use Rattle.std.specs.Prelude.{◌<◌, length};
+
 use crate::digest::Digest;
 use crate::random::Random;
 use crate::work::Asked;
 use builder::{Options, read};
-use paths::{Action, Manifest};
+use paths::{Action, Command, EdgeId, Manifest, PathId};
 use sim::{Sim, Toy};
 use status::Pattern;
 use std::alloc::{AllocError, Global};
@@ -180,14 +182,46 @@ fn add_read(alloc: Global, site: &mut Sim<Toy>, digest: &mut Digest) -> Result<(
     Ok(())
 }
 
-/// Takes in how much the build files declare, and each command.
+/// Takes in all that the build files declare.
 fn add_manifest(manifest: &Manifest, digest: &mut Digest) {
     digest.number(manifest.paths.len() as u64);
-    digest.number(manifest.lines.len() as u64);
+    digest.number(manifest.pools.as_slice().len() as u64);
+    digest.number(manifest.defaults.as_slice().len() as u64);
+    for place in 0..manifest.lines.len() {
+        add_line(manifest, manifest.edge(place), digest);
+    }
     for action in manifest.actions.as_slice() {
         match action {
             Action::Alias => digest.number(0),
-            Action::Command(command) => digest.bytes(command.act.command.as_str().as_bytes()),
+            Action::Command(command) => add_command(command, digest),
         }
     }
+}
+
+/// Takes in the paths of an edge, list by list.
+fn add_line(manifest: &Manifest, edge: EdgeId, digest: &mut Digest)
+    requires { edge < length manifest.now.lines }
+{
+    add_numbers(manifest.lines.explicit_outputs(edge), digest);
+    add_numbers(manifest.lines.implicit_outputs(edge), digest);
+    add_numbers(manifest.lines.explicit_inputs(edge), digest);
+    add_numbers(manifest.lines.implicit_inputs(edge), digest);
+    add_numbers(manifest.lines.order_only_inputs(edge), digest);
+    add_numbers(manifest.lines.validations(edge), digest);
+}
+
+fn add_numbers(paths: &[PathId], digest: &mut Digest) {
+    digest.number(paths.len() as u64);
+    for path in paths {
+        digest.number(path.index() as u64);
+    }
+}
+
+fn add_command(command: &Command, digest: &mut Digest) {
+    digest.bytes(command.act.command.as_str().as_bytes());
+    digest.bytes(command.act.depfile.as_str().as_bytes());
+    digest.bytes(command.act.response_path.as_str().as_bytes());
+    digest.bytes(command.act.response_content.as_str().as_bytes());
+    digest.bytes(command.description.as_str().as_bytes());
+    digest.number(u64::from(command.restat));
 }
