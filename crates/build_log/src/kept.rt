@@ -160,6 +160,10 @@ impl<T: Drop> Kept<T> {
         ensures taken { TakesSome result self.new.outputs bytes.now most numbers.old.items numbers.new.items }
     {
         let last = last_of(numbers.as_slice());
+        if let Some((number, after)) = self.outputs.take_by_sum(last, bytes) {
+            numbers.push(number)?;
+            return Ok(Some(after));
+        }
         if let Some((run, after)) = self.outputs.follow_run(last, bytes, most) {
             numbers.extend_from_slice(run)?;
             return Ok(Some(after));

@@ -17,6 +17,9 @@ use text::{Bytes, Items};
 /// How many texts a run has at most.
 const MOST_IN_RUN: usize = 8;
 
+/// After so many texts in turn that only their sum told, the texts of a list are looked for by their sums first.
+const TURNS_BY_SUM: usize = 2;
+
 /// Texts by number, each once, which contracts see as their list. Each is copied once.
 #[derive(Drop)]
 pub struct Texts {
@@ -28,6 +31,8 @@ pub struct Texts {
     places: Vec<Places>,
     /// By the sum of what stands in front: what is guessed of the text there. It is as long as a power of two, or empty.
     table: Vec<Note>,
+    /// How many texts of the list that is read were told by their sums alone, one after another.
+    by_sum: usize,
 }
 
 /// Texts whose fields came one behind another: their numbers, and the bytes of their fields. They are told from others at a
@@ -103,6 +108,7 @@ impl Texts {
             runs: Vec::new(alloc),
             places: Vec::new(alloc),
             table: Vec::new(alloc),
+            by_sum: 0,
         }
     }
 
@@ -158,6 +164,31 @@ impl Texts {
         standing(*note, bytes)
     }
 
+    /// The number of the text whose field stands in front, and what stands behind the field and its tab, where the texts before it
+    /// in its list were told by their sums alone, and it is told so too. In front of a list's first text `last` is no number.
+    #[inline(always)]
+    pub(crate) fn take_by_sum<'a>(
+        &mut self,
+        last: usize,
+        bytes: &'a [u8],
+    ) -> Option<(usize, &'a [u8])>
+        ensures same { self.new ≡ self.old }
+        ensures taken { IfSome result (λ parts. IsTaken self.new bytes.now parts.0 parts.1.now) }
+    {
+        if last == usize::MAX {
+            self.by_sum = 0;
+        }
+        if self.by_sum < TURNS_BY_SUM {
+            return None;
+        }
+        let found = self.look(last, bytes);
+        if found.is_none() {
+            self.by_sum = 0;
+        }
+        let (guess, after) = found?;
+        Some((guess.number as usize, after))
+    }
+
     /// The same as `follow`, where no run is to begin behind `last`: of a text that was noted there, or has the sum of what
     /// stands in front and is noted there from now on.
     #[inline(always)]
@@ -170,12 +201,14 @@ impl Texts {
         ensures taken { IfSome result (λ parts. IsTaken self.new bytes.now parts.0 parts.1.now) }
     {
         if let Some((number, after)) = self.follow(last, bytes) {
+            self.by_sum = 0;
             if self.has_room(last) {
                 return None;
             }
             return Some((number, after));
         }
         let (guess, after) = self.look(last, bytes)?;
+        self.by_sum = self.by_sum.saturating_add(1);
         self.note_guess(last, Some(guess));
         Some((guess.number as usize, after))
     }
