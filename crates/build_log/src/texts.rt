@@ -186,7 +186,8 @@ impl Texts {
             self.by_sum = 0;
         }
         let (guess, after) = found?;
-        Some((guess.number as usize, after))
+        let number = guess.number as usize;
+        Some((number, after))
     }
 
     /// The same as `follow`, where no run is to begin behind `last`: of a text that was noted there, or has the sum of what

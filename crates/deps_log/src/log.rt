@@ -136,8 +136,8 @@ impl Records for Log {
 impl Log {
     /// What the text of a log tells, and how it ends. A damaged one tells nothing.
     ///
-    /// Each byte is looked at a fixed number of times. The text of an output or path is copied where it stands for the
-    /// first time, and looked up once wherever it stands.
+    /// It takes a time of the order of the text. The text of an output or path is copied where it stands for the first
+    /// time; wherever it stands again, it is compared with a guess, or looked up once.
     pub fn parse(alloc: Global, bytes: &[u8]) -> Result<(Log, Tail), AllocError>
         ensures { IfOk result (λ read. IsParsed forms Keeps bytes.now read.0 read.1) }
     {
