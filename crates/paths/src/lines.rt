@@ -1,8 +1,9 @@
 //! The paths of all edges, in flat memory.
 
-ghost use Rattle.std.specs.Prelude.{◌≡◌, ◌<◌, ◌+◌, ◌-◌, ◌^◌, ◌++◌, ◌∷◌, ℕ, [], length, vec_len, IfOk, OnOk, OnErr};
+ghost use Rattle.std.specs.Prelude.{◌≡◌, ◌<◌, ◌+◌, ◌-◌, ◌^◌, ◌++◌, ◌∷◌, ◌≤◌, ℕ, [], length, vec_len, IfOk, OnOk, OnErr};
 ghost use Rattle.model.specs.Graph.{has_number};
-ghost use Rattle.paths.specs.Lists.{line_at, line_outputs, line_regular_inputs, line_inputs, line_paths, all_paths, grown_line, IsAppended, IsRowIn, Extends};
+ghost use Rattle.paths.specs.Lists.{line_at, line_outputs, line_regular_inputs, line_inputs, line_paths, all_paths, between, grown_line, IsAppended, IsRowIn, Extends};
+ghost use Rattle.paths.specs.Grown.{with_grown, IsGrownRow};
 ghost use Rattle.paths.specs.Moved.{moved_row};
 
 use crate::id::{EdgeId, PathId};
@@ -42,7 +43,8 @@ impl Row {
     }
 }
 
-/// The paths of edges, which contracts see as the list of their lines. An edge takes 56 bytes, and 4 for each path.
+/// The paths of edges, which contracts see as the list of their lines. An edge takes 56 bytes, and 4 for each path; what the line of
+/// an edge was before it grew keeps these 4.
 #[derive(Drop)]
 pub struct Lines {
     numbers: Vec<PathId>,
@@ -83,6 +85,17 @@ impl Lines {
         })
     }
 
+    /// The same lines, with room for so many more numbers of paths: where lines grow by no more, they do not move.
+    pub fn copied(&self, alloc: Global, more: usize) -> Result<Lines, AllocError>
+        ensures { IfOk result (λ copy. copy ≡ self.now) }
+    {
+        let mut numbers = Vec::with_capacity(alloc, self.numbers.len().saturating_add(more))?;
+        numbers.extend_from_slice(&self.numbers)?;
+        let mut rows = Vec::with_capacity(alloc, self.rows.len())?;
+        rows.extend_from_slice(&self.rows)?;
+        Ok(Lines { numbers, rows })
+    }
+
     /// How many there are.
     pub fn len(&self) -> usize
         ensures { result ≡ length self.now }
@@ -117,6 +130,26 @@ impl Lines {
         // what a refused line leaves at the end belongs to no line
         let row = append_grown(&mut self.numbers, lines, edge, outputs, inputs)?;
         self.rows.push(row)?;
+        Ok(())
+    }
+
+    /// Gives the line of an edge more implicit outputs and more implicit inputs, behind those that it has. The line moves behind
+    /// all others, and no other one does: 4 bytes for each of its paths are lost where it stood. Where memory is refused, the lines
+    /// stay as they were.
+    pub fn grow(
+        &mut self,
+        edge: EdgeId,
+        outputs: &[PathId],
+        inputs: &[PathId],
+    ) -> Result<(), AllocError>
+        requires { edge < length self.old }
+        ensures ok { OnOk result (self.new ≡ with_grown self.old edge outputs.now inputs.now) }
+        ensures err { OnErr result (self.new ≡ self.old) }
+    {
+        let row = self.rows[edge.index()];
+        // what a refused line leaves at the end belongs to no line
+        let grown = append_row(&mut self.numbers, row, outputs, inputs)?;
+        self.rows[edge.index()] = grown;
         Ok(())
     }
 
@@ -285,6 +318,60 @@ fn append_same(numbers: &mut Vec<PathId>, lines: &Lines, edge: EdgeId) -> Result
     let start = numbers.len();
     append(numbers, &lines.numbers[row.start..row.validations])?;
     Ok(row.moved_to(start))
+}
+
+/// Puts the lists of a row at the end once more, one behind the other, with more implicit outputs and inputs.
+fn append_row(
+    numbers: &mut Vec<PathId>,
+    row: Row,
+    outputs: &[PathId],
+    inputs: &[PathId],
+) -> Result<Row, AllocError>
+    requires { IsRowIn (length numbers.old.items) row }
+    ensures ok { IfOk result (IsGrownRow numbers.old.items numbers.new.items row outputs.now inputs.now) }
+    ensures err { OnErr result (Extends numbers.old.items numbers.new.items) }
+{
+    Ok(Row {
+        start: numbers.len(),
+        explicit_outputs: append_part(numbers, row.start, row.explicit_outputs)?,
+        implicit_outputs: append_longer(
+            numbers,
+            row.explicit_outputs,
+            row.implicit_outputs,
+            outputs,
+        )?,
+        explicit_inputs: append_part(numbers, row.implicit_outputs, row.explicit_inputs)?,
+        implicit_inputs: append_longer(numbers, row.explicit_inputs, row.implicit_inputs, inputs)?,
+        order_only_inputs: append_part(numbers, row.implicit_inputs, row.order_only_inputs)?,
+        validations: append_part(numbers, row.order_only_inputs, row.validations)?,
+    })
+}
+
+/// Puts what stands between two places at the end once more, and a list behind it; gives the place behind that.
+fn append_longer(
+    numbers: &mut Vec<PathId>,
+    start: usize,
+    stop: usize,
+    more: &[PathId],
+) -> Result<usize, AllocError>
+    requires order { start ≤ stop }
+    requires within { stop ≤ length numbers.old.items }
+    ensures ok { IfOk result (λ end. (numbers.new.items ≡ numbers.old.items ++ (between numbers.old.items start stop ++ more.now)) × (end ≡ vec_len numbers.new)) }
+    ensures err { OnErr result (Extends numbers.old.items numbers.new.items) }
+{
+    append_part(numbers, start, stop)?;
+    append(numbers, more)
+}
+
+/// Puts what stands between two places at the end once more, and gives the place behind it.
+fn append_part(numbers: &mut Vec<PathId>, start: usize, stop: usize) -> Result<usize, AllocError>
+    requires order { start ≤ stop }
+    requires within { stop ≤ length numbers.old.items }
+    ensures ok { IfOk result (λ end. (numbers.new.items ≡ numbers.old.items ++ between numbers.old.items start stop) × (end ≡ vec_len numbers.new)) }
+    ensures err { OnErr result (numbers.new.items ≡ numbers.old.items) }
+{
+    numbers.extend_from_within(start..stop)?;
+    Ok(numbers.len())
 }
 
 /// Puts two lists at the end, one behind the other, and gives the place behind them.
