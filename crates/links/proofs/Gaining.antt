@@ -9,7 +9,6 @@ use Rattle.std.proofs.Math.Seq.{get_or-append_seam}
 use Rattle.model.specs.Graph.{has_number, Addition}
 use Rattle.build_theory.proofs.Lists.{has_number-cases, has_number-is}
 use Rattle.dyndep.specs.declared.addition.Addition.{Addition as Statement}
-use Rattle.paths.specs.declared.line.Line.{Line}
 use Rattle.paths.specs.declared.manifest.Action.{Action}
 use Rattle.paths.specs.Commands.{no_action}
 use Rattle.paths.specs.declared.manifest.Manifest.{Manifest}
@@ -18,7 +17,7 @@ use Rattle.paths.specs.Lists.{line_at, line_inputs}
 use Rattle.paths.specs.Told.{text_at, texts_at}
 use Rattle.links.specs.declared.loaded.Gain.{Gain}
 use Rattle.links.specs.Held.{list_at, times, AreRecorded, AreUsers, pushed}
-use Rattle.links.specs.Statements.{HasMore, AreNumbersIn, IsGainIn, no_gain, gain_at, no_addition, addition_at, AreGainsIn, gain_of, line_with, action_at, action_with}
+use Rattle.links.specs.Statements.{HasMore, AreNumbersIn, IsGainIn, no_gain, gain_at, no_addition, addition_at, AreGainsIn, action_at, action_with}
 use Rattle.links.specs.Extended.{addition_of}
 use Rattle.links.proofs.Asked.{texts_next}
 use Rattle.links.proofs.Lists.{times-append, times_pushed}
@@ -93,16 +92,6 @@ gains_push paths additions gains a gain are is = record {
   ];
 }
 
--- ---- lines
-
-pub lines_next : (lines grown now : List Line) (chosen : List (Option ℕ)) (gains : List Gain) (place : ℕ) (line : Line) → length grown ≡ place → now ≡ grown ++ line ∷ [] → line ≡ line_with gains (line_at lines place) (get_or chosen place None)
-    → ((e : ℕ) → e < place → line_at grown e ≡ line_with gains (line_at lines e) (get_or chosen e None)) → (e : ℕ) → e < place + 1 → line_at now e ≡ line_with gains (line_at lines e) (get_or chosen e None)
-lines_next lines grown now chosen gains place line fits is here before e lt = ap (λ (l : List Line). line_at l e) is ∙ elim (cases_eq e place) [
-  | inl same ↦ subst (λ (n : ℕ). line_at (grown ++ line ∷ []) n ≡ line_with gains (line_at lines n) (get_or chosen n None)) (sym same)
-      (subst (λ (n : ℕ). line_at (grown ++ line ∷ []) n ≡ line) fits (get_or-append_seam grown line [] _) ∙ here)
-  | inr other ↦ get_or_append_left grown (line ∷ []) _ e (omega (arith, lt, other, fits)) ∙ before e (omega (arith, lt, other))
-]
-
 -- ---- users
 
 pub recorded_next : (manifest : Manifest) (recorded users new : List (List ℕ)) (k : ℕ) → AllByRecursion (λ p. p < length users) (list_at recorded k) → new ≡ pushed users (list_at recorded k) k
@@ -174,6 +163,3 @@ recorded_all manifest recorded users place are fits whole counted = record {
         let is : nat_lt e place ≡ false = grind (arith, past) in
         let none : list_at recorded e ≡ [] = get_or_past recorded e [] (omega (arith, past, whole, are.fits)) in
         ap (λ (b : Bool). cond b (times (list_at recorded e) p) 0) is ∙ sym (ap (λ (l : List ℕ). times l p) none)
-
-pub longer_by_one : {X : Type 0} (xs ys : List X) (x : X) → ys ≡ xs ++ x ∷ [] → length ys ≡ length xs + 1
-longer_by_one xs ys x is = let long = ap length is in let sum = length-append xs (x ∷ []) in omega (arith, long, sum)

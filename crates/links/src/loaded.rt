@@ -127,32 +127,37 @@ fn grown_lines(
     requires below { AreChoicesBelow (length gains.now) chosen.now }
     ensures { IfOk result (λ grown. AreGrownLines lines.now chosen.now gains.now grown) }
 {
-    let mut grown = Lines::with_room_for(alloc, lines)?;
+    let mut grown = lines.copied(alloc, grown_numbers(lines, chosen, gains))?;
     for (place, choice) in chosen.iter().enumerate() {
-        push_line(&mut grown, lines, EdgeId::at_below(place), *choice, gains)?;
+        if let Some(statement) = *choice {
+            let gain = &gains[statement];
+            grown.grow(
+                EdgeId::at_below(place),
+                gain.outputs.as_slice(),
+                gain.inputs.as_slice(),
+            )?;
+        }
     }
     Ok(grown)
 }
 
-/// Puts the line of an edge behind the others, with what the statement adds that was chosen for it.
-fn push_line(
-    grown: &mut Lines,
-    lines: &Lines,
-    edge: EdgeId,
-    choice: Option<usize>,
-    gains: &[Gain],
-) -> Result<(), AllocError>
-    requires edge { edge < length lines.now }
-    requires below { (k : ℕ) → choice ≡ Some k → k < length gains.now }
-    ensures { OnOk result (grown.new ≡ grown.old ++ line_with gains.now (line_at lines.now edge) choice ∷ []) }
+/// How many paths the lines name that grow, with what they gain: so much room they take at once.
+fn grown_numbers(lines: &Lines, chosen: &[Option<usize>], gains: &[Gain]) -> usize
+    requires few { length lines.now ≤ 2 ^ 32 }
+    requires fits { length chosen.now ≡ length lines.now }
+    requires below { AreChoicesBelow (length gains.now) chosen.now }
 {
-    match choice {
-        None => grown.push_grown(lines, edge, &[], &[]),
-        Some(statement) => {
+    let mut count = 0usize;
+    for (place, choice) in chosen.iter().enumerate() {
+        if let Some(statement) = *choice {
             let gain = &gains[statement];
-            grown.push_grown(lines, edge, gain.outputs.as_slice(), gain.inputs.as_slice())
+            count = count
+                .saturating_add(lines.paths(EdgeId::at_below(place)).len())
+                .saturating_add(gain.outputs.len())
+                .saturating_add(gain.inputs.len());
         }
     }
+    count
 }
 
 /// The makers and the users of the paths of a manifest, with recorded inputs.
