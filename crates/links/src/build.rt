@@ -32,7 +32,8 @@ impl Graph {
     {
         let makers = makers_of(alloc, &manifest)?;
         let recorded = Recorded::none(alloc, manifest.lines.len())?;
-        let users = users_of(alloc, &manifest)?;
+        let counts = input_counts(alloc, &manifest)?;
+        let users = users_of(alloc, &manifest, &counts)?;
         Ok(Graph {
             manifest,
             makers,
@@ -42,13 +43,16 @@ impl Graph {
     }
 }
 
-/// For each path the edges that name it.
-pub(crate) fn users_of(alloc: Global, manifest: &Manifest) -> Result<Users, AllocError>
-    ensures users { IfOk result (AreUsers manifest.now (replicate (length manifest.now.lines) [])) }
-    ensures apart { OnOk result (HaveOnePlace manifest.now.paths) }
+/// For each path the edges that name it, with room for as many as its count: where a path has more, its list moves.
+pub(crate) fn users_of(
+    alloc: Global,
+    manifest: &Manifest,
+    counts: &[usize],
+) -> Result<Users, AllocError>
+    requires { length counts.now ≡ length manifest.now.paths }
+    ensures { IfOk result (AreUsers manifest.now (replicate (length manifest.now.lines) [])) }
 {
-    let counts = input_counts(alloc, manifest)?;
-    let mut users = Users::with_rooms(alloc, &counts)?;
+    let mut users = Users::with_rooms(alloc, counts)?;
     for place in 0..manifest.lines.len() {
         let edge = manifest.edge(place);
         users.push_all(manifest.lines.inputs(edge), edge)?;

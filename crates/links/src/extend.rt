@@ -7,7 +7,7 @@ ghost use Rattle.links.specs.Extended.{HasTaken, HasRefused};
 use crate::back::{Before, loaded_edges};
 use crate::fault::ExtendFault;
 use crate::graph::Graph;
-use crate::loaded::load;
+use crate::loaded::{Kept, load};
 use dyndep::Addition;
 use paths::PathId;
 use std::alloc::Global;
@@ -37,13 +37,11 @@ impl Graph {
         let chosen = self.statements(alloc, additions, file)?;
         let edges = loaded_edges(alloc, self.manifest.actions.as_slice(), &chosen)?;
         let known = self.manifest.paths.len();
-        match load(
-            alloc,
-            &mut self.manifest,
-            &self.recorded,
-            additions,
-            &chosen,
-        ) {
+        let kept = Kept {
+            recorded: &self.recorded,
+            users: &self.users,
+        };
+        match load(alloc, &mut self.manifest, kept, additions, &chosen) {
             Ok(loaded) => Ok(Before {
                 lines: loaded.lines,
                 makers: mem::replace(&mut self.makers, loaded.makers),

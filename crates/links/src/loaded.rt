@@ -26,6 +26,13 @@ pub struct Gain {
     pub inputs: Items<PathId>,
 }
 
+/// What a graph keeps of inputs beside its manifest, before a load.
+#[derive(Clone, Copy)]
+pub struct Kept<'g> {
+    pub recorded: &'g Recorded,
+    pub users: &'g Users,
+}
+
 /// Which edge makes each path, and for each path the edges that name it.
 #[derive(Drop)]
 pub struct Parts {
@@ -48,18 +55,18 @@ pub struct Loaded {
 pub fn load(
     alloc: Global,
     manifest: &mut Manifest,
-    recorded: &Recorded,
+    kept: Kept<'_>,
     additions: &[Addition],
     chosen: &[Option<usize>],
 ) -> Result<Loaded, ExtendFault>
-    requires recorded { AreRecorded manifest.old recorded.now }
+    requires recorded { AreRecorded manifest.old kept.recorded.now }
     requires dyndeps { DyndepsAreInputs manifest.old }
     requires fits { length chosen.now ≡ length manifest.old.lines }
     requires below { AreChoicesBelow (length additions.now) chosen.now }
     ensures loaded { OnOk result (IsLoadedManifest manifest.old manifest.new (map addition_of additions.now) chosen.now) }
     ensures lines { IfOk result (λ loaded. loaded.lines ≡ manifest.old.lines) }
     ensures makers { IfOk result (λ loaded. AreMakers manifest.new loaded.makers.items) }
-    ensures users { IfOk result (λ loaded. AreUsers manifest.new recorded.now loaded.users) }
+    ensures users { IfOk result (λ loaded. AreUsers manifest.new kept.entry.recorded.now loaded.users) }
     ensures apart { OnOk result (HaveOnePlace manifest.new.paths) }
     ensures err { OnErr result (HasOnlyMore manifest.old manifest.new) }
     ensures fault { IfErr result (IsLoadFault manifest.old (map addition_of additions.now) chosen.now) }
@@ -67,7 +74,7 @@ pub fn load(
     let gains = gains_of(alloc, &mut manifest.paths, additions)?;
     let lines = grown_lines(alloc, &manifest.lines, chosen, &gains)?;
     let before = mem::replace(&mut manifest.lines, lines);
-    match parts_of(alloc, manifest, recorded) {
+    match parts_of(alloc, manifest, kept, &gains) {
         Ok(parts) => {
             let mut actions = mem::replace(&mut manifest.actions, Items::new(alloc)).into_vec();
             load_actions(&mut actions, additions, chosen);
@@ -161,10 +168,15 @@ fn grown_numbers(lines: &Lines, chosen: &[Option<usize>], gains: &[Gain]) -> usi
 }
 
 /// The makers and the users of the paths of a manifest, with recorded inputs.
-fn parts_of(alloc: Global, manifest: &Manifest, recorded: &Recorded) -> Result<Parts, ExtendFault>
-    requires { AreRecorded manifest.now recorded.now }
+fn parts_of(
+    alloc: Global,
+    manifest: &Manifest,
+    kept: Kept<'_>,
+    gains: &[Gain],
+) -> Result<Parts, ExtendFault>
+    requires { AreRecorded manifest.now kept.recorded.now }
     ensures makers { IfOk result (λ parts. AreMakers manifest.now parts.makers.items) }
-    ensures users { IfOk result (λ parts. AreUsers manifest.now recorded.now parts.users) }
+    ensures users { IfOk result (λ parts. AreUsers manifest.now kept.entry.recorded.now parts.users) }
     ensures apart { OnOk result (HaveOnePlace manifest.now.paths) }
     ensures fault { IfErr result (IsPartsFault manifest.now) }
 {
@@ -172,9 +184,39 @@ fn parts_of(alloc: Global, manifest: &Manifest, recorded: &Recorded) -> Result<P
         Ok(makers) => makers,
         Err(fault) => return Err(extend_fault(fault)),
     };
-    let mut users = users_of(alloc, manifest)?;
-    use_recorded(&mut users, manifest, recorded)?;
+    let counts = grown_counts(alloc, manifest, kept.users, gains)?;
+    let mut users = users_of(alloc, manifest, &counts)?;
+    use_recorded(&mut users, manifest, kept.recorded)?;
     Ok(Parts { makers, users })
+}
+
+/// How many edges named each path before, with those that gain it as an input: so much room its users take.
+fn grown_counts(
+    alloc: Global,
+    manifest: &Manifest,
+    users: &Users,
+    gains: &[Gain],
+) -> Result<Vec<usize>, AllocError>
+    ensures fits { IfOk result (λ counts. length counts.items ≡ length manifest.now.paths) }
+    ensures apart { OnOk result (HaveOnePlace manifest.now.paths) }
+{
+    let mut counts = users.counts(alloc, manifest.paths.len())?;
+    for gain in gains {
+        count_known(&mut counts, gain.inputs.as_slice());
+    }
+    Ok(counts)
+}
+
+/// Each of these paths that has a count is counted once more.
+fn count_known(counts: &mut [usize], paths: &[PathId])
+    ensures { length counts.new ≡ length counts.old }
+{
+    for path in paths {
+        let place = path.index();
+        if place < counts.len() {
+            counts[place] = counts[place].saturating_add(1);
+        }
+    }
 }
 
 /// The fault of a graph whose dyndep files are inputs: an edge keeps its inputs.

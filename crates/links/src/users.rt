@@ -70,6 +70,18 @@ impl Users {
         })
     }
 
+    /// How many edges name each of so many paths; none names those that are not there.
+    pub(crate) fn counts(&self, alloc: Global, paths: usize) -> Result<Vec<usize>, AllocError>
+        ensures { IfOk result (λ counts. length counts.items ≡ paths) }
+    {
+        let mut counts = Vec::with_capacity(alloc, paths)?;
+        for room in &self.rooms {
+            counts.push(room.stop.saturating_sub(room.start))?;
+        }
+        counts.resize(paths, 0)?;
+        Ok(counts)
+    }
+
     /// How many paths there are.
     pub fn len(&self) -> usize
         ensures { result ≡ length self.now }
