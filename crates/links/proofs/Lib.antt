@@ -1,4 +1,5 @@
 pub mod Walking
+pub mod Nexts
 pub mod Rounds
 pub mod Rounded
 pub mod ConesOf
