@@ -1,7 +1,9 @@
 -- Paths that are kept once.
-use Rattle.std.proofs.Common.{◌≡◌, ℕ, Bool, true, false, not, List, [], ◌∷◌, ◌++◌, map, filter, refl, sym, ◌∙◌, ap, subst, append_assoc, append-nil, Option, Some, None, Result, Ok, Err, string_bytes, String, Global}
+use Rattle.std.proofs.Common.{◌≡◌, ℕ, Bool, true, false, not, List, [], ◌∷◌, ◌++◌, map, filter, refl, sym, ◌∙◌, ap, subst, append_assoc, append-nil, Option, Some, None, Result, Ok, Err, Global}
 use Rattle.std.specs.Prelude.{bytes_eq, ◌||◌, if◌then◌else◌}
 use Rattle.std.specs.List.{list_any, AllZip}
+use Rattle.std.specs.Cow.{cow_str_bytes}
+use Rattle.std.specs.declared.borrow.CowStr.{CowStr}
 use Rattle.std.proofs.lemmas.List.{map-append}
 use Rattle.std.proofs.lemmas.List.Elements.{filter-append}
 use Rattle.std.proofs.lemmas.Slice.Eq.{bytes_eq-Decides}
@@ -62,30 +64,30 @@ firsts-push (x ∷ all) p = ap (λ (ps : List (List ℕ)). x ∷ others x ps) (f
         let twin : bytes_eq x p ≡ false = turned x p ∙ same in
         rw (same, found, there) (ap (λ (ps : List (List ℕ)). x ∷ ps) (filter-append (λ other. not (bytes_eq x other)) (firsts all) (p ∷ []) ∙ rw twin refl))
 
-abbrev pub same_text : String Global → String Global → Bool
-same_text one other = bytes_eq (string_bytes one) (string_bytes other)
+abbrev pub same_text : CowStr Global → CowStr Global → Bool
+same_text one other = bytes_eq (cow_str_bytes one) (cow_str_bytes other)
 
-found_key : (keys : List (String Global)) (key : String Global) → list_any (same_text key) keys ≡ list_any (bytes_eq (string_bytes key)) (map string_bytes keys)
+found_key : (keys : List (CowStr Global)) (key : CowStr Global) → list_any (same_text key) keys ≡ list_any (bytes_eq (cow_str_bytes key)) (map cow_str_bytes keys)
 found_key [] key = refl
 found_key (other ∷ keys) key = ap (λ (b : Bool). same_text key other || b) (found_key keys key)
 
-key_put : (keys : List (String Global)) (key : String Global) → map string_bytes (insert_key same_text keys key) ≡ put (map string_bytes keys) (string_bytes key)
+key_put : (keys : List (CowStr Global)) (key : CowStr Global) → map cow_str_bytes (insert_key same_text keys key) ≡ put (map cow_str_bytes keys) (cow_str_bytes key)
 key_put keys key = by (list_any (same_text key) keys) refl
   where
-    by : (found : Bool) → list_any (same_text key) keys ≡ found → map string_bytes (if found then keys else keys ++ key ∷ []) ≡ put (map string_bytes keys) (string_bytes key)
+    by : (found : Bool) → list_any (same_text key) keys ≡ found → map cow_str_bytes (if found then keys else keys ++ key ∷ []) ≡ put (map cow_str_bytes keys) (cow_str_bytes key)
     by true is = let there = sym (found_key keys key) ∙ is in rw there refl
-    by false is = let there = sym (found_key keys key) ∙ is in rw there (map-append string_bytes keys (key ∷ []))
+    by false is = let there = sym (found_key keys key) ∙ is in rw there (map-append cow_str_bytes keys (key ∷ []))
 
-pub path_put : (name : List ℕ) (all : List (List ℕ)) (keys new : List (String Global)) (key : String Global) → IsCanonical name (string_bytes key) → new ≡ insert_key same_text keys key → AreKept all keys → AddsPath name all new
+pub path_put : (name : List ℕ) (all : List (List ℕ)) (keys new : List (CowStr Global)) (key : CowStr Global) → IsCanonical name (cow_str_bytes key) → new ≡ insert_key same_text keys key → AreKept all keys → AddsPath name all new
 path_put name all keys new key canonical is kept = record {
-  path = string_bytes key;
+  path = cow_str_bytes key;
   canonical = canonical;
-  now = ap (map string_bytes) is ∙ key_put keys key ∙ ap (λ (ps : List (List ℕ)). put ps (string_bytes key)) kept ∙ sym (firsts-push all (string_bytes key));
+  now = ap (map cow_str_bytes) is ∙ key_put keys key ∙ ap (λ (ps : List (List ℕ)). put ps (cow_str_bytes key)) kept ∙ sym (firsts-push all (cow_str_bytes key));
 }
 
 -- ---- inputs of a rule so far
 
-pub record AddsSoFar (text rest : List ℕ) (all : List (List ℕ)) (kept : List (String Global)) : Type 0 where
+pub record AddsSoFar (text rest : List ℕ) (all : List (List ℕ)) (kept : List (CowStr Global)) : Type 0 where
   pub words : List Word
   pub paths : List (List ℕ)
   pub canonical : AllZip IsCanonical (map spelled words) paths
@@ -96,7 +98,7 @@ both_nothing : (later : Option (List Word)) → later ≡ both (Some []) later
 both_nothing None = refl
 both_nothing (Some words) = refl
 
-pub adds_nothing : (text : List ℕ) (all : List (List ℕ)) (kept : List (String Global)) → AreKept all kept → AddsSoFar text text all kept
+pub adds_nothing : (text : List ℕ) (all : List (List ℕ)) (kept : List (CowStr Global)) → AreKept all kept → AddsSoFar text text all kept
 adds_nothing text all kept are = record {
   words = [];
   paths = [];
@@ -111,7 +113,7 @@ zip-append [] more (path ∷ paths) others first second = absurd first
 zip-append (word ∷ words) more [] others first second = absurd first
 zip-append (word ∷ words) more (path ∷ paths) others first second = (first.0, zip-append words more paths others first.1 second)
 
-pub adds_one_more : (text between rest : List ℕ) (all : List (List ℕ)) (old new : List (String Global)) (word : Word) → (far : AddsSoFar text between all old) → AddsPath (spelled word) (all ++ far.paths) new
+pub adds_one_more : (text between rest : List ℕ) (all : List (List ℕ)) (old new : List (CowStr Global)) (word : Word) → (far : AddsSoFar text between all old) → AddsPath (spelled word) (all ++ far.paths) new
     → behind_targets (signs between) ≡ both (Some (word ∷ [])) (behind_targets (signs rest)) → AddsSoFar text rest all new
 adds_one_more text between rest all old new word far one is = record {
   words = far.words ++ word ∷ [];
@@ -121,7 +123,7 @@ adds_one_more text between rest all old new word far one is = record {
   left_is = far.left_is ∙ ap (both (Some far.words)) is ∙ both_both far.words (word ∷ []) (behind_targets (signs rest));
 }
 
-pub adds_all : (text between rest : List ℕ) (all : List (List ℕ)) (kept : List (String Global)) → AddsSoFar text between all kept → behind_targets (signs between) ≡ inputs (signs rest) → Adds (behind_targets (signs text)) rest all kept
+pub adds_all : (text between rest : List ℕ) (all : List (List ℕ)) (kept : List (CowStr Global)) → AddsSoFar text between all kept → behind_targets (signs between) ≡ inputs (signs rest) → Adds (behind_targets (signs text)) rest all kept
 adds_all text between rest all kept far is = record {
   words = far.words;
   paths = far.paths;
@@ -131,22 +133,22 @@ adds_all text between rest all kept far is = record {
 }
 
 -- the word of a token is the one that stands first
-pub named_path : (text rest : List ℕ) (word : Written) → (is : IsToken text (Name word) rest) → (all : List (List ℕ)) (kept : List (String Global)) → AddsPath (spelled (front_word (signs word.from.now))) all kept → AddsPath (spelled (front_word (signs is.start))) all kept
+pub named_path : (text rest : List ℕ) (word : Written) → (is : IsToken text (Name word) rest) → (all : List (List ℕ)) (kept : List (CowStr Global)) → AddsPath (spelled (front_word (signs word.from.now))) all kept → AddsPath (spelled (front_word (signs is.start))) all kept
 named_path text rest word is all kept adds = let here : IsWord is.start word rest = is.here in subst (λ (from : List ℕ). AddsPath (spelled (front_word (signs from))) all kept) here.begins adds
 
 -- ---- the inputs of all rules so far
 
-pub record SaidSoFar (text rest : List ℕ) (kept : List (String Global)) : Type 0 where
+pub record SaidSoFar (text rest : List ℕ) (kept : List (CowStr Global)) : Type 0 where
   pub words : List Word
   pub paths : List (List ℕ)
   pub canonical : AllZip IsCanonical (map spelled words) paths
   pub now : AreKept paths kept
   pub left_is : inputs (signs text) ≡ both (Some words) (inputs (signs rest))
 
-pub said_nothing : (text : List ℕ) (kept : List (String Global)) → kept ≡ [] → SaidSoFar text text kept
-said_nothing text kept none = record { words = []; paths = []; canonical = tt; now = ap (map string_bytes) none; left_is = both_nothing (inputs (signs text)) }
+pub said_nothing : (text : List ℕ) (kept : List (CowStr Global)) → kept ≡ [] → SaidSoFar text text kept
+said_nothing text kept none = record { words = []; paths = []; canonical = tt; now = ap (map cow_str_bytes) none; left_is = both_nothing (inputs (signs text)) }
 
-pub says_more : (text between rest : List ℕ) (old new : List (String Global)) → SaidSoFar text between old → ((all : List (List ℕ)) → AreKept all old → Adds (inputs (signs between)) rest all new) → SaidSoFar text rest new
+pub says_more : (text between rest : List ℕ) (old new : List (CowStr Global)) → SaidSoFar text between old → ((all : List (List ℕ)) → AreKept all old → Adds (inputs (signs between)) rest all new) → SaidSoFar text rest new
 says_more text between rest old new far adds = let one = adds far.paths far.now in record {
   words = far.words ++ one.words;
   paths = far.paths ++ one.paths;
@@ -156,7 +158,7 @@ says_more text between rest old new far adds = let one = adds far.paths far.now 
 }
 
 -- a rule that is blank, and one that has inputs
-pub adds_rule : (text rest : List ℕ) (kept : List (String Global)) → inputs (signs text) ≡ inputs (signs rest) → (all : List (List ℕ)) → AreKept all kept → Adds (inputs (signs text)) rest all kept
+pub adds_rule : (text rest : List ℕ) (kept : List (CowStr Global)) → inputs (signs text) ≡ inputs (signs rest) → (all : List (List ℕ)) → AreKept all kept → Adds (inputs (signs text)) rest all kept
 adds_rule text rest kept is all are = record { words = []; paths = []; canonical = tt; now = are ∙ ap firsts (sym (append-nil all)); left_is = is ∙ both_nothing (inputs (signs rest)) }
 
 -- ---- one answer

@@ -1,6 +1,8 @@
 -- What is kept while a depfile is read.
-use Rattle.std.specs.Prelude.{◌≡◌, ℕ, List, ◌++◌, [], ◌∷◌, map, Option, Some, None, Err, string_bytes, String}
+use Rattle.std.specs.Prelude.{◌≡◌, ℕ, List, ◌++◌, [], ◌∷◌, map, Option, Some, None, Err}
 use Rattle.std.specs.List.{AllZip}
+use Rattle.std.specs.Cow.{cow_str_bytes}
+use Rattle.std.specs.declared.borrow.CowStr.{CowStr}
 use Rattle.lexer.specs.Path.{IsCanonical}
 use Rattle.depfile.specs.Signs.{signs, spelled}
 use Rattle.depfile.specs.declared.fault.DepFault.TheVariants.{NoColon}
@@ -8,12 +10,12 @@ use Rattle.depfile.specs.declared.fault.ReadError.{ReadError}
 use Rattle.depfile.specs.declared.fault.ReadError.TheVariants.{Memory, Fault}
 use Rattle.depfile.specs.Depfile.{Word, both, inputs, firsts, AreInputs, IsRead}
 
--- the strings are these paths, each once
-abbrev pub AreKept : {Z : Type 0} → List (List ℕ) → List (String Z) → Type 0
-AreKept all kept = map string_bytes kept ≡ firsts all
+-- the texts are these paths, each once
+abbrev pub AreKept : {Z : Type 0} → List (List ℕ) → List (CowStr Z) → Type 0
+AreKept all kept = map cow_str_bytes kept ≡ firsts all
 
 -- the inputs of a text are new ones, whose paths were added to those kept, and then those of the rest
-pub record Adds {Z : Type 0} (left : Option (List Word)) (rest : List ℕ) (all : List (List ℕ)) (kept : List (String Z)) : Type 0 where
+pub record Adds {Z : Type 0} (left : Option (List Word)) (rest : List ℕ) (all : List (List ℕ)) (kept : List (CowStr Z)) : Type 0 where
   pub words : List Word
   pub paths : List (List ℕ)
   pub canonical : AllZip IsCanonical (map spelled words) paths
@@ -21,16 +23,16 @@ pub record Adds {Z : Type 0} (left : Option (List Word)) (rest : List ℕ) (all 
   pub left_is : left ≡ both (Some words) (inputs (signs rest))
 
 -- the path that these characters name was added to those kept
-pub record AddsPath {Z : Type 0} (name : List ℕ) (all : List (List ℕ)) (kept : List (String Z)) : Type 0 where
+pub record AddsPath {Z : Type 0} (name : List ℕ) (all : List (List ℕ)) (kept : List (CowStr Z)) : Type 0 where
   pub path : List ℕ
   pub canonical : IsCanonical name path
   pub now : AreKept (all ++ path ∷ []) kept
 
 -- all inputs of a text are kept
-pub record SaysInputs {Z : Type 0} (text : List ℕ) (kept : List (String Z)) : Type 0 where
+pub record SaysInputs {Z : Type 0} (text : List ℕ) (kept : List (CowStr Z)) : Type 0 where
   pub words : List Word
   pub said : inputs (signs text) ≡ Some words
-  pub inputs_are : AreInputs words (map string_bytes kept)
+  pub inputs_are : AreInputs words (map cow_str_bytes kept)
 
 abbrev pub RefusesText : List ℕ → ReadError → Type 0
 RefusesText text Memory = Unit {0}

@@ -4,6 +4,7 @@
 mod characters;
 mod fault;
 mod laws;
+mod listed;
 mod pieces;
 mod reading;
 mod rules;
@@ -13,4 +14,5 @@ mod words;
 
 pub use fault::{DepFault, ReadError};
 pub use laws::{has_reading, one_answer};
-pub use reading::inputs;
+pub use listed::Listed;
+pub use reading::{borrowed_inputs, inputs};

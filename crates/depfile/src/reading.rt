@@ -1,14 +1,16 @@
 //! What a depfile says.
 
-ghost use Rattle.std.specs.Prelude.{◌≡◌, ◌<◌, [], List, ℕ, Ok, IfOk, IfErr, OnOk, length, map, string_bytes};
+ghost use Rattle.std.specs.Prelude.{◌≡◌, ◌<◌, [], List, ℕ, Ok, IfOk, IfErr, OnOk, length};
 ghost use Rattle.depfile.specs.Signs.{signs};
 ghost use Rattle.depfile.specs.Depfile.{IsRead, inputs};
 ghost use Rattle.depfile.specs.Kept.{AreKept, Adds, AnswersFault, SaysInputs, RefusesText};
 
 use crate::fault::{DepFault, ReadError};
+use crate::listed::Listed;
 use crate::rules::{Behind, inputs_at, targets_at};
 use indexmap::IndexSet;
-use std::alloc::{AllocError, Global};
+use std::alloc::Global;
+use std::borrow::CowStr;
 use text::{Items, Path};
 
 /// The inputs of all rules of a depfile, canonical, each once, in the order in which they stand first (manual:
@@ -20,16 +22,30 @@ pub fn inputs(alloc: Global, bytes: &[u8]) -> Result<Items<Path>, ReadError>
     ensures said { IfOk result (λ paths. IsRead bytes.now (Ok paths)) }
     ensures fault { IfErr result (AnswersFault bytes.now) }
 {
+    let listed = borrowed_inputs(alloc, bytes)?;
+    Ok(listed.into_paths(alloc)?)
+}
+
+/// The same, each path borrowed where it stands in the bytes as it is listed: memory is taken for the others, and for
+/// the list. Errors are those of [`inputs`].
+pub fn borrowed_inputs<'a>(alloc: Global, bytes: &'a [u8]) -> Result<Listed<'a>, ReadError>
+    ensures said { IfOk result (λ paths. IsRead bytes.now (Ok paths)) }
+    ensures fault { IfErr result (AnswersFault bytes.now) }
+{
     let Ok(text) = str::from_utf8(bytes) else {
         return Err(ReadError::Fault(DepFault::NotUtf8));
     };
     let mut paths = IndexSet::new(alloc);
     push_inputs(alloc, text, &mut paths)?;
-    Ok(paths_of(alloc, paths)?)
+    Ok(Listed::from_set(paths))
 }
 
 /// Adds the inputs of all rules of a text to the paths, of which there are none yet.
-fn push_inputs(alloc: Global, text: &str, paths: &mut IndexSet<String>) -> Result<(), ReadError>
+fn push_inputs<'a>(
+    alloc: Global,
+    text: &'a str,
+    paths: &mut IndexSet<CowStr<'a>>,
+) -> Result<(), ReadError>
     requires { paths.old.keys ≡ [] }
     ensures said { OnOk result (SaysInputs text.now paths.new.keys) }
     ensures fault { IfErr result (RefusesText text.now) }
@@ -45,7 +61,7 @@ fn push_inputs(alloc: Global, text: &str, paths: &mut IndexSet<String>) -> Resul
 fn rule_at<'a>(
     alloc: Global,
     text: &'a str,
-    paths: &mut IndexSet<String>,
+    paths: &mut IndexSet<CowStr<'a>>,
 ) -> Result<&'a str, ReadError>
     requires { 0 < length text.now }
     ensures adds { IfOk result (λ rest. (all : List (List ℕ)) → AreKept all paths.old.keys → Adds (inputs (signs text.entry.now)) rest.now all paths.new.keys) }
@@ -57,15 +73,4 @@ fn rule_at<'a>(
         Ok(Behind::Rule(rest)) => Ok(rest),
         Err(fault) => Err(ReadError::Fault(fault)),
     }
-}
-
-/// The paths as a list.
-fn paths_of(alloc: Global, paths: IndexSet<String>) -> Result<Items<Path>, AllocError>
-    ensures { IfOk result (λ list. list ≡ map string_bytes paths.keys) }
-{
-    let list = paths
-        .into_iter()
-        .map(|path| Path::from_string(path))
-        .collect(alloc)?;
-    Ok(Items::from_vec(list))
 }

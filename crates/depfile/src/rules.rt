@@ -1,6 +1,7 @@
 //! Rules: their targets and their inputs.
 
 ghost use Rattle.std.specs.Prelude.{◌≡◌, ◌≢◌, ◌<◌, ◌≤◌, [], None, List, ℕ, IfOk, IfErr, OnOk, length, string_bytes};
+ghost use Rattle.std.specs.Cow.{cow_str_bytes};
 ghost use Rattle.lexer.specs.Path.{IsCanonical};
 ghost use Rattle.depfile.specs.Signs.{signs, spelled};
 ghost use Rattle.depfile.specs.Depfile.{inputs};
@@ -10,8 +11,9 @@ ghost use Rattle.depfile.specs.Kept.{Adds, AreKept, AddsPath};
 use crate::fault::{DepFault, ReadError};
 use crate::words::{Token, Word, spelling, token_at};
 use indexmap::IndexSet;
-use lexer::{ReadFault, canonical};
+use lexer::{ReadFault, canonical, is_canonical_at_sight};
 use std::alloc::Global;
+use std::borrow::CowStr;
 
 /// About how many bytes of a depfile a path takes, with what parts it from the next.
 const BYTES_OF_PATH: usize = 32;
@@ -60,7 +62,7 @@ pub fn targets_at(text: &str) -> Result<Behind<'_>, DepFault>
 pub fn inputs_at<'a>(
     alloc: Global,
     text: &'a str,
-    paths: &mut IndexSet<String>,
+    paths: &mut IndexSet<CowStr<'a>>,
 ) -> Result<&'a str, ReadError>
     ensures adds { IfOk result (λ rest. (all : List (List ℕ)) → AreKept all paths.old.keys → Adds (behind_targets (signs text.entry.now)) rest.now all paths.new.keys) }
     ensures shorter { IfOk result (λ rest. length rest.now ≤ length text.entry.now) }
@@ -79,7 +81,11 @@ pub fn inputs_at<'a>(
 }
 
 /// Adds the path that the word names to the paths, unless it is there.
-fn add_path(alloc: Global, word: &Word<'_>, paths: &mut IndexSet<String>) -> Result<(), ReadError>
+fn add_path<'a>(
+    alloc: Global,
+    word: &Word<'a>,
+    paths: &mut IndexSet<CowStr<'a>>,
+) -> Result<(), ReadError>
     requires word { (rest : List ℕ) × IsWord word.now.from.now word.now rest }
     ensures adds { OnOk result ((all : List (List ℕ)) → AreKept all paths.old.keys → AddsPath (spelled (front_word (signs word.now.from.now))) all paths.new.keys) }
     ensures memory { IfErr result (λ error. error ≡ ReadError.Memory) }
@@ -93,7 +99,7 @@ fn add_path(alloc: Global, word: &Word<'_>, paths: &mut IndexSet<String>) -> Res
 /// Makes room for about as many paths as the text may hold, before the first of them is added. It would grow in
 /// many small steps else; where there are more of them, it grows later.
 #[inline(always)]
-fn make_room(paths: &mut IndexSet<String>, text: &str) -> Result<(), ReadError>
+fn make_room(paths: &mut IndexSet<CowStr<'_>>, text: &str) -> Result<(), ReadError>
     ensures keys { paths.new.keys ≡ paths.old.keys }
     ensures memory { IfErr result (λ error. error ≡ ReadError.Memory) }
 {
@@ -104,17 +110,20 @@ fn make_room(paths: &mut IndexSet<String>, text: &str) -> Result<(), ReadError>
     Ok(())
 }
 
-/// The path that the word names.
-fn path_of(alloc: Global, word: &Word<'_>) -> Result<String, ReadError>
+/// The path that the word names, borrowed where the word is written so.
+fn path_of<'a>(alloc: Global, word: &Word<'a>) -> Result<CowStr<'a>, ReadError>
     requires { (rest : List ℕ) × IsWord word.now.from.now word.now rest }
-    ensures found { IfOk result (λ path. IsCanonical (spelled (front_word (signs word.now.from.now))) (string_bytes path)) }
+    ensures found { IfOk result (λ path. IsCanonical (spelled (front_word (signs word.now.from.now))) (cow_str_bytes path)) }
     ensures memory { IfErr result (λ error. error ≡ ReadError.Memory) }
 {
-    if word.is_plain {
-        return canonical_of(alloc, word.written);
+    if !word.is_plain {
+        let name = spelling(alloc, word.from)?;
+        return Ok(CowStr::Owned(canonical_of(alloc, name.as_str())?));
     }
-    let name = spelling(alloc, word.from)?;
-    canonical_of(alloc, name.as_str())
+    if is_canonical_at_sight(word.written) {
+        return Ok(CowStr::Borrowed(word.written));
+    }
+    Ok(CowStr::Owned(canonical_of(alloc, word.written)?))
 }
 
 /// The canonical form of a path that is not empty.
