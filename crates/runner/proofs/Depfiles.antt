@@ -1,8 +1,7 @@
 -- What was read in the depfile of a command is what it told when it ended.
-use Rattle.std.proofs.Common.{◌≡◌, ◌≢◌, ℕ, ◌<◌, ◌+◌, ◌&&◌, ◌||◌, not, Bool, true, false, IsTrue, List, [], ◌∷◌, ◌++◌, map, take, length, get_or, filter, bytes_eq, Option, Some, None, Result, Ok, Err, IfOk, Bor, refl, sym, ◌∙◌, ap, subst, append_assoc}
+use Rattle.std.proofs.Common.{◌≡◌, ◌≢◌, ℕ, ◌&&◌, ◌||◌, not, Bool, true, false, IsTrue, List, [], ◌∷◌, ◌++◌, filter, bytes_eq, Option, Some, None, Result, Ok, Err, IfOk, refl, sym, ◌∙◌, ap, subst, append_assoc}
 use Rattle.std.specs.List.{list_any}
 use Rattle.std.proofs.lemmas.Bool.{false≢true, or_from, or_parts}
-use Rattle.std.proofs.lemmas.List.{take_more, map_push}
 use Rattle.std.proofs.lemmas.Map.Views.{any-filter_same}
 use Rattle.model.specs.declared.act.Act.{Act}
 use Rattle.model.specs.declared.fault.SiteFault.{SiteFault}
@@ -122,13 +121,6 @@ was_read_before tells act ok old mid new told looks = by_told told
     by_told Nothing read = read
     by_told (Inputs paths) read = (read.0, read.1, λ tell. let was = read.2 tell in (was.0, seen_on was.0 tell was.1, was.2))
     by_told (Refused fault) read = (read.0, read.1, λ tell. let was = read.2 tell in (was.0, seen_on was.0 tell was.1, was.2))
-
--- one more path is borrowed
-pub texts_next : (paths : List (List ℕ)) (i : ℕ) (path : List ℕ) (before after : List (Bor (List ℕ))) (text : Bor (List ℕ)) → i < length paths → path ≡ get_or paths i path
-    → map (λ text. text.now) before ≡ take i paths → after ≡ before ++ text ∷ [] → text.now ≡ path → map (λ text. text.now) after ≡ take (i + 1) paths
-texts_next paths i path before after text low is was pushed same =
-    ap (map (λ (t : Bor (List ℕ)). t.now)) pushed ∙ (map_push (λ (t : Bor (List ℕ)). t.now) before text ∙ (ap (λ (l : List (List ℕ)). l ++ text.now ∷ []) was ∙ (ap (λ (t : List ℕ). take i paths ++ t ∷ []) (same ∙ is)
-    ∙ sym (take_more paths i path low))))
 
 -- ---- what that of a command said that was taken in
 

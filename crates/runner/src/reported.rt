@@ -1,6 +1,6 @@
 //! What commands tell in their depfiles (manual: "Depfile").
 
-ghost use Rattle.std.specs.Prelude.{◌≡◌, ◌≢◌, ◌≤◌, [], ◌<◌, suc, true, false, Some, None, IfOk, IfErr, OnOk, OnErr, IsOk, length, map};
+ghost use Rattle.std.specs.Prelude.{◌≡◌, ◌≢◌, ◌≤◌, [], ◌<◌, suc, true, false, Some, None, IfOk, IfErr, OnOk, OnErr, IsOk, length};
 ghost use Rattle.model.specs.declared.fault.SiteFault.TheVariants.{Memory};
 ghost use Rattle.model.specs.declared.graph.Deps.TheVariants.{Gcc};
 ghost use Rattle.model.specs.Calls.{OnlyLooks, HasCause, Writes, WritesOrNot};
@@ -12,25 +12,25 @@ ghost use Rattle.runner.specs.Telling.{Says, WasRead, fault_in, ended_well};
 
 use crate::setting::Setting;
 use crate::state::State;
-use depfile::{DepFault, ReadError, inputs};
+use depfile::{DepFault, Listed, ReadError, borrowed_inputs};
 use model::{Act, Deps, Finished, SiteFault};
 use paths::{Command, EdgeId};
 use site::Site;
-use std::alloc::{AllocError, Global};
-use text::{Items, Path};
+use std::alloc::Global;
+use text::Bytes;
 
 /// What the depfile of a command says that has ended.
-#[derive(Debug, Drop)]
-pub enum Told {
+#[derive(Drop)]
+pub enum Told<'a> {
     /// Nothing is read: the command failed, or names no depfile.
     Nothing,
     /// The command read these paths too; none where there is no depfile.
-    Inputs(Items<Path>),
+    Inputs(Listed<'a>),
     /// The depfile is refused, and so the command counts as failed.
     Refused(DepFault),
 }
 
-impl Told {
+impl Told<'_> {
     /// What is wrong with the depfile, if it is refused.
     pub fn fault(&self) -> Option<DepFault>
         ensures { result ≡ fault_in self.now }
@@ -42,13 +42,15 @@ impl Told {
     }
 }
 
-/// Reads the depfile that the act names, of a command that has ended so. One that is not there lists nothing.
-pub fn read_told<S: Site>(
+/// Reads the depfile that the act names, of a command that has ended so. One that is not there lists nothing. What is told stands in
+/// the content, into which it is read.
+pub fn read_told<'a, S: Site>(
     alloc: Global,
     site: &mut S,
     act: &Act,
     ok: bool,
-) -> Result<Told, SiteFault>
+    content: &'a mut Option<Bytes>,
+) -> Result<Told<'a>, SiteFault>
     requires running { (S.world site.old).stopped ≡ false }
     ensures looks { OnlyLooks S.tells (S.world site.old) (S.world site.new) }
     ensures cause { HasCause (S.world site.old) (S.world site.new) result }
@@ -58,18 +60,19 @@ pub fn read_told<S: Site>(
     if !ok || act.depfile.is_empty() {
         return Ok(Told::Nothing);
     }
-    match site.read(act.depfile.as_str())? {
-        None => Ok(Told::Inputs(Items::new(alloc))),
+    *content = site.read(act.depfile.as_str())?;
+    match content {
+        None => Ok(Told::Inputs(Listed::new(alloc))),
         Some(bytes) => told_by(alloc, bytes.as_slice()),
     }
 }
 
 /// What the content of a depfile says.
-fn told_by(alloc: Global, content: &[u8]) -> Result<Told, SiteFault>
+fn told_by(alloc: Global, content: &[u8]) -> Result<Told<'_>, SiteFault>
     ensures says { IfOk result (Says (Some content.now)) }
     ensures err { IfErr result (λ fault. fault ≡ Memory) }
 {
-    match inputs(alloc, content) {
+    match borrowed_inputs(alloc, content) {
         Ok(paths) => Ok(Told::Inputs(paths)),
         Err(ReadError::Fault(fault)) => Ok(Told::Refused(fault)),
         Err(ReadError::Memory) => Err(SiteFault::Memory),
@@ -77,7 +80,7 @@ fn told_by(alloc: Global, content: &[u8]) -> Result<Told, SiteFault>
 }
 
 /// How the command ended, where its depfile says this: a refused one makes it a failed one.
-pub fn ended(finished: Finished, told: &Told) -> Finished
+pub fn ended(finished: Finished, told: &Told<'_>) -> Finished
     ensures job { result.job ≡ finished.job }
     ensures ok { result.ok ≡ ended_well finished.ok told.now }
     ensures output { result.output ≡ finished.output }
@@ -97,7 +100,7 @@ pub fn report<S: Site>(
     state: &mut State<'_>,
     edge: EdgeId,
     start: u64,
-    told: &Told,
+    told: &Told<'_>,
 ) -> Result<(), SiteFault>
     requires running { (S.world site.old).stopped ≡ false }
     requires taken_in { (course : Course) × Suits course setting.tick.now setting.graph.now × IsTakenIn S.tells course setting.graph.now (suc edge) start true told.now state.old (S.world site.old) }
@@ -114,21 +117,10 @@ pub fn report<S: Site>(
     let Told::Inputs(paths) = told else {
         return Ok(());
     };
-    let texts = texts_of(setting.alloc, paths)?;
+    let texts = paths.texts(setting.alloc)?;
     state
         .records
         .report(setting.alloc, site, setting.graph, edge, start, &texts)
-}
-
-/// The texts of these paths.
-fn texts_of(alloc: Global, paths: &Items<Path>) -> Result<Vec<&str>, AllocError>
-    ensures { IfOk result (λ texts. map (λ text. text.now) texts.items ≡ paths.now) }
-{
-    let mut texts = Vec::with_capacity(alloc, paths.len())?;
-    for path in paths.as_slice() {
-        texts.push(path.as_str())?;
-    }
-    Ok(texts)
 }
 
 /// Removes the depfile that the act names, if it names one, before the command starts. Where it fails, it is as it was, or gone.

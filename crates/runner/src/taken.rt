@@ -62,8 +62,15 @@ pub fn take_in<S: Site>(
     match site.wait_any() {
         Ok(finished) => {
             let edge = setting.graph.manifest.edge(finished.job - 1);
-            match read_told(setting.alloc, site, act(setting.graph, edge), finished.ok) {
-                Ok(told) => take_in_told(site, setting, state, edge, finished, told),
+            let mut content = None;
+            match read_told(
+                setting.alloc,
+                site,
+                act(setting.graph, edge),
+                finished.ok,
+                &mut content,
+            ) {
+                Ok(told) => take_in_told(site, setting, state, edge, finished, &told),
                 Err(fault) => {
                     note_unread(setting, state, edge);
                     Err(Cut::Other(fault))
@@ -81,10 +88,10 @@ fn take_in_told<S: Site>(
     state: &mut State<'_>,
     edge: EdgeId,
     finished: Finished,
-    told: Told,
+    told: &Told<'_>,
 ) -> Result<(), Cut>
     requires running { (S.world site.old).stopped ≡ false }
-    requires ending { (course : Course) × Suits course setting.tick.now setting.graph.now × IsEnding S.tells course setting.graph.now (suc edge) finished.ok told state.old (S.world site.old) }
+    requires ending { (course : Course) × Suits course setting.tick.now setting.graph.now × IsEnding S.tells course setting.graph.now (suc edge) finished.ok told.now state.old (S.world site.old) }
     requires enough { AreSet setting.graph.now state.old.set.items }
     ensures cuts { Cuts (S.world site.old) (S.world site.new) result }
     ensures grows { ComesAfter S.tells (S.world site.old) (S.world site.new) }
@@ -93,18 +100,18 @@ fn take_in_told<S: Site>(
     ensures nearer { OnOk result (work_left state.new.plan.standings.items < work_left state.old.plan.standings.items) }
     ensures set { state.new.set ≡ state.old.set }
     ensures kept { OnOk result (KnowsUnmade setting.entry.graph.now state.old state.new) }
-    ensures noted { OnOk result (state.new.failed.items ≡ failed_after state.old.failed.items edge (ended_well finished.ok told)) }
-    ensures removed { OnOk result (ended_well finished.ok told ≡ true → EndsByRemoving S.tells (edge_at (declared_by setting.entry.graph.now).edges (suc edge)).act (S.world site.old) (S.world site.new)) }
-    ensures on { OnOk result ((course : Course) → Suits course setting.entry.tick.now setting.entry.graph.now → IsEnding S.tells course setting.entry.graph.now (suc edge) finished.ok told state.old (S.world site.old) → IsOn S.tells course setting.entry.graph.now None state.new (S.world site.new)) }
-    ensures cut { OnErr result ((course : Course) → Suits course setting.entry.tick.now setting.entry.graph.now → IsEnding S.tells course setting.entry.graph.now (suc edge) finished.ok told state.old (S.world site.old) → IsCut S.tells course setting.entry.graph.now state.new.plan (S.world site.new)) }
+    ensures noted { OnOk result (state.new.failed.items ≡ failed_after state.old.failed.items edge (ended_well finished.ok told.now)) }
+    ensures removed { OnOk result (ended_well finished.ok told.now ≡ true → EndsByRemoving S.tells (edge_at (declared_by setting.entry.graph.now).edges (suc edge)).act (S.world site.old) (S.world site.new)) }
+    ensures on { OnOk result ((course : Course) → Suits course setting.entry.tick.now setting.entry.graph.now → IsEnding S.tells course setting.entry.graph.now (suc edge) finished.ok told.now state.old (S.world site.old) → IsOn S.tells course setting.entry.graph.now None state.new (S.world site.new)) }
+    ensures cut { OnErr result ((course : Course) → Suits course setting.entry.tick.now setting.entry.graph.now → IsEnding S.tells course setting.entry.graph.now (suc edge) finished.ok told.now state.old (S.world site.old) → IsCut S.tells course setting.entry.graph.now state.new.plan (S.world site.new)) }
 {
     lists_stand(setting.graph);
     log_stays();
     none_while_running();
     one_answer();
-    let finished = ended(finished, &told);
+    let finished = ended(finished, told);
     note_end(site, setting, state, edge, finished.ok).map_err(Cut::Other)?;
-    record_end(site, setting, state, edge, finished.ok, &told).map_err(Cut::Other)?;
+    record_end(site, setting, state, edge, finished.ok, told).map_err(Cut::Other)?;
     let progress = progress(&state.plan);
     show_end(
         site,
@@ -238,7 +245,7 @@ fn record_end<S: Site>(
     state: &mut State<'_>,
     edge: EdgeId,
     ok: bool,
-    told: &Told,
+    told: &Told<'_>,
 ) -> Result<(), SiteFault>
     requires running { (S.world site.old).stopped ≡ false }
     requires taken_in { (course : Course) × Suits course setting.tick.now setting.graph.now × IsTakenIn S.tells course setting.graph.now (suc edge) (get_or state.old.starts.items edge 0) ok told.now state.old (S.world site.old) }
