@@ -1,6 +1,6 @@
 //! Reading build files (manual: "Evaluation and scoping").
 
-ghost use Rattle.std.specs.Prelude.{◌≡◌, ◌<◌, IfOk, OnOk, IsTrue, map};
+ghost use Rattle.std.specs.Prelude.{◌≡◌, ◌<◌, ◌≤◌, IfOk, OnOk, IsTrue, map, length, drop};
 ghost use Rattle.lexer.specs.Said.{said_of, fragments_of, form_of};
 ghost use Rattle.model.specs.Calls.{OnlyLooks, HasCause};
 ghost use Rattle.manifest.specs.Answer.{site_part, in_texts, ReadsFile, IsGraph};
@@ -12,7 +12,7 @@ ghost use Rattle.manifest.specs.Made.{HaveOutputs, FormHasOutput};
 ghost use Rattle.manifest.specs.Places.{place_of, whole_file, IsFaultAt};
 ghost use Rattle.manifest.specs.Statements.{IsAnswerIn, KeepsFormed};
 
-use crate::blocks::{Group, split_block};
+use crate::blocks::{Group, block_length, split_block};
 use crate::fault::{FaultKind, ReadError};
 use crate::kept::Declared;
 use crate::place::Place;
@@ -105,12 +105,13 @@ fn read_bytes<R: Texts>(
         return Err(place.fault(alloc, FaultKind::NotUtf8));
     };
     let Statements { lines, fault } = lexer::statements(alloc, text)?;
+    let mut lines = lines.into_vec();
     read_lines(
         alloc,
         texts,
         declared,
         file,
-        lines.as_slice(),
+        lines.as_mut_slice(),
         fault,
         levels,
     )
@@ -123,20 +124,22 @@ fn read_lines<R: Texts>(
     texts: &mut R,
     declared: &mut Declared,
     file: &Rc<Text>,
-    lines: &[Line<'_>],
+    lines: &mut [Line<'_>],
     fault: Option<Fault>,
     levels: usize,
 ) -> Result<(), ReadError>
     ensures looks { OnlyLooks R.tells (R.world texts.old) (R.world texts.new) }
     ensures cause { IsStated declared.old → HasCauseIn (R.world texts.old) (R.world texts.new) result }
-    ensures said { Tells R.tells (R.world texts.old) (R.world texts.new) declared.old declared.new result (TextSays levels file.now.value fault lines.now) }
+    ensures said { Tells R.tells (R.world texts.old) (R.world texts.new) declared.old declared.new result (TextSays levels file.now.value fault lines.old) }
     ensures scopes { OnOk result (KeepsScopes declared.old declared.new) }
     ensures stated { OnOk result (IsStated declared.old → IsStated declared.new) }
-    ensures formed { OnOk result (HaveOutputs (map said_of lines.now) → KeepsFormed declared.old declared.new) }
+    ensures formed { OnOk result (HaveOutputs (map said_of lines.old) → KeepsFormed declared.old declared.new) }
 {
-    let (_, mut rest) = split_block(lines);
+    let front = block_length(lines);
+    let mut rest = let_go(lines, front);
     while let Some((line, following)) = rest.split_first() {
         let (block, next) = split_block(following);
+        let count = block.len() + 1;
         let group = Group {
             place: Place {
                 file,
@@ -147,10 +150,26 @@ fn read_lines<R: Texts>(
             behind: if_last(next, fault),
         };
         read_group(alloc, texts, declared, &group, levels)?;
-        rest = next;
+        rest = let_go(rest, count);
     }
     let place = Place { file, line: 0 };
     place.stop_at(alloc, fault)
+}
+
+/// Lets go what so many lines in front hold, and gives the lines behind them. As this is done as soon as a statement was
+/// taken in, what is kept of the next one finds room there.
+fn let_go<'lines, 'text>(
+    lines: &'lines mut [Line<'text>],
+    count: usize,
+) -> &'lines mut [Line<'text>]
+    requires { count ≤ length lines.old }
+    ensures { result.now ≡ drop count lines.old }
+{
+    let (taken, rest) = lines.split_at_mut(count);
+    for line in taken {
+        line.statement = Statement::Rule { name: "" };
+    }
+    rest
 }
 
 /// The fault, where nothing stands before it.
