@@ -76,7 +76,8 @@ pub fn plain_fields<'a>(alloc: Global, paths: &'a [Path]) -> Result<Vec<Field<'a
     Ok(fields)
 }
 
-/// Writes the field of a text at the end of a line. Where memory is refused, a part of it may stand there.
+/// Writes the field of a text at the end of a line. Where memory is refused, a part of it may stand there. It stands apart, since few
+/// texts need it.
 #[inline(never)]
 pub fn push_field(line: &mut Vec<u8>, text: &str) -> Result<(), AllocError>
     ensures { OnOk result (line.new.items ≡ line.old.items ++ field_text text.now) }

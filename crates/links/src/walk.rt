@@ -280,6 +280,7 @@ impl<'a> Walk<'a> {
         self.left[edge.index()] = next.left;
         match self.marks[next.maker.index()] {
             Mark::Unseen => Ok(self.open(next.maker)?),
+            // a listed one is not waited for
             Mark::Open | Mark::Listed => Err(ConeFault::Cycle(self.round(edge, next.maker)?)),
         }
     }

@@ -117,7 +117,7 @@ fn read_bytes<R: Texts>(
     )
 }
 
-/// Reads the statements of a file, and then the fault at which its text stops.
+/// Reads the statements of a file, each of which is let go once it is taken in, and then the fault at which its text stops.
 #[cycle(files)]
 fn read_lines<R: Texts>(
     alloc: Global,
