@@ -21,11 +21,14 @@ use paths::Manifest;
 use site::Texts;
 use std::alloc::Global;
 use std::rc::Rc;
-use std::str;
+use std::{mem, str};
 use text::{Bytes, Text};
 
 /// The most bytes that a build file may have.
 const LARGEST_FILE: usize = 64 * 1024 * 1024;
+
+/// After so many statements what was taken in is let go.
+const FULL_BIN: usize = 256;
 
 /// How many levels of files may stand below the main one.
 const DEEPEST: usize = 63;
@@ -117,7 +120,7 @@ fn read_bytes<R: Texts>(
     )
 }
 
-/// Reads the statements of a file, each of which is let go once it is taken in, and then the fault at which its text stops.
+/// Reads the statements of a file, and then the fault at which its text stops.
 #[cycle(files)]
 fn read_lines<R: Texts>(
     alloc: Global,
@@ -136,7 +139,8 @@ fn read_lines<R: Texts>(
     ensures formed { OnOk result (HaveOutputs (map said_of lines.old) → KeepsFormed declared.old declared.new) }
 {
     let front = block_length(lines);
-    let mut rest = let_go(lines, front);
+    let mut bin = Vec::new(alloc);
+    let mut rest = let_go(lines, front, &mut bin);
     while let Some((line, following)) = rest.split_first() {
         let (block, next) = split_block(following);
         let count = block.len() + 1;
@@ -150,26 +154,39 @@ fn read_lines<R: Texts>(
             behind: if_last(next, fault),
         };
         read_group(alloc, texts, declared, &group, levels)?;
-        rest = let_go(rest, count);
+        rest = let_go(rest, count, &mut bin);
     }
     let place = Place { file, line: 0 };
     place.stop_at(alloc, fault)
 }
 
-/// Lets go what so many lines in front hold, and gives the lines behind them. As this is done as soon as a statement was
-/// taken in, what is kept of the next one finds room there.
+/// Puts what so many lines in front hold into the bin, and gives the lines behind them. What is kept of the next statements
+/// finds room where the bin was emptied.
 fn let_go<'lines, 'text>(
     lines: &'lines mut [Line<'text>],
     count: usize,
+    bin: &mut Vec<Statement<'text>>,
 ) -> &'lines mut [Line<'text>]
     requires { count ≤ length lines.old }
     ensures { result.now ≡ drop count lines.old }
 {
     let (taken, rest) = lines.split_at_mut(count);
     for line in taken {
-        line.statement = Statement::Rule { name: "" };
+        let nothing = Statement::Rule { name: "" };
+        throw(mem::replace(&mut line.statement, nothing), bin);
     }
     rest
+}
+
+/// Puts a statement into the bin, which is emptied first where it is full: single statements that are let go leave gaps
+/// between what is kept. Where memory for it is refused, the statement is let go at once.
+fn throw<'text>(statement: Statement<'text>, bin: &mut Vec<Statement<'text>>) {
+    if bin.len() >= FULL_BIN {
+        bin.clear();
+    }
+    match bin.push(statement) {
+        Ok(()) | Err(_) => {}
+    }
 }
 
 /// The fault, where nothing stands before it.
