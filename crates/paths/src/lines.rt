@@ -75,16 +75,6 @@ impl Lines {
         }
     }
 
-    /// No lines, with room for as many as these and their paths.
-    pub fn with_room_for(alloc: Global, lines: &Lines) -> Result<Lines, AllocError>
-        ensures { IfOk result (λ empty. empty ≡ []) }
-    {
-        Ok(Lines {
-            numbers: Vec::with_capacity(alloc, lines.numbers.len())?,
-            rows: Vec::with_capacity(alloc, lines.rows.len())?,
-        })
-    }
-
     /// The same lines, with room for so many more numbers of paths: where lines grow by no more, they do not move.
     pub fn copied(&self, alloc: Global, more: usize) -> Result<Lines, AllocError>
         ensures { IfOk result (λ copy. copy ≡ self.now) }
