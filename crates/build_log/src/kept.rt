@@ -114,7 +114,8 @@ impl<T: Drop> Kept<T> {
     /// The numbers of the texts whose fields, so many, stand in front, and what stands behind them, where no byte of them is
     /// written as two. Texts that have no number get one. What is kept stands for the same records as before.
     ///
-    /// A text that came behind the one before it in an earlier call is compared, and neither searched for its tab nor hashed.
+    /// A text that came behind the one before it in an earlier call is compared, and neither searched for its tab nor hashed. After
+    /// texts that came in no such order a text is looked for by a sum of its bytes first, and then compared.
     #[inline(never)]
     pub fn take_numbers<'a>(
         &mut self,
@@ -171,7 +172,8 @@ impl<T: Drop> Kept<T> {
         self.take_few(alloc, last, bytes, most, numbers)
     }
 
-    /// The same, where no run that came behind `last` stands in front. What came behind it one by one is a run from now on.
+    /// The same, where no run that came behind `last` stands in front. What came behind it one by one is a run from now on, where
+    /// there is room for one; a text that only its sum told begins none.
     #[inline(never)]
     fn take_few<'a>(
         &mut self,
@@ -245,7 +247,7 @@ impl<T: Drop> Kept<T> {
             return Ok(None);
         };
         let number = self.number(alloc, text)?;
-        self.outputs.note(alloc, last, number, text);
+        self.outputs.note(last, number, text);
         Ok(Some((number, after)))
     }
 

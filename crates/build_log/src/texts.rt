@@ -270,13 +270,13 @@ impl Texts {
 
     /// Notes that a text with this number, of which no byte is written as two, came behind another, and which sum it has. Where
     /// memory is refused, less is noted.
-    pub(crate) fn note(&mut self, alloc: Global, last: usize, number: usize, text: &str)
+    pub(crate) fn note(&mut self, last: usize, number: usize, text: &str)
         requires at { slice_get self.old number ≡ Some text.now }
         requires plain { IsPlain text.now }
         ensures { self.new ≡ self.old }
     {
         let guess = guess_of(number, text);
-        self.widen(alloc);
+        self.widen();
         self.note_sum(sum_of(text.as_bytes()), guess);
         self.note_guess(last, guess);
     }
@@ -313,13 +313,13 @@ impl Texts {
 
     /// Makes the table twice as long where there are more than two texts for each of its places. Where memory is refused, it
     /// stays as it is.
-    fn widen(&mut self, alloc: Global)
+    fn widen(&mut self)
         ensures { self.new ≡ self.old }
     {
         if self.texts.len() / 2 < self.table.len() {
             return;
         }
-        match double(alloc, &mut self.table) {
+        match double(&mut self.table) {
             Ok(()) | Err(_) => {}
         }
     }
@@ -536,15 +536,14 @@ fn may_stand(guess: Option<Guess>, bytes: &[u8]) -> bool {
 }
 
 /// Makes a table twice as long: what stood at a place stands at both places that come of it.
-fn double(alloc: Global, table: &mut Vec<Note>) -> Result<(), AllocError>
+fn double(table: &mut Vec<Note>) -> Result<(), AllocError>
     ensures { (texts : List (List ℕ)) → AreNotesOf texts table.old.items → AreNotesOf texts table.new.items }
 {
     if table.is_empty() {
         table.push(Note::NONE)?;
         return Ok(());
     }
-    let copy = Vec::from_slice(alloc, table.as_slice())?;
-    table.extend_from_slice(copy.as_slice())?;
+    table.extend_from_within(..)?;
     Ok(())
 }
 

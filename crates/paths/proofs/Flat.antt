@@ -15,7 +15,7 @@ take_split (suc n) (suc i) zero [] sum = refl
 take_split (suc n) (suc i) (suc j) [] sum = refl
 take_split (suc n) (suc i) j (x ∷ xs) sum = ap (λ (rest : List ℕ). x ∷ rest) (take_split n i j xs (omega (arith, sum)))
 
-pub drop_split : (n i j : ℕ) (xs : List ℕ) → n ≡ i + j → drop n xs ≡ drop j (drop i xs)
+drop_split : (n i j : ℕ) (xs : List ℕ) → n ≡ i + j → drop n xs ≡ drop j (drop i xs)
 drop_split n zero j xs sum = ap (λ (k : ℕ). drop k xs) (sum ∙ omega arith)
 drop_split zero (suc i) j xs sum = absurd (omega (arith, sum))
 drop_split (suc n) (suc i) zero [] sum = refl
@@ -31,7 +31,7 @@ between_split xs a b c ab bc =
     ∙ ap (λ (rest : List ℕ). take (b - a) (drop a xs) ++ take (c - b) rest) (sym (drop_split b a (b - a) xs place))
 
 -- what lies in front of what is put at the end
-pub drop_length : {X : Type 0} (i : ℕ) (xs : List X) → length (drop i xs) ≡ length xs - i
+drop_length : {X : Type 0} (i : ℕ) (xs : List X) → length (drop i xs) ≡ length xs - i
 drop_length zero xs = omega arith
 drop_length (suc i) [] = omega arith
 drop_length (suc i) (x ∷ xs) = drop_length i xs ∙ omega arith
@@ -56,7 +56,7 @@ between_last xs part a b at_a at_b =
 
 -- ---- rows
 
-abbrev pub made : List ℕ → List ℕ → List ℕ → List ℕ → List ℕ → List ℕ → Line
+abbrev made : List ℕ → List ℕ → List ℕ → List ℕ → List ℕ → List ℕ → Line
 made a b c d e f = record { explicit_outputs = a; implicit_outputs = b; explicit_inputs = c; implicit_inputs = d; order_only_inputs = e; validations = f }
 
 pub same_line : (a b c d e f g h i j k l : List ℕ) → a ≡ g → b ≡ h → c ≡ i → d ≡ j → e ≡ k → f ≡ l → made a b c d e f ≡ made g h i j k l

@@ -1,5 +1,4 @@
 pub mod Places
 pub mod Flat
 pub mod Naming
-pub mod Moving
 pub mod Growing

@@ -2,5 +2,4 @@ pub mod Numbers
 pub mod Lists
 pub mod Commands
 pub mod Told
-pub mod Moved
 pub mod Grown

@@ -1,10 +1,9 @@
 //! The paths of all edges, in flat memory.
 
-ghost use Rattle.std.specs.Prelude.{◌≡◌, ◌<◌, ◌+◌, ◌-◌, ◌^◌, ◌++◌, ◌∷◌, ◌≤◌, ℕ, [], length, vec_len, IfOk, OnOk, OnErr};
+ghost use Rattle.std.specs.Prelude.{◌≡◌, ◌<◌, ◌++◌, ◌∷◌, ◌≤◌, [], length, vec_len, IfOk, OnOk, OnErr};
 ghost use Rattle.model.specs.Graph.{has_number};
 ghost use Rattle.paths.specs.Lists.{line_at, line_outputs, line_regular_inputs, line_inputs, line_paths, all_paths, between, grown_line, IsAppended, IsRowIn, Extends};
 ghost use Rattle.paths.specs.Grown.{with_grown, IsGrownRow};
-ghost use Rattle.paths.specs.Moved.{moved_row};
 
 use crate::id::{EdgeId, PathId};
 use crate::line::Line;
@@ -21,26 +20,6 @@ pub struct Row {
     pub implicit_inputs: usize,
     pub order_only_inputs: usize,
     pub validations: usize,
-}
-
-impl Row {
-    /// The same lists, where the first of them begins at another place.
-    fn moved_to(self, start: usize) -> Row
-        requires lies { (count : ℕ) × IsRowIn count self }
-        requires fits { start + (self.validations - self.start) < 2 ^ 64 }
-        ensures { result ≡ moved_row self start }
-    {
-        let first = self.start;
-        Row {
-            start,
-            explicit_outputs: start + (self.explicit_outputs - first),
-            implicit_outputs: start + (self.implicit_outputs - first),
-            explicit_inputs: start + (self.explicit_inputs - first),
-            implicit_inputs: start + (self.implicit_inputs - first),
-            order_only_inputs: start + (self.order_only_inputs - first),
-            validations: start + (self.validations - first),
-        }
-    }
 }
 
 /// The paths of edges, which contracts see as the list of their lines. An edge takes 56 bytes, and 4 for each path; what the line of
@@ -271,8 +250,7 @@ fn append_line(numbers: &mut Vec<PathId>, line: &Line) -> Result<Row, AllocError
     })
 }
 
-/// Puts the lists of an edge's line at the end, one behind the other, with more implicit outputs and inputs. As few lines grow, a line
-/// that does not is put there in one piece.
+/// Puts the lists of an edge's line at the end, one behind the other, with more implicit outputs and inputs.
 fn append_grown(
     numbers: &mut Vec<PathId>,
     lines: &Lines,
@@ -284,9 +262,6 @@ fn append_grown(
     ensures ok { IfOk result (IsAppended numbers.old.items numbers.new.items (grown_line (line_at lines.now edge) outputs.now inputs.now)) }
     ensures err { OnErr result (Extends numbers.old.items numbers.new.items) }
 {
-    if outputs.is_empty() && inputs.is_empty() {
-        return append_same(numbers, lines, edge);
-    }
     Ok(Row {
         start: numbers.len(),
         explicit_outputs: append(numbers, lines.explicit_outputs(edge))?,
@@ -296,18 +271,6 @@ fn append_grown(
         order_only_inputs: append(numbers, lines.order_only_inputs(edge))?,
         validations: append(numbers, lines.validations(edge))?,
     })
-}
-
-/// Puts the lists of an edge's line at the end as they are.
-fn append_same(numbers: &mut Vec<PathId>, lines: &Lines, edge: EdgeId) -> Result<Row, AllocError>
-    requires { edge < length lines.now }
-    ensures ok { IfOk result (IsAppended numbers.old.items numbers.new.items (line_at lines.now edge)) }
-    ensures err { OnErr result (Extends numbers.old.items numbers.new.items) }
-{
-    let row = lines.rows[edge.index()];
-    let start = numbers.len();
-    append(numbers, &lines.numbers[row.start..row.validations])?;
-    Ok(row.moved_to(start))
 }
 
 /// Puts the lists of a row at the end once more, one behind the other, with more implicit outputs and inputs.
