@@ -21,14 +21,14 @@ use paths::Manifest;
 use site::Texts;
 use std::alloc::Global;
 use std::rc::Rc;
-use std::{mem, str};
+use std::str;
 use text::{Bytes, Text};
 
 /// The most bytes that a build file may have.
 const LARGEST_FILE: usize = 64 * 1024 * 1024;
 
-/// After so many statements what was taken in is let go.
-const FULL_BIN: usize = 256;
+/// After so many statements with their blocks what was taken in is let go.
+const MOST_ASIDE: usize = 64;
 
 /// How many levels of files may stand below the main one.
 const DEEPEST: usize = 63;
@@ -139,8 +139,8 @@ fn read_lines<R: Texts>(
     ensures formed { OnOk result (HaveOutputs (map said_of lines.old) → KeepsFormed declared.old declared.new) }
 {
     let front = block_length(lines);
-    let mut bin = Vec::new(alloc);
-    let mut rest = let_go(lines, front, &mut bin);
+    let mut aside = Vec::new(alloc);
+    let mut rest = let_go(lines, front, &mut aside);
     while let Some((line, following)) = rest.split_first() {
         let (block, next) = split_block(following);
         let count = block.len() + 1;
@@ -154,38 +154,46 @@ fn read_lines<R: Texts>(
             behind: if_last(next, fault),
         };
         read_group(alloc, texts, declared, &group, levels)?;
-        rest = let_go(rest, count, &mut bin);
+        rest = let_go(rest, count, &mut aside);
     }
     let place = Place { file, line: 0 };
     place.stop_at(alloc, fault)
 }
 
-/// Puts what so many lines in front hold into the bin, and gives the lines behind them. What is kept of the next statements
-/// finds room where the bin was emptied.
+/// Sets so many lines in front aside, since what is kept of them owns its characters, and gives the lines behind them.
 fn let_go<'lines, 'text>(
     lines: &'lines mut [Line<'text>],
     count: usize,
-    bin: &mut Vec<Statement<'text>>,
+    aside: &mut Vec<&'lines mut [Line<'text>]>,
 ) -> &'lines mut [Line<'text>]
     requires { count ≤ length lines.old }
     ensures { result.now ≡ drop count lines.old }
 {
     let (taken, rest) = lines.split_at_mut(count);
-    for line in taken {
-        let nothing = Statement::Rule { name: "" };
-        throw(mem::replace(&mut line.statement, nothing), bin);
-    }
+    set_aside(taken, aside);
     rest
 }
 
-/// Puts a statement into the bin, which is emptied first where it is full: single statements that are let go leave gaps
-/// between what is kept. Where memory for it is refused, the statement is let go at once.
-fn throw<'text>(statement: Statement<'text>, bin: &mut Vec<Statement<'text>>) {
-    if bin.len() >= FULL_BIN {
-        bin.clear();
+/// Sets lines aside. What those hold that were set aside before is let go where there are many: single statements that are let go
+/// leave gaps between what is kept. Where memory for it is refused, the lines hold theirs to the end of their file.
+fn set_aside<'lines, 'text>(
+    taken: &'lines mut [Line<'text>],
+    aside: &mut Vec<&'lines mut [Line<'text>]>,
+) {
+    if aside.len() >= MOST_ASIDE {
+        while let Some(lines) = aside.pop() {
+            empty(lines);
+        }
     }
-    match bin.push(statement) {
+    match aside.push(taken) {
         Ok(()) | Err(_) => {}
+    }
+}
+
+/// Lets go what the lines hold.
+fn empty(lines: &mut [Line<'_>]) {
+    for line in lines {
+        line.statement = Statement::Rule { name: "" };
     }
 }
 
