@@ -1,6 +1,6 @@
 -- Where the lines of a block end.
 use Rattle.std.proofs.Common.{◌≡◌, ◌≤◌, ℕ, zero, suc, Bool, true, false, List, [], ◌∷◌, ◌++◌, map, length, take, drop, refl, sym, ap, ◌∙◌, arith}
-use Rattle.std.proofs.lemmas.List.{take-append-drop, map-append, length-take-le}
+use Rattle.std.proofs.lemmas.List.{take-append-drop, map-append}
 use Rattle.lexer.specs.declared.statement.Line.{Line}
 use Rattle.lexer.specs.Said.{Said, said_of}
 use Rattle.manifest.specs.Blocks.{BlockLine, is_of_block, block_line, block_lines, grouped, groups_of, lines_in_front, IsSplit}
@@ -45,10 +45,6 @@ map_length (line ∷ lines) = ap suc (map_length lines)
 
 pub within : (lines : List Line) (n : ℕ) → n ≡ lines_in_front (map said_of lines) → n ≤ length lines
 within lines n is = let low = front_within (map said_of lines) in let same = map_length lines in omega (arith, low, same, is)
-
--- behind the front stand the lines past its length
-pub behind_front : (lines : List Line) (n : ℕ) → n ≡ lines_in_front (map said_of lines) → drop n lines ≡ drop (length (take n lines)) lines
-behind_front lines n is = ap (λ (m : ℕ). drop m lines) (sym (length-take-le n lines (within lines n is)))
 
 pub is_split : (lines : List Line) (n : ℕ) → n ≡ lines_in_front (map said_of lines)
     → IsSplit (map said_of lines) (map said_of (take n lines)) (map said_of (drop n lines))

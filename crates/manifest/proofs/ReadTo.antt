@@ -1,5 +1,5 @@
 -- The statements of a file, read up to one of them.
-use Rattle.std.proofs.Common.{◌≡◌, ℕ, suc, ◌≤◌, ◌<◌, Bool, IsTrue, List, [], ◌∷◌, ◌++◌, map, length, take, drop, length-append, ◌+◌, Option, Result, Ok, Err, OnOk, IsErrAnd, refl, sym, ◌∙◌, ap, subst, arith}
+use Rattle.std.proofs.Common.{◌≡◌, ℕ, suc, ◌≤◌, ◌<◌, Bool, IsTrue, List, [], ◌∷◌, ◌++◌, map, length, Option, Result, Ok, Err, OnOk, IsErrAnd, refl, sym, ◌∙◌, ap, subst, arith}
 use Rattle.std.specs.Option.{option_map}
 use Rattle.lexer.specs.declared.fault.Fault.{Fault}
 use Rattle.lexer.specs.declared.statement.Line.{Line}
@@ -14,13 +14,12 @@ use Rattle.manifest.specs.Readings.{Outcome, Give, Cut}
 use Rattle.manifest.specs.Readings.Outcome.{Reached, Broken}
 use Rattle.manifest.specs.Readings.Then.{goes_on, stops}
 use Rattle.manifest.specs.States.{State}
-use Rattle.manifest.specs.Blocks.{block_lines, grouped, lines_in_front, IsSplit, Group}
+use Rattle.manifest.specs.Blocks.{block_lines, grouped, IsSplit, Group}
 use Rattle.manifest.specs.Files.{OfForm, OfGroups, fault_in, too_deep_at, inner_at}
 use Rattle.manifest.specs.Answer.{site_part, IsFaultOf, IsFaultSeen, IsAnswerOf}
 use Rattle.manifest.specs.Held.{IsStateOf, Says, KeepsScopes, IsFormed}
 use Rattle.manifest.specs.Made.{HaveOutputs, FormHasOutput}
 use Rattle.manifest.specs.Seen.{Covers, seen, IsCaused, SaysSeen, IsStated, LinesSay, if_no_line}
-use Rattle.manifest.proofs.BlockLemmas.{is_split}
 use Rattle.manifest.proofs.Binds.{cut_ok, cut_fault}
 use Rattle.manifest.proofs.Looking.{looks_then, looks_none, fine, NoneFailed, none_failed, caused_then, covers_before, covers_after}
 use Rattle.manifest.proofs.Grouping.{at_statement, reads_first}
@@ -99,11 +98,6 @@ pub read_to_first : (tells : Bool) (old new : World) (levels : ℕ) (file : List
     → rest ≡ line ∷ following → IsReadTo tells old new levels file fault lines rest before after → IsReadTo tells old new levels file fault lines (line ∷ following) before after
 read_to_first tells old new levels file fault lines rest before after line following is read = subst (λ (l : List Line). IsReadTo tells old new levels file fault lines l before after) is read
 
--- the same lines are left
-pub read_to_left : (tells : Bool) (old new : World) (levels : ℕ) (file : List ℕ) (fault : Option Fault) (lines next left : List Line) (before after : Declared)
-    → left ≡ next → IsReadTo tells old new levels file fault lines next before after → IsReadTo tells old new levels file fault lines left before after
-read_to_left tells old new levels file fault lines next left before after is read = subst (λ (l : List Line). IsReadTo tells old new levels file fault lines l before after) (sym is) read
-
 length_map : (lines : List Line) → length (map said_of lines) ≡ length lines
 length_map [] = refl
 length_map (line ∷ lines) = ap suc (length_map lines)
@@ -121,25 +115,8 @@ split_shorter rest following block next line is split =
     let first = ap (λ (l : List Line). length l) is in
     omega (arith, all, more, one, other, first)
 
--- so many lines are there as a statement with its block has
-pub lines_taken : (rest following block next : List Line) (line : Line) (count : ℕ) → rest ≡ line ∷ following → IsSplit (map said_of following) (map said_of block) (map said_of next)
-    → count ≡ length block + 1 → count ≤ length rest
-lines_taken rest following block next line count is split one =
-    let all = ap (λ (l : List Said). length l) split.whole ∙ length-append (map said_of block) (map said_of next) in
-    let here = length_map following in
-    let front = length_map block in
-    let first = ap (λ (l : List Line). length l) is in
-    omega (arith, all, here, front, first, one)
-
--- what is left of them, where a statement and its block are gone
-pub next_lines : (rest following block next left : List Line) (line : Line) (count : ℕ) → rest ≡ line ∷ following → next ≡ drop (length block) following
-    → count ≡ length block + 1 → left ≡ drop count rest → left ≡ next
-next_lines rest following block next left line count is behind one gone =
-    let steps : count ≡ suc (length block) = omega (arith, one) in
-    gone ∙ (ap (λ (n : ℕ). drop n rest) steps ∙ (ap (λ (l : List Line). drop (suc (length block)) l) is ∙ sym behind))
-
 -- nothing is read yet
-read_to_none : (tells : Bool) (w : World) (levels : ℕ) (file : List ℕ) (fault : Option Fault) (lines block rest : List Line) (declared : Declared)
+pub read_to_none : (tells : Bool) (w : World) (levels : ℕ) (file : List ℕ) (fault : Option Fault) (lines block rest : List Line) (declared : Declared)
     → IsSplit (map said_of lines) (map said_of block) (map said_of rest) → IsReadTo tells w w levels file fault lines rest declared declared
 read_to_none tells w levels file fault lines block rest declared split =
     record {
@@ -157,12 +134,6 @@ read_to_none tells w levels file fault lines block rest declared split =
       outputs = split_outputs (map said_of lines) (map said_of block) (map said_of rest) split;
       statement = at_statement (map said_of lines) (map said_of block) (map said_of rest) split;
     }
-
-pub read_to_front : (tells : Bool) (w : World) (levels : ℕ) (file : List ℕ) (fault : Option Fault) (lines rest : List Line) (declared : Declared) (n : ℕ)
-    → n ≡ lines_in_front (map said_of lines) → rest ≡ drop n lines → IsReadTo tells w w levels file fault lines rest declared declared
-read_to_front tells w levels file fault lines rest declared n is left =
-    read_to_none tells w levels file fault lines (take n lines) rest declared
-    (subst (λ (l : List Line). IsSplit (map said_of lines) (map said_of (take n lines)) (map said_of l)) (sym left) (is_split lines n is))
 
 module _ (tells : Bool) (old mid new : World) (levels : ℕ) (file : List ℕ) (fault behind : Option Fault) (lines : List Line) (line : Line) (following block next : List Line) (before between after : Declared)
     (read : IsReadTo tells old mid levels file fault lines (line ∷ following) before between)

@@ -1,6 +1,6 @@
 //! Statements and the lines of their blocks.
 
-ghost use Rattle.std.specs.Prelude.{◌≡◌, map, length, drop};
+ghost use Rattle.std.specs.Prelude.{◌≡◌, map};
 ghost use Rattle.lexer.specs.Said.{said_of, form_of};
 ghost use Rattle.manifest.specs.Blocks.{IsBlockLineOf, IsSplit, lines_in_front};
 
@@ -43,15 +43,14 @@ pub fn block_line<'a>(line: &'a Line<'a>) -> Option<BlockLine<'a>>
 pub fn split_block<'lines, 'text>(
     lines: &'lines [Line<'text>],
 ) -> (&'lines [Line<'text>], &'lines [Line<'text>])
-    ensures split { IsSplit (map said_of lines.now) (map said_of result.0.now) (map said_of result.1.now) }
-    ensures rest { result.1.now ≡ drop (length result.0.now) lines.now }
+    ensures { IsSplit (map said_of lines.now) (map said_of result.0.now) (map said_of result.1.now) }
 {
     let count = block_length(lines);
     lines.split_at(count)
 }
 
 /// How many lines in front belong to a block.
-pub fn block_length(lines: &[Line<'_>]) -> usize
+fn block_length(lines: &[Line<'_>]) -> usize
     ensures { result ≡ lines_in_front (map said_of lines.now) }
 {
     for (count, line) in lines.iter().enumerate() {

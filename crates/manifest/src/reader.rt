@@ -1,6 +1,6 @@
 //! Reading build files (manual: "Evaluation and scoping").
 
-ghost use Rattle.std.specs.Prelude.{◌≡◌, ◌<◌, ◌≤◌, IfOk, OnOk, IsTrue, map, length, drop};
+ghost use Rattle.std.specs.Prelude.{◌≡◌, ◌<◌, IfOk, OnOk, IsTrue, map};
 ghost use Rattle.lexer.specs.Said.{said_of, fragments_of, form_of};
 ghost use Rattle.model.specs.Calls.{OnlyLooks, HasCause};
 ghost use Rattle.manifest.specs.Answer.{site_part, in_texts, ReadsFile, IsGraph};
@@ -12,7 +12,7 @@ ghost use Rattle.manifest.specs.Made.{HaveOutputs, FormHasOutput};
 ghost use Rattle.manifest.specs.Places.{place_of, whole_file, IsFaultAt};
 ghost use Rattle.manifest.specs.Statements.{IsAnswerIn, KeepsFormed};
 
-use crate::blocks::{Group, block_length, split_block};
+use crate::blocks::{Group, split_block};
 use crate::fault::{FaultKind, ReadError};
 use crate::kept::Declared;
 use crate::place::Place;
@@ -26,9 +26,6 @@ use text::{Bytes, Text};
 
 /// The most bytes that a build file may have.
 const LARGEST_FILE: usize = 64 * 1024 * 1024;
-
-/// After so many statements with their blocks what was taken in is let go.
-const MOST_ASIDE: usize = 64;
 
 /// How many levels of files may stand below the main one.
 const DEEPEST: usize = 63;
@@ -108,13 +105,12 @@ fn read_bytes<R: Texts>(
         return Err(place.fault(alloc, FaultKind::NotUtf8));
     };
     let Statements { lines, fault } = lexer::statements(alloc, text)?;
-    let mut lines = lines.into_vec();
     read_lines(
         alloc,
         texts,
         declared,
         file,
-        lines.as_mut_slice(),
+        lines.as_slice(),
         fault,
         levels,
     )
@@ -127,23 +123,20 @@ fn read_lines<R: Texts>(
     texts: &mut R,
     declared: &mut Declared,
     file: &Rc<Text>,
-    lines: &mut [Line<'_>],
+    lines: &[Line<'_>],
     fault: Option<Fault>,
     levels: usize,
 ) -> Result<(), ReadError>
     ensures looks { OnlyLooks R.tells (R.world texts.old) (R.world texts.new) }
     ensures cause { IsStated declared.old → HasCauseIn (R.world texts.old) (R.world texts.new) result }
-    ensures said { Tells R.tells (R.world texts.old) (R.world texts.new) declared.old declared.new result (TextSays levels file.now.value fault lines.old) }
+    ensures said { Tells R.tells (R.world texts.old) (R.world texts.new) declared.old declared.new result (TextSays levels file.now.value fault lines.now) }
     ensures scopes { OnOk result (KeepsScopes declared.old declared.new) }
     ensures stated { OnOk result (IsStated declared.old → IsStated declared.new) }
-    ensures formed { OnOk result (HaveOutputs (map said_of lines.old) → KeepsFormed declared.old declared.new) }
+    ensures formed { OnOk result (HaveOutputs (map said_of lines.now) → KeepsFormed declared.old declared.new) }
 {
-    let front = block_length(lines);
-    let mut aside = Vec::new(alloc);
-    let mut rest = let_go(lines, front, &mut aside);
+    let (_, mut rest) = split_block(lines);
     while let Some((line, following)) = rest.split_first() {
         let (block, next) = split_block(following);
-        let count = block.len() + 1;
         let group = Group {
             place: Place {
                 file,
@@ -154,47 +147,10 @@ fn read_lines<R: Texts>(
             behind: if_last(next, fault),
         };
         read_group(alloc, texts, declared, &group, levels)?;
-        rest = let_go(rest, count, &mut aside);
+        rest = next;
     }
     let place = Place { file, line: 0 };
     place.stop_at(alloc, fault)
-}
-
-/// Sets so many lines in front aside, since what is kept of them owns its characters, and gives the lines behind them.
-fn let_go<'lines, 'text>(
-    lines: &'lines mut [Line<'text>],
-    count: usize,
-    aside: &mut Vec<&'lines mut [Line<'text>]>,
-) -> &'lines mut [Line<'text>]
-    requires { count ≤ length lines.old }
-    ensures { result.now ≡ drop count lines.old }
-{
-    let (taken, rest) = lines.split_at_mut(count);
-    set_aside(taken, aside);
-    rest
-}
-
-/// Sets lines aside. What those hold that were set aside before is let go where there are many: single statements that are let go
-/// leave gaps between what is kept. Where memory for it is refused, the lines hold theirs to the end of their file.
-fn set_aside<'lines, 'text>(
-    taken: &'lines mut [Line<'text>],
-    aside: &mut Vec<&'lines mut [Line<'text>]>,
-) {
-    if aside.len() >= MOST_ASIDE {
-        while let Some(lines) = aside.pop() {
-            empty(lines);
-        }
-    }
-    match aside.push(taken) {
-        Ok(()) | Err(_) => {}
-    }
-}
-
-/// Lets go what the lines hold.
-fn empty(lines: &mut [Line<'_>]) {
-    for line in lines {
-        line.statement = Statement::Rule { name: "" };
-    }
 }
 
 /// The fault, where nothing stands before it.

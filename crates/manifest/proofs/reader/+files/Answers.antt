@@ -1,4 +1,4 @@
-use Rattle.std.proofs.Common.{arith, rules, ◌∙◌}
+use Rattle.std.proofs.Common.{arith}
 use Rattle.std.specs.Option.{option_map}
 use Rattle.lexer.specs.Said.{fragments_of}
 use Rattle.scopes.specs.Moves.{Enter, Leave}
@@ -6,8 +6,7 @@ use Rattle.manifest.specs.Files.{fault_in, InScope, too_deep_at, inner_at}
 use Rattle.manifest.specs.Seen.{seen}
 use Rattle.manifest.specs.Places.{place_of}
 use Rattle.manifest.proofs.Looking.{looks_then, looks_none, caused_on, caused_then, fine, covers_before, covers_after}
-use Rattle.manifest.proofs.BlockLemmas.{within}
-use Rattle.manifest.proofs.ReadTo.{own_cause, own_stated, stop_cause, read_to_first, read_to_left, split_shorter, lines_taken, next_lines, read_to_front, read_to_next, read_to_fault, read_to_end, always_ok}
+use Rattle.manifest.proofs.ReadTo.{own_cause, own_stated, stop_cause, read_to_first, split_shorter, read_to_none, read_to_next, read_to_fault, read_to_end, always_ok}
 use Rattle.manifest.proofs.Including.{bytes_large, bytes_unread, bytes_say, bytes_formed, declaration_says, says_at, file_unopened, file_says, scope_fault, scope_reading, state_moved, stated_moved, formed_entered, formed_left}
 use Rattle.manifest.proofs.reader.+files.Goals as goal
 
@@ -27,13 +26,13 @@ read_bytes-read_lines-requires g t c κs within = (omega (arith, c.decreases), w
 
 pub read_bytes-returns-clause-said : goal.read_bytes-returns-clause-said
 read_bytes-returns-clause-said g t c = λ told entry exit covered state is.
-    bytes_say (seen entry exit) c.args.levels c.args.file.now.value c.args.bytes.now state c.in-Ok.text.now c.in_ok-lines.field-0.lines c.as_mut_slice.result.now c.in_ok-lines.field-0.fault
-    c.read_lines.result c.read_lines.new.declared c.if-bytes-gt-LARGEST_FILE.false c.in-Ok.ensures.cases.1 c.in-Ok.ensures.cases.0 c.in_ok-lines.ensures (c.as_mut_slice.ensures.value ∙ c.into_vec-lines.ensures)
+    bytes_say (seen entry exit) c.args.levels c.args.file.now.value c.args.bytes.now state c.in-Ok.text.now c.in_ok-lines.field-0.lines c.as_slice.result.now c.in_ok-lines.field-0.fault
+    c.read_lines.result c.read_lines.new.declared c.if-bytes-gt-LARGEST_FILE.false c.in-Ok.ensures.cases.1 c.in-Ok.ensures.cases.0 c.in_ok-lines.ensures c.as_slice.ensures
     (c.read_lines.ensures.said told entry exit covered state is)
 
 pub read_bytes-returns-clause-formed : goal.read_bytes-returns-clause-formed
 read_bytes-returns-clause-formed g t c =
-    bytes_formed c.in-Ok.text.now c.in_ok-lines.field-0.lines c.as_mut_slice.result.now c.in_ok-lines.field-0.fault c.read_lines.result _ c.in_ok-lines.ensures (c.as_mut_slice.ensures.value ∙ c.into_vec-lines.ensures) c.read_lines.ensures.formed
+    bytes_formed c.in-Ok.text.now c.in_ok-lines.field-0.lines c.as_slice.result.now c.in_ok-lines.field-0.fault c.read_lines.result _ c.in_ok-lines.ensures c.as_slice.ensures c.read_lines.ensures.formed
 
 -- ---- read_file
 
@@ -84,15 +83,8 @@ read_group-returns-in_default g t c = record {
 
 -- ---- read_lines
 
-pub read_lines-let_go-rest-requires : goal.read_lines-let_go-rest-requires
-read_lines-let_go-rest-requires g t c = within c.args.lines.now c.block_length-front.result c.block_length-front.ensures
-
 pub read_lines-loop-line-init : goal.read_lines-loop-line-init
-read_lines-loop-line-init g t c = read_to_front _ _ _ _ _ c.args.lines.now c.let_go-rest.result.now _ c.block_length-front.result c.block_length-front.ensures c.let_go-rest.ensures
-
-pub read_lines-let_go-rest-requires-in-Some : goal.read_lines-let_go-rest-requires-in-Some
-read_lines-let_go-rest-requires-in-Some g t c =
-    lines_taken c.loop-line.rest.now c.in-Some.following.now c.split_block.result.0.now c.split_block.result.1.now c.in-Some.line.now _ c.in-Some.ensures.cases.0 c.split_block.ensures.split (search rules)
+read_lines-loop-line-init g t c = read_to_none _ _ _ _ _ c.args.lines.now c.split_block.result.0.now c.split_block.result.1.now _ c.split_block.ensures
 
 pub read_lines-read_group-requires : goal.read_lines-read_group-requires
 read_lines-read_group-requires g t c κs within = (omega (arith, c.decreases), within)
@@ -109,24 +101,19 @@ read_lines-returns-in_err-read_group-clause-cause g t c = λ stated.
 pub read_lines-returns-in_err-read_group-clause-said :
     goal.read_lines-returns-in_err-read_group-clause-said
 read_lines-returns-in_err-read_group-clause-said g t c =
-    read_to_fault _ _ _ _ _ _ _ c.if_last.result _ c.in-Some.line.now c.in-Some.following.now c.split_block.result.0.now c.split_block.result.1.now _ _ c.read_group.new.declared
-    (read_to_first _ _ _ _ _ _ _ _ _ _ _ _ c.in-Some.ensures.cases.0 c.loop-line.invariant) c.split_block.ensures.split c.if_last.ensures c.read_group.ensures.looks
+    read_to_fault _ _ _ _ _ _ _ c.if_last.result _ c.in-Some.line.now c.in-Some.following.now c.split_block-in-Some.result.0.now c.split_block-in-Some.result.1.now _ _ c.read_group.new.declared
+    (read_to_first _ _ _ _ _ _ _ _ _ _ _ _ c.in-Some.ensures.cases.0 c.loop-line.invariant) c.split_block-in-Some.ensures c.if_last.ensures c.read_group.ensures.looks
     _ c.from_residual.result c.read_group.new.declared c.from_residual.ensures.1 c.in_err-read_group.ensures.said
 
 pub read_lines-loop-line-smaller : goal.read_lines-loop-line-smaller
 read_lines-loop-line-smaller g t c =
-    rw (next_lines c.loop-line.rest.now c.in-Some.following.now c.split_block.result.0.now c.split_block.result.1.now c.let_go-rest-in-Some.result.now c.in-Some.line.now _
-    c.in-Some.ensures.cases.0 c.split_block.ensures.rest (search rules) c.let_go-rest-in-Some.ensures)
-    (split_shorter c.loop-line.rest.now c.in-Some.following.now c.split_block.result.0.now c.split_block.result.1.now c.in-Some.line.now c.in-Some.ensures.cases.0 c.split_block.ensures.split)
+    split_shorter c.loop-line.rest.now c.in-Some.following.now c.split_block-in-Some.result.0.now c.split_block-in-Some.result.1.now c.in-Some.line.now c.in-Some.ensures.cases.0 c.split_block-in-Some.ensures
 
 pub read_lines-loop-line-preserved : goal.read_lines-loop-line-preserved
 read_lines-loop-line-preserved g t c =
-    read_to_left _ _ _ _ _ _ _ _ _ _ _
-    (next_lines c.loop-line.rest.now c.in-Some.following.now c.split_block.result.0.now c.split_block.result.1.now c.let_go-rest-in-Some.result.now c.in-Some.line.now _
-    c.in-Some.ensures.cases.0 c.split_block.ensures.rest (search rules) c.let_go-rest-in-Some.ensures)
-    (read_to_next _ _ _ _ _ _ _ c.if_last.result _ c.in-Some.line.now c.in-Some.following.now c.split_block.result.0.now c.split_block.result.1.now _ _ _
-    (read_to_first _ _ _ _ _ _ _ _ _ _ _ _ c.in-Some.ensures.cases.0 c.loop-line.invariant) c.split_block.ensures.split c.if_last.ensures c.read_group.ensures.looks
-    c.in_ok-read_group.ensures.cause c.in_ok-read_group.ensures.stated c.in_ok-read_group.ensures.said c.in_ok-read_group.ensures.scopes c.in_ok-read_group.ensures.formed)
+    read_to_next _ _ _ _ _ _ _ c.if_last.result _ c.in-Some.line.now c.in-Some.following.now c.split_block-in-Some.result.0.now c.split_block-in-Some.result.1.now _ _ _
+    (read_to_first _ _ _ _ _ _ _ _ _ _ _ _ c.in-Some.ensures.cases.0 c.loop-line.invariant) c.split_block-in-Some.ensures c.if_last.ensures c.read_group.ensures.looks
+    c.in_ok-read_group.ensures.cause c.in_ok-read_group.ensures.stated c.in_ok-read_group.ensures.said c.in_ok-read_group.ensures.scopes c.in_ok-read_group.ensures.formed
 
 pub read_lines-returns-clause-looks : goal.read_lines-returns-clause-looks
 read_lines-returns-clause-looks g t c = c.loop-line.invariant.looks

@@ -19,7 +19,7 @@ decreases-read_scope g l = 6 * l.levels + 1
 
 abbrev pub invariant-read_lines-loop-line : goal.invariant-read_lines-loop-line
 invariant-read_lines-loop-line g l =
-    IsReadTo g.R.Texts.tells (g.R.Texts.world l.fn.texts) (g.R.Texts.world l.texts) l.levels l.file.value l.fault l.fn.lines l.rest l.fn.declared l.declared
+    IsReadTo g.R.Texts.tells (g.R.Texts.world l.fn.texts) (g.R.Texts.world l.texts) l.levels l.file.value l.fault l.lines l.rest l.fn.declared l.declared
 
 abbrev pub decreases-read_lines-loop-line : goal.decreases-read_lines-loop-line
 decreases-read_lines-loop-line g l = length l.rest
