@@ -7,7 +7,7 @@ use Rattle.std.proofs.lemmas.List.Concat.{flat_map-append}
 use Rattle.text.specs.Marks.{Lacks}
 use Rattle.text.specs.Fronts.{IsFront}
 use Rattle.text.proofs.Fronts.{front_none, front_more, front_stops, front_all}
-use Rattle.build_log.specs.Line.{field_text, field_and_tab, escaped, SpellsNothing, IsPlain}
+use Rattle.build_log.specs.Line.{field_text, escaped, SpellsNothing, IsPlain}
 use Rattle.build_log.proofs.Bytes.{Lacks-front, Lacks-back}
 
 abbrev pub AnyByte : ℕ → Type 0
@@ -99,7 +99,3 @@ write_more old rest front byte after e plain =
 
 pub write_last : (old rest : List ℕ) → IsPlain rest → old ++ rest ≡ old ++ field_text rest
 write_last old rest plain = ap (λ (xs : List ℕ). old ++ xs) (sym (field_text-plain rest plain.0 plain.1 plain.2))
-
--- a text that is its own field, and its tab, are written
-pub write_own : (old text : List ℕ) → IsPlain text → (old ++ text) ++ 9 ∷ [] ≡ old ++ field_and_tab text
-write_own old text plain = append_assoc old text (9 ∷ []) ∙ ap (λ (xs : List ℕ). old ++ (xs ++ 9 ∷ [])) (sym (field_text-plain text plain.0 plain.1 plain.2))

@@ -1,7 +1,6 @@
 pub mod Bytes
 pub mod Numbers
 pub mod Escapes
-pub mod Lanes
 pub mod Lines
 pub mod Reading
 pub mod Tails

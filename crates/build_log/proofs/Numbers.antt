@@ -5,7 +5,7 @@ use Rattle.std.specs.Str.Parse.{ParsesUnsigned, digits_value, AllDigits}
 use Rattle.std.proofs.lemmas.Result.{OkIff-at_ok}
 use Rattle.std.proofs.lemmas.Str.Parse.{parse_plain, numerals_by_value, tells_digits, digit_from_value}
 use Rattle.std.proofs.lemmas.Fmt.{parse-decimal, decimal-digits_value, decimal_is_IsNumeral, first_decimal, decimal_digit}
-use Rattle.build_log.specs.Line.{Leads, IsPlain}
+use Rattle.build_log.specs.Line.{Leads}
 
 led_read : {E : Type 0} (text : List ℕ) (r : Result ℕ E) (n : ℕ) → Leads text → ParsesUnsigned 64 10 text r → r ≡ Ok n → text ≡ decimal n
 led_read {E = E} [] r n leads parsed is = elim leads [ ]
@@ -39,14 +39,3 @@ nought = decimal_digit 0 (omega arith)
 pub unled_none : (text : List ℕ) → (text ≡ 48 ∷ [] → ⊥) → (Leads text → ⊥) → (n : ℕ) → n < 2 ^ 64 → text ≡ decimal n → ⊥
 unled_none text other unled zero below is = other (is ∙ nought)
 unled_none text other unled (suc n) below is = unled (subst Leads (sym is) (number_leads (suc n) below (omega arith)))
-
--- no digit is written as two bytes
-digits_plain : (ds : List ℕ) → AllDigits 10 ds → IsPlain ds
-digits_plain [] all = (tt, tt, tt)
-digits_plain (d ∷ ds) all =
-    let digit = digit_from_value d all.0 in
-    let rest = digits_plain ds all.1 in
-    ((omega (arith, digit), rest.0), (omega (arith, digit), rest.1), (omega (arith, digit), rest.2))
-
-pub number_plain : (n : ℕ) → n < 2 ^ 64 → IsPlain (decimal n)
-number_plain n below = digits_plain (decimal n) (decimal_is_IsNumeral n below).0.1

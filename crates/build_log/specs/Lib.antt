@@ -1,6 +1,5 @@
 pub mod Spelled
 pub mod Line
-pub mod Escaped
 pub mod Form
 pub mod Text
 pub mod Answered

@@ -1,18 +1,15 @@
 //! Fields of a line: texts in which a backslash, a tab and a line feed are escaped.
 
-ghost use Rattle.std.specs.Prelude.{◌≡◌, ◌∷◌, ◌++◌, ◌+◌, ◌≤◌, List, ℕ, false, length, map, OnOk, IfOk, IfSome, IfNone, IsTrue, string_bytes};
+ghost use Rattle.std.specs.Prelude.{◌≡◌, ◌∷◌, ◌++◌, List, ℕ, OnOk, IfOk, IfSome, IfNone, IsTrue, string_bytes};
 ghost use Rattle.std.specs.Str.{IsUtf8};
-ghost use Rattle.std.specs.Simd.Lanes.{mask_l};
 ghost use Rattle.text.specs.Marks.{Lacks};
 ghost use Rattle.build_log.specs.Line.{field_text, escaped, IsPlain, IsNoEscape, SpellsNothing};
-ghost use Rattle.build_log.specs.Escaped.{is_escaped, AreUnescaped};
 ghost use Rattle.build_log.specs.Answered.{IfFound, IfMissing};
 
 use bstr::ByteSlice;
 use memchr::memchr3;
 use std::alloc::{AllocError, Global};
 use std::marker::Model;
-use std::simd::prelude::*;
 use std::str::from_utf8;
 use text::{Path, cut};
 
@@ -76,9 +73,7 @@ pub fn plain_fields<'a>(alloc: Global, paths: &'a [Path]) -> Result<Vec<Field<'a
     Ok(fields)
 }
 
-/// Writes the field of a text at the end of a line. Where memory is refused, a part of it may stand there. It stands apart, since few
-/// texts need it.
-#[inline(never)]
+/// Writes the field of a text at the end of a line. Where memory is refused, a part of it may stand there.
 pub fn push_field(line: &mut Vec<u8>, text: &str) -> Result<(), AllocError>
     ensures { OnOk result (line.new.items ≡ line.old.items ++ field_text text.now) }
 {
@@ -90,62 +85,6 @@ pub fn push_field(line: &mut Vec<u8>, text: &str) -> Result<(), AllocError>
     }
     line.extend_from_slice(rest)?;
     Ok(())
-}
-
-/// Whether a text is its own field, since no byte of it is written as two: 16 at a time, where there are so many. The last
-/// 16 are looked at first, and may overlap those before them.
-pub(crate) fn is_own_field(text: &[u8]) -> bool
-    ensures { IsTrue result → IsPlain text.now }
-{
-    if text.len() < 16 {
-        return is_own_field_if_short(text);
-    }
-    let last = text.len() - 16;
-    if has_escape(text, last) {
-        return false;
-    }
-    let mut i = 0;
-    while i < last {
-        if has_escape(text, i) {
-            return false;
-        }
-        i += 16;
-    }
-    true
-}
-
-/// The same, byte by byte.
-fn is_own_field_if_short(text: &[u8]) -> bool
-    ensures { IsTrue result → IsPlain text.now }
-{
-    text.iter().all(|byte| !is_escaped(*byte))
-}
-
-/// Whether one of these 16 bytes is written as two.
-#[inline(always)]
-fn has_escape(text: &[u8], at: usize) -> bool
-    requires { at + 16 ≤ length text.now }
-    ensures { result ≡ false → AreUnescaped text.now at (at + 16) }
-{
-    escaped_bits(u8x16::from_slice(&text[at..])) != 0
-}
-
-/// A bit for each byte: whether it is written as two.
-#[inline(always)]
-fn escaped_bits(v: u8x16) -> u64
-    ensures { result ≡ mask_l (map is_escaped v) }
-{
-    let is_backslash = v.simd_eq(u8x16::splat(b'\\'));
-    let is_tab = v.simd_eq(u8x16::splat(b'\t'));
-    let is_line_feed = v.simd_eq(u8x16::splat(b'\n'));
-    (is_backslash | is_tab | is_line_feed).to_bitmask()
-}
-
-/// Whether a byte is written as two.
-fn is_escaped(byte: u8) -> bool
-    ensures { result ≡ is_escaped byte }
-{
-    matches!(byte, b'\\' | b'\t' | b'\n')
 }
 
 /// What stands before the first byte that is written as two, that byte, and what stands behind it.

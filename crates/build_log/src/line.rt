@@ -7,7 +7,7 @@ ghost use Rattle.build_log.specs.Line.{field_and_tab, fields_text, line_text, Ar
 ghost use Rattle.build_log.specs.Found.{texts_in};
 ghost use Rattle.build_log.specs.Answered.{IfFound, IfMissing, IfYes, IfNo};
 
-use crate::field::{Field, field_of, is_own_field, is_plain, push_field};
+use crate::field::{Field, field_of, is_plain, push_field};
 use itoa::Buffer;
 use std::alloc::{AllocError, Global};
 use std::str::from_utf8;
@@ -99,21 +99,7 @@ pub fn push_text(line: &mut Vec<u8>, text: &str) -> Result<(), AllocError>
     ensures field { OnOk result (line.new.items ≡ line.old.items ++ field_and_tab text.now) }
     ensures utf8 { IsUtf8 text.now }
 {
-    if is_own_field(text.as_bytes()) {
-        return push_own_field(line, text);
-    }
     push_field(line, text)?;
-    line.push(b'\t')?;
-    Ok(())
-}
-
-/// The same, for a text that is its own field.
-#[inline(always)]
-fn push_own_field(line: &mut Vec<u8>, text: &str) -> Result<(), AllocError>
-    requires { IsPlain text.now }
-    ensures { OnOk result (line.new.items ≡ line.old.items ++ field_and_tab text.now) }
-{
-    line.extend_from_slice(text.as_bytes())?;
     line.push(b'\t')?;
     Ok(())
 }
@@ -125,7 +111,7 @@ pub fn push_number(line: &mut Vec<u8>, n: u64) -> Result<(), AllocError>
     ensures utf8 { IsUtf8 (decimal n) }
 {
     let mut buffer = Buffer::new();
-    push_own_field(line, buffer.format(n))
+    push_text(line, buffer.format(n))
 }
 
 /// Writes the fields of how many texts there are, and of each, at the end of a line. Where memory is refused, a part of

@@ -17,7 +17,7 @@ use text::{Bytes, Items};
 /// How many texts a run has at most.
 const MOST_IN_RUN: usize = 8;
 
-/// After so many texts in turn that only their sum told, the texts of a list are looked for by their sums first.
+/// After so many texts that only their sum told, the next texts of a list are looked for by their sums first.
 const TURNS_BY_SUM: usize = 2;
 
 /// Texts by number, each once, which contracts see as their list. Each is copied once.
@@ -31,7 +31,8 @@ pub struct Texts {
     places: Vec<Places>,
     /// By the sum of what stands in front: what is guessed of the text there. It is as long as a power of two, or empty.
     table: Vec<Note>,
-    /// How many texts of the list that is read were told by their sums alone, one after another.
+    /// How many texts of the list that is read were told by their sums alone, since one was told by the text in front of it, or
+    /// none by its sum, where it was looked for. Those of runs may stand between and are not counted.
     by_sum: usize,
 }
 
@@ -164,8 +165,8 @@ impl Texts {
         standing(*note, bytes)
     }
 
-    /// The number of the text whose field stands in front, and what stands behind the field and its tab, where the texts before it
-    /// in its list were told by their sums alone, and it is told so too. In front of a list's first text `last` is no number.
+    /// The number of the text whose field stands in front, and what stands behind the field and its tab, where enough texts before
+    /// it in its list were told by their sums alone, and it is told so too. In front of a list's first text `last` is no number.
     #[inline(always)]
     pub(crate) fn take_by_sum<'a>(
         &mut self,
