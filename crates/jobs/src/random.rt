@@ -6,7 +6,7 @@ pub struct Random {
 }
 
 impl Random {
-    /// The numbers of this seed; seeds that lie side by side give numbers of their own.
+    /// The numbers of this seed. The seed after it gives the same ones from the second on, so seeds are taken far apart.
     pub fn new(seed: u64) -> Random {
         Random {
             state: seed.wrapping_mul(0x9E37_79B9_7F4A_7C15),
