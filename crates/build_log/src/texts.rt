@@ -31,8 +31,8 @@ pub struct Texts {
     places: Vec<Places>,
     /// By the sum of what stands in front: what is guessed of the text there. It is as long as a power of two, or empty.
     table: Vec<Note>,
-    /// How many texts of the list that is read were told by their sums alone, since one was told by the text in front of it, or
-    /// none by its sum, where it was looked for. Those of runs may stand between and are not counted.
+    /// How many texts of the list that is read `take_known` told by their sums, since the list began, it told one by the text
+    /// in front, or `take_by_sum` missed one. Others may stand between.
     by_sum: usize,
 }
 
@@ -312,8 +312,8 @@ impl Texts {
         }
     }
 
-    /// Makes the table twice as long where there are more than two texts for each of its places. Where memory is refused, it
-    /// stays as it is.
+    /// Makes the table twice as long where there are two texts or more for each of its places. Where memory is refused, it stays
+    /// as it is.
     fn widen(&mut self)
         ensures { self.new ≡ self.old }
     {
