@@ -12,7 +12,7 @@ ghost use Rattle.manifest.specs.PathReading.{text_found};
 use crate::fault::ReadError;
 use crate::values::Values;
 use indexmap::IndexSet;
-use lexer::{ReadFault, canonical, is_canonical_at_sight};
+use lexer::{ReadFault, canonical, is_settled};
 use model::{Act, Deps};
 use paths::{Command, Line, PathId, Paths};
 use std::alloc::{AllocError, Global};
@@ -100,7 +100,7 @@ fn path_or_none(alloc: Global, text: Text) -> Result<Text, ReadError>
     ensures path { IfOk result (IsPathOrNone text) }
     ensures memory { IfErr result (λ error. error ≡ ReadError.Memory) }
 {
-    if is_canonical_at_sight(text.as_str()) {
+    if is_settled(text.as_str()) {
         return Ok(text);
     }
     match canonical(alloc, text.as_str()) {

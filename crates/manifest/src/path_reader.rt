@@ -16,7 +16,7 @@ ghost use Rattle.manifest.specs.Flags.{IsPathFound};
 
 use crate::fault::{FaultKind, ReadError};
 use crate::place::Place;
-use lexer::{BuildLine, ReadFault, Value, canonical, is_canonical_at_sight};
+use lexer::{BuildLine, ReadFault, Value, canonical, is_settled};
 use paths::{Line, PathId, Paths};
 use scopes::{Block, ExpandFault, Scopes, as_it_stands, expand};
 use std::alloc::Global;
@@ -214,7 +214,7 @@ fn settled<'a>(value: &Value<'a>) -> Option<&'a str>
     ensures canonical { IfSome result (λ text. IsCanonical text.now text.now) }
 {
     let text = as_it_stands(value)?;
-    if text.is_empty() || !is_canonical_at_sight(text) {
+    if text.is_empty() || !is_settled(text) {
         return None;
     }
     Some(text)
