@@ -21,9 +21,6 @@ extends_front xs mid last part grown extends = record {
   grows = extends.grows ∙ (ap (λ (l : List ℕ). l ++ extends.more) grown ∙ append_assoc xs part extends.more);
 }
 
-extends_length : (xs new : List ℕ) → Extends xs new → length xs ≤ length new
-extends_length xs new extends = let long = ap length extends.grows in let sum = length-append xs extends.more in omega (arith, long, sum)
-
 -- what stood there before stands there still
 still : (xs new : List ℕ) (a b : ℕ) → Extends xs new → a ≤ b → b ≤ length xs → between new a b ≡ between xs a b
 still xs new a b extends ab fits = ap (λ (l : List ℕ). between l a b) extends.grows ∙ between_more xs extends.more a b ab fits
