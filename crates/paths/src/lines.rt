@@ -141,8 +141,8 @@ impl Lines {
     }
 
     /// Gives the line of an edge more implicit outputs and more implicit inputs, behind those that it has. The line moves behind
-    /// all others, and no other one does: 4 bytes for each of its paths are lost where it stood. Where memory is refused, the lines
-    /// stay as they were.
+    /// all others, and no other one does: 4 bytes for each of its paths are lost where it stood, up to a copy of the lines when more
+    /// than half of all are. Where memory is refused, the lines stay as they were.
     pub fn grow(
         &mut self,
         edge: EdgeId,
