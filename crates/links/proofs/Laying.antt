@@ -5,7 +5,7 @@ use Rattle.std.proofs.Math.Seq.{get_or-append_seam}
 use Rattle.std.proofs.lemmas.Bool.{cases_eq, cases_lt}
 use Rattle.std.proofs.lemmas.List.{get_or_past, get_or_append_left}
 use Rattle.links.specs.declared.users.Room.{Room}
-use Rattle.links.specs.Rooms.{room_of, no_room, AreApart, AreRooms, AreLaid}
+use Rattle.links.specs.Rooms.{room_of, no_room, AreApart, AreLaid}
 
 none_at : (k : ℕ) → get_or [] k no_room ≡ no_room
 none_at zero = refl
