@@ -1,6 +1,5 @@
 -- The word that stands first, put together from its pieces.
-use Rattle.std.proofs.Common.{◌≡◌, ℕ, ◌+◌, ◌-◌, ◌<◌, Bool, true, false, List, [], ◌∷◌, ◌++◌, length, map, take, arith, ap, sym, ◌∙◌, refl, append_assoc, length-append, Result, Ok, Err, OnOk, is_ok, if◌then◌else◌}
-use Rattle.std.specs.List.{AllByRecursion}
+use Rattle.std.proofs.Common.{◌≡◌, ℕ, ◌+◌, ◌-◌, Bool, true, false, List, [], ◌∷◌, ◌++◌, length, map, take, arith, ap, sym, ◌∙◌, refl, append_assoc, length-append, Result, Ok, Err, OnOk, is_ok, if◌then◌else◌}
 use Rattle.std.proofs.lemmas.List.{map-append}
 use Rattle.std.proofs.Math.Seq.{take-append_seam}
 use Rattle.depfile.specs.declared.pieces.Piece.{Piece}
@@ -10,7 +9,7 @@ use Rattle.depfile.specs.Signs.{Sign, signs, spelled, character}
 use Rattle.depfile.specs.Signs.Sign.{letter, colon, blank, newline}
 use Rattle.depfile.specs.Depfile.{is_some_word, ends_with_colon}
 use Rattle.depfile.specs.Pieces.{IsPiece, NoWord, is_end, is_itself, is_colon, signs_of}
-use Rattle.depfile.specs.Words.{IsWord, is_of_word, front_word, behind_word}
+use Rattle.depfile.specs.Words.{IsWord, AreOfWord, WordSoFar, is_of_word, front_word, behind_word}
 
 -- ---- what is pushed onto a text
 
@@ -23,9 +22,6 @@ on_pushed_twice (Ok u) new between old text more spelt first is same = is ∙ ap
 on_pushed_twice (Err e) new between old text more spelt first is same = tt
 
 -- ---- signs of words
-
-abbrev pub AreOfWord : List Sign → Type 0
-AreOfWord = AllByRecursion (λ sign. is_of_word sign ≡ true)
 
 pub of_word-append : (word more : List Sign) → AreOfWord word → AreOfWord more → AreOfWord (word ++ more)
 of_word-append [] more first second = second
@@ -75,17 +71,6 @@ front_is (sign ∷ word) rest all ends =
     )
 
 -- ---- a word so far
-
-pub record WordSoFar (text rest : List ℕ) (is_plain with_colon : Bool) : Type 0 where
-  pub word : List Sign
-  pub taken : List ℕ
-  pub written : text ≡ taken ++ rest
-  pub signs_are : signs text ≡ word ++ signs rest
-  pub all : AreOfWord word
-  pub some : is_some_word word ≡ true
-  pub plain : is_plain ≡ true → taken ≡ spelled word
-  pub colon_is : with_colon ≡ ends_with_colon word
-  pub shorter : length rest < length text
 
 pub word_begins : (text rest : List ℕ) (piece : Piece) → IsPiece text piece rest → WordSoFar text rest (is_itself piece) (is_colon piece)
 word_begins text rest piece is = record {

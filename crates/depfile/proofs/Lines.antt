@@ -8,8 +8,8 @@ use Rattle.depfile.specs.Signs.Sign.{letter, colon, blank, newline}
 use Rattle.depfile.specs.Depfile.{is_some_word, ends_with_colon, words, behind_colon, both, inputs_of_rule, inputs_of_rules, inputs}
 use Rattle.depfile.specs.Depfile.{Word as Signs}
 use Rattle.depfile.specs.Pieces.{IsSeparated, is_end}
-use Rattle.depfile.specs.Words.{IsWord, IsBehindBlanks, AreBlanks, EndsRule, IsToken, front_word, inputs_then, behind_targets, targets_then, among_targets}
-use Rattle.depfile.proofs.Fronts.{AreOfWord, front_behind, front_of_word, behind_ends}
+use Rattle.depfile.specs.Words.{IsWord, AreOfWord, IsBehindBlanks, AreBlanks, EndsRule, IsToken, front_word, inputs_then, behind_targets, targets_then, among_targets}
+use Rattle.depfile.proofs.Fronts.{front_behind, front_of_word, behind_ends}
 
 -- ---- blanks
 

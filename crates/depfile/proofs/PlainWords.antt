@@ -6,7 +6,8 @@ use Rattle.depfile.specs.Signs.{signs}
 use Rattle.depfile.specs.Pieces.{run_of, behind}
 use Rattle.depfile.proofs.Cuts.{run_passes}
 use Rattle.depfile.proofs.Escapes.{plain_run_signs, behind_is}
-use Rattle.depfile.proofs.Fronts.{WordSoFar, word_begins, word_goes_on}
+use Rattle.depfile.specs.Words.{WordSoFar}
+use Rattle.depfile.proofs.Fronts.{word_begins, word_goes_on}
 use Rattle.depfile.proofs.Parts.{same_piece, colon_piece}
 
 pub plain_so_far : (text : List ℕ) (run : Bor (List ℕ)) (after : List ℕ) → text ≡ run.now ++ after → 0 < length run.now → run.now ≡ run_of class.Plain text → WordSoFar text after true false

@@ -35,6 +35,21 @@ pub record IsWord (text : List ℕ) (word : Word) (rest : List ℕ) : Type 0 whe
   pub plain : word.is_plain ≡ true → word.written.now ≡ spelled (front_word (signs text))
   pub shorter : length rest < length text
 
+abbrev pub AreOfWord : List Sign → Type 0
+AreOfWord = AllByRecursion (λ sign. is_of_word sign ≡ true)
+
+-- a word begins the text and may go on at this rest
+pub record WordSoFar (text rest : List ℕ) (is_plain with_colon : Bool) : Type 0 where
+  pub word : List Sign
+  pub taken : List ℕ
+  pub written : text ≡ taken ++ rest
+  pub signs_are : signs text ≡ word ++ signs rest
+  pub all : AreOfWord word
+  pub some : is_some_word word ≡ true
+  pub plain : is_plain ≡ true → taken ≡ spelled word
+  pub colon_is : with_colon ≡ ends_with_colon word
+  pub shorter : length rest < length text
+
 abbrev pub AreBlanks : List Sign → Type 0
 AreBlanks = AllByRecursion (λ sign. is_blank sign ≡ true)
 

@@ -3,7 +3,7 @@
 ghost use Rattle.std.specs.Prelude.{◌≡◌, None, true, false, IfOk, IfSome, IfNone, IsTrue, string_bytes};
 ghost use Rattle.depfile.specs.Signs.{signs, spelled};
 ghost use Rattle.depfile.specs.Pieces.{NoWord, separator_of};
-ghost use Rattle.depfile.specs.Words.{IsWord, IsToken, IsBehindBlanks, front_word};
+ghost use Rattle.depfile.specs.Words.{IsWord, IsToken, IsBehindBlanks, WordSoFar, front_word};
 
 use crate::characters::{Class, begins_with, split_run, strip_one};
 use crate::pieces::piece_at;
@@ -31,31 +31,39 @@ pub enum Token<'a> {
     RuleEnd,
 }
 
-/// The word that stands first, and what stands behind it. None where no word stands.
+/// The word that stands first, and what stands behind it. None where no word stands. Most are one run of plain characters.
 #[inline(always)]
 pub fn word_at(text: &str) -> Option<(Word<'_>, &str)>
     ensures word { IfSome result (λ found. IsWord text.now found.0 found.1.now) }
     ensures none { IfNone result (NoWord text.now) }
 {
-    if let Some(found) = plain_word_at(text) {
-        return Some(found);
-    }
-    word_of_pieces(text)
-}
-
-/// The word that stands first, where it is one run of plain characters, as most are: an input, or a target with the
-/// colon behind it. None where it is another, or no word stands.
-#[inline(always)]
-fn plain_word_at(text: &str) -> Option<(Word<'_>, &str)>
-    ensures { IfSome result (λ found. IsWord text.now found.0 found.1.now) }
-{
     if !begins_with(text, Class::Plain) {
-        return None;
+        return word_of_pieces(text);
     }
     let (run, after) = split_run(text, Class::Plain);
     if is_word_end(after) {
         return Some((plain_word(text, run, false), after));
     }
+    Some(word_behind_run(text, after))
+}
+
+/// The word that begins with a run of plain characters and goes on behind it, at this place.
+fn word_behind_run<'a>(text: &'a str, after: &'a str) -> (Word<'a>, &'a str)
+    requires { WordSoFar text.now after.now true false }
+    ensures { IsWord text.now result.0 result.1.now }
+{
+    match target_at(text, after) {
+        Some(found) => found,
+        None => word_going_on(text, after, true, false),
+    }
+}
+
+/// The same, where a colon stands there and ends the word, as it does in most targets. None where it goes on in another
+/// way.
+fn target_at<'a>(text: &'a str, after: &'a str) -> Option<(Word<'a>, &'a str)>
+    requires { WordSoFar text.now after.now true false }
+    ensures { IfSome result (λ found. IsWord text.now found.0 found.1.now) }
+{
     let behind = strip_one(after, b':')?;
     if !is_word_end(behind) {
         return None;
@@ -85,9 +93,25 @@ fn word_of_pieces(text: &str) -> Option<(Word<'_>, &str)>
     ensures word { IfSome result (λ found. IsWord text.now found.0 found.1.now) }
     ensures none { IfNone result (NoWord text.now) }
 {
-    let (first, mut at) = piece_at(text)?;
-    let mut is_plain = first.is_itself();
-    let mut ends_with_colon = first.is_colon();
+    let (first, after) = piece_at(text)?;
+    let found = word_going_on(text, after, first.is_itself(), first.is_colon());
+    Some(found)
+}
+
+/// The word that begins the text and may go on at this place, piece by piece, and what stands behind it. How it began is
+/// told as a [`Word`] tells it.
+fn word_going_on<'a>(
+    text: &'a str,
+    after: &'a str,
+    began_plain: bool,
+    began_with_colon: bool,
+) -> (Word<'a>, &'a str)
+    requires { WordSoFar text.now after.now began_plain began_with_colon }
+    ensures { IsWord text.now result.0 result.1.now }
+{
+    let mut at = after;
+    let mut is_plain = began_plain;
+    let mut ends_with_colon = began_with_colon;
     'pieces: while let Some((piece, rest)) = piece_at(at) {
         is_plain = is_plain && piece.is_itself();
         ends_with_colon = piece.is_colon();
@@ -100,7 +124,7 @@ fn word_of_pieces(text: &str) -> Option<(Word<'_>, &str)>
         is_plain,
         ends_with_colon,
     };
-    Some((word, at))
+    (word, at)
 }
 
 /// What the word spells that stands first in the text.

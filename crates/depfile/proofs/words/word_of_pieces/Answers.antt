@@ -1,31 +1,5 @@
-use Rattle.std.proofs.Common.{◌≡◌, true, sym, ◌∙◌, refl, rules}
-use Rattle.depfile.proofs.Cuts.{cut_at_rest}
-use Rattle.depfile.proofs.Fronts.{word_begins, word_goes_on, word_ends}
-use Rattle.depfile.specs.Pieces.{is_itself}
+use Rattle.depfile.proofs.Fronts.{word_begins}
 use Rattle.depfile.proofs.words.word_of_pieces.Goals as goal
-use Rattle.depfile.proofs.words.word_of_pieces.Goals.{then-is_plain, else-is_plain}
 
-pub pieces-init : goal.pieces-init
-pieces-init c = record {
-  utf8 = search rules;
-  far = rw (c.is_itself-is_plain.ensures, c.is_colon-ends_with_colon.ensures) (word_begins c.args.text.now c.in_ok-first.at.now c.in_ok-first.first c.in_ok-first.ensures.piece);
-}
-
-pub pieces-preserved : goal.pieces-preserved
-pieces-preserved c =
-    let both : c.if-is_plain.is_plain ≡ true → (c.pieces.is_plain ≡ true) × (is_itself c.in-Some.piece ≡ true) =
-    λ still. elim c.if-is_plain.branch [
-      | then-is_plain w ↦ (w.if-is_plain.true, sym w.is_itself-is_plain-then-is_plain.ensures ∙ sym w.is_plain-is ∙ still)
-      | else-is_plain w ↦ absurd (let e = sym w.is_plain-is ∙ still in cc)
-    ] in
-    record {
-      utf8 = search rules;
-      far = word_goes_on c.args.text.now c.pieces.at.now c.in-Some.rest.now c.in-Some.piece c.pieces.is_plain c.pieces.ends_with_colon c.if-is_plain.is_plain c.is_colon-ends_with_colon-in-Some.result
-          c.pieces.invariant.far c.in-Some.ensures.piece both c.is_colon-ends_with_colon-in-Some.ensures;
-    }
-
-pub split_at-requires : goal.split_at-requires
-split_at-requires c = cut_at_rest c.args.text.now c.pieces.invariant.far.taken c.pieces.at.now c.pieces.invariant.far.written c.pieces.invariant.utf8
-
-pub returns-clause-word : goal.returns-clause-word
-returns-clause-word c = word_ends c.args.text.now c.pieces.at.now _ refl c.split_at.ensures.front c.pieces.invariant.far c.in_default.ensures.none
+pub word_going_on-found-requires : goal.word_going_on-found-requires
+word_going_on-found-requires c = rw (c.is_itself.ensures, c.is_colon.ensures) (word_begins c.args.text.now c.in_ok-first.after.now c.in_ok-first.first c.in_ok-first.ensures.piece)

@@ -1,8 +1,8 @@
 use Rattle.std.proofs.Common.{length}
 use denote.Text.{Utf8}
 use denote.Shadow.{shadow}
-use Rattle.depfile.proofs.Fronts.{WordSoFar}
-use Rattle.depfile.proofs.words.word_of_pieces.Given as goal
+use Rattle.depfile.specs.Words.{WordSoFar}
+use Rattle.depfile.proofs.words.word_going_on.Given as goal
 
 abbrev pub invariant-pieces : goal.invariant-pieces
 invariant-pieces l = record {
