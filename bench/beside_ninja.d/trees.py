@@ -1,6 +1,7 @@
 """The trees whose builds are counted and timed. Each is written into a folder by a function that is given how many edges it has."""
 
 import os
+import random as chances
 
 # How many headers a unit tells, of how many there are.
 TOLD, HEADERS = 57, 400
@@ -54,17 +55,24 @@ rule generate
 """
 
 
-def cpp(folder, edges):
-    """Libraries of 40 units and an archive; one unit in ten is generated; a program of each twenty libraries."""
+def random(folder, edges):
+    """The same with headers of a unit that are drawn at random, in any order: 1,000 lists of them, each for some units that lie far apart."""
+    chance = chances.Random(1)
+    cpp(folder, edges, [chance.sample(range(HEADERS), TOLD) for _ in range(1000)])
+
+
+def cpp(folder, edges, lists=None):
+    """Libraries of 40 units and an archive; one unit in ten is generated; a program of each twenty libraries. Which headers a unit tells is one
+    of the lists."""
+    lists = lists or [sorted({(number * 11 + k * 7) % HEADERS for k in range(TOLD)}) for number in range(20)]
     lines, sources, libraries = [CPP], [header(n) for n in range(HEADERS)], []
-    for number in range(20):
-        told = sorted({(number * 11 + k * 7) % HEADERS for k in range(TOLD)})
+    for number, told in enumerate(lists):
         write(folder, f"heads{number}", " ".join(header(it) for it in told) + "\n")
     count, library = 0, 0
     while count < edges:
         objects = []
         for unit in range(min(40, edges - count)):
-            name = f"library{library:04}/source/unit{unit:02}"
+            name, told = f"library{library:04}/source/unit{unit:02}", (library if len(lists) == 20 else library * 40 + unit) % len(lists)
             source = f"src/{name}.cc"
             if unit % 10 == 9:
                 source = f"gen/{name}.cc"
@@ -73,7 +81,7 @@ def cpp(folder, edges):
                 count += 1
             else:
                 sources.append(source)
-            lines.append(f"build obj/{name}.o: cxx {source}\n  DEFINES = -DLIBRARY={library} -DUNIT={unit}\n  set = {library % 20}\n")
+            lines.append(f"build obj/{name}.o: cxx {source}\n  DEFINES = -DLIBRARY={library} -DUNIT={unit}\n  set = {told}\n")
             objects.append(f"obj/{name}.o")
             count += 1
         lines.append(f"build lib/library{library:04}.a: archive {' '.join(objects)}\n")
