@@ -32,7 +32,7 @@ class Lists:
     def __init__(self, chance):
         self.chance = chance
         self.units = chance.choice([300, 1000, 3000, 3000, 6000])
-        self.parts = chance.choice([1, 3, 10, 30])
+        self.parts = chance.choice([1, 3, 10, 10, 30, 30])
         self.mixed = self.parts > 1 and chance.random() < .25
         self.length = chance.choice(LENGTHS)
         self.vary = chance.random() < .5
