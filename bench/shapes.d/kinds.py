@@ -285,7 +285,7 @@ def long_lines(folder, chance):
 def values(folder, chance):
     """Values that are all variables and escapes."""
     piece = chance.choice(["$x$y", "$$$$", "${x}a", "$x-$y/", "$ $:"])
-    edges, length = chance.choice([1000, 4000]), chance.choice([4, 40])
+    edges, length = chance.choice([1000, 4000]), chance.choice([2, 4, 12])
     lines = ["x = 1", "y = 2", "rule c", "  command = cc $f -c $in -o $out"]
     for edge in range(edges):
         lines += [f"build o{edge}: c i{edge}", f"  f = {piece * length}"]
