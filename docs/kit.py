@@ -63,7 +63,7 @@ def below(names):
 
 def crate_of(line):
     """The crate of which a line of a check tells, or None."""
-    named = re.match(r"(?:fn|struct|enum|impl|trait|union|const|static) (\w+)::|crate (\w+): modules |rt: (\w+): begins ", line)
+    named = re.match(r"(?:fn|struct|enum|impl|trait|union|const|static) (\w+)::|crate (\w+): modules ", line)
     return named and next(it for it in named.groups() if it)
 
 
