@@ -1,7 +1,7 @@
 """The trees whose builds are counted and timed. Each is written into a folder by a function that is given how many edges it has."""
 
 import os
-import random as chances
+import random as chance
 
 # How many headers a unit tells, of how many there are.
 TOLD, HEADERS = 57, 400
@@ -55,24 +55,30 @@ rule generate
 """
 
 
-def random(folder, edges):
-    """The same with headers of a unit that are drawn at random, in any order: 1,000 lists of them, each for some units that lie far apart."""
-    chance = chances.Random(1)
-    cpp(folder, edges, [chance.sample(range(HEADERS), TOLD) for _ in range(1000)])
-
-
-def cpp(folder, edges, lists=None):
-    """Libraries of 40 units and an archive; one unit in ten is generated; a program of each twenty libraries. Which headers a unit tells is one
-    of the lists."""
-    lists = lists or [sorted({(number * 11 + k * 7) % HEADERS for k in range(TOLD)}) for number in range(20)]
-    lines, sources, libraries = [CPP], [header(n) for n in range(HEADERS)], []
-    for number, told in enumerate(lists):
+def cpp(folder, edges):
+    """Libraries of 40 units and an archive; one unit in ten is generated; a program of each twenty libraries. The headers of a unit are
+    one of twenty lists."""
+    for number in range(20):
+        told = sorted({(number * 11 + k * 7) % HEADERS for k in range(TOLD)})
         write(folder, f"heads{number}", " ".join(header(it) for it in told) + "\n")
+    libraries_of(folder, edges, 20)
+
+
+def random(folder, edges):
+    """The same, but each unit has a list of its own, of headers drawn at random."""
+    draw = chance.Random(edges)
+    for number in range(edges):
+        write(folder, f"heads{number}", " ".join(header(it) for it in draw.sample(range(HEADERS), TOLD)) + "\n")
+    libraries_of(folder, edges, edges)
+
+
+def libraries_of(folder, edges, lists):
+    lines, sources, libraries = [CPP], [header(n) for n in range(HEADERS)], []
     count, library = 0, 0
     while count < edges:
         objects = []
         for unit in range(min(40, edges - count)):
-            name, told = f"library{library:04}/source/unit{unit:02}", (library if len(lists) == 20 else library * 40 + unit) % len(lists)
+            name = f"library{library:04}/source/unit{unit:02}"
             source = f"src/{name}.cc"
             if unit % 10 == 9:
                 source = f"gen/{name}.cc"
@@ -81,7 +87,7 @@ def cpp(folder, edges, lists=None):
                 count += 1
             else:
                 sources.append(source)
-            lines.append(f"build obj/{name}.o: cxx {source}\n  DEFINES = -DLIBRARY={library} -DUNIT={unit}\n  set = {told}\n")
+            lines.append(f"build obj/{name}.o: cxx {source}\n  DEFINES = -DLIBRARY={library} -DUNIT={unit}\n  set = {(library * 40 + unit if lists > 20 else library) % lists}\n")
             objects.append(f"obj/{name}.o")
             count += 1
         lines.append(f"build lib/library{library:04}.a: archive {' '.join(objects)}\n")

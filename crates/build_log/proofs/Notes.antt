@@ -25,10 +25,6 @@ guess_grown : (texts more : List (List ℕ)) (guess : Option Guess) → IsGuessI
 guess_grown texts more None is = tt
 guess_grown texts more (Some guess) is = plain_grown texts more guess.number is
 
-pub guess_made : (texts : List (List ℕ)) (guess : Option Guess) (number : ℕ) → IfSome guess (λ g. g.number ≡ number) → IsPlainAt texts number → IsGuessIn texts guess
-guess_made texts None number e is = tt
-guess_made texts (Some guess) number e is = subst (IsPlainAt texts) (sym e) is
-
 pub same_some : (a b : List ℕ) → Some a ≡ Some b → a ≡ b
 same_some a b e = cc
 
@@ -214,13 +210,3 @@ run_read runs slice n run within read same = subst (λ (l : List Run). slice_get
 
 pub taken_one : (known : List (List ℕ)) (bytes : List ℕ) (number : ℕ) (text after : List ℕ) → slice_get known number ≡ Some text → IsUtf8 text → bytes ≡ field_and_tab text ++ after → AreTakenFrom known bytes 1 (number ∷ []) after
 taken_one known bytes number text after at utf8 e = taken_more known bytes 0 [] bytes number text after (taken_none known bytes) at utf8 e
-
-pub taken_most : (known : List (List ℕ)) (old bytes : List ℕ) (most : ℕ) (new : List ℕ) (found : Option (Bor (List ℕ))) → 0 < most → IfSome found (λ after. IsTakenBehind known old bytes 1 new after.now) → IfSome found (λ after. IsTakenBehind known old bytes most new after.now)
-taken_most known old bytes most new None some is = tt
-taken_most known old bytes most new (Some after) some is = record {
-  more = is.more;
-  pushed = is.pushed;
-  some = is.some;
-  few = let one = is.few in omega arith;
-  taken = is.taken;
-}

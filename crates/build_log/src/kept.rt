@@ -13,7 +13,7 @@ ghost use Rattle.build_log.specs.Taken.{AreTakenFrom, IsTaken, TakesSome};
 
 use crate::field::Field;
 use crate::line::plain_field;
-use crate::texts::Texts;
+use crate::texts::{Front, Texts};
 use std::alloc::{AllocError, Global};
 use std::marker::Model;
 use text::Items;
@@ -114,8 +114,9 @@ impl<T: Drop> Kept<T> {
     /// The numbers of the texts whose fields, so many, stand in front, and what stands behind them, where no byte of them is
     /// written as two. Texts that have no number get one. What is kept stands for the same records as before.
     ///
-    /// A text that came behind the one before it in an earlier call is compared, and neither searched for its tab nor hashed. After
-    /// texts that came in no such order a text is looked for by a sum of its bytes first, and then compared.
+    /// Of a text that came behind the one before it in an earlier call little more is done than to compare it. After texts that came
+    /// in no such order a text is looked for by a sum of its bytes first, and then compared; where sums tell nothing for long, only
+    /// one text in eight is. The longest call doubles the table of sums, of at most as many places as there are texts.
     #[inline(never)]
     pub fn take_numbers<'a>(
         &mut self,
@@ -190,14 +191,35 @@ impl<T: Drop> Kept<T> {
         ensures grown { IsGrown self.old self.new }
         ensures taken { TakesSome result self.new.outputs bytes.now most numbers.old.items numbers.new.items }
     {
-        if let Some((number, after)) = self.outputs.take_known(last, bytes) {
-            numbers.push(number)?;
-            return Ok(Some(after));
+        match self.outputs.take_known(last, bytes) {
+            Ok(Some((number, after))) => {
+                numbers.push(number)?;
+                Ok(Some(after))
+            }
+            Ok(None) => self.take_run(alloc, last, bytes, most, numbers),
+            Err(front) => {
+                let found = self.push_unknown(alloc, last, bytes, front, numbers)?;
+                Ok(found)
+            }
         }
-        if self.outputs.follow(last, bytes).is_none() {
-            let found = self.push_unknown(alloc, last, bytes, numbers)?;
-            return Ok(found);
-        }
+    }
+
+    /// The same, of texts that came one behind another.
+    fn take_run<'a>(
+        &mut self,
+        alloc: Global,
+        last: usize,
+        bytes: &'a [u8],
+        most: usize,
+        numbers: &mut Vec<usize>,
+    ) -> Result<Option<&'a [u8]>, AllocError>
+        requires line_feed { Lacks 10 bytes.now }
+        requires most { 0 < most }
+        ensures same { KeepsSame IsTableOf self.old self.new }
+        ensures records { self.new.records ≡ self.old.records }
+        ensures grown { IsGrown self.old self.new }
+        ensures taken { TakesSome result self.new.outputs bytes.now most numbers.old.items numbers.new.items }
+    {
         let (few, after) = self.outputs.follow_few(alloc, last, bytes, most)?;
         if few.is_empty() {
             return Ok(None);
@@ -214,6 +236,7 @@ impl<T: Drop> Kept<T> {
         alloc: Global,
         last: usize,
         bytes: &'a [u8],
+        front: Option<Front>,
         numbers: &mut Vec<usize>,
     ) -> Result<Option<&'a [u8]>, AllocError>
         requires { Lacks 10 bytes.now }
@@ -222,7 +245,7 @@ impl<T: Drop> Kept<T> {
         ensures grown { IsGrown self.old self.new }
         ensures taken { TakesSome result self.new.outputs bytes.now 1 numbers.old.items numbers.new.items }
     {
-        let Some((number, after)) = self.take_unknown(alloc, last, bytes)? else {
+        let Some((number, after)) = self.take_unknown(alloc, last, bytes, front)? else {
             return Ok(None);
         };
         numbers.push(number)?;
@@ -236,6 +259,7 @@ impl<T: Drop> Kept<T> {
         alloc: Global,
         last: usize,
         bytes: &'a [u8],
+        front: Option<Front>,
     ) -> Result<Option<(usize, &'a [u8])>, AllocError>
         requires { Lacks 10 bytes.now }
         ensures same { KeepsSame IsTableOf self.old self.new }
@@ -247,7 +271,7 @@ impl<T: Drop> Kept<T> {
             return Ok(None);
         };
         let number = self.number(alloc, text)?;
-        self.outputs.note(last, number, text);
+        self.outputs.note(last, number, text, front);
         Ok(Some((number, after)))
     }
 

@@ -15,7 +15,8 @@ use text::cut;
 
 /// What is kept of the text of a log, and how the text ends. A damaged one tells nothing.
 ///
-/// Each byte is looked at a fixed number of times.
+/// Each byte is looked at a few times. Beside that texts are looked up, by a hash whose seed is fixed: texts that somebody made so
+/// that their hashes fall together take longer.
 pub fn parse<L: Records>(alloc: Global, bytes: &[u8]) -> Result<(L, Tail), AllocError>
     ensures { IfOk result (λ read. IsParsed L.forms L.Keeps bytes.now read.0 read.1) }
 {

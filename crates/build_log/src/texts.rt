@@ -20,6 +20,12 @@ const MOST_IN_RUN: usize = 8;
 /// After so many texts that only their sum told, the next texts of a list are looked for by their sums first.
 const TURNS_BY_SUM: usize = 2;
 
+/// After so many texts in turn that the table of sums did not tell, it is asked for one text in `SELDOM` alone.
+const PATIENCE: usize = 64;
+
+/// Of how many texts the table is asked for one, where it has told none for long.
+const SELDOM: usize = 8;
+
 /// Texts by number, each once, which contracts see as their list. Each is copied once.
 #[derive(Drop)]
 pub struct Texts {
@@ -31,9 +37,14 @@ pub struct Texts {
     places: Vec<Places>,
     /// By the sum of what stands in front: what is guessed of the text there. It is as long as a power of two, or empty.
     table: Vec<Note>,
+    /// How often a guess was noted in the table.
+    noted: usize,
     /// How many texts of the list that is read `take_known` told by their sums, since the list began, it told one by the text
-    /// in front, or `take_by_sum` missed one. Others may stand between.
+    /// in front, or `take_by_sum` missed one or found one that is noted behind the text in front. Others may stand between.
     by_sum: usize,
+    /// How many texts the table did not tell since it last told one, where no text in front told them: those for which it was not
+    /// asked are counted too.
+    missed: usize,
 }
 
 /// Texts whose fields came one behind another: their numbers, and the bytes of their fields. They are told from others at a
@@ -42,7 +53,7 @@ pub struct Texts {
 pub struct Run {
     pub numbers: Items<usize>,
     pub bytes: Bytes,
-    pub place: usize,
+    pub place: u32,
     pub byte: u8,
 }
 
@@ -86,6 +97,13 @@ pub struct Guess {
     pub byte: u8,
 }
 
+/// The field that seems to stand in front: how long it is, and its sum.
+#[derive(Clone, Copy)]
+pub struct Front {
+    pub len: usize,
+    pub sum: u64,
+}
+
 impl Model for Texts {
     ghost use Rattle.std.specs.Prelude.{ℕ, List};
     ghost use Rattle.build_log.specs.Kept.{texts_of};
@@ -109,7 +127,9 @@ impl Texts {
             runs: Vec::new(alloc),
             places: Vec::new(alloc),
             table: Vec::new(alloc),
+            noted: 0,
             by_sum: 0,
+            missed: 0,
         }
     }
 
@@ -167,6 +187,9 @@ impl Texts {
 
     /// The number of the text whose field stands in front, and what stands behind the field and its tab, where enough texts before
     /// it in its list were told by their sums alone, and it is told so too. In front of a list's first text `last` is no number.
+    ///
+    /// Where the text was noted behind `last`, the list is in an order that came before: the texts behind it are told by the ones
+    /// in front of them again.
     #[inline(always)]
     pub(crate) fn take_by_sum<'a>(
         &mut self,
@@ -182,50 +205,92 @@ impl Texts {
         if self.by_sum < TURNS_BY_SUM {
             return None;
         }
-        let found = self.look(last, bytes);
+        let front = self.front_in(last, bytes)?;
+        let found = self.look(front, bytes);
         if found.is_none() {
             self.by_sum = 0;
         }
         let (guess, after) = found?;
+        if self.is_noted(last, guess.number) {
+            self.by_sum = 0;
+        }
         let number = guess.number as usize;
         Some((number, after))
     }
 
-    /// The same as `follow`, where no run is to begin behind `last`: of a text that was noted there, or has the sum of what
-    /// stands in front and is noted there from now on.
+    /// The same as `follow`, but for none where a run is to begin behind `last`: of a text that was noted there, or has the sum of
+    /// what stands in front and is noted there from now on. A text that neither tells is answered by an error, with what seems to
+    /// stand in front where its sum was made.
     #[inline(always)]
     pub(crate) fn take_known<'a>(
         &mut self,
         last: usize,
         bytes: &'a [u8],
-    ) -> Option<(usize, &'a [u8])>
+    ) -> Result<Option<(usize, &'a [u8])>, Option<Front>>
         ensures same { self.new ≡ self.old }
-        ensures taken { IfSome result (λ parts. IsTaken self.new bytes.now parts.0 parts.1.now) }
+        ensures taken { IfOk result (λ found. IfSome found (λ parts. IsTaken self.new bytes.now parts.0 parts.1.now)) }
     {
         if let Some((number, after)) = self.follow(last, bytes) {
             self.by_sum = 0;
             if self.has_room(last) {
-                return None;
+                return Ok(None);
             }
-            return Some((number, after));
+            return Ok(Some((number, after)));
         }
-        let (guess, after) = self.look(last, bytes)?;
+        if !self.is_to_ask() {
+            return Err(None);
+        }
+        let Some(front) = self.front_in(last, bytes) else {
+            return Err(None);
+        };
+        let Some((guess, after)) = self.look(front, bytes) else {
+            return Err(Some(front));
+        };
         self.by_sum = self.by_sum.saturating_add(1);
+        self.missed = 0;
         self.note_guess(last, Some(guess));
-        Some((guess.number as usize, after))
+        Ok(Some((guess.number as usize, after)))
+    }
+
+    /// Whether the table is to be asked for one more text, which counts as one that it does not tell until it does.
+    #[inline(always)]
+    fn is_to_ask(&mut self) -> bool
+        ensures { self.new ≡ self.old }
+    {
+        let missed = self.missed;
+        self.missed = missed.wrapping_add(1);
+        missed < PATIENCE || missed % SELDOM == 0
+    }
+
+    /// Whether the text with this number is one of the two that came behind `last` most lately.
+    #[inline(always)]
+    fn is_noted(&self, last: usize, number: u32) -> bool {
+        match self.notes.get(last) {
+            Some(note) => is_of(note.next, number) || is_of(note.other, number),
+            None => false,
+        }
     }
 
     /// The guess at the text whose field stands in front, and what stands behind the field and its tab, where the table has
     /// one.
     #[inline(always)]
-    fn look<'a>(&self, last: usize, bytes: &'a [u8]) -> Option<(Guess, &'a [u8])>
+    fn look<'a>(&self, front: Front, bytes: &'a [u8]) -> Option<(Guess, &'a [u8])>
         ensures taken { IfSome result (λ parts. IsTaken self.now bytes.now parts.0.number parts.1.now) }
         ensures plain { IfSome result (λ parts. IsPlainAt self.now parts.0.number) }
     {
-        let field = self.field_in(last, bytes)?;
-        let guess = self.guess_at(sum_of(field), bytes)?;
+        let guess = self.guess_at(front.sum, bytes)?;
         let after = self.behind(guess.number as usize, bytes)?;
         Some((guess, after))
+    }
+
+    /// What seems to stand in front.
+    #[inline(always)]
+    fn front_in(&self, last: usize, bytes: &[u8]) -> Option<Front> {
+        let field = self.field_in(last, bytes)?;
+        Some(Front {
+            len: field.len(),
+            sum: sum_of(field),
+        })
     }
 
     /// The field that seems to stand in front: texts in turn are often of one length, so a tab is looked for where it would
@@ -269,17 +334,32 @@ impl Texts {
         Some(after)
     }
 
-    /// Notes that a text with this number, of which no byte is written as two, came behind another, and which sum it has. Where
-    /// memory is refused, less is noted.
-    pub(crate) fn note(&mut self, last: usize, number: usize, text: &str)
+    /// Notes that a text with this number, of which no byte is written as two, came behind another, and which sum it has, if that
+    /// was made of the whole text and no more. Where memory is refused, less is noted.
+    pub(crate) fn note(&mut self, last: usize, number: usize, text: &str, front: Option<Front>)
         requires at { slice_get self.old number ≡ Some text.now }
         requires plain { IsPlain text.now }
         ensures { self.new ≡ self.old }
     {
         let guess = guess_of(number, text);
-        self.widen();
-        self.note_sum(sum_of(text.as_bytes()), guess);
+        self.note_front(front, text.len(), guess);
         self.note_guess(last, guess);
+    }
+
+    /// Notes a guess at a text of this length in the table, where its sum is known.
+    fn note_front(&mut self, front: Option<Front>, len: usize, guess: Option<Guess>)
+        requires { IsGuessIn self.old guess }
+        ensures { self.new ≡ self.old }
+    {
+        match front {
+            // else an earlier tab stands in what was summed
+            Some(front) if front.len == len => {
+                self.count_note();
+                self.widen();
+                self.note_sum(front.sum, guess);
+            }
+            _ => {}
+        }
     }
 
     /// Notes a guess at a text that came behind another.
@@ -312,12 +392,19 @@ impl Texts {
         }
     }
 
-    /// Makes the table twice as long where there are two texts or more for each of its places. Where memory is refused, it stays
-    /// as it is.
+    /// Counts a guess that is to be noted in the table.
+    fn count_note(&mut self)
+        ensures { self.new ≡ self.old }
+    {
+        self.noted = self.noted.saturating_add(1);
+    }
+
+    /// Makes the table twice as long where two guesses or more were noted for each of its places, and there are as many texts. Where
+    /// memory is refused, it stays as it is.
     fn widen(&mut self)
         ensures { self.new ≡ self.old }
     {
-        if self.texts.len() / 2 < self.table.len() {
+        if self.noted.min(self.texts.len()) / 2 < self.table.len() {
             return;
         }
         match double(&mut self.table) {
@@ -386,7 +473,7 @@ impl Texts {
         if count == 0 || most < count {
             return None;
         }
-        if byte_at(bytes, run.place) != run.byte {
+        if byte_at(bytes, run.place as usize) != run.byte {
             return None;
         }
         let after = behind_start(run.bytes.as_slice(), bytes)?;
@@ -411,8 +498,8 @@ impl Texts {
         let Some(places) = with_place(self.places[last], small(self.runs.len())) else {
             return Ok(());
         };
-        let place = telling_place(bytes);
-        let byte = byte_at(bytes, place);
+        let place = small(telling_place(bytes)).unwrap_or(u32::MAX);
+        let byte = byte_at(bytes, place as usize);
         let numbers = Items::from_vec(Vec::from_slice(alloc, numbers)?);
         let bytes = Bytes::from_vec(Vec::from_slice(alloc, bytes)?);
         self.runs.push(Run {
@@ -554,18 +641,44 @@ fn slot_of(sum: u64, len: usize) -> usize {
     (sum as usize) & len.wrapping_sub(1)
 }
 
-/// A number that is made of the length and the bytes of a text, and for most other texts is another one.
+/// Whether a guess is of the text with this number.
+#[inline(always)]
+fn is_of(guess: Option<Guess>, number: u32) -> bool {
+    match guess {
+        Some(guess) => guess.number == number,
+        None => false,
+    }
+}
+
+/// A number that is made of the length and all bytes of a text, and for most other texts is another one: a sum of products, none of
+/// which waits for another.
 #[inline(always)]
 fn sum_of(text: &[u8]) -> u64 {
     let mut sum = text.len() as u64;
     let mut rest = text;
-    while let Some((front, word)) = rest.split_last_chunk::<8>() {
-        sum = sum_with(sum, u64::from_le_bytes(*word));
-        rest = front;
+    while let Some((chunk, after)) = rest.split_first_chunk::<16>() {
+        sum = sum_with(sum, product_of(chunk));
+        rest = after;
     }
-    match text.first_chunk::<8>() {
-        Some(word) => sum_with(sum, u64::from_le_bytes(*word)),
-        None => sum_with(sum, word_of(text)),
+    let last = match text.last_chunk::<16>() {
+        Some(chunk) => product_of(chunk),
+        None => product_of(text),
+    };
+    spread(sum_with(sum, last))
+}
+
+/// A sum with a product more.
+#[inline(always)]
+fn sum_with(sum: u64, product: u64) -> u64 {
+    sum.rotate_left(5).wrapping_add(product)
+}
+
+/// The product of the first and the last eight bytes of a text, of which there are sixteen at most.
+#[inline(always)]
+fn product_of(text: &[u8]) -> u64 {
+    match (text.first_chunk::<8>(), text.last_chunk::<8>()) {
+        (Some(first), Some(last)) => product(u64::from_le_bytes(*first), u64::from_le_bytes(*last)),
+        _ => product(word_of(text), 0),
     }
 }
 
@@ -578,10 +691,17 @@ fn word_of(bytes: &[u8]) -> u64 {
     word
 }
 
-/// A sum with a word more.
+/// The product of two words that are moved away from nothing: each bit of it depends on all that stand lower in both.
 #[inline(always)]
-fn sum_with(sum: u64, word: u64) -> u64 {
-    let product = (sum ^ word).wrapping_mul(0x9e37_79b9_7f4a_7c15);
+fn product(low: u64, high: u64) -> u64 {
+    let moved = low.wrapping_add(0xbf58_476d_1ce4_e5b9);
+    moved.wrapping_mul(high.wrapping_add(0x94d0_49bb_1331_11eb))
+}
+
+/// A sum whose lower bits depend on all bits that it had.
+#[inline(always)]
+fn spread(sum: u64) -> u64 {
+    let product = (sum ^ (sum >> 32)).wrapping_mul(0x9e37_79b9_7f4a_7c15);
     product ^ (product >> 32)
 }
 

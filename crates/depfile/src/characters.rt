@@ -1,6 +1,6 @@
 //! Characters that stand together in a depfile.
 
-ghost use Rattle.std.specs.Prelude.{◌≡◌, ◌++◌, ◌<◌, option_map};
+ghost use Rattle.std.specs.Prelude.{◌≡◌, ◌++◌, ◌<◌, [], false, length, option_map, IsTrue};
 ghost use Rattle.depfile.specs.Pieces.{is_of, run_of, behind_run, behind};
 
 use crate::runs::end_of;
@@ -21,6 +21,19 @@ pub fn is_of(class: Class, byte: u8) -> bool
     match class {
         Class::Plain => !matches!(byte, b'\t' | b'\n' | b'\r' | b' ' | b'$' | b':' | b'\\'),
         Class::Backslash => byte == b'\\',
+    }
+}
+
+/// Whether a character of the class stands first: a look at one byte, which spares the search for the end of a run where
+/// there is none.
+#[inline(always)]
+pub fn begins_with(text: &str, class: Class) -> bool
+    ensures some { IsTrue result → 0 < length (run_of class text.now) }
+    ensures none { result ≡ false → run_of class text.now ≡ [] }
+{
+    match text.as_bytes() {
+        [first, ..] => is_of(class, *first),
+        [] => false,
     }
 }
 

@@ -4,7 +4,7 @@ ghost use Rattle.std.specs.Prelude.{◌≡◌, ◌≢◌, ◌++◌, ◌<◌, ◌
 ghost use Rattle.depfile.specs.Signs.{spelled};
 ghost use Rattle.depfile.specs.Pieces.{IsPiece, IsEscape, AllBackslashes, NoWord, run_of, behind, separator_of, is_itself, is_colon, signs_of};
 
-use crate::characters::{Class, split_run, strip_one};
+use crate::characters::{Class, begins_with, split_run, strip_one};
 use crate::separators::{is_word_end, strip_newline};
 use std::alloc::AllocError;
 
@@ -27,12 +27,12 @@ pub fn piece_at(text: &str) -> Option<(Piece<'_>, &str)>
     ensures piece { IfSome result (λ found. IsPiece text.now found.0 found.1.now) }
     ensures none { IfNone result (NoWord text.now) }
 {
+    if begins_with(text, Class::Plain) {
+        let (plain, after) = split_run(text, Class::Plain);
+        return Some((Piece::Plain(plain), after));
+    }
     if is_word_end(text) {
         return None;
-    }
-    let (plain, after) = split_run(text, Class::Plain);
-    if !plain.is_empty() {
-        return Some((Piece::Plain(plain), after));
     }
     let (run, after) = split_run(text, Class::Backslash);
     if !run.is_empty() {

@@ -90,24 +90,23 @@ fn add_path<'a>(
     ensures adds { OnOk result ((all : List (List ℕ)) → AreKept all paths.old.keys → AddsPath (spelled (front_word (signs word.now.from.now))) all paths.new.keys) }
     ensures memory { IfErr result (λ error. error ≡ ReadError.Memory) }
 {
-    make_room(paths, word.from)?;
+    make_room(paths, word.from);
     let path = path_of(alloc, word)?;
     paths.insert(path)?;
     Ok(())
 }
 
 /// Makes room for about as many paths as the text may hold, before the first of them is added. It would grow in
-/// many small steps else; where there are more of them, it grows later.
+/// many small steps else; where there are more of them, it grows later. A refusal is let pass: the paths may need less
+/// room, and where there is too little for them, adding one of them is refused.
 #[inline(always)]
-fn make_room(paths: &mut IndexSet<CowStr<'_>>, text: &str) -> Result<(), ReadError>
-    ensures keys { paths.new.keys ≡ paths.old.keys }
-    ensures memory { IfErr result (λ error. error ≡ ReadError.Memory) }
+fn make_room(paths: &mut IndexSet<CowStr<'_>>, text: &str)
+    ensures { paths.new.keys ≡ paths.old.keys }
 {
     if paths.is_empty() {
         let others = text.len() / BYTES_OF_PATH;
-        paths.reserve(1 + others.min(MOST_ROOM))?;
+        let _ = paths.reserve(1 + others.min(MOST_ROOM));
     }
-    Ok(())
 }
 
 /// The path that the word names, borrowed where the word is written so.

@@ -136,8 +136,8 @@ impl Records for Log {
 impl Log {
     /// What the text of a log tells, and how it ends. A damaged one tells nothing.
     ///
-    /// It takes a time of the order of the text. The text of an output or path is copied where it stands for the first
-    /// time; wherever it stands again, it is compared with a guess, or looked up once.
+    /// It takes a time of the order of the text, beside look-ups by a hash whose seed is fixed. The text of an output or path is
+    /// copied where it stands for the first time; wherever it stands again, it is compared with a guess, or looked up once.
     pub fn parse(alloc: Global, bytes: &[u8]) -> Result<(Log, Tail), AllocError>
         ensures { IfOk result (λ read. IsParsed forms Keeps bytes.now read.0 read.1) }
     {

@@ -53,7 +53,6 @@ fn push_modules(alloc: Global, asked: Asked<'_>, digest: &mut Digest) -> Result<
         desk.add_file(path.as_str(), digest);
     }
     desk.add_file("program", digest);
-    desk.add_logs(digest);
     Ok(())
 }
 
@@ -154,7 +153,6 @@ fn push_gathered(alloc: Global, asked: Asked<'_>, digest: &mut Digest) -> Result
         let path = format!(in alloc; "out/{number}")?;
         desk.add_file(path.as_str(), digest);
     }
-    desk.add_logs(digest);
     Ok(())
 }
 

@@ -6,7 +6,7 @@ ghost use Rattle.sim.specs.World.{world_of};
 
 use crate::digest::Digest;
 use builder::{Options, Report, build};
-use model::Event;
+use model::{Act, Event};
 use sim::{Order, Sim, Timing, Toy};
 use site::Site;
 use status::Pattern;
@@ -46,34 +46,24 @@ impl Desk {
         self.site.put(path, content)
     }
 
-    /// Builds what is built by default, and takes in what came of it.
+    /// Builds what is built by default, and takes in what came of it: the report, what was started, ended and shown, and both logs.
     pub fn build(&mut self, digest: &mut Digest) -> Result<(), AllocError> {
         let report = build_alone(self.alloc, &mut self.site, &self.options);
         add_report(self.alloc, &report, digest)?;
         self.add_events(digest);
         self.add_shown(digest);
-        self.add_length(".nj_log", digest);
-        self.add_length(".nj_deps", digest);
+        self.add_file(".nj_log", digest);
+        self.add_file(".nj_deps", digest);
         Ok(())
     }
 
-    /// Takes in what both logs hold.
-    pub fn add_logs(&self, digest: &mut Digest) {
-        self.add_file(".nj_log", digest);
-        self.add_file(".nj_deps", digest);
-    }
-
-    /// Takes in what a file holds, if there is one.
+    /// Takes in what a file holds, or that there is none.
     pub fn add_file(&self, path: &str, digest: &mut Digest) {
         match self.site.content(path) {
-            Some(content) => digest.bytes(content.as_slice()),
-            None => digest.number(0),
-        }
-    }
-
-    fn add_length(&self, path: &str, digest: &mut Digest) {
-        match self.site.content(path) {
-            Some(content) => digest.number(content.as_slice().len() as u64),
+            Some(content) => {
+                digest.number(1);
+                digest.bytes(content.as_slice());
+            }
             None => digest.number(0),
         }
     }
@@ -81,6 +71,7 @@ impl Desk {
     /// Takes in what was started and what ended since the last build.
     fn add_events(&mut self, digest: &mut Digest) {
         let events = self.site.events();
+        digest.count(events.len());
         for event in events.get(self.events..).unwrap_or(&[]) {
             add_event(event, digest);
         }
@@ -117,22 +108,33 @@ fn start_again(site: &mut Sim<Toy>)
     site.restart();
 }
 
-fn add_report(alloc: Global, report: &Report, digest: &mut Digest) -> Result<(), AllocError> {
+/// Takes in all that a report says.
+pub fn add_report(alloc: Global, report: &Report, digest: &mut Digest) -> Result<(), AllocError> {
     let told = format!(in alloc; "{report:?}")?;
-    digest.bytes(told.as_bytes());
+    digest.text(told.as_str());
     Ok(())
 }
 
 fn add_event(event: &Event, digest: &mut Digest) {
     match event {
         Event::Start { job, act, stamp } => {
-            digest.number(*job as u64);
+            digest.number(1);
+            digest.count(*job);
             digest.number(*stamp);
-            digest.bytes(act.command.as_str().as_bytes());
+            add_act(act, digest);
         }
         Event::Finish { job, ok } => {
-            digest.number(*job as u64);
+            digest.number(0);
+            digest.count(*job);
             digest.number(u64::from(*ok));
         }
     }
+}
+
+/// Takes in a command, and the files that go with it.
+pub fn add_act(act: &Act, digest: &mut Digest) {
+    digest.text(act.command.as_str());
+    digest.text(act.depfile.as_str());
+    digest.text(act.response_path.as_str());
+    digest.text(act.response_content.as_str());
 }

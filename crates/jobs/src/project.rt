@@ -159,13 +159,12 @@ impl Project {
         }
     }
 
-    /// Takes in what all made files and the logs hold.
+    /// Takes in what all made files hold.
     fn end(&self, desk: &Desk, digest: &mut Digest) -> Result<(), AllocError> {
         for number in 0..self.units {
             desk.add_file(object(self.alloc, number)?.as_str(), digest);
         }
         desk.add_file("bin/program", digest);
-        desk.add_logs(digest);
         Ok(())
     }
 

@@ -5,11 +5,13 @@
 
 ghost use Rattle.std.specs.Prelude.{◌<◌, length};
 
+use crate::desk::{add_act, add_report};
 use crate::digest::Digest;
 use crate::random::Random;
 use crate::work::Asked;
-use builder::{Options, read};
-use paths::{Action, Command, EdgeId, Manifest, PathId};
+use builder::{Options, Reading, Report, read};
+use model::{Deps, Pool};
+use paths::{Action, Command, EdgeId, Manifest, PathId, Paths};
 use sim::{Sim, Toy};
 use status::Pattern;
 use std::alloc::{AllocError, Global};
@@ -175,26 +177,61 @@ fn add_read(alloc: Global, site: &mut Sim<Toy>, digest: &mut Digest) -> Result<(
         verbose: false,
         pattern: Pattern::parse(alloc, Pattern::DEFAULT)?,
     };
-    match read(alloc, site, &options, &[]) {
-        Ok(reading) => add_manifest(&reading.manifest, digest),
-        Err(_) => digest.number(1),
+    let outcome = read(alloc, site, &options, &[]);
+    add_outcome(alloc, &outcome, digest)
+}
+
+/// Takes in what was read, or why nothing was.
+fn add_outcome(
+    alloc: Global,
+    outcome: &Result<Reading<'_>, Report>,
+    digest: &mut Digest,
+) -> Result<(), AllocError> {
+    match outcome {
+        Ok(reading) => {
+            digest.number(1);
+            add_manifest(&reading.manifest, digest);
+            Ok(())
+        }
+        Err(report) => {
+            digest.number(0);
+            add_report(alloc, report, digest)
+        }
     }
-    Ok(())
 }
 
 /// Takes in all that the build files declare.
 fn add_manifest(manifest: &Manifest, digest: &mut Digest) {
-    digest.number(manifest.paths.len() as u64);
-    digest.number(manifest.pools.as_slice().len() as u64);
-    digest.number(manifest.defaults.as_slice().len() as u64);
+    add_paths(&manifest.paths, digest);
+    digest.count(manifest.named);
+    add_lines(manifest, digest);
+    add_actions(manifest.actions.as_slice(), digest);
+    add_pools(manifest.pools.as_slice(), digest);
+    add_numbers(manifest.defaults.as_slice(), digest);
+    digest.text(manifest.builddir.as_str());
+}
+
+/// Takes in the texts of all paths, in the order of their numbers.
+fn add_paths(paths: &Paths, digest: &mut Digest) {
+    digest.count(paths.len());
+    for place in 0..paths.len() {
+        digest.text(text_at(paths, place));
+    }
+}
+
+/// The text of the path with this number; none is empty.
+fn text_at(paths: &Paths, place: usize) -> &str {
+    match PathId::at(place) {
+        Some(number) => paths.get(number).unwrap_or(""),
+        None => "",
+    }
+}
+
+/// Takes in the paths of all edges.
+fn add_lines(manifest: &Manifest, digest: &mut Digest) {
+    digest.count(manifest.lines.len());
     for place in 0..manifest.lines.len() {
         add_line(manifest, manifest.edge(place), digest);
-    }
-    for action in manifest.actions.as_slice() {
-        match action {
-            Action::Alias => digest.number(0),
-            Action::Command(command) => add_command(command, digest),
-        }
     }
 }
 
@@ -211,17 +248,54 @@ fn add_line(manifest: &Manifest, edge: EdgeId, digest: &mut Digest)
 }
 
 fn add_numbers(paths: &[PathId], digest: &mut Digest) {
-    digest.number(paths.len() as u64);
+    digest.count(paths.len());
     for path in paths {
-        digest.number(path.index() as u64);
+        digest.count(path.index());
+    }
+}
+
+/// Takes in what each edge does.
+fn add_actions(actions: &[Action], digest: &mut Digest) {
+    digest.count(actions.len());
+    for action in actions {
+        match action {
+            Action::Alias => digest.number(0),
+            Action::Command(command) => {
+                digest.number(1);
+                add_command(command, digest);
+            }
+        }
     }
 }
 
 fn add_command(command: &Command, digest: &mut Digest) {
-    digest.bytes(command.act.command.as_str().as_bytes());
-    digest.bytes(command.act.depfile.as_str().as_bytes());
-    digest.bytes(command.act.response_path.as_str().as_bytes());
-    digest.bytes(command.act.response_content.as_str().as_bytes());
-    digest.bytes(command.description.as_str().as_bytes());
+    add_act(&command.act, digest);
+    digest.text(command.description.as_str());
+    digest.number(match command.deps {
+        Deps::Unset => 0,
+        Deps::Gcc => 1,
+    });
     digest.number(u64::from(command.restat));
+    match &command.pool {
+        Some(pool) => {
+            digest.number(1);
+            digest.text(pool.as_str());
+        }
+        None => digest.number(0),
+    }
+    match &command.dyndep {
+        Some(path) => {
+            digest.number(1);
+            digest.count(path.index());
+        }
+        None => digest.number(0),
+    }
+}
+
+fn add_pools(pools: &[Pool], digest: &mut Digest) {
+    digest.count(pools.len());
+    for pool in pools {
+        digest.text(pool.name.as_str());
+        digest.number(u64::from(pool.depth));
+    }
 }

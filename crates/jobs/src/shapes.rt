@@ -46,9 +46,7 @@ fn build_shape(
         desk.put("in/late", content.as_bytes())?;
         desk.build(digest)?;
     }
-    add_outputs(alloc, &desk, asked.size, digest)?;
-    desk.add_logs(digest);
-    Ok(())
+    add_outputs(alloc, &desk, asked.size, digest)
 }
 
 fn put_sources(

@@ -84,13 +84,3 @@ view_of items (room ∷ rooms) each =
 
 pub laid_view : (items : List ℕ) (count end : ℕ) (rooms : List Room) → AreLaid count end rooms → map (room_of items) rooms ≡ replicate count []
 laid_view items count end rooms are = view_of items rooms are.empty ∙ ap (λ (n : ℕ). replicate n []) are.fits
-
-pub laid_rooms : (items : List ℕ) (count end : ℕ) (rooms : List Room) → AreLaid count end rooms → length items ≡ end → AreRooms items rooms
-laid_rooms items count end rooms are size = record {
-  within = λ k. record {
-    in_order = let e = are.empty k in omega (arith, e);
-    used = are.in_order k;
-    within = let low = are.within k in omega (arith, low, size);
-  };
-  apart = are.apart;
-}

@@ -1,5 +1,4 @@
 pub mod Walking
-pub mod Nexts
 pub mod Rounds
 pub mod Rounded
 pub mod ConesOf

@@ -2,7 +2,7 @@
 use Rattle.std.proofs.Common.{◌≡◌, ◌≢◌, ◌⊎◌, inl, inr, ℕ, zero, suc, ◌+◌, ◌-◌, ◌^◌, ◌<◌, ◌≤◌, min, List, [], ◌∷◌, ◌++◌, map, length, take, drop, get_or, refl, sym, ◌∙◌, ap, subst, arith, length-append, append_assoc}
 use Rattle.std.proofs.Math.ListN.{set, replicate}
 use Rattle.std.proofs.Math.Seq.{drop-append_seam, take-append_seam, drop-append-add}
-use Rattle.std.proofs.lemmas.List.{take-append-le, drop-append-le, drop-set-lt, drop-set-add, take-set-le, get_or-set_same, get_or-set_other, get_or-map, length-map, length-drop, length-take-le, get_or_default, take_all, drop-replicate}
+use Rattle.std.proofs.lemmas.List.{take-append-le, drop-append-le, drop-set-lt, drop-set-add, take-set-le, get_or-set_same, get_or-set_other, get_or-map, length-map, length-drop, length-take-le, get_or_default, take_all, drop-replicate, append-nil}
 use Rattle.paths.specs.Lists.{between, Extends}
 use Rattle.links.specs.declared.recorded.Span.{Span}
 use Rattle.links.specs.declared.users.Room.{Room}
@@ -341,3 +341,14 @@ moved_over old wide new start stop count size e at order fits is_count is_size i
         ap (λ (l : List ℕ). between l start stop ++ drop (length old + count) wide) grown
         ∙ (ap (λ (l : List ℕ). l ++ drop (length old + count) wide) (between_more old fill start stop order fits)
         ∙ (ap (λ (l : List ℕ). between old start stop ++ l) rest ∙ sym (append_assoc (between old start stop) (e ∷ []) (replicate count e))))
+
+-- the first of a list, at the end
+pub first_moved : (old new : List ℕ) (start stop e at : ℕ) → stop ≤ start → new ≡ old ++ e ∷ [] → at ≡ length new → IsMoved old new (between old start stop ++ e ∷ []) at
+first_moved old new start stop e at none grown is_at = record {
+  more = [];
+  grows = grown ∙ ap (λ (l : List ℕ). old ++ l) (sym (append-nil (between old start stop ++ e ∷ []) ∙ alone));
+  at = is_at ∙ (ap length grown ∙ (length-append old (e ∷ []) ∙ ap (λ (l : List ℕ). length old + length l) (sym alone)));
+}
+  where
+    alone : between old start stop ++ e ∷ [] ≡ e ∷ []
+    alone = let nothing : stop - start ≡ 0 = omega (arith, none) in ap (λ (n : ℕ). take n (drop start old) ++ e ∷ []) nothing

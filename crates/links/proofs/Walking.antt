@@ -1,13 +1,13 @@
 -- What stands after one more step of a walk.
 use Rattle.std.proofs.Common.{◌≡◌, ◌≢◌, ◌⊎◌, inl, inr, ℕ, zero, suc, ◌+◌, ◌-◌, ◌<◌, ◌≤◌, ◌==◌, ◌||◌, Bool, true, false, List, [], ◌∷◌, ◌++◌, Option, Some, None, length, take, slice_index, refl, sym, ◌∙◌, ap, subst, arith, append_assoc}
-use Rattle.std.proofs.Math.ListN.{set, replicate}
-use Rattle.std.proofs.lemmas.List.{append-nil, get_or-set_same, get_or-set_other, length-set, length_push, length-replicate, length-take-le, get_or-take, get_or_past}
+use Rattle.std.proofs.Math.ListN.{set}
+use Rattle.std.proofs.lemmas.List.{append-nil, get_or-set_same, get_or-set_other, length-set, length_push, length-take-le, get_or-take, get_or_past}
 use Rattle.std.proofs.lemmas.Bool.{cases_Bool, cases_lt, eqb-true, eq-eqb, false≢true, or_cases, or_left, or_right}
 use Rattle.model.specs.Graph.{has_number}
 use Rattle.links.specs.Links.{Links, needs_at}
 use Rattle.links.specs.declared.cone.Mark.{Mark}
 use Rattle.links.specs.declared.cone.Mark.TheVariants.{Unseen, Open, Listed}
-use Rattle.links.specs.Cone.{maker_at, validator_at, IsNeeded, Asked, Above, Beside, Awaits, made_by, Follows, IsOrder, mark_at, is_listed, is_unseen, IsCone, maker_listed, maker_seen, IsWalkAt, IsLast, AreDone, IsNextPath, Keeps, HasSeenMakers, HasSeenValidators}
+use Rattle.links.specs.Cone.{maker_at, validator_at, IsNeeded, Asked, Above, Beside, Awaits, made_by, Follows, IsOrder, mark_at, is_listed, is_unseen, IsCone, maker_listed, maker_seen, IsWalkAt, IsLast, Keeps, HasSeenMakers, HasSeenValidators}
 
 has_number-push : (xs : List ℕ) (i j : ℕ) → has_number (xs ++ i ∷ []) j ≡ (has_number xs j || (i == j))
 has_number-push [] i j = or_nothing (i == j)
@@ -60,29 +60,12 @@ test_set test marks e m lt same j = elim (same_or_other e j) [
 pub open_not_unseen : (m : Mark) → m ≡ Open → is_unseen m ≡ false
 open_not_unseen m is = ap is_unseen is
 
--- where it is written how many inputs are left, and elsewhere
-left_here : (left : List ℕ) (e n : ℕ) → e < length left → slice_index (set left e n) e ≡ n
-left_here left e n lt = get_or-set_same left e n 0 lt
-
-left_else : (left : List ℕ) (e n j : ℕ) → j ≢ e → slice_index (set left e n) j ≡ slice_index left j
-left_else left e n j other = get_or-set_other left e j n 0 other
-
-awaits_else : (links : Links) (left : List ℕ) (e n j d : ℕ) → j ≢ e → Awaits links left j d → Awaits links (set left e n) j d
-awaits_else links left e n j d other waits = record {
-  some = omega (arith, waits.some, left_else left e n j other);
-  made = ap (λ (i : ℕ). links.maker (slice_index (needs_at links j) (i - 1))) (left_else left e n j other) ∙ waits.made;
-}
-
 module _ (links : Links) (requested order : List ℕ) (marks : List Mark) (left stack : List ℕ) (at : IsWalkAt links requested order marks left stack) where
-  pub walk_open : (e n : ℕ) → e < links.count → n ≡ length (needs_at links e) → mark_at marks e ≡ Unseen → IsNeeded links requested e → ((last : ℕ) → IsLast stack last → Awaits links left last e)
-      → IsWalkAt links requested order (set marks e Open) (set left e n) (stack ++ e ∷ [])
-  walk_open e n lt all unseen need waiting = record {
+  pub walk_open : (e : ℕ) → e < links.count → mark_at marks e ≡ Unseen → IsNeeded links requested e → ((last : ℕ) → IsLast stack last → Awaits links left last e) → IsWalkAt links requested order (set marks e Open) left (stack ++ e ∷ [])
+  walk_open e lt unseen need waiting = record {
     fits = length-set marks e Open ∙ at.fits;
-    lefts = length-set left e n ∙ at.lefts;
-    some_left = λ j h. elim (same_or_other e j) [
-      | inl here ↦ subst (λ (i : ℕ). slice_index (set left e n) i ≤ length (needs_at links i)) (sym here) (omega (arith, all, here_left))
-      | inr there ↦ omega (arith, at.some_left j h, left_else left e n j there)
-    ];
+    lefts = at.lefts;
+    some_left = at.some_left;
     within = λ k h. elim (was k h) [
       | inl old ↦ subst (λ (n : ℕ). n < links.count) (sym (push_old stack e k old)) (at.within k old)
       | inr new ↦ subst (λ (n : ℕ). n < links.count) (sym (push_new stack e k new)) lt
@@ -105,24 +88,15 @@ module _ (links : Links) (requested order : List ℕ) (marks : List Mark) (left 
     ];
     awaits = λ k h. elim (was (suc k) h) [
       | inl old ↦
-          let low : k < length stack = omega (arith, old) in
-          subst (λ (i : ℕ). Awaits links (set left e n) i (slice_index (stack ++ e ∷ []) (suc k))) (sym (push_old stack e k low))
-          (subst (λ (i : ℕ). Awaits links (set left e n) (slice_index stack k) i) (sym (push_old stack e (suc k) old))
-          (awaits_else links left e n (slice_index stack k) (slice_index stack (suc k)) (apart_from k low) (at.awaits k old)))
+          subst (λ (n : ℕ). Awaits links left n (slice_index (stack ++ e ∷ []) (suc k))) (sym (push_old stack e k (omega (arith, old))))
+          (subst (λ (n : ℕ). Awaits links left (slice_index stack k) n) (sym (push_old stack e (suc k) old)) (at.awaits k old))
       | inr new ↦
           let here : k ≡ length stack - 1 = omega (arith, new) in
-          let low : k < length stack = omega (arith, new) in
-          subst (λ (i : ℕ). Awaits links (set left e n) i (slice_index (stack ++ e ∷ []) (suc k))) (sym (push_old stack e k low))
-          (subst (λ (i : ℕ). Awaits links (set left e n) (slice_index stack k) i) (sym (push_new stack e (suc k) new))
-          (awaits_else links left e n (slice_index stack k) e (apart_from k low) (waiting (slice_index stack k) record { some = omega (arith, new); is = ap (slice_index stack) (sym here) })))
+          subst (λ (n : ℕ). Awaits links left n (slice_index (stack ++ e ∷ []) (suc k))) (sym (push_old stack e k (omega (arith, new))))
+          (subst (λ (n : ℕ). Awaits links left (slice_index stack k) n) (sym (push_new stack e (suc k) new))
+          (waiting (slice_index stack k) record { some = omega (arith, new); is = ap (slice_index stack) (sym here) }))
     ];
-    looked = λ j k is low high. elim (same_or_other e j) [
-      | inl here ↦
-          let less : slice_index (set left e n) e ≤ k = subst (λ (i : ℕ). slice_index (set left e n) i ≤ k) here low in
-          let more : k < length (needs_at links e) = subst (λ (i : ℕ). k < length (needs_at links i)) here high in
-          absurd (omega (arith, less, more, here_left, all))
-      | inr there ↦ kept (maker_at links j k) (at.looked j k (sym (mark_else marks e j Open there) ∙ is) (omega (arith, low, left_else left e n j there)) high)
-    ];
+    looked = λ j k within low high. kept (maker_at links j k) (at.looked j k within low high);
     listed = λ j. test_set is_listed marks e Open in_marks (sym (ap is_listed unseen)) j ∙ at.listed j;
     ordered = at.ordered;
     needed = λ j seen. elim (same_or_other e j) [
@@ -133,9 +107,6 @@ module _ (links : Links) (requested order : List ℕ) (marks : List Mark) (left 
     where
       in_marks : e < length marks
       in_marks = omega (arith, lt, at.fits)
-
-      here_left : slice_index (set left e n) e ≡ n
-      here_left = left_here left e n (omega (arith, lt, at.lefts))
 
       was : (k : ℕ) → k < length (stack ++ e ∷ []) → (k < length stack) ⊎ (k ≡ length stack)
       was k h = elim (same_or_other (length stack) k) [
@@ -156,24 +127,23 @@ module _ (links : Links) (requested order : List ℕ) (marks : List Mark) (left 
   pub last_within : (e : ℕ) → IsLast stack e → e < links.count
   last_within e last = subst (λ (n : ℕ). n < links.count) last.is (at.within (length stack - 1) (omega (arith, last.some)))
 
-  -- the last open edge goes past inputs for which nothing has to be done
-  pub walk_pass : (e n : ℕ) → IsLast stack e → n ≤ slice_index left e → AreDone links marks (needs_at links e) n (slice_index left e) → IsWalkAt links requested order marks (set left e n) stack
-  walk_pass e n last less done = record {
+  pub walk_pass : (e : ℕ) → IsLast stack e → 0 < slice_index left e → maker_listed marks (maker_at links e (slice_index left e - 1)) ≡ true → IsWalkAt links requested order marks (set left e (slice_index left e - 1)) stack
+  walk_pass e last some done = record {
     fits = at.fits;
-    lefts = length-set left e n ∙ at.lefts;
+    lefts = length-set left e (slice_index left e - 1) ∙ at.lefts;
     some_left = λ j h. elim (same_or_other e j) [
-      | inl here ↦ subst (λ (i : ℕ). slice_index (set left e n) i ≤ length (needs_at links i)) (sym here) (omega (arith, less, at.some_left e lt, here_left))
-      | inr there ↦ omega (arith, at.some_left j h, left_else left e n j there)
+      | inl here ↦ subst (λ (n : ℕ). slice_index (set left e (slice_index left e - 1)) n ≤ length (needs_at links n)) (sym here) (omega (arith, at.some_left e lt, here_left))
+      | inr there ↦ omega (arith, at.some_left j h, else_left j there)
     ];
     within = at.within;
     opened = at.opened;
     apart = at.apart;
     stacked = at.stacked;
-    awaits = λ k h. awaits_else links left e n (slice_index stack k) (slice_index stack (suc k)) (not_last k h) (at.awaits k h);
-    looked = λ j k is low high. elim (same_or_other e j) [
-      | inl here ↦ subst (λ (i : ℕ). maker_listed marks (maker_at links i k) ≡ true) (sym here)
-          (looked_here k (subst (λ (i : ℕ). mark_at marks i ≡ Open) here is) (subst (λ (i : ℕ). slice_index (set left e n) i ≤ k) here low) (subst (λ (i : ℕ). k < length (needs_at links i)) here high))
-      | inr there ↦ at.looked j k is (omega (arith, low, left_else left e n j there)) high
+    awaits = λ k h. else_awaits (slice_index stack k) (slice_index stack (suc k)) (not_last k h) (at.awaits k h);
+    looked = λ j k within low high. elim (same_or_other e j) [
+      | inl here ↦ subst (λ (n : ℕ). maker_listed marks (maker_at links n k) ≡ true) (sym here)
+          (looked_here k (subst (λ (n : ℕ). slice_index (set left e (slice_index left e - 1)) n ≤ k) here low) (subst (λ (n : ℕ). k < length (needs_at links n)) here high))
+      | inr there ↦ at.looked j k within (omega (arith, low, else_left j there)) high
     ];
     listed = at.listed;
     ordered = at.ordered;
@@ -183,20 +153,35 @@ module _ (links : Links) (requested order : List ℕ) (marks : List Mark) (left 
       lt : e < links.count
       lt = last_within e last
 
+      in_left : e < length left
+      in_left = omega (arith, lt, at.lefts)
+
       not_last : (k : ℕ) → suc k < length stack → slice_index stack k ≢ e
       not_last k h same = at.apart k (length stack - 1) (omega (arith, h)) (omega (arith, h)) (same ∙ sym last.is)
 
-      here_left : slice_index (set left e n) e ≡ n
-      here_left = left_here left e n (omega (arith, lt, at.lefts))
+      here_left : slice_index (set left e (slice_index left e - 1)) e ≡ slice_index left e - 1
+      here_left = get_or-set_same left e (slice_index left e - 1) 0 in_left
 
-      looked_here : (k : ℕ) → mark_at marks e ≡ Open → slice_index (set left e n) e ≤ k → k < length (needs_at links e) → maker_listed marks (maker_at links e k) ≡ true
-      looked_here k is low high = elim (cases_lt k (slice_index left e)) [
-        | inl before ↦ done k (omega (arith, low, here_left)) before
-        | inr behind ↦ at.looked e k is (omega (arith, behind)) high
+      else_left : (j : ℕ) → j ≢ e → slice_index (set left e (slice_index left e - 1)) j ≡ slice_index left j
+      else_left j other = get_or-set_other left e j (slice_index left e - 1) 0 other
+
+      else_awaits : (j d : ℕ) → j ≢ e → Awaits links left j d → Awaits links (set left e (slice_index left e - 1)) j d
+      else_awaits j d other waits = record {
+        some = omega (arith, waits.some, else_left j other);
+        made = ap (λ (n : ℕ). links.maker (slice_index (needs_at links j) (n - 1))) (else_left j other) ∙ waits.made;
+      }
+
+      looked_here : (k : ℕ) → slice_index (set left e (slice_index left e - 1)) e ≤ k → k < length (needs_at links e) → maker_listed marks (maker_at links e k) ≡ true
+      looked_here k low high = elim (same_or_other (slice_index left e - 1) k) [
+        | inl first ↦ subst (λ (n : ℕ). maker_listed marks (maker_at links e n) ≡ true) (sym first) done
+        | inr later ↦ at.looked e k lt (above later) high
       ]
+        where
+          above : k ≢ slice_index left e - 1 → slice_index left e ≤ k
+          above other = omega (arith, other, low, here_left, some)
 
-  pub walk_list : (e : ℕ) → IsLast stack e → AreDone links marks (needs_at links e) 0 (slice_index left e) → IsWalkAt links requested (order ++ e ∷ []) (set marks e Listed) left (take (length stack - 1) stack)
-  walk_list e last done = record {
+  pub walk_list : (e : ℕ) → IsLast stack e → slice_index left e ≡ 0 → IsWalkAt links requested (order ++ e ∷ []) (set marks e Listed) left (take (length stack - 1) stack)
+  walk_list e last none = record {
     fits = length-set marks e Listed ∙ at.fits;
     lefts = at.lefts;
     some_left = at.some_left;
@@ -213,17 +198,11 @@ module _ (links : Links) (requested order : List ℕ) (marks : List Mark) (left 
     awaits = λ k h.
         subst (λ (n : ℕ). Awaits links left n (slice_index (take (length stack - 1) stack) (suc k))) (sym (kept_at k (omega (arith, h))))
         (subst (λ (n : ℕ). Awaits links left (slice_index stack k) n) (sym (kept_at (suc k) h)) (at.awaits k (lower (suc k) h)));
-    looked = λ j k is low high. elim (same_or_other e j) [
-      | inl here ↦ absurd (listed_open (mark_at (set marks e Listed) e) (mark_here marks e Listed in_marks) (sym (ap (mark_at (set marks e Listed)) here) ∙ is))
-      | inr there ↦ more (maker_at links j k) (at.looked j k (sym (mark_else marks e j Listed there) ∙ is) low high)
-    ];
+    looked = λ j k within low high. more (maker_at links j k) (at.looked j k within low high);
     listed = listed;
     ordered = order_push links [] order e at.ordered record {
       once = sym (at.listed e) ∙ ap is_listed open_here;
-      made = λ k h. made (maker_at links e k) (elim (cases_lt k (slice_index left e)) [
-        | inl before ↦ done k (omega arith) before
-        | inr behind ↦ at.looked e k open_here (omega (arith, behind)) h
-      ]);
+      made = λ k h. made (maker_at links e k) (at.looked e k in_inputs (omega (arith, none)) h);
     };
     needed = λ j seen. elim (same_or_other e j) [
       | inl here ↦ subst (IsNeeded links requested) (sym here) (at.needed e (open_not_unseen (mark_at marks e) open_here))
@@ -288,40 +267,6 @@ module _ (links : Links) (requested order : List ℕ) (marks : List Mark) (left 
           other false false h = refl
           other false true h = absurd (h refl)
 
--- a walk that has seen nothing
-pub walk_begins : (links : Links) (requested : List ℕ) (m n : ℕ) (marks : List Mark) (left : List ℕ) → m ≡ links.count → n ≡ links.count → marks ≡ replicate m Unseen → left ≡ replicate n 0
-    → IsWalkAt links requested [] marks left []
-walk_begins links requested m n marks left all each are none = record {
-  fits = ap length are ∙ (length-replicate m Unseen ∙ all);
-  lefts = ap length none ∙ (length-replicate n 0 ∙ each);
-  some_left = λ e lt. omega (arith, ap (λ (l : List ℕ). slice_index l e) none, nothing n e);
-  within = λ k lt. absurd (omega (arith, lt));
-  opened = λ k lt. absurd (omega (arith, lt));
-  apart = λ j k less lt. absurd (omega (arith, lt));
-  stacked = λ e is. absurd (open_unseen (mark_at marks e) (unseen e) is);
-  awaits = λ k lt. absurd (omega (arith, lt));
-  looked = λ e k is low high. absurd (open_unseen (mark_at marks e) (unseen e) is);
-  listed = λ e. ap is_listed (unseen e);
-  ordered = tt;
-  needed = λ e seen. absurd (false≢true (sym seen ∙ ap is_unseen (unseen e)));
-}
-  where
-    fresh : (i e : ℕ) → mark_at (replicate i Unseen) e ≡ Unseen
-    fresh zero e = refl
-    fresh (suc i) zero = refl
-    fresh (suc i) (suc e) = fresh i e
-
-    nothing : (i e : ℕ) → slice_index (replicate i 0) e ≡ 0
-    nothing zero e = refl
-    nothing (suc i) zero = refl
-    nothing (suc i) (suc e) = nothing i e
-
-    unseen : (e : ℕ) → mark_at marks e ≡ Unseen
-    unseen e = ap (λ (l : List Mark). mark_at l e) are ∙ fresh m e
-
-    open_unseen : (mark : Mark) → mark ≡ Unseen → mark ≡ Open → ⊥
-    open_unseen mark a b = cc
-
 -- a walk that has ended lists what it has seen
 pub all_listed : (links : Links) (requested order : List ℕ) (marks : List Mark) (left stack : List ℕ) → IsWalkAt links requested order marks left stack → length stack ≡ 0 → (e : ℕ) → is_unseen (mark_at marks e) ≡ false → is_listed (mark_at marks e) ≡ true
 all_listed links requested order marks left stack at none e seen = by_mark (mark_at marks e) refl seen
@@ -336,11 +281,10 @@ needed_last links requested order marks left stack e at last =
     subst (IsNeeded links requested) last.is (at.needed (slice_index stack (length stack - 1)) (open_not_unseen (mark_at marks (slice_index stack (length stack - 1))) (at.opened (length stack - 1) (omega (arith, last.some)))))
 
 -- an edge that the last open one waits for is needed
-pub needed_next : (links : Links) (requested order : List ℕ) (marks : List Mark) (left stack : List ℕ) (e n d : ℕ) → IsWalkAt links requested order marks left stack → IsLast stack e
-    → IsNextPath links marks (needs_at links e) (slice_index left e) n d → IsNeeded links requested d
-needed_next links requested order marks left stack e n d at last next =
-    Above e (n - 1) d (needed_last links requested order marks left stack e at last)
-    (omega (arith, next.some, next.fits, at.some_left e (last_within links requested order marks left stack at e last))) next.is.made
+pub needed_awaited : (links : Links) (requested order : List ℕ) (marks : List Mark) (left stack : List ℕ) (e d : ℕ) → IsWalkAt links requested order marks left stack → IsLast stack e → Awaits links left e d → IsNeeded links requested d
+needed_awaited links requested order marks left stack e d at last waits =
+    Above e (slice_index left e - 1) d (needed_last links requested order marks left stack e at last)
+    (omega (arith, waits.some, at.some_left e (last_within links requested order marks left stack at e last))) waits.made
 
 pub needed_asked : (links other : Links) (requested others : List ℕ) (k : ℕ) → other ≡ links → others ≡ requested → k < length requested → IsNeeded other others (slice_index requested k)
 needed_asked links other requested others k same asked lt =

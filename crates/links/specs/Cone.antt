@@ -1,11 +1,10 @@
 -- The edges that a build needs, and walks from edges up to what they need.
-use Rattle.std.specs.Prelude.{◌≡◌, ◌≢◌, ℕ, suc, ◌+◌, ◌-◌, ◌*◌, ◌<◌, ◌≤◌, Bool, true, false, List, [], ◌∷◌, ◌++◌, length, map, slice_index, slice_index_or, EachIndex, count_by, Option, Some, None}
+use Rattle.std.specs.Prelude.{◌≡◌, ◌≢◌, ℕ, suc, ◌+◌, ◌-◌, ◌*◌, ◌<◌, ◌≤◌, Bool, true, false, List, [], ◌∷◌, ◌++◌, length, map, slice_index, slice_index_or, EachIndex, count_by, sum, Option, Some, None}
 use Rattle.model.specs.Graph.{has_number}
 use Rattle.links.specs.declared.graph.Graph.{Graph}
 use Rattle.links.specs.declared.cone.Cone.{Cone}
 use Rattle.links.specs.declared.cone.Mark.{Mark}
 use Rattle.links.specs.declared.cone.Mark.TheVariants.{Unseen, Open, Listed}
-use Rattle.links.specs.declared.walk.Next.{Next}
 use Rattle.links.specs.declared.walk.Walk.{Walk}
 use Rattle.links.specs.declared.cone.ConeFault.{ConeFault}
 use Rattle.links.specs.declared.cone.ConeFault.TheVariants.{Memory, Unknown, Cycle}
@@ -109,6 +108,11 @@ IsConeFault links requested (Cycle paths) = IsRound links requested paths
 
 -- ---- walks
 
+-- what the edge needs from this place on has no maker
+pub record IsMadeEnd (links : Links) (e end : ℕ) : Type 0 where
+  pub within : end ≤ length (needs_at links e)
+  pub sources : (k : ℕ) → end ≤ k → k < length (needs_at links e) → maker_at links e k ≡ None
+
 -- the path that an edge waits for: the last of its inputs that are left
 abbrev pub awaited : Links → List ℕ → ℕ → ℕ
 awaited links left e = slice_index (needs_at links e) (slice_index left e - 1)
@@ -139,8 +143,8 @@ pub record IsWalkAt (links : Links) (requested order : List ℕ) (marks : List M
   pub stacked : (e : ℕ) → mark_at marks e ≡ Open → (k : ℕ) × (k < length stack) × (slice_index stack k ≡ e)
   -- each waits for what the next one makes
   pub awaits : (k : ℕ) → suc k < length stack → Awaits links left (slice_index stack k) (slice_index stack (suc k))
-  -- the makers of the inputs of open edges that were looked at are listed
-  pub looked : (e k : ℕ) → mark_at marks e ≡ Open → slice_index left e ≤ k → k < length (needs_at links e) → maker_listed marks (maker_at links e k) ≡ true
+  -- the makers of the inputs that were looked at are listed
+  pub looked : (e k : ℕ) → e < links.count → slice_index left e ≤ k → k < length (needs_at links e) → maker_listed marks (maker_at links e k) ≡ true
   pub listed : (e : ℕ) → is_listed (mark_at marks e) ≡ has_number order e
   pub ordered : IsOrder links [] order
   pub needed : (e : ℕ) → is_unseen (mark_at marks e) ≡ false → IsNeeded links requested e
@@ -173,39 +177,17 @@ HasSeenValidators links marks order count = (j : ℕ) → j < count → HasSeenM
 
 -- what a walk has still to do
 abbrev pub work : Walk → ℕ
-work walk = 2 * count_by is_unseen walk.marks.items + length walk.stack.items
+work walk = 2 * count_by is_unseen walk.marks.items + sum walk.left.items + length walk.stack.items
 
 -- the last open edge
 pub record IsLast (stack : List ℕ) (e : ℕ) : Type 0 where
   pub some : 0 < length stack
   pub is : slice_index stack (length stack - 1) ≡ e
 
--- the edge makes the path, and is not listed
-pub record IsUnlisted (links : Links) (marks : List Mark) (p e : ℕ) : Type 0 where
-  pub within : e < links.count
-  pub made : links.maker p ≡ Some e
-  pub unlisted : is_listed (mark_at marks e) ≡ false
-
--- the maker of the path where it is not listed; none where nothing has to be done for the path
-abbrev pub IsUnlistedMaker : Links → List Mark → ℕ → Option ℕ → Type 0
-IsUnlistedMaker links marks p None = maker_listed marks (links.maker p) ≡ true
-IsUnlistedMaker links marks p (Some e) = IsUnlisted links marks p e
-
--- nothing has to be done for the paths from the one place to the other: each is a source, or its maker is listed
-abbrev pub AreDone : Links → List Mark → List ℕ → ℕ → ℕ → Type 0
-AreDone links marks paths from to = (k : ℕ) → from ≤ k → k < to → maker_listed marks (links.maker (slice_index paths k)) ≡ true
-
--- the last one of so many paths, which are the first of these, for which something has to be done
-pub record IsNextPath (links : Links) (marks : List Mark) (paths : List ℕ) (count left e : ℕ) : Type 0 where
+-- the last of the inputs that are left
+pub record IsNextInput (links : Links) (left e p : ℕ) : Type 0 where
   pub some : 0 < left
-  pub fits : left ≤ count
-  pub is : IsUnlisted links marks (slice_index paths (left - 1)) e
-  pub done : AreDone links marks paths left count
-
--- the same, if there is one
-abbrev pub IsNextOf : Links → List Mark → List ℕ → ℕ → Option Next → Type 0
-IsNextOf links marks paths count None = AreDone links marks paths 0 count
-IsNextOf links marks paths count (Some next) = IsNextPath links marks paths count next.left next.maker
+  pub is : slice_index (needs_at links e) (left - 1) ≡ p
 
 -- ---- the words of a walk
 
@@ -225,17 +207,13 @@ HasValidated graph walk = HasSeenValidators (links_of graph) walk.marks.items wa
 abbrev pub left_at : Walk → ℕ → ℕ
 left_at walk e = slice_index walk.left.items e
 
--- the maker of the path where it is not listed
-abbrev pub IsUnlistedIn : Walk → ℕ → Option ℕ → Type 0
-IsUnlistedIn walk p maker = IsUnlistedMaker (links_of walk.graph.now) walk.marks.items p maker
+-- the path is the last of the edge's inputs that are left
+abbrev pub IsNextAt : Walk → ℕ → ℕ → Type 0
+IsNextAt walk e p = IsNextInput (links_of walk.graph.now) (left_at walk e) e p
 
--- the last one of so many paths whose maker is not listed
-abbrev pub IsNextIn : Walk → List ℕ → ℕ → Option Next → Type 0
-IsNextIn walk paths count next = IsNextOf (links_of walk.graph.now) walk.marks.items paths count next
-
--- what the edge waits for
-abbrev pub IsNextAt : Walk → ℕ → Option Next → Type 0
-IsNextAt walk e next = IsNextIn walk (needs_at (links_of walk.graph.now) e) (left_at walk e) next
+-- nothing has to be done for the last of them: it is a source, or its maker is listed
+abbrev pub IsNextDone : Walk → ℕ → Type 0
+IsNextDone walk e = maker_listed walk.marks.items (maker_at (links_of walk.graph.now) e (left_at walk e - 1)) ≡ true
 
 -- edge e waits for a path that d makes
 abbrev pub WaitsFor : Walk → ℕ → ℕ → Type 0
@@ -252,3 +230,7 @@ awaited_in walk = awaited (links_of walk.graph.now) walk.left.items
 -- what the last of these edges waits for, and then what each of them waits for
 abbrev pub paths_round : Walk → List ℕ → List ℕ
 paths_round walk edges = awaited_in walk (slice_index edges (length edges - 1)) ∷ map (awaited_in walk) edges
+
+-- for each edge up to where it needs what some edge makes
+abbrev pub AreMadeEnds : Links → List ℕ → Type 0
+AreMadeEnds links ends = EachIndex ends (λ e. IsMadeEnd links e (slice_index ends e))

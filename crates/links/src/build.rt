@@ -43,24 +43,29 @@ impl Graph {
     }
 }
 
-/// For each path the edges that name it, with room for as many as its count: where a path has more, its list moves.
-pub(crate) fn users_of(
-    alloc: Global,
-    manifest: &Manifest,
-    counts: &[usize],
-) -> Result<Users, AllocError>
+/// For each path the edges that name it, as many as its count: where a path has more, its list moves.
+fn users_of(alloc: Global, manifest: &Manifest, counts: &[usize]) -> Result<Users, AllocError>
     requires { length counts.now ≡ length manifest.now.paths }
     ensures { IfOk result (AreUsers manifest.now (replicate (length manifest.now.lines) [])) }
 {
     let mut users = Users::with_rooms(alloc, counts)?;
+    use_inputs(&mut users, manifest)?;
+    Ok(users)
+}
+
+/// Puts each edge behind those that name its inputs.
+pub(crate) fn use_inputs(users: &mut Users, manifest: &Manifest) -> Result<(), AllocError>
+    requires { users.old ≡ replicate (length manifest.now.paths) [] }
+    ensures { OnOk result (AreUsers manifest.now (replicate (length manifest.now.lines) []) users.new) }
+{
     for place in 0..manifest.lines.len() {
         let edge = manifest.edge(place);
         users.push_all(manifest.lines.inputs(edge), edge)?;
     }
-    Ok(users)
+    Ok(())
 }
 
-/// How often each path is an input: so much room it takes at once.
+/// How often each path is an input.
 fn input_counts(alloc: Global, manifest: &Manifest) -> Result<Vec<usize>, AllocError>
     ensures fits { IfOk result (λ counts. length counts.items ≡ length manifest.now.paths) }
     ensures apart { OnOk result (HaveOnePlace manifest.now.paths) }

@@ -8,8 +8,9 @@ ghost use Rattle.links.specs.Held.{AreMakers, DyndepsAreInputs, AreRecorded, Are
 ghost use Rattle.links.specs.Extended.{addition_of};
 ghost use Rattle.links.specs.Statements.{HasMore, AreNumbersIn, AreGainsIn, AreGrownLines, AreChoicesBelow, line_with, action_with, loaded_action, AreLoadedActions, HasOnlyMore, IsLoadedManifest, IsLoadFault, IsPartsFault, extend_fault_of};
 
-use crate::build::users_of;
+use crate::build::use_inputs;
 use crate::fault::{ExtendFault, GraphFault};
+use crate::grow::USERS_ROOM;
 use crate::makers::makers_of;
 use crate::recorded::Recorded;
 use crate::users::Users;
@@ -184,39 +185,20 @@ fn parts_of(
         Ok(makers) => makers,
         Err(fault) => return Err(extend_fault(fault)),
     };
-    let counts = grown_counts(alloc, manifest, kept.users, gains)?;
-    let mut users = users_of(alloc, manifest, &counts)?;
+    let paths = manifest.paths.len();
+    let mut users = kept.users.emptied(alloc, paths, gained_places(gains))?;
+    use_inputs(&mut users, manifest)?;
     use_recorded(&mut users, manifest, kept.recorded)?;
     Ok(Parts { makers, users })
 }
 
-/// How many edges named each path before, with those that gain it as an input: so much room its users take.
-fn grown_counts(
-    alloc: Global,
-    manifest: &Manifest,
-    users: &Users,
-    gains: &[Gain],
-) -> Result<Vec<usize>, AllocError>
-    ensures fits { IfOk result (λ counts. length counts.items ≡ length manifest.now.paths) }
-    ensures apart { OnOk result (HaveOnePlace manifest.now.paths) }
-{
-    let mut counts = users.counts(alloc, manifest.paths.len())?;
+/// For how many more edges who names paths takes room at once.
+fn gained_places(gains: &[Gain]) -> usize {
+    let mut count = 0usize;
     for gain in gains {
-        count_known(&mut counts, gain.inputs.as_slice());
+        count = count.saturating_add(gain.inputs.len());
     }
-    Ok(counts)
-}
-
-/// Each of these paths that has a count is counted once more.
-fn count_known(counts: &mut [usize], paths: &[PathId])
-    ensures { length counts.new ≡ length counts.old }
-{
-    for path in paths {
-        let place = path.index();
-        if place < counts.len() {
-            counts[place] = counts[place].saturating_add(1);
-        }
-    }
+    count.saturating_mul(USERS_ROOM)
 }
 
 /// The fault of a graph whose dyndep files are inputs: an edge keeps its inputs.

@@ -57,29 +57,34 @@ impl Users {
         })
     }
 
-    /// As many paths as counts, which no edge names, each with room for so many edges: where no more are put behind a path, no list
-    /// moves.
+    /// As many paths as counts, which no edge names. Where a count is two or more, there is room for so many in one place. A single edge
+    /// is put behind all these by the first `push`: single ones stand in the order in which they come, so that a push in whatever order
+    /// of paths writes to one place far off and not to two. There is room for all, and where no more are put behind a path, no list moves.
     pub(crate) fn with_rooms(alloc: Global, counts: &[usize]) -> Result<Users, AllocError>
         ensures { IfOk result (λ users. users ≡ replicate (length counts.now) []) }
     {
         let mut rooms = Vec::with_capacity(alloc, counts.len())?;
         let end = lay_rooms(&mut rooms, counts)?;
-        Ok(Users {
-            edges: vec![in alloc; EdgeId::at_below(0); end]?,
-            rooms,
-        })
+        let mut edges = Vec::with_capacity(alloc, sum(counts))?;
+        edges.resize(end, EdgeId::at_below(0))?;
+        Ok(Users { edges, rooms })
     }
 
-    /// How many edges name each of so many paths; none names those that are not there.
-    pub(crate) fn counts(&self, alloc: Global, paths: usize) -> Result<Vec<usize>, AllocError>
-        ensures { IfOk result (λ counts. length counts.items ≡ paths) }
+    /// So many paths that no edge names, with the room that lists of two edges or more have here, as `with_rooms` lays it out, and for
+    /// so many edges more. What lists left when they moved is not there.
+    pub(crate) fn emptied(
+        &self,
+        alloc: Global,
+        paths: usize,
+        more: usize,
+    ) -> Result<Users, AllocError>
+        ensures { IfOk result (λ users. users ≡ replicate paths []) }
     {
-        let mut counts = Vec::with_capacity(alloc, paths)?;
-        for room in &self.rooms {
-            counts.push(room.stop.saturating_sub(room.start))?;
-        }
-        counts.resize(paths, 0)?;
-        Ok(counts)
+        let mut rooms = Vec::with_capacity(alloc, paths)?;
+        let end = lay_again(&mut rooms, &self.rooms, paths)?;
+        let mut edges = Vec::with_capacity(alloc, self.edges.len().saturating_add(more))?;
+        edges.resize(end, EdgeId::at_below(0))?;
+        Ok(Users { edges, rooms })
     }
 
     /// How many paths there are.
@@ -122,6 +127,7 @@ impl Users {
     }
 
     /// Puts an edge behind those that name the path. Where memory is refused, nothing is changed.
+    #[inline(always)]
     pub fn push(&mut self, path: PathId, edge: EdgeId) -> Result<(), AllocError>
         requires { path < length self.old }
         ensures ok { OnOk result (self.new ≡ push_at self.old path edge) }
@@ -134,8 +140,31 @@ impl Users {
             self.rooms[place].stop = room.stop + 1;
             Ok(())
         } else {
-            self.push_moved(path, edge)
+            self.push_behind(path, edge)
         }
+    }
+
+    /// Puts an edge behind those that name the path, whose room is full: the first one is put at the end.
+    #[inline(always)]
+    fn push_behind(&mut self, path: PathId, edge: EdgeId) -> Result<(), AllocError>
+        requires { path < length self.old }
+        ensures ok { OnOk result (self.new ≡ push_at self.old path edge) }
+        ensures err { OnErr result (self.new ≡ self.old) }
+    {
+        let place = path.index();
+        let room = self.rooms[place];
+        if room.stop > room.start {
+            return self.push_moved(path, edge);
+        }
+        let start = self.edges.len();
+        self.edges.push(edge)?;
+        let end = self.edges.len();
+        self.rooms[place] = Room {
+            start,
+            stop: end,
+            end,
+        };
+        Ok(())
     }
 
     /// Moves the list of a path to the end, into twice the room, and puts an edge behind it.
@@ -208,17 +237,62 @@ fn lay_rooms(rooms: &mut Vec<Room>, counts: &[usize]) -> Result<usize, AllocErro
 {
     let mut end = 0usize;
     for count in counts {
-        let Some(next) = end.checked_add(*count) else {
-            return Err(AllocError);
-        };
-        rooms.push(Room {
-            start: end,
-            stop: end,
-            end: next,
-        })?;
-        end = next;
+        end = lay_room(rooms, end, laid_places(*count))?;
     }
     Ok(end)
+}
+
+/// How many places are laid out for so many edges: none for a single one.
+fn laid_places(count: usize) -> usize {
+    if count < 2 { 0 } else { count }
+}
+
+/// How many edges these are.
+fn sum(counts: &[usize]) -> usize {
+    let mut sum = 0usize;
+    for count in counts {
+        sum = sum.saturating_add(*count);
+    }
+    sum
+}
+
+/// Puts an empty room for each of so many paths behind the one before it, of which there is none yet, as large as it was, and gives the
+/// end of the last.
+fn lay_again(rooms: &mut Vec<Room>, old: &[Room], paths: usize) -> Result<usize, AllocError>
+    requires { rooms.old.items ≡ [] }
+    ensures { IfOk result (λ end. AreLaid paths end rooms.new.items) }
+{
+    let mut end = 0usize;
+    for place in 0..paths {
+        end = lay_room(rooms, end, places_again(old, place))?;
+    }
+    Ok(end)
+}
+
+/// Puts an empty room of so many places behind the others, which end here, and gives its end.
+fn lay_room(rooms: &mut Vec<Room>, end: usize, places: usize) -> Result<usize, AllocError>
+    requires { AreLaid (length rooms.old.items) end rooms.old.items }
+    ensures { IfOk result (λ next. AreLaid (length rooms.old.items + 1) next rooms.new.items) }
+{
+    let Some(next) = end.checked_add(places) else {
+        return Err(AllocError);
+    };
+    rooms.push(Room {
+        start: end,
+        stop: end,
+        end: next,
+    })?;
+    Ok(next)
+}
+
+/// How many places the room of a path has, where two edges or more name it.
+fn places_again(rooms: &[Room], place: usize) -> usize {
+    match rooms.get(place) {
+        Some(room) if room.stop.saturating_sub(room.start) > 1 => {
+            room.end.saturating_sub(room.start)
+        }
+        _ => 0,
+    }
 }
 
 /// Copies what stands between two places to the end, puts an edge behind it, and makes as many places again. Gives the

@@ -1,23 +1,16 @@
 //! Walks from edges up to what they need.
 
-ghost use Rattle.std.specs.Prelude.{◌≡◌, ℕ, false, ◌<◌, ◌≤◌, ◌++◌, Some, None, IfOk, IfErr, OnOk, vec_len, length, nat_lt, slice_index};
+ghost use Rattle.std.specs.Prelude.{◌≡◌, ℕ, false, ◌<◌, IfOk, IfErr, OnOk, vec_len, length, nat_lt, slice_index, MatchOption};
 ghost use Rattle.std.specs.List.{IsFirstBest};
 ghost use Rattle.links.specs.declared.cone.Mark;
 ghost use Rattle.links.specs.Links.{links_of, EachIsEdge};
-ghost use Rattle.links.specs.Cone.{is_unseen, mark_at, IsLeft, Keeps, Grows, IsConeFault, IsNeeded, IsRound, IsWalk, IsLast, AllSeen, HasSeenAll, HasValidated, IsUnlistedIn, IsNextIn, IsNextAt, WaitsFor, EachWaits, awaited_in, paths_round, work};
+ghost use Rattle.links.specs.Cone.{is_unseen, mark_at, IsLeft, Keeps, Grows, IsConeFault, IsMadeEnd, IsNeeded, IsRound, IsWalk, IsLast, AllSeen, HasSeenAll, HasValidated, left_at, IsNextAt, IsNextDone, WaitsFor, EachWaits, awaited_in, paths_round, AreMadeEnds, work};
 
 use crate::cone::{ConeFault, Mark};
 use crate::graph::Graph;
 use paths::{EdgeId, PathId};
 use std::alloc::{AllocError, Global};
 use text::Items;
-
-/// What an edge waits for: the last one of so many of its inputs, and the edge that makes it.
-#[derive(Clone, Copy)]
-pub struct Next {
-    pub left: usize,
-    pub maker: EdgeId,
-}
 
 /// A walk up from an edge to what it needs, with a stack of its own.
 #[derive(Drop)]
@@ -28,7 +21,7 @@ pub struct Walk<'a> {
     requested: &'a [EdgeId],
     pub order: Vec<EdgeId>,
     pub marks: Vec<Mark>,
-    /// How many inputs of each open edge are still to be looked at; the last one is looked at first.
+    /// How many inputs of each edge are still to be looked at; the last one is looked at first.
     left: Vec<usize>,
     /// The open edges, each needed by the one before it.
     stack: Vec<EdgeId>,
@@ -50,7 +43,7 @@ impl<'a> Walk<'a> {
             requested,
             order: Vec::new(alloc),
             marks: vec![in alloc; Mark::Unseen; graph.edges()]?,
-            left: vec![in alloc; 0; graph.edges()]?,
+            left: made_ends(alloc, graph)?,
             stack: Vec::new(alloc),
         })
     }
@@ -85,9 +78,7 @@ impl<'a> Walk<'a> {
         let mut place = 0;
         while place < self.order.len() {
             let edge = self.order[place];
-            if !self.graph.validations(edge).is_empty() {
-                self.list_makers(edge)?;
-            }
+            self.list_makers(edge)?;
             place += 1;
         }
         Ok(())
@@ -150,7 +141,6 @@ impl<'a> Walk<'a> {
     }
 
     /// Opens an edge that was not seen, which the last open one waits for.
-    #[inline(always)]
     fn open(&mut self, edge: EdgeId) -> Result<(), AllocError>
         requires at { IsWalk self.old.graph.now self.old.requested.now self.old }
         requires within { edge < length self.old.graph.now.manifest.lines }
@@ -165,7 +155,6 @@ impl<'a> Walk<'a> {
     {
         self.stack.push(edge)?;
         self.marks[edge.index()] = Mark::Open;
-        self.left[edge.index()] = self.graph.need_count(edge);
         Ok(())
     }
 
@@ -184,7 +173,7 @@ impl<'a> Walk<'a> {
         Ok(())
     }
 
-    /// Goes on to what the last open edge waits for, or lists that edge where it waits for nothing.
+    /// Looks at one input of the last open edge, or lists that edge.
     fn step(&mut self, edge: EdgeId) -> Result<(), ConeFault>
         requires at { IsWalk self.old.graph.now self.old.requested.now self.old }
         requires last { IsLast self.old.stack.items edge }
@@ -194,102 +183,88 @@ impl<'a> Walk<'a> {
         ensures nearer { OnOk result (work self.new < work self.old) }
         ensures fault { IfErr result (IsConeFault (links_of self.old.graph.now) self.old.requested.now) }
     {
-        match self.next(edge) {
-            Some(next) => self.visit(edge, next),
+        match self.next_input(edge) {
+            Some(path) => self.look(edge, path),
             None => Ok(self.list(edge)?),
         }
     }
 
-    /// What an edge waits for: the last of its inputs that are left whose maker is not listed.
-    fn next(&self, edge: EdgeId) -> Option<Next>
+    /// The input of an edge that is to be looked at.
+    fn next_input(&self, edge: EdgeId) -> Option<PathId>
         requires at { IsWalk self.now.graph.now self.now.requested.now self.now }
         requires within { edge < length self.now.graph.now.manifest.lines }
-        ensures { IsNextAt self.now edge result }
+        ensures { MatchOption result (left_at self.now edge ≡ 0) (λ path. IsNextAt self.now edge path) }
     {
-        let graph = self.graph;
-        let inputs = graph.inputs(edge);
         let left = self.left[edge.index()];
-        if left <= inputs.len() {
-            self.last_unlisted(inputs, left)
+        if left == 0 {
+            None
         } else {
-            self.next_recorded(inputs, graph.recorded_inputs(edge), left)
+            Some(self.graph.need(edge, left - 1))
         }
     }
 
-    /// The same where recorded inputs are left, which stand behind the inputs.
-    fn next_recorded(&self, inputs: &[PathId], recorded: &[PathId], left: usize) -> Option<Next>
-        requires fits { vec_len self.now.marks ≡ length self.now.graph.now.manifest.lines }
-        requires some { length inputs.now ≤ left }
-        requires within { left ≤ length (inputs.now ++ recorded.now) }
-        ensures { IsNextIn self.now (inputs.now ++ recorded.now) left result }
-    {
-        match self.last_unlisted(recorded, left - inputs.len()) {
-            Some(next) => Some(Next {
-                left: inputs.len() + next.left,
-                maker: next.maker,
-            }),
-            None => self.last_unlisted(inputs, inputs.len()),
-        }
-    }
-
-    /// The last one of so many paths whose maker is not listed.
-    fn last_unlisted(&self, paths: &[PathId], count: usize) -> Option<Next>
-        requires fits { vec_len self.now.marks ≡ length self.now.graph.now.manifest.lines }
-        requires within { count ≤ length paths.now }
-        ensures { IsNextIn self.now paths.now count result }
-    {
-        let mut left = count;
-        while left > 0 {
-            if let Some(maker) = self.unlisted(paths[left - 1]) {
-                return Some(Next { left, maker });
-            }
-            left -= 1;
-        }
-        None
-    }
-
-    /// The edge that makes the path, unless it is listed.
-    fn unlisted(&self, path: PathId) -> Option<EdgeId>
-        requires { vec_len self.now.marks ≡ length self.now.graph.now.manifest.lines }
-        ensures { IsUnlistedIn self.now path result }
-    {
-        match self.graph.maker(path) {
-            Some(maker) => {
-                if self.marks[maker.index()].is_listed() {
-                    None
-                } else {
-                    Some(maker)
-                }
-            }
-            None => None,
-        }
-    }
-
-    /// Goes past the inputs behind what the last open edge waits for, and on to the edge that makes that. Where this is
-    /// open too, the two need one another.
-    fn visit(&mut self, edge: EdgeId, next: Next) -> Result<(), ConeFault>
+    /// Goes on to the maker of an input, or past the input where nothing has to be done for it.
+    fn look(&mut self, edge: EdgeId, path: PathId) -> Result<(), ConeFault>
         requires at { IsWalk self.old.graph.now self.old.requested.now self.old }
         requires last { IsLast self.old.stack.items edge }
-        requires next { IsNextAt self.old edge (Some next) }
+        requires next { IsNextAt self.old edge path }
         ensures walk { OnOk result (IsWalk self.old.graph.now self.old.requested.now self.new) }
         ensures keeps { OnOk result (Keeps self.old.marks.items self.new.marks.items) }
         ensures grows { OnOk result (Grows self.old.order.items self.new.order.items) }
         ensures nearer { OnOk result (work self.new < work self.old) }
         ensures fault { IfErr result (IsConeFault (links_of self.old.graph.now) self.old.requested.now) }
     {
-        self.left[edge.index()] = next.left;
-        match self.marks[next.maker.index()] {
-            Mark::Unseen => Ok(self.open(next.maker)?),
-            // a listed one is not waited for
-            Mark::Open | Mark::Listed => Err(ConeFault::Cycle(self.round(edge, next.maker)?)),
+        match self.graph.maker(path) {
+            Some(maker) => self.visit(edge, maker),
+            None => {
+                self.pass(edge);
+                Ok(())
+            }
         }
     }
 
-    /// Lists the last open edge, which waits for nothing.
+    /// Goes on to an edge that the last open one waits for, or past it where it is listed. Where it is open too, the two
+    /// need one another.
+    fn visit(&mut self, edge: EdgeId, maker: EdgeId) -> Result<(), ConeFault>
+        requires at { IsWalk self.old.graph.now self.old.requested.now self.old }
+        requires last { IsLast self.old.stack.items edge }
+        requires within { maker < length self.old.graph.now.manifest.lines }
+        requires awaits { WaitsFor self.old edge maker }
+        ensures walk { OnOk result (IsWalk self.old.graph.now self.old.requested.now self.new) }
+        ensures keeps { OnOk result (Keeps self.old.marks.items self.new.marks.items) }
+        ensures grows { OnOk result (Grows self.old.order.items self.new.order.items) }
+        ensures nearer { OnOk result (work self.new < work self.old) }
+        ensures fault { IfErr result (IsConeFault (links_of self.old.graph.now) self.old.requested.now) }
+    {
+        match self.marks[maker.index()] {
+            Mark::Listed => {
+                self.pass(edge);
+                Ok(())
+            }
+            Mark::Unseen => Ok(self.open(maker)?),
+            Mark::Open => Err(ConeFault::Cycle(self.round(edge, maker)?)),
+        }
+    }
+
+    /// Goes past the last input that is left.
+    fn pass(&mut self, edge: EdgeId)
+        requires at { IsWalk self.old.graph.now self.old.requested.now self.old }
+        requires last { IsLast self.old.stack.items edge }
+        requires left { 0 < left_at self.old edge }
+        requires done { IsNextDone self.old edge }
+        ensures walk { IsWalk self.old.graph.now self.old.requested.now self.new }
+        ensures keeps { Keeps self.old.marks.items self.new.marks.items }
+        ensures grows { Grows self.old.order.items self.new.order.items }
+        ensures nearer { work self.new < work self.old }
+    {
+        self.left[edge.index()] -= 1;
+    }
+
+    /// Lists the last open edge, all inputs of which were looked at.
     fn list(&mut self, edge: EdgeId) -> Result<(), AllocError>
         requires at { IsWalk self.old.graph.now self.old.requested.now self.old }
         requires last { IsLast self.old.stack.items edge }
-        requires none { IsNextAt self.old edge None }
+        requires all { left_at self.old edge ≡ 0 }
         ensures walk { OnOk result (IsWalk self.old.graph.now self.old.requested.now self.new) }
         ensures keeps { OnOk result (Keeps self.old.marks.items self.new.marks.items) }
         ensures grows { OnOk result (Grows self.old.order.items self.new.order.items) }
@@ -351,6 +326,30 @@ impl<'a> Walk<'a> {
     {
         self.graph.need(edge, self.left[edge.index()] - 1)
     }
+}
+
+/// Up to where each edge needs what some edge makes. Behind that stand sources, as nearly all recorded inputs are.
+fn made_ends(alloc: Global, graph: &Graph) -> Result<Vec<usize>, AllocError>
+    ensures fits { IfOk result (λ ends. vec_len ends ≡ length graph.now.manifest.lines) }
+    ensures ends { IfOk result (λ ends. AreMadeEnds (links_of graph.now) ends.items) }
+{
+    let mut ends = Vec::new(alloc);
+    for place in 0..graph.edges() {
+        ends.push(made_end(graph, graph.manifest.edge(place)))?;
+    }
+    Ok(ends)
+}
+
+/// Up to where the edge needs what some edge makes.
+fn made_end(graph: &Graph, edge: EdgeId) -> usize
+    requires { edge < length graph.now.manifest.lines }
+    ensures { IsMadeEnd (links_of graph.now) edge result }
+{
+    let mut end = graph.need_count(edge);
+    while end > 0 && graph.maker(graph.need(edge, end - 1)).is_none() {
+        end -= 1;
+    }
+    end
 }
 
 /// Where the lowest of these stands, the first one where several are equal.

@@ -2,7 +2,7 @@
 
 ghost use Rattle.std.specs.Prelude.{◌≡◌, ◌<◌, ◌++◌, ◌∷◌, ◌≤◌, [], length, vec_len, IfOk, OnOk, OnErr};
 ghost use Rattle.model.specs.Graph.{has_number};
-ghost use Rattle.paths.specs.Lists.{line_at, line_outputs, line_regular_inputs, line_inputs, line_paths, all_paths, between, grown_line, IsAppended, IsRowIn, Extends};
+ghost use Rattle.paths.specs.Lists.{line_at, line_of, line_outputs, line_regular_inputs, line_inputs, line_paths, all_paths, between, grown_line, IsAppended, IsRowIn, Extends};
 ghost use Rattle.paths.specs.Grown.{with_grown, IsGrownRow};
 
 use crate::id::{EdgeId, PathId};
@@ -23,11 +23,13 @@ pub struct Row {
 }
 
 /// The paths of edges, which contracts see as the list of their lines. An edge takes 56 bytes, and 4 for each path; what the line of
-/// an edge was before it grew keeps these 4.
+/// an edge was before it grew keeps these 4, up to a copy when they are more than half of all.
 #[derive(Drop)]
 pub struct Lines {
     numbers: Vec<PathId>,
     rows: Vec<Row>,
+    /// How many numbers lines left where they stood before they grew.
+    left: usize,
 }
 
 impl Model for Lines {
@@ -51,18 +53,54 @@ impl Lines {
         Lines {
             numbers: Vec::new(alloc),
             rows: Vec::new(alloc),
+            left: 0,
         }
     }
 
-    /// The same lines, with room for so many more numbers of paths: where lines grow by no more, they do not move.
+    /// The same lines, with room for so many more numbers of paths: where lines grow by no more, they do not move. What lines left
+    /// when they grew is copied too, unless it is more than half of all numbers.
     pub fn copied(&self, alloc: Global, more: usize) -> Result<Lines, AllocError>
         ensures { IfOk result (λ copy. copy ≡ self.now) }
     {
+        if self.left > self.numbers.len() / 2 {
+            return self.packed(alloc, more);
+        }
         let mut numbers = Vec::with_capacity(alloc, self.numbers.len().saturating_add(more))?;
         numbers.extend_from_slice(&self.numbers)?;
         let mut rows = Vec::with_capacity(alloc, self.rows.len())?;
         rows.extend_from_slice(&self.rows)?;
-        Ok(Lines { numbers, rows })
+        Ok(Lines {
+            numbers,
+            rows,
+            left: self.left,
+        })
+    }
+
+    /// The same without what lines left when they grew. It takes a time of the order of the lines and their paths, which the growth
+    /// before it has paid for.
+    fn packed(&self, alloc: Global, more: usize) -> Result<Lines, AllocError>
+        ensures { IfOk result (λ copy. copy ≡ self.now) }
+    {
+        let used = self.numbers.len().saturating_sub(self.left);
+        let mut packed = Lines {
+            numbers: Vec::with_capacity(alloc, used.saturating_add(more))?,
+            rows: Vec::with_capacity(alloc, self.rows.len())?,
+            left: 0,
+        };
+        for place in 0..self.rows.len() {
+            packed.push_lists(&self.numbers, self.rows[place])?;
+        }
+        Ok(packed)
+    }
+
+    /// Puts a line behind the others whose lists stand among these numbers.
+    fn push_lists(&mut self, from: &[PathId], row: Row) -> Result<(), AllocError>
+        requires { IsRowIn (length from.now) row }
+        ensures { OnOk result (self.new ≡ self.old ++ line_of from.now row ∷ []) }
+    {
+        let row = append_lists(&mut self.numbers, from, row)?;
+        self.rows.push(row)?;
+        Ok(())
     }
 
     /// How many there are.
@@ -103,8 +141,8 @@ impl Lines {
     }
 
     /// Gives the line of an edge more implicit outputs and more implicit inputs, behind those that it has. The line moves behind
-    /// all others, and no other one does: 4 bytes for each of its paths are lost where it stood. Where memory is refused, the lines
-    /// stay as they were.
+    /// all others, and no other one does: 4 bytes for each of its paths are lost where it stood, up to a copy of the lines when more
+    /// than half of all are. Where memory is refused, the lines stay as they were.
     pub fn grow(
         &mut self,
         edge: EdgeId,
@@ -119,6 +157,9 @@ impl Lines {
         // what a refused line leaves at the end belongs to no line
         let grown = append_row(&mut self.numbers, row, outputs, inputs)?;
         self.rows[edge.index()] = grown;
+        self.left = self
+            .left
+            .saturating_add(row.validations.saturating_sub(row.start));
         Ok(())
     }
 
@@ -247,6 +288,23 @@ fn append_line(numbers: &mut Vec<PathId>, line: &Line) -> Result<Row, AllocError
         implicit_inputs: append(numbers, line.implicit_inputs.as_slice())?,
         order_only_inputs: append(numbers, line.order_only_inputs.as_slice())?,
         validations: append(numbers, line.validations.as_slice())?,
+    })
+}
+
+/// Puts the lists of a row at the end, one behind the other, which stand among other numbers.
+fn append_lists(numbers: &mut Vec<PathId>, from: &[PathId], row: Row) -> Result<Row, AllocError>
+    requires { IsRowIn (length from.now) row }
+    ensures ok { IfOk result (IsAppended numbers.old.items numbers.new.items (line_of from.now row)) }
+    ensures err { OnErr result (Extends numbers.old.items numbers.new.items) }
+{
+    Ok(Row {
+        start: numbers.len(),
+        explicit_outputs: append(numbers, &from[row.start..row.explicit_outputs])?,
+        implicit_outputs: append(numbers, &from[row.explicit_outputs..row.implicit_outputs])?,
+        explicit_inputs: append(numbers, &from[row.implicit_outputs..row.explicit_inputs])?,
+        implicit_inputs: append(numbers, &from[row.explicit_inputs..row.implicit_inputs])?,
+        order_only_inputs: append(numbers, &from[row.implicit_inputs..row.order_only_inputs])?,
+        validations: append(numbers, &from[row.order_only_inputs..row.validations])?,
     })
 }
 

@@ -1,9 +1,12 @@
 -- What is taken in by what was seen of paths, and what phony edges read in sum.
-use Rattle.std.proofs.Common.{◌≡◌, inl, inr, ℕ, suc, ◌+◌, ◌<◌, ◌==◌, ◌||◌, not, Bool, true, false, List, [], ◌∷◌, ◌++◌, Option, Some, None, is_some, if◌then◌else◌, cond, length, take, get_or, refl, sym, ◌∙◌, ap, subst, append_assoc}
+use Rattle.std.proofs.Common.{◌≡◌, inl, inr, ℕ, suc, ◌+◌, ◌<◌, ◌==◌, ◌||◌, not, Bool, true, false, List, [], ◌∷◌, ◌++◌, Option, Some, None, is_some, if◌then◌else◌, cond, length, take, get_or, arith, refl, sym, ◌∙◌, ap, subst, append_assoc}
+use Rattle.std.specs.Prelude.{nat_eq}
 use Rattle.std.specs.List.{flat_map}
+use Rattle.std.specs.Map.{lookup}
 use Rattle.std.proofs.lemmas.Bool.{false≢true, or_left, or_right, eq-eqb, eqb-true, false_from_ne_true}
 use Rattle.std.proofs.lemmas.List.{append-nil, take_more}
 use Rattle.std.proofs.lemmas.Grind.{flat_map-append}
+use Rattle.std.proofs.Math.Seq.{take-append_seam}
 use Rattle.model.specs.declared.event.Moment.{Moment}
 use Rattle.model.specs.Graph.{has_number}
 use Rattle.model.specs.Reading.{IsRead}
@@ -70,6 +73,20 @@ popped_by rest x q old new inputs false same is has other =
 pub popped : (rest : List ℕ) (x q : ℕ) (old new : Option Inputs) (inputs : Inputs) → new ≡ cond (x == q) None old → new ≡ Some inputs → has_number rest q ≡ false
     → (old ≡ Some inputs) × (has_number (rest ++ x ∷ []) q ≡ false)
 popped rest x q old new inputs is has other = popped_by rest x q old new inputs (x == q) refl is has other
+
+-- no number is in a list that has none
+pub no_number : (xs : List ℕ) (q : ℕ) → length xs ≡ 0 → has_number xs q ≡ false
+no_number [] q none = refl
+no_number (x ∷ xs) q none = absurd (omega (arith, none))
+
+-- what is found in a map is found where the same entries are
+pub found_in : (es fs : List (ℕ × Inputs)) (q : ℕ) (inputs : Inputs) → fs ≡ es → lookup (nat_eq q) fs ≡ Some inputs → lookup (nat_eq q) es ≡ Some inputs
+found_in es fs q inputs same is = ap (lookup (nat_eq q)) (sym same) ∙ is
+
+-- a list that is cut to its length of before is the one of before
+pub taken_back : (old more pushed back : List ℕ) (n : ℕ) → n ≡ length old → pushed ≡ old ++ more → back ≡ take n pushed → back ≡ old
+taken_back old more pushed back n len more_are back_are =
+    back_are ∙ (ap (λ (k : ℕ). take k pushed) len ∙ (ap (take (length old)) more_are ∙ take-append_seam old more))
 
 asked_stays : (seen new : List Look) → Stays seen new → (ns : List ℕ) → AreAsked seen ns → AreAsked new ns
 asked_stays seen new stays [] asked = tt

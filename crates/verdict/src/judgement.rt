@@ -36,7 +36,8 @@ use std::alloc::Global;
 /// What was seen of a path is not asked for again, but for the depfile that the command is to leave. The answer is right for
 /// each set of paths that has all these and whose files stay as they are during the call, as that of the depfile does, whatever
 /// commands write elsewhere. It takes time for the outputs and inputs that are met; what a phony edge reads is met
-/// once, and then known by `sums`, which takes memory for each phony edge that is read through.
+/// once, and then known by `sums`, which takes memory for each phony edge that is read through. Where a command makes some of that
+/// and there is no memory to mark it so, it is met again by the next call that reads it.
 pub fn reason<S: Site>(
     alloc: Global,
     site: &mut S,

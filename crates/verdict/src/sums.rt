@@ -1,6 +1,7 @@
 //! What the inputs of phony edges come to.
 
-ghost use Rattle.std.specs.Prelude.{◌≡◌, ℕ, List, Bool, true, false, IfSome};
+ghost use Rattle.std.specs.Prelude.{◌≡◌, ◌++◌, ◌&&◌, not, ℕ, List, [], ◌∷◌, Bool, true, false, if◌then◌else◌, IfSome, OnErr};
+ghost use Rattle.indexmap.specs.IndexMap.{IsEmpty, IsUnchanged};
 ghost use Rattle.model.specs.Graph.{has_number};
 ghost use Rattle.links.specs.declared.graph.Graph.{Graph};
 ghost use Rattle.looks.specs.declared.table.Look.{Look};
@@ -11,6 +12,9 @@ use dirty::Inputs;
 use indexmap::IndexMap;
 use paths::EdgeId;
 use std::alloc::{AllocError, Global};
+
+/// Room for so many sums goes only where none is left.
+const LITTLE: usize = 64;
 
 /// What the inputs that phony edges read come to, so that many edges that read through one do not look at each of them again. It is
 /// right as long as what was seen of files is not forgotten, no path is made anew and the graph stays. At the end of a command that
@@ -40,18 +44,37 @@ impl Sums {
     pub fn clear(&mut self)
         ensures summed { (graph : Graph) (flags : List Bool) (seen : List Look) → AreSums graph flags seen self.new }
         ensures marked { (graph : Graph) (flags : List Bool) (seen : List Look) → AreMarked graph flags seen self.new }
+        ensures empty { IsEmpty self.new.by_edge }
     {
         self.by_edge = IndexMap::new(self.alloc);
         self.passing = Vec::new(self.alloc);
     }
 
     /// Forgets what was made of paths that commands make, as is needed where one has ended. It takes a step for each sum that it
-    /// forgets.
+    /// forgets. Where none is left, all memory goes. Where those that are left fill less than a quarter of the room, all but room for
+    /// twice as many goes, unless it is little; those are moved then, in a step for each, fewer than the sums that were noted while
+    /// the room grew. Nothing fails: where a smaller block is refused, the larger one stays.
     pub fn forget_made(&mut self)
         ensures { LeavesLasting self.old self.new }
     {
+        let room = self.by_edge.capacity();
         while let Some(edge) = self.passing.pop() {
             self.by_edge.swap_remove(&edge);
+        }
+        self.give_back(room);
+    }
+
+    /// Gives room back: all where no sum is left, and where less than a quarter of it is used, all but for twice as many sums.
+    /// `room` is how much there was before sums were taken out: a map counts less of it afterwards.
+    fn give_back(&mut self, room: usize)
+        ensures kept { IsUnchanged self.old.by_edge self.new.by_edge }
+    {
+        let left = self.by_edge.len();
+        if left == 0 {
+            self.clear();
+        } else if room > LITTLE && left < room / 4 {
+            self.by_edge.shrink_to(2 * left);
+            self.passing.shrink_to_fit();
         }
     }
 
@@ -63,7 +86,7 @@ impl Sums {
     }
 
     /// Notes what the phony edge reads comes to, and whether that lasts. One that does not is noted only where there is room to
-    /// say so.
+    /// say so. Where the sum is refused, nothing is said either.
     pub(crate) fn note(
         &mut self,
         edge: EdgeId,
@@ -72,17 +95,23 @@ impl Sums {
     ) -> Result<(), AllocError>
         ensures summed { (graph : Graph) (flags : List Bool) (seen : List Look) → AreSums graph flags seen self.old → IsSum graph flags seen edge inputs → AreSums graph flags seen self.new }
         ensures marked { StayMarkedWith lasts edge inputs self.old self.new }
+        ensures refused { OnErr result (self.new.passing.items ≡ self.old.passing.items) }
     {
+        let marks = self.passing.len();
         if !self.mark(edge, lasts) {
             return Ok(());
         }
-        self.by_edge.insert(edge, inputs)?;
+        if let Err(refused) = self.by_edge.insert(edge, inputs) {
+            self.passing.truncate(marks);
+            return Err(refused.into());
+        }
         Ok(())
     }
 
     /// Marks the edge as one whose sum does not last, where it does not. Says whether there was room for that.
     fn mark(&mut self, edge: EdgeId, lasts: bool) -> bool
         ensures by_edge { self.new.by_edge ≡ self.old.by_edge }
+        ensures pushed { self.new.passing.items ≡ self.old.passing.items ++ (if result && not lasts then edge ∷ [] else []) }
         ensures others { (q : ℕ) → has_number self.new.passing.items q ≡ false → has_number self.old.passing.items q ≡ false }
         ensures marked { result ≡ true → lasts ≡ false → has_number self.new.passing.items edge ≡ true }
     {

@@ -6,8 +6,8 @@ use Rattle.depfile.proofs.Escapes.{plain_run_signs}
 use Rattle.depfile.proofs.Parts.{same_piece}
 use Rattle.depfile.proofs.pieces.piece_at.Goals as goal
 
-pub returns-then-not-is_empty-clause-piece : goal.returns-then-not-is_empty-clause-piece
-returns-then-not-is_empty-clause-piece c =
+pub returns-then-begins_with-clause-piece : goal.returns-then-begins_with-clause-piece
+returns-then-begins_with-clause-piece c =
     let some : 0 < length c.split_run.result.0.now = grind arith in
     same_piece c.args.text.now c.split_run.result.0 c.split_run.result.1.now c.split_run.ensures.spelled some
     (ap signs c.split_run.ensures.spelled ∙ plain_run_signs c.split_run.result.0.now c.split_run.result.1.now (rw c.split_run.ensures.run (run_passes class.Plain c.args.text.now)))

@@ -1,14 +1,17 @@
-use Rattle.std.proofs.Common.{◌≡◌, ℕ, subst, length, arith}
+use Rattle.std.proofs.Common.{◌≡◌, ◌+◌, ℕ, ap, sym, subst, length, arith}
 use Rattle.links.specs.Rooms.{AreLaid}
-use Rattle.links.proofs.Laying.{laid_none, laid_next}
+use Rattle.links.proofs.Laying.{laid_none}
 use Rattle.links.proofs.users.lay_rooms.Goals as goal
 
 pub loop-count-init : goal.loop-count-init
 loop-count-init c = laid_none c.args.rooms.now.items c.requires
 
+pub lay_room-requires : goal.lay_room-requires
+lay_room-requires c = subst (λ (n : ℕ). AreLaid n c.loop-count.end c.loop-count.rooms.items) (sym {A = ℕ} c.loop-count.invariant.fits) c.loop-count.invariant
+
 pub loop-count-preserved : goal.loop-count-preserved
 loop-count-preserved c =
-    laid_next c.loop-count.count-index c.loop-count.end c.in-Some.next c.loop-count.rooms.items c.push.new.self.items c.loop-count.invariant (omega (arith, c.in-Some.ensures.1)) c.in_ok-push.ensures.items
+    subst (λ (n : ℕ). AreLaid n c.in_ok-end.end c.lay_room.new.rooms.items) (ap (λ (n : ℕ). n + 1) c.loop-count.invariant.fits) c.in_ok-end.ensures
 
 pub returns : goal.returns
 returns c =

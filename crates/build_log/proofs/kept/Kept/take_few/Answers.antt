@@ -1,25 +1,16 @@
-use Rattle.std.proofs.Common.{◌∷◌, [], List, ℕ, sym, subst, length, arith}
-use Rattle.build_log.specs.Taken.{AreTakenFrom}
-use Rattle.build_log.proofs.Notes.{taken_one, taken_within, front_taken}
+use Rattle.std.proofs.Common.{◌∷◌, [], arith}
+use Rattle.build_log.proofs.Notes.{at_some, taken_one}
 use Rattle.build_log.proofs.kept.Kept.take_few.Goals as goal
 
-pub front_before-front-requires : goal.front_before-front-requires
-front_before-front-requires g c = taken_within _ c.args.bytes.now (length c.in_ok-few.few.items) c.in_ok-few.few.items c.in_ok-few.after.now c.in_ok-few.ensures.taken
-
-pub note_run-requires : goal.note_run-requires
-note_run-requires g c =
-    let few = c.in_ok-few.few.items in
-    let front = c.front_before-front.result.now in
-    subst (λ (ns : List ℕ). AreTakenFrom c.take_known.new.self front (length ns) ns []) (sym c.as_slice.ensures.value) (front_taken c.take_known.new.self c.args.bytes.now (length few) few c.in_ok-few.after.now front c.in_ok-few.ensures.taken c.front_before-front.ensures)
-
-pub returns-in-Some-clause-taken : goal.returns-in-Some-clause-taken
-returns-in-Some-clause-taken g c =
-    let number = c.in-Some.number in
-    let found = c.in-Some.ensures.taken in
+pub returns-in_ok-push-in-Ok-Some-clause-taken : goal.returns-in_ok-push-in-Ok-Some-clause-taken
+returns-in_ok-push-in-Ok-Some-clause-taken g c =
+    let number = c.in-Ok-Some.number in
+    let after = c.in-Ok-Some.after in
+    let found = at_some _ c.in-Ok-Some.field-0 (number, after) c.in-Ok-Some.field-0-is c.in-Ok-Some.ensures.taken in
     record {
       more = number ∷ [];
-      pushed = c.in_ok-push.ensures.items;
+      pushed = c.in_ok-push-in-Ok-Some.ensures.items;
       some = omega arith;
       few = c.requires.most;
-      taken = taken_one c.take_known.new.self c.args.bytes.now number found.0 c.in-Some.after.now found.1 found.2 found.3;
+      taken = taken_one c.take_known.new.self c.args.bytes.now number found.0 after.now found.1 found.2 found.3;
     }

@@ -17,5 +17,5 @@ returns-clause-walk c =
       asked = c.requires.at.asked;
       at = subst (λ (l : List ℕ). IsWalkAt (links_of walk.graph.now) walk.requested.now l marks walk.left.items c.pop.new.self.items) (sym {A = List ℕ} c.in_ok-push.ensures.items)
           (subst (λ (l : List ℕ). IsWalkAt (links_of walk.graph.now) walk.requested.now (walk.order.items ++ c.args.edge ∷ []) marks walk.left.items l) (sym {A = List ℕ} popped)
-          (subst (λ (n : ℕ). IsWalkAt (links_of walk.graph.now) walk.requested.now (walk.order.items ++ c.args.edge ∷ []) (set walk.marks.items n Listed) walk.left.items (take (length walk.stack.items - 1) walk.stack.items)) (sym {A = ℕ} c.index.ensures.place) (walk_list (links_of walk.graph.now) walk.requested.now walk.order.items walk.marks.items walk.left.items walk.stack.items c.requires.at.at c.args.edge c.requires.last c.requires.none)));
+          (subst (λ (n : ℕ). IsWalkAt (links_of walk.graph.now) walk.requested.now (walk.order.items ++ c.args.edge ∷ []) (set walk.marks.items n Listed) walk.left.items (take (length walk.stack.items - 1) walk.stack.items)) (sym {A = ℕ} c.index.ensures.place) (walk_list (links_of walk.graph.now) walk.requested.now walk.order.items walk.marks.items walk.left.items walk.stack.items c.requires.at.at c.args.edge c.requires.last c.requires.all)));
     }

@@ -9,13 +9,9 @@ use Rattle.links.proofs.walk.Walk.open.Goals as goal
 pub returns-clause-walk : goal.returns-clause-walk
 returns-clause-walk c =
     let walk = c.args.self.now in
-    let marks = set walk.marks.items c.index.result Open in
-    let left = set walk.left.items c.index-2.result c.need_count.result in
     record {
       same = c.requires.at.same;
       asked = c.requires.at.asked;
-      at = subst (λ (l : List ℕ). IsWalkAt (links_of walk.graph.now) walk.requested.now walk.order.items marks left l) (sym {A = List ℕ} c.in_ok-push.ensures.items)
-          (subst (λ (n : ℕ). IsWalkAt (links_of walk.graph.now) walk.requested.now walk.order.items (set walk.marks.items n Open) left (walk.stack.items ++ c.args.edge ∷ [])) (sym {A = ℕ} c.index.ensures.place)
-          (subst (λ (n : ℕ). IsWalkAt (links_of walk.graph.now) walk.requested.now walk.order.items (set walk.marks.items c.args.edge Open) (set walk.left.items n c.need_count.result) (walk.stack.items ++ c.args.edge ∷ [])) (sym {A = ℕ} c.index-2.ensures.place)
-          (walk_open (links_of walk.graph.now) walk.requested.now walk.order.items walk.marks.items walk.left.items walk.stack.items c.requires.at.at c.args.edge c.need_count.result (omega arith) c.need_count.ensures c.requires.unseen c.requires.needed c.requires.awaited)));
+      at = subst (λ (l : List ℕ). IsWalkAt (links_of walk.graph.now) walk.requested.now walk.order.items (set walk.marks.items c.index.result Open) walk.left.items l) (sym {A = List ℕ} c.in_ok-push.ensures.items)
+          (subst (λ (n : ℕ). IsWalkAt (links_of walk.graph.now) walk.requested.now walk.order.items (set walk.marks.items n Open) walk.left.items (walk.stack.items ++ c.args.edge ∷ [])) (sym {A = ℕ} c.index.ensures.place) (walk_open (links_of walk.graph.now) walk.requested.now walk.order.items walk.marks.items walk.left.items walk.stack.items c.requires.at.at c.args.edge (omega arith) c.requires.unseen c.requires.needed c.requires.awaited));
     }

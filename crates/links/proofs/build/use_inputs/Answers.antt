@@ -6,7 +6,7 @@ use Rattle.links.proofs.Lists.{length-pushed}
 use Rattle.links.proofs.Makes.{inputs_within}
 use Rattle.links.proofs.Parts.{all_index}
 use Rattle.links.proofs.Turns.{users_next}
-use Rattle.links.proofs.build.users_of.Goals as goal
+use Rattle.links.proofs.build.use_inputs.Goals as goal
 
 pub push_all-requires : goal.push_all-requires
 push_all-requires c =

@@ -1,7 +1,7 @@
 use Rattle.std.proofs.Common.{◌≡◌, ℕ, cond, nat_lt, length}
 use Rattle.paths.specs.Lists.{line_at, line_inputs}
 use Rattle.links.specs.Held.{list_at, times}
-use Rattle.links.proofs.build.users_of.Given as goal
+use Rattle.links.proofs.build.use_inputs.Given as goal
 
 abbrev pub invariant-loop-place : goal.invariant-loop-place
 invariant-loop-place l = record {
