@@ -10,6 +10,7 @@ import subprocess
 import time
 
 import ground
+import own
 from ground import is_idle, write
 
 JOBS = 4
@@ -150,40 +151,22 @@ class Tree:
         return ground.run([self.place.nj, "-j", str(JOBS), "-v"], self.folder, {"TRACE": self.trace})
 
 
-def of_session(number):
-    """The processes of a session that have not ended."""
-    found = []
-    for name in os.listdir("/proc"):
-        if not name.isdigit():
-            continue
-        try:
-            with open(f"/proc/{name}/stat", encoding="utf-8", errors="replace") as it:
-                fields = it.read().rsplit(")", 1)[1].split()
-        except OSError:
-            continue
-        if int(fields[3]) == number and fields[0] not in "ZX":
-            found.append(int(name))
-    return found
-
-
-def wait_for_session(number):
-    end = time.monotonic() + 60
-    while of_session(number):
-        if time.monotonic() > end:
-            raise RuntimeError("commands of a killed build do not end")
-        time.sleep(0.005)
+def wait_for_commands(build):
+    """Waits for the commands of a build that has ended. They are of its group, and orphans of it are children of this process."""
+    if not own.wait_for_group(build.pid):
+        raise RuntimeError("commands of a killed build do not end")
 
 
 def kill_all(build, number):
     os.killpg(build.pid, number)
     build.wait()
-    wait_for_session(build.pid)
+    wait_for_commands(build)
 
 
 def kill_alone(build, number):
     os.kill(build.pid, number)
     build.wait()
-    wait_for_session(build.pid)
+    wait_for_commands(build)
 
 
 class Round:
@@ -227,7 +210,7 @@ def rounds(place, tree, name, count, kill, number):
         try:
             build.wait(wait)
             span = 0.9 * span + 0.1 * (time.monotonic() - begun) * 1.1
-            wait_for_session(build.pid)
+            wait_for_commands(build)
         except subprocess.TimeoutExpired:
             kill(build, number)
             hits += 1
@@ -250,7 +233,7 @@ def edits_meanwhile(place, tree, count):
             time.sleep(tree.chance.uniform(0, 0.15))
             changed += tree.edit()
         build.wait()
-        wait_for_session(build.pid)
+        wait_for_commands(build)
         one = Round(tree, f"edits while a build runs {turn}")
         tree.begun_and_ended()
         one.finish(changed)
@@ -286,7 +269,7 @@ def right_behind(place, tree, count, number):
         place.expect(not told, where, ground.in_short(told))
         place.expect(not left_files(tree), where, f"left: {left_files(tree)}")
         place.expect(is_idle(tree.build()), where, "the build behind that has something to do")
-        wait_for_session(build.pid)
+        wait_for_commands(build)
         told = tree.wrong_outputs()
         place.expect(not told, where, f"once all had ended, {ground.in_short(told)}")
         tree.begun_and_ended()
@@ -356,7 +339,7 @@ def calls(place, tree, count):
         strace = ["strace", "-o", listed, "-e", f"trace={kind}", "-e", f"inject={kind}:signal=KILL:when={when}"]
         build = tree.start(*strace)
         build.wait()
-        wait_for_session(build.pid)
+        wait_for_commands(build)
         with open(listed, encoding="utf-8", errors="replace") as it:
             hits += "killed by SIGKILL" in it.read()
         Round(tree, f"{kind} {when} ({turn})").finish(changed, JOBS + 1)
