@@ -25,10 +25,6 @@ one_more_blank text between rest far is = record {
   shorter = let a = far.shorter in let b = is.shorter in omega arith;
 }
 
--- a line's end behind blanks ends the rule
-pub ends_here : (text between rest : List ℕ) → IsBehindBlanks text between → IsSeparated between newline rest → IsToken text RuleEnd rest
-ends_here text between rest far is = record { start = between; blanks = far; here = inl (is.signs_are, is.shorter) }
-
 blank_inputs : (text : List Sign) → inputs (blank ∷ text) ≡ inputs text
 blank_inputs text = by (slice_split is_newline text)
   where

@@ -60,6 +60,10 @@ pub record IsBehindBlanks (text rest : List ℕ) : Type 0 where
   pub signs_are : signs text ≡ blanks ++ signs rest
   pub shorter : length rest ≤ length text
 
+abbrev pub is_at_blank : Option (Sign × List ℕ) → Bool
+is_at_blank None = false
+is_at_blank (Some found) = is_blank found.0
+
 abbrev pub EndsRule : List ℕ → List ℕ → Type 0
 EndsRule text rest = ((signs text ≡ newline ∷ signs rest) × (length rest < length text)) ⊎ ((text ≡ []) × (rest ≡ []))
 

@@ -1,11 +1,12 @@
 //! The words of a depfile and where rules end.
 
-ghost use Rattle.std.specs.Prelude.{◌≡◌, None, true, false, IfOk, IfSome, IfNone, IsTrue, string_bytes};
+ghost use Rattle.std.specs.Prelude.{◌≡◌, true, false, IfOk, IfSome, IfNone, string_bytes};
 ghost use Rattle.depfile.specs.Signs.{signs, spelled};
+ghost use Rattle.depfile.specs.Signs.Sign.{blank};
 ghost use Rattle.depfile.specs.Pieces.{NoWord, separator_of};
-ghost use Rattle.depfile.specs.Words.{IsWord, IsToken, IsBehindBlanks, WordSoFar, front_word};
+ghost use Rattle.depfile.specs.Words.{IsWord, IsToken, IsBehindBlanks, WordSoFar, front_word, is_at_blank};
 
-use crate::characters::{Class, begins_with, split_run, strip_one};
+use crate::characters::{Class, split_run, strip_one};
 use crate::pieces::piece_at;
 use crate::separators::{Separator, is_word_end, separator_at};
 use std::alloc::{AllocError, Global};
@@ -37,10 +38,10 @@ pub fn word_at(text: &str) -> Option<(Word<'_>, &str)>
     ensures word { IfSome result (λ found. IsWord text.now found.0 found.1.now) }
     ensures none { IfNone result (NoWord text.now) }
 {
-    if !begins_with(text, Class::Plain) {
+    let (run, after) = split_run(text, Class::Plain);
+    if run.is_empty() {
         return word_of_pieces(text);
     }
-    let (run, after) = split_run(text, Class::Plain);
     if is_word_end(after) {
         return Some((plain_word(text, run, false), after));
     }
@@ -140,21 +141,16 @@ pub fn spelling(alloc: Global, text: &str) -> Result<String, AllocError>
     Ok(word)
 }
 
-/// What stands behind the blanks, of which there may be none, and behind the line's end that ends the rule there, where
-/// one does.
-fn skip_blanks(text: &str) -> (&str, bool)
-    ensures ends { IsTrue result.1 → IsToken text.now Token.RuleEnd result.0.now }
-    ensures blanks { result.1 ≡ false → IsBehindBlanks text.now result.0.now }
-    ensures all { result.1 ≡ false → separator_of result.0.now ≡ None }
+/// What stands behind the blanks, of which there may be none.
+fn skip_blanks(text: &str) -> &str
+    ensures blanks { IsBehindBlanks text.now result.now }
+    ensures all { is_at_blank (separator_of result.now) ≡ false }
 {
     let mut at = text;
-    'blanks: loop {
-        match separator_at(at) {
-            Some((Separator::Blank, rest)) => at = rest,
-            Some((Separator::Newline, rest)) => return (rest, true),
-            None => return (at, false),
-        }
+    'blanks: while let Some((Separator::Blank, rest)) = separator_at(at) {
+        at = rest;
     }
+    at
 }
 
 /// The word or the end of a rule that stands first, and what stands behind it. The end of the text ends a
@@ -163,12 +159,12 @@ fn skip_blanks(text: &str) -> (&str, bool)
 pub fn token_at(text: &str) -> (Token<'_>, &str)
     ensures { IsToken text.now result.0 result.1.now }
 {
-    let (start, is_rule_end) = skip_blanks(text);
-    if is_rule_end {
-        return (Token::RuleEnd, start);
+    let start = skip_blanks(text);
+    if let Some((word, rest)) = word_at(start) {
+        return (Token::Name(word), rest);
     }
-    match word_at(start) {
-        Some((word, rest)) => (Token::Name(word), rest),
+    match separator_at(start) {
+        Some((_, rest)) => (Token::RuleEnd, rest),
         None => (Token::RuleEnd, start),
     }
 }

@@ -1,5 +1,5 @@
 use Rattle.std.proofs.Common.{rules}
-use Rattle.depfile.proofs.Lines.{one_more_blank, ends_here}
+use Rattle.depfile.proofs.Lines.{one_more_blank}
 use Rattle.depfile.proofs.words.skip_blanks.Goals as goal
 
 pub blanks-preserved : goal.blanks-preserved
@@ -7,7 +7,3 @@ blanks-preserved c = record {
   utf8 = search rules;
   far = one_more_blank c.args.text.now c.blanks.at.now c.in-Some-Blank-default.rest.now c.blanks.invariant.far (rw c.in-Some-Blank-default.field-0-0-is at c.in-Some-Blank-default.ensures.begins);
 }
-
-pub returns-in-Some-Newline-default-clause-ends : goal.returns-in-Some-Newline-default-clause-ends
-returns-in-Some-Newline-default-clause-ends c _ =
-    ends_here c.args.text.now c.blanks.at.now c.in-Some-Newline-default.rest.now c.blanks.invariant.far (rw c.in-Some-Newline-default.field-0-0-is at c.in-Some-Newline-default.ensures.begins)
