@@ -27,6 +27,7 @@ impl Digest {
         self.number(count as u64);
     }
 
+    /// The bytes of a text, and how many there are.
     pub fn text(&mut self, text: &str) {
         self.bytes(text.as_bytes());
     }

@@ -181,7 +181,7 @@ fn add_read(alloc: Global, site: &mut Sim<Toy>, digest: &mut Digest) -> Result<(
     add_outcome(alloc, &outcome, digest)
 }
 
-/// Takes in what was read, or why nothing was.
+/// Takes in what the build files declare, or why nothing was read.
 fn add_outcome(
     alloc: Global,
     outcome: &Result<Reading<'_>, Report>,
