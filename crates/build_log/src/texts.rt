@@ -262,7 +262,7 @@ impl Texts {
         missed < PATIENCE || missed % SELDOM == 0
     }
 
-    /// Whether the text with this number is one of the two that came behind `last` most lately.
+    /// Whether the text with this number is one of the two that are noted behind `last`.
     #[inline(always)]
     fn is_noted(&self, last: usize, number: u32) -> bool {
         match self.notes.get(last) {

@@ -3,10 +3,9 @@
 ghost use Rattle.std.specs.Prelude.{◌≡◌, ◌<◌, ◌^◌, ◌≤◌, ◌++◌, ◌∷◌, ℕ, Some, [], map, length, IfOk, IfErr, OnOk, OnErr};
 ghost use Rattle.std.proofs.Math.ListN.{replicate};
 ghost use Rattle.paths.specs.Numbers.{HaveOnePlace};
-ghost use Rattle.paths.specs.Lists.{line_at};
 ghost use Rattle.links.specs.Held.{AreMakers, DyndepsAreInputs, AreRecorded, AreUsers};
 ghost use Rattle.links.specs.Extended.{addition_of};
-ghost use Rattle.links.specs.Statements.{HasMore, AreNumbersIn, AreGainsIn, AreGrownLines, AreChoicesBelow, line_with, action_with, loaded_action, AreLoadedActions, HasOnlyMore, IsLoadedManifest, IsLoadFault, IsPartsFault, extend_fault_of};
+ghost use Rattle.links.specs.Statements.{HasMore, AreNumbersIn, AreGainsIn, AreGrownLines, AreChoicesBelow, action_with, loaded_action, AreLoadedActions, HasOnlyMore, IsLoadedManifest, IsLoadFault, IsPartsFault, extend_fault_of};
 
 use crate::build::use_inputs;
 use crate::fault::{ExtendFault, GraphFault};

@@ -70,8 +70,8 @@ impl Users {
         Ok(Users { edges, rooms })
     }
 
-    /// So many paths that no edge names, with the room that lists of two edges or more have here, as `with_rooms` lays it out, and for
-    /// so many edges more. What lists left when they moved is not there.
+    /// So many paths that no edge names, with rooms of two places and more as they are here, laid out as `with_rooms` does, and places
+    /// for so many edges more. There are places for what lists left when they moved as well, though nothing of it is laid out.
     pub(crate) fn emptied(
         &self,
         alloc: Global,
@@ -80,8 +80,7 @@ impl Users {
     ) -> Result<Users, AllocError>
         ensures { IfOk result (λ users. users ≡ replicate paths []) }
     {
-        let mut rooms = Vec::with_capacity(alloc, paths)?;
-        let end = lay_again(&mut rooms, &self.rooms, paths)?;
+        let (rooms, end) = laid_again(alloc, &self.rooms, paths)?;
         let mut edges = Vec::with_capacity(alloc, self.edges.len().saturating_add(more))?;
         edges.resize(end, EdgeId::at_below(0))?;
         Ok(Users { edges, rooms })
@@ -256,15 +255,33 @@ fn sum(counts: &[usize]) -> usize {
     sum
 }
 
-/// Puts an empty room for each of so many paths behind the one before it, of which there is none yet, as large as it was, and gives the
-/// end of the last.
-fn lay_again(rooms: &mut Vec<Room>, old: &[Room], paths: usize) -> Result<usize, AllocError>
-    requires { rooms.old.items ≡ [] }
-    ensures { IfOk result (λ end. AreLaid paths end rooms.new.items) }
+/// Rooms for so many paths, empty, each behind the one before it and as large as it is here, and the end of the last. A room of one
+/// place is laid out without it, and so is a path that is not here.
+fn laid_again(alloc: Global, old: &[Room], paths: usize) -> Result<(Vec<Room>, usize), AllocError>
+    ensures { IfOk result (λ laid. AreLaid paths laid.1 laid.0.items) }
+{
+    let mut rooms = Vec::with_capacity(alloc, paths)?;
+    rooms.extend_from_slice(&old[..old.len().min(paths)])?;
+    rooms.resize(paths, Room::NONE)?;
+    let end = lay_again(rooms.as_mut_slice())?;
+    Ok((rooms, end))
+}
+
+/// Empties each room and puts it behind the one before it, without its place if it is of one, and gives the end of the last.
+fn lay_again(rooms: &mut [Room]) -> Result<usize, AllocError>
+    ensures { IfOk result (λ end. AreLaid (length rooms.old) end rooms.new) }
 {
     let mut end = 0usize;
-    for place in 0..paths {
-        end = lay_room(rooms, end, places_again(old, place))?;
+    for room in rooms.iter_mut() {
+        let Some(next) = end.checked_add(laid_places(room.end.saturating_sub(room.start))) else {
+            return Err(AllocError);
+        };
+        *room = Room {
+            start: end,
+            stop: end,
+            end: next,
+        };
+        end = next;
     }
     Ok(end)
 }
@@ -283,16 +300,6 @@ fn lay_room(rooms: &mut Vec<Room>, end: usize, places: usize) -> Result<usize, A
         end: next,
     })?;
     Ok(next)
-}
-
-/// How many places the room of a path has, where two edges or more name it.
-fn places_again(rooms: &[Room], place: usize) -> usize {
-    match rooms.get(place) {
-        Some(room) if room.stop.saturating_sub(room.start) > 1 => {
-            room.end.saturating_sub(room.start)
-        }
-        _ => 0,
-    }
 }
 
 /// Copies what stands between two places to the end, puts an edge behind it, and makes as many places again. Gives the

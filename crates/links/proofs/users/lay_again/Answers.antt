@@ -1,14 +1,15 @@
-use Rattle.std.proofs.Common.{◌+◌, ℕ, ap, sym, subst}
-use Rattle.links.specs.Rooms.{AreLaid}
-use Rattle.links.proofs.Laying.{laid_none}
+use Rattle.std.proofs.Common.{◌≡◌, ◌<◌, ◌+◌, ◌∙◌, ℕ, suc, ap, length, take, slice_set, arith}
+use Rattle.std.proofs.Math.Seq.{take-suc-set}
+use Rattle.links.specs.declared.users.Room.{Room}
+use Rattle.links.proofs.Laying.{laid_next}
 use Rattle.links.proofs.users.lay_again.Goals as goal
 
-pub loop-place-init : goal.loop-place-init
-loop-place-init c = laid_none c.args.rooms.now.items c.requires
-
-pub lay_room-requires : goal.lay_room-requires
-lay_room-requires c = subst (λ (n : ℕ). AreLaid n c.loop-place.end c.loop-place.rooms.items) (sym {A = ℕ} c.loop-place.invariant.fits) c.loop-place.invariant
-
-pub loop-place-preserved : goal.loop-place-preserved
-loop-place-preserved c =
-    subst (λ (n : ℕ). AreLaid n c.in_ok-end.end c.lay_room.new.rooms.items) (ap (λ (n : ℕ). n + 1) c.loop-place.invariant.fits) c.in_ok-end.ensures
+pub loop-room-preserved : goal.loop-room-preserved
+loop-room-preserved c =
+    let k = c.loop-room.room-index in
+    let rooms = c.loop-room.rooms in
+    let laid : Room = record { start = c.loop-room.end; stop = c.loop-room.end; end = c.in-Some.next } in
+    let one : k + 1 ≡ suc k = omega arith in
+    let within : k < length rooms = omega (arith, c.loop-room-test.true, c.loop-room.auto.room-index-end) in
+    laid_next k c.loop-room.end c.in-Some.next (take k rooms) (take (k + 1) (slice_set rooms k laid)) c.loop-room.invariant (omega (arith, c.in-Some.ensures.1))
+    (ap (λ (n : ℕ). take n (slice_set rooms k laid)) one ∙ take-suc-set rooms k laid within)

@@ -1,6 +1,6 @@
-use Rattle.std.proofs.Common.{◌∷◌, [], List, ℕ, sym, subst, length, arith}
+use Rattle.std.proofs.Common.{[], List, ℕ, sym, subst, length}
 use Rattle.build_log.specs.Taken.{AreTakenFrom}
-use Rattle.build_log.proofs.Notes.{taken_one, taken_within, front_taken}
+use Rattle.build_log.proofs.Notes.{taken_within, front_taken}
 use Rattle.build_log.proofs.kept.Kept.take_run.Goals as goal
 
 pub front_before-front-requires : goal.front_before-front-requires

@@ -2,4 +2,4 @@ use Rattle.links.proofs.Laying.{laid_view}
 use Rattle.links.proofs.users.Users.emptied.Goals as goal
 
 pub returns : goal.returns
-returns c = laid_view _ _ _ c.lay_again.new.rooms.items c.in_ok-end.ensures
+returns c = laid_view _ _ _ c.in_ok-rooms.rooms.items c.in_ok-rooms.ensures
