@@ -162,19 +162,23 @@ impl<T: Drop> Kept<T> {
         ensures taken { TakesSome result self.new.outputs bytes.now most numbers.old.items numbers.new.items }
     {
         let last = last_of(numbers.as_slice());
-        if let Some((number, after)) = self.outputs.take_by_sum(last, bytes) {
-            numbers.push(number)?;
-            return Ok(Some(after));
-        }
+        let missed = match self.outputs.take_by_sum(last, bytes) {
+            Ok((number, after)) => {
+                numbers.push(number)?;
+                return Ok(Some(after));
+            }
+            Err(missed) => missed,
+        };
         if let Some((run, after)) = self.outputs.follow_run(last, bytes, most) {
             numbers.extend_from_slice(run)?;
             return Ok(Some(after));
         }
-        self.take_few(alloc, last, bytes, most, numbers)
+        self.take_few(alloc, last, bytes, most, missed, numbers)
     }
 
-    /// The same, where no run that came behind `last` stands in front. What came behind it one by one is a run from now on, where
-    /// there is room for one; a text that only its sum told begins none.
+    /// The same, where no run that came behind `last` stands in front, and `missed` is what seems to stand there if its sum tells no
+    /// text. What came behind `last` one by one is a run from now on, where there is room for one; a text that only its sum told begins
+    /// none.
     #[inline(never)]
     fn take_few<'a>(
         &mut self,
@@ -182,6 +186,7 @@ impl<T: Drop> Kept<T> {
         last: usize,
         bytes: &'a [u8],
         most: usize,
+        missed: Option<Front>,
         numbers: &mut Vec<usize>,
     ) -> Result<Option<&'a [u8]>, AllocError>
         requires line_feed { Lacks 10 bytes.now }
@@ -191,7 +196,7 @@ impl<T: Drop> Kept<T> {
         ensures grown { IsGrown self.old self.new }
         ensures taken { TakesSome result self.new.outputs bytes.now most numbers.old.items numbers.new.items }
     {
-        match self.outputs.take_known(last, bytes) {
+        match self.outputs.take_known(last, bytes, missed) {
             Ok(Some((number, after))) => {
                 numbers.push(number)?;
                 Ok(Some(after))

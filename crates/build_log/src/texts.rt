@@ -186,7 +186,8 @@ impl Texts {
     }
 
     /// The number of the text whose field stands in front, and what stands behind the field and its tab, where enough texts before
-    /// it in its list were told by their sums alone, and it is told so too. In front of a list's first text `last` is no number.
+    /// it in its list were told by their sums alone, and it is told so too. In front of a list's first text `last` is no number. A text
+    /// that is not told so is answered by an error, with what seems to stand in front where its sum was made and tells no text.
     ///
     /// Where the text was noted behind `last`, the list is in an order that came before: the texts behind it are told by the ones
     /// in front of them again.
@@ -195,37 +196,38 @@ impl Texts {
         &mut self,
         last: usize,
         bytes: &'a [u8],
-    ) -> Option<(usize, &'a [u8])>
+    ) -> Result<(usize, &'a [u8]), Option<Front>>
         ensures same { self.new ≡ self.old }
-        ensures taken { IfSome result (λ parts. IsTaken self.new bytes.now parts.0 parts.1.now) }
+        ensures taken { IfOk result (λ parts. IsTaken self.new bytes.now parts.0 parts.1.now) }
     {
         if last == usize::MAX {
             self.by_sum = 0;
         }
         if self.by_sum < TURNS_BY_SUM {
-            return None;
+            return Err(None);
         }
-        let front = self.front_in(last, bytes)?;
-        let found = self.look(front, bytes);
-        if found.is_none() {
+        let Some(front) = self.front_in(last, bytes) else {
+            return Err(None);
+        };
+        let Some((guess, after)) = self.look(front, bytes) else {
             self.by_sum = 0;
-        }
-        let (guess, after) = found?;
+            return Err(Some(front));
+        };
         if self.is_noted(last, guess.number) {
             self.by_sum = 0;
         }
-        let number = guess.number as usize;
-        Some((number, after))
+        Ok((guess.number as usize, after))
     }
 
     /// The same as `follow`, but for none where a run is to begin behind `last`: of a text that was noted there, or has the sum of
     /// what stands in front and is noted there from now on. A text that neither tells is answered by an error, with what seems to
-    /// stand in front where its sum was made.
+    /// stand in front where its sum was made. Where `missed` has that already, its sum tells no text, and is not asked again.
     #[inline(always)]
     pub(crate) fn take_known<'a>(
         &mut self,
         last: usize,
         bytes: &'a [u8],
+        missed: Option<Front>,
     ) -> Result<Option<(usize, &'a [u8])>, Option<Front>>
         ensures same { self.new ≡ self.old }
         ensures taken { IfOk result (λ found. IfSome found (λ parts. IsTaken self.new bytes.now parts.0 parts.1.now)) }
@@ -237,8 +239,8 @@ impl Texts {
             }
             return Ok(Some((number, after)));
         }
-        if !self.is_to_ask() {
-            return Err(None);
+        if missed.is_some() || !self.is_to_ask() {
+            return Err(missed);
         }
         let Some(front) = self.front_in(last, bytes) else {
             return Err(None);
