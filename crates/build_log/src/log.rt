@@ -121,7 +121,8 @@ impl Records for Log {
 impl Log {
     /// What the text of a log tells, and how it ends. A damaged one tells nothing.
     ///
-    /// Each byte is looked at a few times, and each output is looked up once. An output is copied once, and each text of an act once.
+    /// Each byte is looked at a few times, and each output is looked up once, a new one twice. An output is copied once, and each text of
+    /// an act once.
     pub fn parse(alloc: Global, bytes: &[u8]) -> Result<(Log, Tail), AllocError>
         ensures { IfOk result (λ read. IsParsed forms Keeps bytes.now read.0 read.1) }
     {

@@ -191,7 +191,7 @@ fn parts_of(
     Ok(Parts { makers, users })
 }
 
-/// For how many more edges who names paths takes room at once.
+/// How many places are asked for besides, for the inputs that edges gain.
 fn gained_places(gains: &[Gain]) -> usize {
     let mut count = 0usize;
     for gain in gains {

@@ -276,11 +276,9 @@ fn lay_again(rooms: &mut [Room]) -> Result<usize, AllocError>
         let Some(next) = end.checked_add(laid_places(room.end.saturating_sub(room.start))) else {
             return Err(AllocError);
         };
-        *room = Room {
-            start: end,
-            stop: end,
-            end: next,
-        };
+        room.start = end;
+        room.stop = end;
+        room.end = next;
         end = next;
     }
     Ok(end)
