@@ -9,7 +9,7 @@ import os
 Tree = collections.namedtuple("Tree", "told words without built", defaults=(["no/such"], [], False))
 
 # How much of a log is written at most: its entries, and its bytes. So a tree takes some seconds below callgrind.
-ENTRIES, BYTES = 500_000, 40_000_000
+ENTRIES, BYTES = 600_000, 40_000_000
 
 LENGTHS = [12, 30, 56, 56, 120, 255, 330]
 FRONTS = ["", "", "../", "/home/user/work/", "/home/user/work/"]
@@ -119,8 +119,11 @@ def subset(_, chance):
     return f"{count} of {heads} headers, drawn at random", count, lambda unit, part: chance.sample(range(heads), count)
 
 
-def few_then_run(_, chance):
+def few_then_run(lists, chance):
     few, run = chance.choice([1, 2, 3, 5, 8]), chance.choice([60, 200, 300, 500])
+    # a large tree of C++, of which each part reads a library of its own behind its own headers, is drawn often
+    if chance.random() < .5:
+        lists.parts, lists.mixed = chance.choice([10, 30]), False
     return f"{few} of 100 headers in any order, then {run} in one order", few + run, \
         lambda unit, part: [1000 + it for it in chance.sample(range(100), few)] + list(range(run))
 
