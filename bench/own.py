@@ -54,10 +54,14 @@ def wait_for_group(build, longest=60):
     return True
 
 
-def end_group(build):
-    """Ends all that run in the group of a build that was waited for."""
+def end_group(build, patience=0):
+    """Ends all that run in the group of a build that was waited for: by SIGTERM, where they are given some seconds, and then for good."""
+    end = time.monotonic() + patience
+    if patience and runs_in(build):
+        os.killpg(build.pid, signal.SIGTERM)
     while runs_in(build):
-        os.killpg(build.pid, signal.SIGKILL)
+        if time.monotonic() >= end:
+            os.killpg(build.pid, signal.SIGKILL)
         time.sleep(0.005)
 
 
