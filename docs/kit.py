@@ -18,6 +18,10 @@ class Refused(Exception):
     """What is wrong, and what to do about it, in a line each."""
 
 
+# The signals that end a script, which then ends what it started.
+STOPS = (signal.SIGINT, signal.SIGTERM, signal.SIGHUP)
+
+
 def need(program, what_to_do):
     if not shutil.which(program):
         raise Refused(f"the command {program} is not found: {what_to_do}")
@@ -37,6 +41,12 @@ def version():
     if not told.endswith(f"logic {wanted}"):
         raise Refused(f"this kit is '{told}', and what is here is proved by kits of 'logic {wanted}': put one of these first into PATH")
     return told
+
+
+def memory_free():
+    """How many megabytes of memory are free."""
+    with open("/proc/meminfo", encoding="ascii") as it:
+        return int(re.search(r"^MemAvailable: +(\d+)", it.read(), flags=re.M)[1]) // 1024
 
 
 def crates():
@@ -63,7 +73,7 @@ def below(names):
 
 def crate_of(line):
     """The crate of which a line of a check tells, or None."""
-    named = re.match(r"(?:fn|struct|enum|impl|trait|union|const|static) (\w+)::|crate (\w+): modules ", line)
+    named = re.match(r"(?:checked|fn|struct|enum|impl|trait|union|const|static) (\w+)::|crate (\w+): modules |rt: chose --jobs \d+ for (\w+)$", line)
     return named and next(it for it in named.groups() if it)
 
 
@@ -80,6 +90,7 @@ class Run:
 
     def __init__(self, words, folder, out=None, log=None):
         self.begun = time.monotonic()
+        self.words = words
         self.log = log
         self.process = subprocess.Popen(words, cwd=folder, stdin=subprocess.DEVNULL, stdout=out or subprocess.PIPE,
                                         stderr=subprocess.PIPE if out else subprocess.STDOUT, start_new_session=True)
@@ -118,14 +129,22 @@ class Run:
         return self.process.wait()
 
     def end(self):
-        """Ends the command as ^C would, and where it stays, harder."""
-        for number, patience in ((signal.SIGINT, 20), (signal.SIGTERM, 10), (signal.SIGKILL, 10)):
+        """Ends the command as ^C would, and where it stays, or at a further ^C, harder."""
+        for number, patience in ((signal.SIGINT, 60), (signal.SIGTERM, 10), (signal.SIGKILL, 10)):
             if self.process.poll() is not None:
                 return
             with contextlib.suppress(ProcessLookupError):
                 os.killpg(self.process.pid, number)
-            with contextlib.suppress(subprocess.TimeoutExpired):
-                self.process.wait(patience)
+            with contextlib.suppress(subprocess.TimeoutExpired, KeyboardInterrupt):
+                self.wait_told(patience)
+
+    def wait_told(self, patience):
+        """Waits for the end, and says so where that takes more than a moment."""
+        with contextlib.suppress(subprocess.TimeoutExpired):
+            self.process.wait(2)
+            return
+        print(f"waiting for `{' '.join(self.words[:2])}` to end, at most {patience} s more; ^C again waits no longer", file=sys.stderr, flush=True)
+        self.process.wait(patience)
 
 
 def told_as_line(name, call):
@@ -133,7 +152,7 @@ def told_as_line(name, call):
     def stop(*_):
         raise KeyboardInterrupt
 
-    for number in (signal.SIGINT, signal.SIGTERM, signal.SIGHUP):
+    for number in STOPS:
         signal.signal(number, stop)
     try:
         return call() or 0

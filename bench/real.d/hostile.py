@@ -9,7 +9,8 @@ import subprocess
 import time
 
 import ground
-from ground import Pair, in_short, is_idle, replace, run as run_build, touch, write
+import own
+from ground import Pair, in_short, is_idle, run as run_build, touch, write
 
 CAT = "rule cat\n  command = cat $in > $out\n"
 NOBODY = 65534
@@ -316,7 +317,7 @@ def left_behind(place):
     place.expect(time.monotonic() - begun < 60, case.where, "it was waited for")
     case.rests()
     for number in ground.read(case.folder, "sleepers").split():
-        subprocess.run(["kill", number], check=False)
+        own.end_orphan(int(number))
 
 
 def many_commands(place):

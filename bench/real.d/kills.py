@@ -142,10 +142,8 @@ class Tree:
         return told
 
     def start(self, *before):
-        return subprocess.Popen(
-            [*before, self.place.nj, "-j", str(JOBS)], cwd=self.folder, env={**os.environ, "TRACE": self.trace},
-            stdin=subprocess.DEVNULL, stdout=subprocess.DEVNULL, stderr=subprocess.DEVNULL, start_new_session=True,
-        )
+        return own.start([*before, self.place.nj, "-j", str(JOBS)], cwd=self.folder, env={**os.environ, "TRACE": self.trace},
+                         stdout=subprocess.DEVNULL, stderr=subprocess.DEVNULL)
 
     def build(self):
         return ground.run([self.place.nj, "-j", str(JOBS), "-v"], self.folder, {"TRACE": self.trace})
@@ -153,7 +151,7 @@ class Tree:
 
 def wait_for_commands(build):
     """Waits for the commands of a build that has ended. They are of its group, and orphans of it are children of this process."""
-    if not own.wait_for_group(build.pid):
+    if not own.wait_for_group(build):
         raise RuntimeError("commands of a killed build do not end")
 
 

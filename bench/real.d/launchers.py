@@ -9,6 +9,7 @@ import socket
 import subprocess
 import time
 
+import own
 from ground import Pair, differences, files_of, in_short, is_idle, must_run, replace, run, touch, write
 
 UNITS = 82
@@ -81,8 +82,7 @@ class Daemon:
         self.log = os.path.join(folder, f"{name}.log")
         words = ["distccd", "--no-detach", "--daemon", "--listen", "127.0.0.1", "--port", str(self.port), "--allow", "127.0.0.1",
                  "--jobs", str(SLOTS), "--log-level", "info", "--log-file", self.log]
-        self.process = subprocess.Popen(words, stdin=subprocess.DEVNULL, stdout=subprocess.DEVNULL, stderr=subprocess.DEVNULL,
-                                        start_new_session=True)
+        self.process = own.start(words, stdout=subprocess.DEVNULL, stderr=subprocess.DEVNULL)
 
     def is_up(self):
         for _ in range(100):
@@ -97,11 +97,10 @@ class Daemon:
             return it.read().count("COMPILE_OK")
 
     def kill(self):
-        try:
+        if self.process.poll() is None:
             os.killpg(self.process.pid, signal.SIGKILL)
-        except ProcessLookupError:
-            pass
-        self.process.wait()
+            self.process.wait()
+        own.end_group(self.process)
 
 
 def distcc(place):

@@ -6,6 +6,7 @@ import re
 import signal
 import subprocess
 
+import own
 from kills import kill_all
 from ground import Pair, differences, in_short, is_idle, only_in, touch, write
 
@@ -172,8 +173,7 @@ def step(pair, graph, what, words):
 def cut_off(pair, graph):
     """A build of nj alone that is killed with its commands. What it ran, the next one need not."""
     with pair.at_home("nj") as folder:
-        build = subprocess.Popen([pair.ground.nj, "-j", "3", "-k", "0"], cwd=folder, stdin=subprocess.DEVNULL, stdout=subprocess.DEVNULL,
-                                 stderr=subprocess.DEVNULL, start_new_session=True)
+        build = own.start([pair.ground.nj, "-j", "3", "-k", "0"], cwd=folder, stdout=subprocess.DEVNULL, stderr=subprocess.DEVNULL)
         try:
             build.wait(graph.chance.uniform(0, 0.1))
         except subprocess.TimeoutExpired:

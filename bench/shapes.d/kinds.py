@@ -9,7 +9,7 @@ import os
 Tree = collections.namedtuple("Tree", "told words without built", defaults=(["no/such"], [], False))
 
 # How much of a log is written at most: its entries, and its bytes. So a tree takes some seconds below callgrind.
-ENTRIES, BYTES = 500_000, 40_000_000
+ENTRIES, BYTES = 600_000, 40_000_000
 
 LENGTHS = [12, 30, 56, 56, 120, 255, 330]
 FRONTS = ["", "", "../", "/home/user/work/", "/home/user/work/"]
@@ -119,8 +119,11 @@ def subset(_, chance):
     return f"{count} of {heads} headers, drawn at random", count, lambda unit, part: chance.sample(range(heads), count)
 
 
-def few_then_run(_, chance):
+def few_then_run(lists, chance):
     few, run = chance.choice([1, 2, 3, 5, 8]), chance.choice([60, 200, 300, 500])
+    # a large tree of C++, of which each part reads a library of its own behind its own headers, is drawn often
+    if chance.random() < .5:
+        lists.parts, lists.mixed = chance.choice([10, 30]), False
     return f"{few} of 100 headers in any order, then {run} in one order", few + run, \
         lambda unit, part: [1000 + it for it in chance.sample(range(100), few)] + list(range(run))
 
@@ -252,19 +255,20 @@ def text_of(chance, length, front):
 def scopes(folder, chance):
     """Many files with scopes of their own, and variables below edges."""
     edges, files = chance.choice([2000, 6000]), chance.choice([5, 50, 400])
-    below, uses = chance.choice([0, 1, 4]), chance.choice([0, 2, 8])
+    below, uses, comments = chance.choice([0, 1, 4]), chance.choice([0, 2, 8]), chance.random() < .3
     name, told = text_of(chance, chance.choice([4, 12, 40]), chance.choice(["", "../", "/home/u/w/", "./", "a/../"]))
     top = ["rule c", f"  command = cc {''.join(f'$v{it} ' for it in range(uses))}-c $in -o $out", "  description = CC $out"]
     top += [f"v{it} = -f{'x' * chance.choice([1, 20])}$$y" for it in range(uses)]
     for number in range(files):
         lines = [f"v0 = q{number}"]
         for edge in range(number * edges // files, (number + 1) * edges // files):
+            lines += ["", f"# edge {edge} of the tree"] * comments
             lines.append(f"build {name(edge)}: c {name(10 ** 6 + edge)} || {name(2 * 10 ** 6 + edge % 300)}")
             lines += [f"  FLAGS{it} = -DX{it}=$v0 -Iinclude -O2" for it in range(below)]
         write(folder, f"sub{number}.ninja", lines)
         top.append(f"{chance.choice(['subninja', 'subninja', 'include'])} sub{number}.ninja")
     write(folder, "build.ninja", top)
-    return Tree(f"{edges} edges in {files} files, variables below each: {below}, in its command: {uses}; {told}")
+    return Tree(f"{edges} edges in {files} files, variables below each: {below}, in its command: {uses}{', comments' * comments}; {told}")
 
 
 def long_lines(folder, chance):
