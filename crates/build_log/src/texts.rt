@@ -209,14 +209,14 @@ impl Texts {
         let Some(front) = self.front_in(last, bytes) else {
             return Err(None);
         };
-        let Some((guess, after)) = self.look(front, bytes) else {
+        let Some((found, after)) = self.look(front, bytes) else {
             self.by_sum = 0;
             return Err(Some(front));
         };
-        if self.is_noted(last, guess.number) {
+        if self.is_noted(last, found.number) {
             self.by_sum = 0;
         }
-        Ok((guess.number as usize, after))
+        Ok((found.number as usize, after))
     }
 
     /// The same as `follow`, but for none where a run is to begin behind `last`: of a text that was noted there, or has the sum of
