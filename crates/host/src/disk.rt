@@ -5,8 +5,8 @@ ghost use Rattle.std.specs.Fs.{asks_append, asks_truncate};
 
 use crate::clock::Touches;
 use crate::content::content_of;
-use crate::held::{Node, node_at, node_of};
 use crate::logs::{Logs, is_log};
+use locks::Identity;
 use std::alloc::{AllocError, Global};
 use std::fs::{File, Metadata, OpenOptions};
 use std::io::{ErrorKind, Write};
@@ -52,7 +52,7 @@ struct Kept {
 #[derive(Drop)]
 struct Appended {
     kept: Kept,
-    node: Node,
+    identity: Identity,
 }
 
 impl<'a> Disk<'a> {
@@ -156,7 +156,7 @@ impl<'a> Disk<'a> {
     /// The file at the path, as it was opened the last time, unless the path leads to another one now.
     fn open_appended(&mut self, path: &str) -> io::Result<Appended> {
         if let Some(appended) = self.take_appended(path) {
-            if !is_elsewhere(self.rt, path, appended.node) {
+            if !is_elsewhere(self.rt, path, appended.identity) {
                 return Ok(appended);
             }
             if is_log(path) {
@@ -280,19 +280,19 @@ pub fn appending() -> OpenOptions
 /// Opens the file at the path to be appended to. One that is absent is made.
 fn open_appended(alloc: Global, rt: &HostRuntime, path: &str) -> io::Result<Appended> {
     let file = appending().open(rt, path)?;
-    let node = node_of(&file.metadata()?);
+    let identity = Identity::of(&file.metadata()?);
     let path = String::from_str(alloc, path)?;
     Ok(Appended {
         kept: Kept { path, file },
-        node,
+        identity,
     })
 }
 
 /// Whether the path leads to another file than this one. Where it leads to none, the file was deleted, and what is put behind it is lost,
 /// as the file is.
-fn is_elsewhere(rt: &HostRuntime, path: &str, node: Node) -> bool {
-    match node_at(rt, path) {
-        Some(now) => now != node,
+fn is_elsewhere(rt: &HostRuntime, path: &str, identity: Identity) -> bool {
+    match Identity::at(rt, path) {
+        Some(now) => now != identity,
         None => false,
     }
 }

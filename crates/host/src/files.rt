@@ -4,15 +4,13 @@
 
 use crate::disk::{Disk, writing};
 use crate::process::Streams;
+use locks::{INPUT, OUTPUT, path_in};
 use std::alloc::{AllocError, Global};
 use std::fs::{File, OpenOptions};
 use std::io::{Read, Seek, SeekFrom};
 use std::os::fd::AsRawFd;
 use std::{fs, io};
 use text::Bytes;
-
-/// What commands read.
-const INPUT: &str = ".nj_in";
 
 /// What commands of an inner build read.
 const NULL: &str = "/dev/null";
@@ -113,7 +111,7 @@ impl Files {
         if self.is_inner {
             return String::from_str(self.alloc, NULL);
         }
-        beside(self.alloc, folder, INPUT)
+        path_in(self.alloc, folder, INPUT)
     }
 
     /// Makes the file for commands to read: a new one, whatever stood at the path. Its lock, which not every file system allows, is held
@@ -144,11 +142,11 @@ impl Files {
         let number = self.outputs;
         let name = if self.is_inner {
             let process = libc::getpid();
-            format!(in self.alloc; ".nj_out.{process}.{number}")?
+            format!(in self.alloc; "{OUTPUT}{process}.{number}")?
         } else {
-            format!(in self.alloc; ".nj_out.{number}")?
+            format!(in self.alloc; "{OUTPUT}{number}")?
         };
-        beside(self.alloc, folder, name.as_str())
+        path_in(self.alloc, folder, name.as_str())
     }
 
     /// The files for a command, with a new one to print into, whatever stood at the path.
@@ -242,14 +240,6 @@ fn new_input(alloc: Global, disk: &mut Disk<'_>, path: &str) -> io::Result<Input
         path: Some(String::from_str(alloc, path)?),
         file,
     })
-}
-
-/// The path of the file of this name in the folder, or in the working folder where there is none.
-fn beside(alloc: Global, folder: Option<&str>, name: &str) -> Result<String, AllocError> {
-    match folder {
-        Some(folder) => format!(in alloc; "{folder}/{name}"),
-        None => String::from_str(alloc, name),
-    }
 }
 
 impl Input {

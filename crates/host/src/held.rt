@@ -8,6 +8,7 @@ ghost use Rattle.std.specs.Prelude.{◌≡◌, true, false};
 ghost use Rattle.std.specs.Fs.{asks_append, asks_truncate};
 
 use crate::disk::{appending, unless_absent};
+use locks::Identity;
 use std::fs::{File, Metadata, OpenOptions, TryLockError};
 use std::io::ErrorKind;
 use std::os::unix::fs::MetadataExt;
@@ -22,13 +23,6 @@ pub const MOST_LOOKS: u64 = 225;
 
 /// So many looks take half a second.
 pub const FEW_LOOKS: u64 = 32;
-
-/// Which file an opening is of, or a path leads to.
-#[derive(Clone, Copy, PartialEq, Eq)]
-pub struct Node {
-    device: u64,
-    number: u64,
-}
 
 /// What came of asking for a lock that others may have too.
 #[derive(Clone, Copy, PartialEq, Eq)]
@@ -58,22 +52,6 @@ pub enum Alone {
     No,
     /// There are no locks here.
     Missing,
-}
-
-/// Which file it is.
-pub fn node_of(metadata: &Metadata) -> Node {
-    Node {
-        device: metadata.dev(),
-        number: metadata.ino(),
-    }
-}
-
-/// The file to which the path leads, if that is known.
-pub fn node_at(rt: &HostRuntime, path: &str) -> Option<Node> {
-    match fs::metadata(rt, path) {
-        Ok(metadata) => Some(node_of(&metadata)),
-        Err(_) => None,
-    }
 }
 
 /// Rests after so many looks before, each time a little longer.
@@ -123,14 +101,14 @@ impl Held {
 
 /// Whether the file has a name. Where none is counted, as on file systems that count none, it is looked for at the path.
 fn has_name(rt: &HostRuntime, path: &str, metadata: &Metadata) -> bool {
-    metadata.nlink() > 0 || node_at(rt, path) == Some(node_of(metadata))
+    metadata.nlink() > 0 || Identity::at(rt, path) == Some(Identity::of(metadata))
 }
 
 /// Whether the path leads to the file of the opening.
 fn leads_to(rt: &HostRuntime, path: &str, file: &File) -> bool {
-    match file.metadata() {
-        Ok(metadata) => node_at(rt, path) == Some(node_of(&metadata)),
-        Err(_) => false,
+    match Identity::of_file(file) {
+        Some(identity) => Identity::at(rt, path) == Some(identity),
+        None => false,
     }
 }
 

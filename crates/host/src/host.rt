@@ -186,11 +186,6 @@ impl<'a, W: Write> Host<'a, W> {
 }
 
 impl<'a, W: Drop> Host<'a, W> {
-    /// The signal that ended a command, of the last that one ended.
-    pub fn signal(&self) -> Option<i32> {
-        self.jobs.signal()
-    }
-
     /// Removes the files that commands read and printed into, but for those that one has which still runs, and answers what the device
     /// refused last, if it refused something and there was memory for its path.
     pub fn into_trouble(self) -> Option<Trouble> {

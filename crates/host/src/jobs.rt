@@ -29,8 +29,6 @@ pub struct Jobs {
     round: Round,
     /// The variables that they get, once they were read.
     environment: Option<Vec<u8>>,
-    /// The signal that ended a command, of the last that one ended.
-    signal: Option<i32>,
 }
 
 impl Model for Jobs {
@@ -56,7 +54,6 @@ impl Jobs {
             commands: Vec::new(alloc),
             round: Round { place: 0, left: 0 },
             environment: None,
-            signal: None,
         }
     }
 
@@ -109,14 +106,8 @@ impl Jobs {
         let End { job, ok, signal } = command.end();
         tell_signal(self.alloc, rt, signal);
         files.take_in(rt, command.into_printed(), is_unused);
-        self.signal = signal.or(self.signal);
         push_reserved(&mut self.events, Event::Finish { job, ok });
         Ok(Finished { job, ok, output })
-    }
-
-    /// The signal that ended a command, of the last that one ended.
-    pub fn signal(&self) -> Option<i32> {
-        self.signal
     }
 
     /// Whether a command runs.

@@ -10,9 +10,9 @@ ghost use Rattle.std.specs.Prelude.{◌≡◌, ◌<◌, IfSome, Some, None, vec_
 use crate::content::content_of;
 use crate::disk::unless_absent;
 use crate::held::{
-    Alone, FEW_LOOKS, Held, Lock, MOST_LOOKS, Node, lock_alone, make_alone, node_of, open_held,
-    rest,
+    Alone, FEW_LOOKS, Held, Lock, MOST_LOOKS, lock_alone, make_alone, open_held, rest,
 };
+use locks::Identity;
 use std::alloc::{AllocError, Global};
 use std::fs::{File, Metadata};
 use std::io::Write;
@@ -44,7 +44,7 @@ pub struct Logs<'a> {
 #[derive(Drop)]
 struct Log {
     path: String,
-    node: Node,
+    identity: Identity,
     length: u64,
 }
 
@@ -142,7 +142,7 @@ impl<'a> Logs<'a> {
     fn keep(&mut self, path: &str, metadata: &Metadata, length: usize) -> Result<(), AllocError> {
         let log = Log {
             path: String::from_str(self.alloc, path)?,
-            node: node_of(metadata),
+            identity: Identity::of(metadata),
             length: length as u64,
         };
         self.read.push(log).map_err(AllocError::from)
@@ -267,7 +267,7 @@ impl<'a> Logs<'a> {
         };
         let log = &self.read[place];
         match fs::metadata(self.rt, path) {
-            Ok(now) => node_of(&now) == log.node && now.len() == log.length,
+            Ok(now) => Identity::of(&now) == log.identity && now.len() == log.length,
             Err(_) => false,
         }
     }

@@ -3,6 +3,7 @@
 
 mod asked;
 mod entered;
+mod identity;
 mod left;
 mod lines;
 mod lists;
@@ -13,6 +14,7 @@ mod wait;
 mod watch;
 
 pub use entered::{Entered, enter};
+pub use identity::Identity;
 pub use left::wait_for_left;
-pub use names::{INPUT, OUTPUT};
+pub use names::{INPUT, OUTPUT, path_in};
 pub use watch::Watch;

@@ -2,37 +2,17 @@
 //! counts as not found.
 
 use crate::asked::HERE;
+use crate::identity::Identity;
 use crate::lists::{FileNumber, Lock, device_of, field, has_lock, is_builder, lock_of};
 use crate::names::is_left;
 use std::alloc::Global;
-use std::fs::{DirEntry, File, Metadata, ReadDir};
+use std::fs::{DirEntry, File, ReadDir};
 use std::os::fd::AsRawFd;
 use std::os::unix::fs::MetadataExt;
 use std::{fs, str};
 
 /// So many parents are looked at.
 const MOST_PARENTS: usize = 4096;
-
-/// Which file a path leads to: two paths lead to one file where these are the same.
-#[derive(Clone, Copy, PartialEq, Eq)]
-struct Identity {
-    device: u64,
-    inode: u64,
-}
-
-impl Identity {
-    fn of(metadata: &Metadata) -> Identity {
-        Identity {
-            device: metadata.dev(),
-            inode: metadata.ino(),
-        }
-    }
-}
-
-fn identity_of(file: &File) -> Option<Identity> {
-    let metadata = file.metadata().ok()?;
-    Some(Identity::of(&metadata))
-}
 
 /// Whether a process has a file open with a lock on it.
 #[derive(Clone, Copy, PartialEq, Eq)]
@@ -58,8 +38,7 @@ impl<'a> Sight<'a> {
 
     /// Which file the path leads to.
     fn identity(&self, path: &str) -> Option<Identity> {
-        let metadata = fs::metadata(self.rt, path).ok()?;
-        Some(Identity::of(&metadata))
+        Identity::at(self.rt, path)
     }
 
     /// The program's own process.
@@ -193,7 +172,7 @@ impl<'a> Sight<'a> {
 
     /// A process that has the file open with a lock on it, or that took the lock and does not let one see what it has open.
     pub fn holder(&self, file: &File) -> Option<u32> {
-        let identity = identity_of(file)?;
+        let identity = Identity::of_file(file)?;
         match self.taker(file, identity) {
             Some(process) => Some(process),
             None => self.any_holder(identity),
@@ -216,7 +195,7 @@ impl<'a> Sight<'a> {
 
     /// Whether the process holds the file, or is there and hides what it holds.
     pub fn may_hold(&self, process: u32, file: &File) -> bool {
-        match identity_of(file) {
+        match Identity::of_file(file) {
             Some(identity) => self.may_have(process, identity),
             None => false,
         }
@@ -332,7 +311,7 @@ impl<'a> Lineage<'a> {
     /// Whether the program itself or one of the parents has the file open with a lock on it, or is the one that took the lock and
     /// hides what it has open.
     pub fn holds(&self, file: &File) -> bool {
-        match identity_of(file) {
+        match Identity::of_file(file) {
             Some(identity) => self.has_open(identity) || self.has_taken(file, identity),
             None => false,
         }
