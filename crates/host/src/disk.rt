@@ -5,6 +5,7 @@ ghost use Rattle.std.specs.Fs.{asks_append, asks_truncate};
 
 use crate::clock::Touches;
 use crate::content::content_of;
+use crate::held::{is_at, rest};
 use crate::logs::{Logs, is_log};
 use locks::Identity;
 use std::alloc::{AllocError, Global};
@@ -222,6 +223,36 @@ impl<'a> Disk<'a> {
         how.open(self.rt, path)
     }
 
+    /// Rests after so many tries before, each time a little longer.
+    pub fn rest(&self, tries: u64) {
+        rest(self.rt, tries);
+    }
+
+    /// Whether the path leads to this file, which was opened there.
+    pub fn is_at(&self, path: &str, file: &File) -> bool {
+        is_at(self.rt, path, file)
+    }
+
+    /// Whether there is an empty file at the path that can be read, and no link.
+    pub fn has_empty(&self, path: &str) -> bool {
+        match fs::symlink_metadata(self.rt, path) {
+            Ok(metadata) => is_empty_file(&metadata) && self.open(path).is_ok(),
+            Err(_) => false,
+        }
+    }
+
+    /// A new and empty file at the path, or nothing where something stands there.
+    pub fn make_new(&self, path: &str, how: &mut OpenOptions) -> io::Result<Option<File>> {
+        how.create_new(true);
+        match how.open(self.rt, path) {
+            Ok(file) => Ok(Some(file)),
+            Err(error) => match error.kind() {
+                ErrorKind::AlreadyExists => Ok(None),
+                _ => Err(error),
+            },
+        }
+    }
+
     /// A new and empty file at the path. What stood there is removed and not written to, since it may be a link to a file of
     /// somebody else. Where there is something again right after that, another build may just have made it: it is tried a few times, and
     /// then refused.
@@ -250,6 +281,10 @@ impl<'a> Disk<'a> {
             .position(|appended| appended.kept.path.as_str() == path)?;
         Some(self.appended.remove(place))
     }
+}
+
+fn is_empty_file(metadata: &Metadata) -> bool {
+    metadata.is_file() && metadata.len() == 0
 }
 
 /// Whether a file was not made since there is something at its path.

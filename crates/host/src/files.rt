@@ -1,19 +1,29 @@
-//! The files that commands read and print into. They stand beside the logs, and a build removes them once it has taken in its commands: so
-//! they are left only where it was killed. What is left is locked as long as a command has it, or a process that got it from there: an
-//! exclusive lock on another opening is refused to a later build until then.
+//! The files that commands read and print into. They stand beside the logs, and a build removes those that it made once it has taken in its
+//! commands: so they are left only where it was killed. What is left is locked as long as a command has it, or a process that got it from
+//! there: an exclusive lock on another opening is refused to a later build until then.
+//!
+//! Builds in several folders may have one folder of logs. Each gives the files for what its commands print names with its process, and never
+//! makes one where something stands; all share one file for commands to read. What another build takes away between two steps is made anew.
 
-use crate::disk::{Disk, writing};
+use crate::disk::{Disk, unless_absent, writing};
+use crate::held::is_at;
 use crate::process::Streams;
-use locks::{INPUT, OUTPUT, path_in};
+use locks::{INPUT, Identity, OUTPUT, path_in};
 use std::alloc::{AllocError, Global};
-use std::fs::{File, OpenOptions};
-use std::io::{Read, Seek, SeekFrom};
+use std::fs::{File, OpenOptions, TryLockError};
+use std::io::{ErrorKind, Read, Seek, SeekFrom};
 use std::os::fd::AsRawFd;
 use std::{fs, io};
 use text::Bytes;
 
 /// What commands of an inner build read.
 const NULL: &str = "/dev/null";
+
+/// How often the file for commands to read is made anew, where others take it away.
+const TRIES: u64 = 20;
+
+/// So many paths for a file to print into are tried, where something stands at each.
+const MOST_PATHS: u32 = 10_000;
 
 /// The files of a build for its commands.
 #[derive(Drop)]
@@ -32,10 +42,21 @@ pub struct Files {
 /// An empty file that all commands read.
 #[derive(Drop)]
 struct Input {
-    /// Where it stands, if it was made for this build.
-    path: Option<String>,
+    path: String,
+    origin: Origin,
     /// The opening that each of them gets, and so all hold its lock.
     file: File,
+}
+
+/// Where what commands read comes from.
+#[derive(Clone, Copy, PartialEq, Eq)]
+enum Origin {
+    /// The system has it.
+    Null,
+    /// This build has made it.
+    Made,
+    /// Another build has made it, and removes it at its end.
+    Found,
 }
 
 /// A file into which commands print, one after another, each both its output and its errors.
@@ -44,6 +65,8 @@ pub struct Printed {
     path: String,
     /// For reading what was printed. A command has an opening of its own.
     file: File,
+    /// Which file it is.
+    identity: Option<Identity>,
     /// Whether it is locked until all processes have closed the opening of the last command that have it from there.
     is_locked: bool,
 }
@@ -73,6 +96,14 @@ pub struct Opened {
     input: i32,
 }
 
+/// An opening to print into.
+#[derive(Drop)]
+struct Output {
+    file: File,
+    /// Whether it has the lock: not where there are no locks.
+    is_locked: bool,
+}
+
 impl Files {
     /// No file was made. This takes no memory.
     pub fn new(alloc: Global) -> Files {
@@ -90,9 +121,9 @@ impl Files {
         self.is_inner = true;
     }
 
-    /// New files for a command that is to be started: to print into, whatever stood at its path, and to read, if none was made before.
+    /// New files for a command that is to be started: to print into, where nothing stood before, and to read, if there is none yet.
     pub fn make(&mut self, disk: &mut Disk<'_>) -> Result<Made, AllocError> {
-        if self.input.is_none() {
+        if !self.has_input(disk) {
             let path = self.input_path(disk.folder())?;
             if let Err(reason) = self.make_input(disk, path.as_str()) {
                 return Ok(Made {
@@ -101,9 +132,15 @@ impl Files {
                 });
             }
         }
-        let path = self.output_path(disk.folder())?;
-        let opened = self.make_output(disk, path.as_str());
-        Ok(Made { path, opened })
+        self.make_output(disk)
+    }
+
+    /// Whether there is a file for commands to read. One that another build has made may be gone.
+    fn has_input(&self, disk: &Disk<'_>) -> bool {
+        match &self.input {
+            Some(input) => input.is_there(disk),
+            None => false,
+        }
     }
 
     /// The path of the file for commands to read, where their files stand in this folder.
@@ -114,80 +151,116 @@ impl Files {
         path_in(self.alloc, folder, INPUT)
     }
 
-    /// Makes the file for commands to read: a new one, whatever stood at the path. Its lock, which not every file system allows, is held
+    /// Makes the file for commands to read, or finds one that another build has made. Its lock, which not every file system allows, is held
     /// until this program and all commands that have it as their input have let it go. An inner build opens what is there.
     fn make_input(&mut self, disk: &mut Disk<'_>, path: &str) -> io::Result<()> {
-        let input = if self.is_inner {
-            Input {
-                path: None,
-                file: disk.open(path)?,
-            }
+        let name = String::from_str(self.alloc, path)?;
+        let (file, origin) = if self.is_inner {
+            (disk.open(path)?, Origin::Null)
         } else {
-            new_input(self.alloc, disk, path)?
+            input_at(disk, path)?
         };
-        self.input = Some(input);
+        self.input = Some(Input {
+            path: name,
+            origin,
+            file,
+        });
         Ok(())
     }
 
     /// The files for a command that is to be started, with one to print into that an earlier one left as good as new, if there is such a
-    /// one. A command may have removed it.
+    /// one. A command may have removed it, and something else may stand there since.
     pub fn reopen(&mut self, disk: &mut Disk<'_>) -> Option<Opened> {
+        if !self.has_input(disk) {
+            return None;
+        }
         let printed = self.unused.pop()?;
-        self.opened(disk, printed).ok()
+        match self.opened(disk, printed) {
+            Ok(Some(opened)) if opened.is_the_same() => Some(opened),
+            _ => None,
+        }
     }
 
-    /// A path for a new file to print into, in this folder, which no other such file of the build had.
+    /// The files for a command, with a new one to print into: at the first path at which nothing stands, and from which nobody takes it
+    /// away before it is locked.
+    fn make_output(&mut self, disk: &mut Disk<'_>) -> Result<Made, AllocError> {
+        for _ in 0..MOST_PATHS {
+            let path = self.output_path(disk.folder())?;
+            let tried = self.try_output(disk, path.as_str());
+            if let Some(made) = made_at(path, tried) {
+                return Ok(made);
+            }
+        }
+        Ok(Made {
+            path: self.output_path(disk.folder())?,
+            opened: Err(io::Error::from(ErrorKind::AlreadyExists)),
+        })
+    }
+
+    /// A path for a new file to print into, in this folder, which no other such file of the build had, and no such file of another build
+    /// that is at work.
     fn output_path(&mut self, folder: Option<&str>) -> Result<String, AllocError> {
         self.outputs = self.outputs.checked_add(1).ok_or(AllocError)?;
         let number = self.outputs;
-        let name = if self.is_inner {
-            let process = libc::getpid();
-            format!(in self.alloc; "{OUTPUT}{process}.{number}")?
-        } else {
-            format!(in self.alloc; "{OUTPUT}{number}")?
-        };
+        let process = libc::getpid();
+        let name = format!(in self.alloc; "{OUTPUT}{process}.{number}")?;
         path_in(self.alloc, folder, name.as_str())
     }
 
-    /// The files for a command, with a new one to print into, whatever stood at the path.
-    fn make_output(&mut self, disk: &mut Disk<'_>, path: &str) -> io::Result<Opened> {
+    /// The files for a command, with a new one to print into, or nothing where something stands at the path, or another build has taken
+    /// away what was made there.
+    fn try_output(&self, disk: &mut Disk<'_>, path: &str) -> io::Result<Option<Opened>> {
         let path = String::from_str(self.alloc, path)?;
         let mut how = OpenOptions::new();
         how.read(true).append(true);
-        let file = disk.new_file(path.as_str(), &mut how)?;
+        let Some(file) = disk.make_new(path.as_str(), &mut how)? else {
+            return Ok(None);
+        };
+        let identity = Identity::of_file(&file);
         let printed = Printed {
             path,
             file,
+            identity,
             is_locked: false,
         };
         self.opened(disk, printed)
     }
 
-    /// The files for a command, with this one to print into. It is locked by that, which not every file system allows. One that cannot be
-    /// opened is removed.
-    fn opened(&self, disk: &mut Disk<'_>, mut printed: Printed) -> io::Result<Opened> {
+    /// The files for a command, with this one to print into, or nothing where another build has taken it away. One that cannot be opened is
+    /// removed.
+    fn opened(&self, disk: &mut Disk<'_>, mut printed: Printed) -> io::Result<Option<Opened>> {
         match self.openings(disk, printed.path.as_str()) {
-            Ok((input, output)) => {
-                printed.is_locked = output.try_lock_shared().is_ok();
-                Ok(Opened {
+            Ok(Some((input, Output { file, is_locked }))) => {
+                printed.is_locked = is_locked;
+                Ok(Some(Opened {
                     printed,
-                    output,
+                    output: file,
                     input,
-                })
+                }))
+            }
+            Ok(None) => {
+                remove_from(disk, &printed);
+                Ok(None)
             }
             Err(reason) => {
-                let _ = disk.remove(printed.path.as_str());
+                remove_from(disk, &printed);
                 Err(reason)
             }
         }
     }
 
-    /// The openings that a command gets which prints into the file at the path.
-    fn openings(&self, disk: &Disk<'_>, path: &str) -> io::Result<(i32, File)> {
+    /// The openings that a command gets which prints into the file at the path, or nothing where there is no file that it may have.
+    fn openings(&self, disk: &Disk<'_>, path: &str) -> io::Result<Option<(i32, Output)>> {
         let Some(input) = &self.input else {
-            return Err(io::Error::from(io::ErrorKind::NotFound));
+            return Err(io::Error::from(ErrorKind::NotFound));
         };
-        Ok((input.file.as_raw_fd(), disk.open_to_append(path)?))
+        let Some(file) = unless_absent(disk.open_to_append(path))? else {
+            return Ok(None);
+        };
+        match locked(file) {
+            Some(output) => Ok(Some((input.file.as_raw_fd(), output))),
+            None => Ok(None),
+        }
     }
 
     /// Takes back the files of a command that was not started.
@@ -231,22 +304,101 @@ impl Files {
     }
 }
 
-/// A new and empty file at the path, for commands to read.
-fn new_input(alloc: Global, disk: &mut Disk<'_>, path: &str) -> io::Result<Input> {
+/// Removes a file to print into, if it stands there still.
+fn remove_from(disk: &mut Disk<'_>, printed: &Printed) {
+    if disk.is_at(printed.path.as_str(), &printed.file) {
+        let _ = disk.remove(printed.path.as_str());
+    }
+}
+
+/// The file at the path for commands to read, and where it comes from. It is tried a few times, with rests, where others take it away; where
+/// one has it for itself all that time, it is read without a lock.
+fn input_at(disk: &mut Disk<'_>, path: &str) -> io::Result<(File, Origin)> {
+    let mut origin = Origin::Found;
+    for turn in 0..TRIES {
+        if makes_input(disk, path)? {
+            origin = Origin::Made;
+        }
+        if let Some(file) = locked_input(disk, path)? {
+            return Ok((file, origin));
+        }
+        disk.rest(turn);
+    }
+    Ok((disk.open(path)?, origin))
+}
+
+/// Makes the file at the path for commands to read, unless another build has made one, and answers whether it did so. Whatever else stood
+/// there, as a link, is removed.
+fn makes_input(disk: &mut Disk<'_>, path: &str) -> io::Result<bool> {
+    if disk.make_new(path, &mut writing())?.is_some() {
+        return Ok(true);
+    }
+    if disk.has_empty(path) {
+        return Ok(false);
+    }
     disk.new_file(path, &mut writing())?;
-    let file = disk.open(path)?;
-    let _ = file.try_lock_shared();
-    Ok(Input {
-        path: Some(String::from_str(alloc, path)?),
-        file,
-    })
+    Ok(true)
+}
+
+/// The file at the path, locked together with others, or nothing where another build took it away before that, or is about to.
+fn locked_input(disk: &Disk<'_>, path: &str) -> io::Result<Option<File>> {
+    let Some(file) = unless_absent(disk.open(path))? else {
+        return Ok(None);
+    };
+    let Some(Output { file, .. }) = locked(file) else {
+        return Ok(None);
+    };
+    if disk.is_at(path, &file) {
+        Ok(Some(file))
+    } else {
+        Ok(None)
+    }
+}
+
+/// What came of a try to make a file to print into, if it is the last one.
+fn made_at(path: String, tried: io::Result<Option<Opened>>) -> Option<Made> {
+    match tried {
+        Ok(Some(opened)) => Some(Made {
+            path,
+            opened: Ok(opened),
+        }),
+        Ok(None) => None,
+        Err(reason) => Some(Made {
+            path,
+            opened: Err(reason),
+        }),
+    }
+}
+
+/// Locks an opening together with others, which not every file system allows. Where another has the file for itself, it may be about to
+/// remove it: then there is none.
+fn locked(file: File) -> Option<Output> {
+    match file.try_lock_shared() {
+        Ok(()) => Some(Output {
+            file,
+            is_locked: true,
+        }),
+        Err(TryLockError::WouldBlock) => None,
+        Err(TryLockError::Error(_)) => Some(Output {
+            file,
+            is_locked: false,
+        }),
+    }
 }
 
 impl Input {
-    /// Removes the file, if it was made for this build.
+    /// Whether commands that have it are known by it: not, where the build that made it has removed it.
+    fn is_there(&self, disk: &Disk<'_>) -> bool {
+        match self.origin {
+            Origin::Null | Origin::Made => true,
+            Origin::Found => disk.is_at(self.path.as_str(), &self.file),
+        }
+    }
+
+    /// Removes the file, if it was made by this build and stands there still.
     fn remove(self, rt: &HostRuntime) {
-        let Input { path, .. } = self;
-        if let Some(path) = path {
+        let Input { path, origin, file } = self;
+        if origin == Origin::Made && is_at(rt, path.as_str(), &file) {
             let _ = fs::remove_file(rt, path.as_str());
         }
     }
@@ -257,6 +409,12 @@ impl Opened {
     pub fn streams(&self) -> Streams {
         let output = self.output.as_raw_fd();
         [self.input, output, output]
+    }
+
+    /// Whether the command prints into the file that is read afterwards: another build may have made one at its path, where both are the
+    /// process of one number in two containers.
+    fn is_the_same(&self) -> bool {
+        Identity::of_file(&self.output) == self.printed.identity
     }
 }
 
@@ -283,7 +441,7 @@ impl Printed {
         })
     }
 
-    /// Removes the file. One that cannot be removed stays, until another is made in its place.
+    /// Removes the file. One that cannot be removed stays, and is removed by a later build.
     pub fn remove(self, rt: &HostRuntime) {
         let _ = fs::remove_file(rt, self.path.as_str());
     }

@@ -99,6 +99,14 @@ impl Held {
     }
 }
 
+/// Whether the path leads to this file still, which was opened there.
+pub fn is_at(rt: &HostRuntime, path: &str, file: &File) -> bool {
+    match file.metadata() {
+        Ok(metadata) => has_name(rt, path, &metadata),
+        Err(_) => false,
+    }
+}
+
 /// Whether the file has a name. Where none is counted, as on file systems that count none, it is looked for at the path.
 fn has_name(rt: &HostRuntime, path: &str, metadata: &Metadata) -> bool {
     metadata.nlink() > 0 || Identity::at(rt, path) == Some(Identity::of(metadata))

@@ -30,8 +30,8 @@ const OUTPUT: &str = "standard output";
 
 /// The site of real files and real commands: paths are those of the system, taken from the working folder, a stamp is when
 /// a file was written last, in nanoseconds since 1970, and a command is run by `/bin/sh -c`. What a command prints, output
-/// and errors alike, goes to a file of its own, `.nj_out.` and a number, beside the file of the last tick. Its input is an empty
-/// file, `.nj_in`, beside them. It never stops.
+/// and errors alike, goes to a file of its own, `.nj_out.`, the number of the program's process, a full stop and a number, beside the
+/// file of the last tick. Its input is an empty file, `.nj_in`, beside them. It never stops.
 ///
 /// What contracts tell of it: its starts and finishes, the calls that the device refused, and the last wait among them. Of files they
 /// tell nothing.
@@ -148,7 +148,7 @@ impl<'a, W: Write> Host<'a, W> {
 impl<'a, W: Write> Host<'a, W> {
     /// Waits until no other build is in the working folder, and keeps others out from then on. To be called once, before anything is read.
     /// Where a command of another build in this folder has started the program, it waits for nobody: it is an inner build, whose commands
-    /// read `/dev/null` and print into files that no other build has.
+    /// read `/dev/null`.
     pub fn enter_folder(&mut self)
         ensures { world_of self.new ≡ world_of self.old }
     {

@@ -4,7 +4,7 @@ ghost use Rattle.std.specs.Prelude.{◌≡◌, Some, true, false};
 
 use crate::asked::{Asked, HERE, ask_file, is_file};
 use crate::entered::{Entered, enter};
-use crate::names::{INPUT, is_output, path_in};
+use crate::names::{INPUT, is_output, maker_of, path_in};
 use crate::sight::{Lineage, Sight};
 use crate::wait::{Awaited, Outcome, wait_for};
 use std::alloc::{AllocError, Global};
@@ -16,8 +16,10 @@ use std::fs::File;
 /// it waited, so that everything is to be read anew.
 ///
 /// Only where `INPUT` is there, the folder is looked at. Of that file, and of those whose names begin with `OUTPUT`, each is removed
-/// that nobody has a lock on, `INPUT` as the last. Where another process holds one, the working folder is given back for as long as
-/// that lasts, and then entered anew. A file that somebody deletes meanwhile is not waited for, and where `INPUT` is deleted, none is.
+/// that nobody has a lock on, `INPUT` as the last, but for those that the build which made them has open still: one that is at work in
+/// another folder keeps files without a lock for its next commands. Where another process holds one, the working folder is given back
+/// for as long as that lasts, and then entered anew. A file that somebody deletes meanwhile is not waited for, and where `INPUT` is
+/// deleted, none is.
 ///
 /// An inner build looks at nothing. A build that holds such a file itself, or by a parent of its program, was started by a command
 /// of the earlier build: it waits for none of them, and is an inner one from now on. So is one that for ten seconds saw no process
@@ -118,9 +120,18 @@ impl<'a> Left<'a> {
         }
         self.clear_outputs(folder)?;
         if self.held.is_empty() && !self.is_own {
-            self.remove(input);
+            self.clear_input(input);
         }
         Ok(())
+    }
+
+    /// Removes the input, unless somebody has it by now. Nobody gets a lock on it before it is gone.
+    fn clear_input(&self, input: &str) {
+        let asked = ask_file(self.sight.rt, input);
+        if !matches!(asked, Asked::Held(_)) {
+            self.remove(input);
+        }
+        drop(asked);
     }
 
     fn clear_outputs(&mut self, folder: Option<&str>) -> Result<(), AllocError> {
@@ -134,7 +145,8 @@ impl<'a> Left<'a> {
         for entry in entries {
             match entry {
                 Ok(entry) if is_output(entry.file_name()) => {
-                    self.clear_output(path_in(self.sight.alloc, folder, entry.file_name())?)?;
+                    let path = path_in(self.sight.alloc, folder, entry.file_name())?;
+                    self.clear_output(entry.file_name(), path)?;
                 }
                 _ => {}
             }
@@ -142,14 +154,25 @@ impl<'a> Left<'a> {
         Ok(())
     }
 
-    fn clear_output(&mut self, path: String) -> Result<(), AllocError> {
+    /// Removes the file of this name at the path, where nobody holds it. Nobody gets a lock on it before it is gone.
+    fn clear_output(&mut self, name: &str, path: String) -> Result<(), AllocError> {
         match ask_file(self.sight.rt, path.as_str()) {
-            Asked::Free(_) => {
-                self.remove(path.as_str());
+            Asked::Free(lock) => {
+                if !self.is_in_use(name, &lock) {
+                    self.remove(path.as_str());
+                }
                 Ok(())
             }
             Asked::Held(file) => self.note(path, &file),
             Asked::Nothing => Ok(()),
+        }
+    }
+
+    /// Whether the build that made the file of this name is at work still, and has it open.
+    fn is_in_use(&self, name: &str, file: &File) -> bool {
+        match maker_of(name) {
+            Some(process) => self.sight.may_use(process, file),
+            None => false,
         }
     }
 

@@ -1,6 +1,6 @@
 //! The names of the files by which the commands of a build are known.
 
-ghost use Rattle.std.specs.Prelude.{◌≡◌, ◌↔◌, ◌++◌, IsTrue, IfOk, IfSome, None, codes, string_bytes};
+ghost use Rattle.std.specs.Prelude.{◌≡◌, ◌↔◌, ◌++◌, IsTrue, IfOk, IfSome, IsSome, None, codes, string_bytes};
 ghost use Rattle.locks.specs.Names.{BeginsWith, IsLeft, IsOutput};
 
 use std::alloc::{AllocError, Global};
@@ -8,7 +8,8 @@ use std::alloc::{AllocError, Global};
 /// The name of the file, beside the logs, whose openings are the inputs of commands.
 pub const INPUT: &str = ".nj_in";
 
-/// With this begin the names of the files, beside the logs, into which commands print.
+/// With this begin the names of the files, beside the logs, into which commands print. Behind it come the process of the build, a full
+/// stop and a number.
 pub const OUTPUT: &str = ".nj_out.";
 
 /// Whether a file of this name may be one into which a command prints.
@@ -16,6 +17,23 @@ pub fn is_output(name: &str) -> bool
     ensures { IsTrue result ↔ IsOutput name.now }
 {
     begins_with(name, OUTPUT)
+}
+
+/// The process of the build that made a file of this name for what a command prints: 12 for `.nj_out.12.3`. Builds of old gave their files
+/// a number alone.
+pub fn maker_of(name: &str) -> Option<u32>
+    ensures { IsSome result → IsOutput name.now }
+{
+    if is_output(name) {
+        number_in(name)
+    } else {
+        None
+    }
+}
+
+fn number_in(name: &str) -> Option<u32> {
+    let (process, _) = name.strip_prefix(OUTPUT)?.split_once('.')?;
+    process.parse::<u32>().ok()
 }
 
 /// Whether a text begins with another.

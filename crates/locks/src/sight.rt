@@ -68,14 +68,21 @@ impl<'a> Sight<'a> {
         }
     }
 
-    /// Whether it is a build with this working folder. A working folder that cannot be read counts as this one.
-    fn is_builder_in(&self, process: u32, folder: Identity) -> bool {
+    /// Whether it is a build.
+    fn makes_builds(&self, process: u32) -> bool {
         let Some(status) = self.status(process) else {
             return false;
         };
         match field(status.as_slice(), "Name:") {
-            Some(name) if is_builder(name) => {}
-            _ => return false,
+            Some(name) => is_builder(name),
+            None => false,
+        }
+    }
+
+    /// Whether it is a build with this working folder. A working folder that cannot be read counts as this one.
+    fn is_builder_in(&self, process: u32, folder: Identity) -> bool {
+        if !self.makes_builds(process) {
+            return false;
         }
         match format!(in self.alloc; "/proc/{process}/cwd") {
             Ok(path) => match self.identity(path.as_str()) {
@@ -206,6 +213,44 @@ impl<'a> Sight<'a> {
             Holds::Yes => true,
             Holds::No => false,
             Holds::Hidden => self.is_there(process),
+        }
+    }
+
+    /// Whether another process has the file open, locked or not, or is a build that hides what it has open. The program itself does not
+    /// count, which has it open to ask for the lock.
+    pub fn may_use(&self, process: u32, file: &File) -> bool {
+        let Some(identity) = Identity::of_file(file) else {
+            return false;
+        };
+        if self.itself() == Some(process) {
+            return false;
+        }
+        match self.openings(process) {
+            Some(openings) => self.is_among(openings, identity),
+            None => self.makes_builds(process) && !self.has_ended(process),
+        }
+    }
+
+    /// Whether one of the openings is of the file.
+    fn is_among(&self, openings: ReadDir, file: Identity) -> bool {
+        for opening in openings {
+            if let Ok(opening) = opening {
+                if self.identity(opening.path().as_str()) == Some(file) {
+                    return true;
+                }
+            }
+        }
+        false
+    }
+
+    /// Whether the process has ended, and who started it does not know yet.
+    fn has_ended(&self, process: u32) -> bool {
+        let Some(status) = self.status(process) else {
+            return true;
+        };
+        match field(status.as_slice(), "State:") {
+            Some(state) => state.starts_with('Z'),
+            None => false,
         }
     }
 

@@ -89,6 +89,19 @@ impl<'a> Folder<'a> {
         fs::exists(self.rt, self.whole(path)?.as_str())
     }
 
+    /// Whether there is a path that begins so, and has no more parts.
+    pub fn has_some(&self, start: &str) -> io::Result<bool> {
+        let (below, start) = start.rsplit_once('/').unwrap_or(("", start));
+        let folder = self.whole(below)?;
+        for entry in fs::read_dir(self.rt, folder.as_str())? {
+            let entry = entry?;
+            if entry.file_name().starts_with(start) {
+                return Ok(true);
+            }
+        }
+        Ok(false)
+    }
+
     pub fn read(&self, path: &str) -> io::Result<String> {
         fs::read_to_string(self.rt, self.whole(path)?.as_str())
     }

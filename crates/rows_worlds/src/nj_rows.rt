@@ -130,7 +130,8 @@ impl<'a> Rows<'a> {
         }
     }
 
-    /// `holds PATH`: what a file holds. `has PATH`: whether there is one. `ends PATH TEXT`: whether its last line ends so.
+    /// `holds PATH`: what a file holds. `has PATH`: whether there is one. `some START`: whether there is one whose path begins so.
+    /// `ends PATH TEXT`: whether its last line ends so.
     fn push_file(
         &self,
         alloc: Global,
@@ -146,6 +147,7 @@ impl<'a> Rows<'a> {
                 Err(_) => told.push_str("no file"),
             },
             "has" => push_answer(told, self.folder.has(path.as_str()).unwrap_or(false)),
+            "some" => push_answer(told, self.folder.has_some(path.as_str()).unwrap_or(true)),
             "ends" => push_answer(told, ends_so(&self.folder, path.as_str(), text)),
             _ => told.push_str("no such row"),
         }
