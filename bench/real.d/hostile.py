@@ -167,7 +167,7 @@ def read_only(place):
     for name in os.listdir(out):
         os.chmod(os.path.join(out, name), 0o666)
     case.is_right(case.build(**user), "outputs may be written again")
-    for path in ("build.ninja", ".nj_log", ".nj_tick"):
+    for path in ("build.ninja", ".nj_log"):
         full = os.path.join(case.folder, path)
         os.chmod(full, 0o000)
         touch(case.folder, "in/s1")
@@ -176,6 +176,12 @@ def read_only(place):
         place.expect(path in ran.text, case.where, f"{path} is to be named: {ran.text[-300:]}")
         os.chmod(full, 0o666)
         case.is_right(case.build(**user), f"{path} may be read")
+    # this one is made anew
+    full = os.path.join(case.folder, ".nj_tick")
+    os.chmod(full, 0o000)
+    touch(case.folder, "in/s1")
+    case.is_right(case.build(**user), ".nj_tick may not be read")
+    place.expect(os.stat(full).st_mode & 0o600 == 0o600, case.where, ".nj_tick is not made anew")
     case.rests(**user)
 
 
@@ -183,7 +189,7 @@ def logs_of_other_kinds(place):
     """Where logs are folders, or hold what is no log."""
     case = Case(place, "logs that are no logs")
     case.fan(4)
-    for name in (".nj_log", ".nj_tick", ".nj_log.new", ".nj_out.1"):
+    for name in (".nj_log", ".nj_tick", ".nj_log.new", ".nj_in"):
         path = os.path.join(case.folder, name)
         if os.path.exists(path):
             os.remove(path)
