@@ -1,5 +1,5 @@
 -- What one build has come to that only looked, in the words of its contract.
-use Rattle.std.proofs.Common.{◌≡◌, inl, inr, ℕ, zero, suc, ◌<◌, Bool, true, false, bytes_eq, ◌∷◌, IsTrue, List, [], ◌++◌, length, Err, refl, sym, subst, arith}
+use Rattle.std.proofs.Common.{◌≡◌, inl, inr, ℕ, zero, suc, ◌<◌, Bool, true, false, bytes_eq, ◌∷◌, IsTrue, List, [], ◌++◌, length, Some, Err, refl, sym, ◌∙◌, subst, arith}
 use Rattle.model.specs.declared.graph.BuildGraph.{BuildGraph}
 use Rattle.model.specs.declared.event.Event.{Event}
 use Rattle.model.specs.declared.event.Moment.{Moment}
@@ -8,7 +8,7 @@ use Rattle.model.specs.declared.fault.SiteFault.TheVariants.{Memory}
 use Rattle.model.specs.World.{World, IsIdle}
 use Rattle.model.specs.Calls.{OnlyLooks, HasCause}
 use Rattle.model.specs.declared.graph.Edge.{Edge}
-use Rattle.model.specs.Graph.{has, IsMadeOnce}
+use Rattle.model.specs.Graph.{has, edge_at, inputs}
 use Rattle.model.specs.Phases.{steps_of}
 use Rattle.model.specs.Outcome.{Behaviour}
 use Rattle.model.specs.Premises.{FilesAreKept}
@@ -34,7 +34,7 @@ use Rattle.builder.specs.declared.report.Refusal.{Refusal}
 use Rattle.builder.specs.declared.report.Refusal.TheVariants as refusal
 use Rattle.builder.specs.declared.report.Report.{Report}
 use Rattle.builder.specs.declared.report.Report.TheVariants.{Success, Failed, Refused, Fault}
-use Rattle.builder.specs.Build.{asked_of, Says, NamesFault, Builds}
+use Rattle.builder.specs.Build.{asked_of, AreGraph, AreGraphs, Says, NamesFault, Builds}
 use Rattle.builder.specs.Reports.{ungraphed, ShowsFault, SaysNoCone}
 use Rattle.builder.specs.Recorded.{IsRecordedBy}
 use Rattle.builder.specs.Loads.{RefusesFile}
@@ -48,21 +48,25 @@ path_has (p ∷ ps) zero lt = has-left (p ∷ []) ps p (has_one p)
     has_one p = or_left (bytes_eq p p) false (bytes_same p)
 path_has (p ∷ ps) (suc k) lt = has-right (p ∷ []) ps (text_at ps k) (path_has ps k (omega (arith, lt)))
 
+-- edges that have as inputs the dyndep files which they name, name no other
+pub names_inputs : (edges : List Edge) → ((i : ℕ) (file : List ℕ) → (edge_at edges i).dyndep ≡ Some file → has (inputs (edge_at edges i)) file ≡ true) → (file : List ℕ) → NamesOther edges file → ⊥
+names_inputs edges are file names = false≢true (sym names.other ∙ are names.edge file names.names)
+
 -- a report names no fault of edges that are a graph
-names_none : (edges : List Edge) (given targets : List (List ℕ)) (report : Report) (said : Answer) → IsMadeOnce edges → ((path : List ℕ) → said ≡ answer.NoDyndepInput path → ⊥) → Says edges given targets report said → NamesFault edges report
-names_none edges given targets (Success started) said once none says = tt
-names_none edges given targets (Failed outputs) said once none says = tt
-names_none edges given targets (Refused (refusal.File fault)) said once none says = tt
-names_none edges given targets (Refused (refusal.MadeTwice path)) said once none says = inl once
-names_none edges given targets (Refused (refusal.NoDyndepInput path)) said once none says = absurd (none path says)
-names_none edges given targets (Refused (refusal.NoDyndep path)) said once none says = tt
-names_none edges given targets (Refused (refusal.BadVersion path)) said once none says = tt
-names_none edges given targets (Refused (refusal.BadStatement path)) said once none says = tt
-names_none edges given targets (Refused (refusal.Unfit unfit)) said once none says = tt
-names_none edges given targets (Refused (refusal.UnknownTarget target)) said once none says = tt
-names_none edges given targets (Refused (refusal.Cycle paths)) said once none says = tt
-names_none edges given targets (Refused (refusal.Missing missing)) said once none says = tt
-names_none edges given targets (Fault fault) said once none says = tt
+names_none : (edges grown : List Edge) (given targets : List (List ℕ)) (report : Report) (said : Answer) → AreGraphs edges grown → ((path : List ℕ) → said ≡ answer.NoDyndepInput path → ⊥) → Says edges given targets report said → NamesFault edges grown report
+names_none edges grown given targets (Success started) said graphs none says = tt
+names_none edges grown given targets (Failed outputs) said graphs none says = tt
+names_none edges grown given targets (Refused (refusal.File fault)) said graphs none says = tt
+names_none edges grown given targets (Refused (refusal.MadeTwice path)) said graphs none says = inl graphs
+names_none edges grown given targets (Refused (refusal.NoDyndepInput path)) said graphs none says = absurd (none path says)
+names_none edges grown given targets (Refused (refusal.NoDyndep path)) said graphs none says = graphs
+names_none edges grown given targets (Refused (refusal.BadVersion path)) said graphs none says = graphs
+names_none edges grown given targets (Refused (refusal.BadStatement path)) said graphs none says = graphs
+names_none edges grown given targets (Refused (refusal.Unfit unfit)) said graphs none says = graphs
+names_none edges grown given targets (Refused (refusal.UnknownTarget target)) said graphs none says = graphs
+names_none edges grown given targets (Refused (refusal.Cycle paths)) said graphs none says = graphs
+names_none edges grown given targets (Refused (refusal.Missing missing)) said graphs none says = graphs
+names_none edges grown given targets (Fault fault) said graphs none says = tt
 
 module _ (tells : Bool) (B : Behaviour) (format : LogFormat) (own : OwnFiles) (graph : BuildGraph) (folder : List ℕ) (limits : Limits) (given targets : List (List ℕ)) (store : Store) (entry now : World) (found : IsFoundAt tells format own store entry now)
     (idle : IsIdle entry.events) where
@@ -79,7 +83,7 @@ module _ (tells : Bool) (B : Behaviour) (format : LogFormat) (own : OwnFiles) (g
   BuildsAs report = Builds tells B format own graph folder limits given targets graph.edges entry now report
 
   -- these are the edges at the end, and the report gives the answer
-  builds_named : (grown : List Edge) (report : Report) (said : Answer) → Says graph.edges given targets report said → NamesFault graph.edges report → Built tells B format own (asked_with The grown) entry now said report → BuildsOver grown report
+  builds_named : (grown : List Edge) (report : Report) (said : Answer) → Says graph.edges given targets report said → NamesFault graph.edges grown report → Built tells B format own (asked_with The grown) entry now said report → BuildsOver grown report
   builds_named grown report said says named built = record {
     answer = said;
     said = says;
@@ -99,14 +103,15 @@ module _ (tells : Bool) (B : Behaviour) (format : LogFormat) (own : OwnFiles) (g
       (subst (λ (a : Answer). IsAnswer tells B own build.texts (asked_with The grown) build.store lawful.earlier (steps_of lawful.earlier ++ lawful.last) build.steps entry now a) is build.answers).2
 
   -- over edges that are a graph no fault of theirs is named
-  pub builds_over : IsMadeOnce graph.edges → ((file : List ℕ) → NamesOther graph.edges file → ⊥) → (grown : List Edge) (report : Report) (said : Answer) → Says graph.edges given targets report said
+  pub builds_over : AreGraph graph.edges → (grown : List Edge) → AreGraph grown → (report : Report) (said : Answer) → Says graph.edges given targets report said
       → Built tells B format own (asked_with The grown) entry now said report → BuildsOver grown report
-  builds_over once others grown report said says built =
-      builds_named grown report said says (names_none graph.edges given targets report said once (λ path is. others path (names_other grown said built.build path is)) says) built
+  builds_over first grown last report said says built =
+      builds_named grown report said says
+      (names_none graph.edges grown given targets report said (record { first = first; last = last }) (λ path is. first.inputs path (names_other grown said built.build path is)) says) built
 
   -- ---- refusals and faults before anything was loaded or judged
 
-  builds_looked : Looked tells entry now → (report : Report) (said : Answer) → Says graph.edges given targets report said → NamesFault graph.edges report → RefusesFile tells own The store [] entry now report → (IsSuccess said → ⊥)
+  builds_looked : Looked tells entry now → (report : Report) (said : Answer) → Says graph.edges given targets report said → NamesFault graph.edges graph.edges report → RefusesFile tells own The store [] entry now report → (IsSuccess said → ⊥)
       → IsAnswer tells B own none_loaded The store [] [] [] entry now said → BuildsAs report
   builds_looked looked report said says named refused failed is =
       builds_named graph.edges report said says named
@@ -125,31 +130,35 @@ module _ (tells : Bool) (B : Behaviour) (format : LogFormat) (own : OwnFiles) (g
   builds_ungraphed looked (graph_fault.NoDyndepInput path) is =
       builds_looked looked (Refused (refusal.NoDyndepInput path)) (answer.NoDyndepInput path) refl is tt (λ h. h) ((λ none. looked.looks), refl, is.0)
 
-  pub builds_unknown : Looked tells entry now → (place : ℕ) → IsFirstUnknown graph.edges targets place → BuildsAs (Refused (refusal.UnknownTarget (text_at given place)))
-  builds_unknown looked place first =
+  -- what is so of edges to which nothing was added
+  graphs_now : AreGraph graph.edges → AreGraphs graph.edges graph.edges
+  graphs_now formed = record { first = formed; last = formed }
+
+  pub builds_unknown : AreGraph graph.edges → Looked tells entry now → (place : ℕ) → IsFirstUnknown graph.edges targets place → BuildsAs (Refused (refusal.UnknownTarget (text_at given place)))
+  builds_unknown formed looked place first =
       builds_looked looked (Refused (refusal.UnknownTarget (text_at given place))) (answer.Unknown (text_at targets place))
-      (text_at targets place, refl, record { place = place; first = first; text_is = refl; path_is = refl }) tt tt (λ h. h)
+      (text_at targets place, refl, record { place = place; first = first; text_is = refl; path_is = refl }) (graphs_now formed) tt (λ h. h)
       ((λ none. looked.looks), refl, path_has targets place first.within, first.unknown)
 
-  pub builds_cycle : Looked tells entry now → (paths : List (List ℕ)) → answer.AllNamed The → IsShownCycle The store paths → BuildsAs (Refused (refusal.Cycle paths))
-  builds_cycle looked paths named cycle =
-      builds_looked looked (Refused (refusal.Cycle paths)) (answer.Cyclic paths) refl tt tt (λ h. h) ((λ none. looked.looks), named, (The, inl (refl, refl), cycle))
+  pub builds_cycle : AreGraph graph.edges → Looked tells entry now → (paths : List (List ℕ)) → answer.AllNamed The → IsShownCycle The store paths → BuildsAs (Refused (refusal.Cycle paths))
+  builds_cycle formed looked paths named cycle =
+      builds_looked looked (Refused (refusal.Cycle paths)) (answer.Cyclic paths) refl (graphs_now formed) tt (λ h. h) ((λ none. looked.looks), named, (The, inl (refl, refl), cycle))
 
   of_memory : Looked tells entry now → (report : Report) → report ≡ Fault Memory → BuildsAs report
   of_memory looked report is = subst (λ (r : Report). BuildsAs r) (sym {A = Report} is) (builds_memory looked)
 
-  of_refusal : Looked tells entry now → (paths : List (List ℕ)) (fault : ConeFault) → IsNoCone The store paths fault → (refused : Refusal) → ShowsFault paths given fault refused → BuildsAs (Refused refused)
-  of_refusal looked paths cone_fault.Memory none refused shows = absurd shows
-  of_refusal looked paths (cone_fault.Unknown place) none refused shows =
-      subst (λ (r : Refusal). BuildsAs (Refused r)) (sym {A = Refusal} shows) (builds_unknown looked place none)
-  of_refusal looked paths (cone_fault.Cycle numbers) none refused shows =
-      subst (λ (r : Refusal). BuildsAs (Refused r)) (sym {A = Refusal} shows) (builds_cycle looked (texts_at paths numbers) none.0 none.1)
+  of_refusal : AreGraph graph.edges → Looked tells entry now → (paths : List (List ℕ)) (fault : ConeFault) → IsNoCone The store paths fault → (refused : Refusal) → ShowsFault paths given fault refused → BuildsAs (Refused refused)
+  of_refusal formed looked paths cone_fault.Memory none refused shows = absurd shows
+  of_refusal formed looked paths (cone_fault.Unknown place) none refused shows =
+      subst (λ (r : Refusal). BuildsAs (Refused r)) (sym {A = Refusal} shows) (builds_unknown formed looked place none)
+  of_refusal formed looked paths (cone_fault.Cycle numbers) none refused shows =
+      subst (λ (r : Refusal). BuildsAs (Refused r)) (sym {A = Refusal} shows) (builds_cycle formed looked (texts_at paths numbers) none.0 none.1)
 
-  pub builds_uncut : Looked tells entry now → (numbers : Graph) → graph ≡ declared_by numbers → IsRecordedBy numbers store → (report : Report) → SaysNoCone numbers given targets report → BuildsAs report
-  builds_uncut looked numbers same in_use report (inl is) = of_memory looked report is
-  builds_uncut looked numbers same in_use report (inr (refused, is, cause)) =
+  pub builds_uncut : AreGraph graph.edges → Looked tells entry now → (numbers : Graph) → graph ≡ declared_by numbers → IsRecordedBy numbers store → (report : Report) → SaysNoCone numbers given targets report → BuildsAs report
+  builds_uncut formed looked numbers same in_use report (inl is) = of_memory looked report is
+  builds_uncut formed looked numbers same in_use report (inr (refused, is, cause)) =
       subst (λ (r : Report). BuildsAs r) (sym {A = Report} is)
-      (of_refusal looked numbers.manifest.paths cause.fault (cause.is The store refl same refl in_use) refused cause.shows)
+      (of_refusal formed looked numbers.manifest.paths cause.fault (cause.is The store refl same refl in_use) refused cause.shows)
 
 -- ---- calls that only looked
 

@@ -38,7 +38,7 @@ use Rattle.builder.specs.declared.report.Report.{Report}
 use Rattle.builder.specs.declared.report.Report.TheVariants.{Success, Failed, Refused, Fault}
 use Rattle.builder.specs.declared.stop.Stop.{Stop}
 use Rattle.builder.specs.declared.stop.Stop.TheVariants as stop
-use Rattle.builder.specs.Build.{Says, Builds, missing_answer, asked_of}
+use Rattle.builder.specs.Build.{AreGraph, Says, Builds, missing_answer, asked_of}
 use Rattle.runner.specs.declared.state.State.{State}
 use Rattle.builder.specs.Reported.{IsReportOf, IsReported}
 use Rattle.builder.specs.Going.{BeginsAt, task_over, IsHeldLoad, IsLacking, IsMissingAfter, IfFault, HasDone, HasStopped, WasCut, HasEndedSo, stop_answer}
@@ -46,7 +46,7 @@ use Rattle.builder.specs.Loads.{IsRefusedFile, RefusesFile}
 use Rattle.builder.specs.declared.asked.Asked.{Asked as Request}
 use Rattle.builder.specs.Reports.{first_output_of, HasRead, IsConeRecorded, SaysEnd, report_of}
 use Rattle.builder.proofs.Beginning.{found_later}
-use Rattle.builder.proofs.Builds.{any_own, builds_over}
+use Rattle.builder.proofs.Builds.{any_own, names_inputs, builds_over}
 use Rattle.builder.proofs.Faults.{idle_left}
 use Rattle.builder.proofs.Opening.{cause_since}
 use Rattle.builder.proofs.Looking.{Built, IsFoundAt, course_of, passes_any, passes_after}
@@ -428,6 +428,12 @@ ended_grows tells course grown graph cone now (Ok summary) done tell = let told 
 ended_grows tells course grown graph cone now (Err (stop.Refused refusal)) stopped tell = let told = stopped.finished.on.carried.run.history tell in (told.more, told.grows)
 ended_grows tells course grown graph cone now (Err (stop.Fault fault)) cut tell = let told = cut.ran.cut.run.history tell in (told.more, told.grows)
 
+-- however it ended, the edges are a graph, with what was loaded
+pub ended_graph : (tells : Bool) (course : Course) (grown : List Edge) (graph : Graph) (cone : Cone) (now : World) (result : Result Summary Stop) → HasEndedSo tells course grown graph cone now result → AreGraph grown
+ended_graph tells course grown graph cone now (Ok summary) done = record { once = done.once; inputs = names_inputs grown done.ran.cut.phased.inputs }
+ended_graph tells course grown graph cone now (Err (stop.Refused refusal)) stopped = record { once = stopped.once; inputs = names_inputs grown stopped.phased.inputs }
+ended_graph tells course grown graph cone now (Err (stop.Fault fault)) cut = record { once = cut.once; inputs = names_inputs grown cut.ran.cut.phased.inputs }
+
 -- ---- of what was asked for
 
 -- The run of what was asked for has ended: on the course by which was read, and on one that begins anew there.
@@ -451,7 +457,8 @@ module _ (tells : Bool) (graph : Graph) (request : Request) (records : Records) 
 
     builds_so : (report : Report) → EndsSo tells this grown exit report → BuildsAs report
     builds_so report ends =
-        builds_over tells course.behaviour course.format course.own (declared_by graph) request.folder request.limits request.given.now request.targets course.store course.entry exit found has.idle once others grown report ends.said
+        builds_over tells course.behaviour course.format course.own (declared_by graph) request.folder request.limits request.given.now request.targets course.store course.entry exit found has.idle (record { once = once; inputs = others }) grown
+        (ended_graph tells here grown after last exit result anew) report ends.said
         (ends.says (declared_by graph).edges request.given.now request.targets) ends.built
 
     named : answer.AllNamed The

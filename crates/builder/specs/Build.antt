@@ -17,7 +17,7 @@ use Rattle.model.specs.Kept.{KeepsLogs}
 use Rattle.deps_log.specs.Format.{ReadsLogs}
 use Rattle.depfile.specs.Depfile.{IsReading}
 use Rattle.model.specs.Phases.{steps_of}
-use Rattle.model.specs.SingleBuild.{Asked, Answer, is_fault, SingleBuild, asked_with}
+use Rattle.model.specs.SingleBuild.{Asked, Answer, is_fault, NamesOther, SingleBuild, asked_with}
 use Rattle.model.specs.SingleBuild as answer
 use Rattle.manifest.specs.Answer.{ReadsFile, site_part}
 use Rattle.manifest.specs.declared.fault.ReadError.{ReadError}
@@ -76,22 +76,33 @@ Says edges given targets (Refused (Cycle paths)) said = said ≡ answer.Cyclic p
 Says edges given targets (Refused (Missing missing)) said = said ≡ missing_answer missing.path missing.needed_by
 Says edges given targets (Fault fault) said = said ≡ answer.Fault fault
 
+-- no path is made twice, and each dyndep file that an edge names is one of its inputs
+pub record AreGraph (edges : List Edge) : Type 0 where
+  pub once : IsMadeOnce edges
+  pub inputs : (file : List ℕ) → NamesOther edges file → ⊥
+
+-- the edges that were declared are a graph, and so they are with what the loads before have added
+pub record AreGraphs (declared grown : List Edge) : Type 0 where
+  pub first : AreGraph declared
+  pub last : AreGraph grown
+
 -- Where N17 or N53 is answered, the path is the one that the fault of the lowest edge names which has one; but for a path that is made
--- twice only with what a dyndep file adds, where the declared edges make each path once.
-abbrev pub NamesFault : List Edge → Report → Type 0
-NamesFault edges (Success started) = Unit {0}
-NamesFault edges (Failed outputs) = Unit {0}
-NamesFault edges (Refused (File fault)) = Unit {0}
-NamesFault edges (Refused (MadeTwice path)) = IsMadeOnce edges ⊎ IsFaultOf edges (fault_of.MadeTwice path)
-NamesFault edges (Refused (NoDyndepInput path)) = IsFaultOf edges (fault_of.NoDyndepInput path)
-NamesFault edges (Refused (NoDyndep path)) = Unit {0}
-NamesFault edges (Refused (BadVersion path)) = Unit {0}
-NamesFault edges (Refused (BadStatement path)) = Unit {0}
-NamesFault edges (Refused (Unfit unfit)) = Unit {0}
-NamesFault edges (Refused (UnknownTarget target)) = Unit {0}
-NamesFault edges (Refused (Cycle paths)) = Unit {0}
-NamesFault edges (Refused (Missing missing)) = Unit {0}
-NamesFault edges (Fault fault) = Unit {0}
+-- twice only with what a dyndep file adds. That, and any other refusal of a load, of targets or of their cone, is answered only where the
+-- edges are a graph.
+abbrev pub NamesFault : List Edge → List Edge → Report → Type 0
+NamesFault edges grown (Success started) = Unit {0}
+NamesFault edges grown (Failed outputs) = Unit {0}
+NamesFault edges grown (Refused (File fault)) = Unit {0}
+NamesFault edges grown (Refused (MadeTwice path)) = AreGraphs edges grown ⊎ IsFaultOf edges (fault_of.MadeTwice path)
+NamesFault edges grown (Refused (NoDyndepInput path)) = IsFaultOf edges (fault_of.NoDyndepInput path)
+NamesFault edges grown (Refused (NoDyndep path)) = AreGraphs edges grown
+NamesFault edges grown (Refused (BadVersion path)) = AreGraphs edges grown
+NamesFault edges grown (Refused (BadStatement path)) = AreGraphs edges grown
+NamesFault edges grown (Refused (Unfit unfit)) = AreGraphs edges grown
+NamesFault edges grown (Refused (UnknownTarget target)) = AreGraphs edges grown
+NamesFault edges grown (Refused (Cycle paths)) = AreGraphs edges grown
+NamesFault edges grown (Refused (Missing missing)) = AreGraphs edges grown
+NamesFault edges grown (Fault fault) = Unit {0}
 
 -- A build that no fault has cut off has removed the response files of commands that ended well, and of their depfiles just those
 -- that are not to stay, where files are kept.
@@ -103,12 +114,12 @@ abbrev pub LeavesAlone : Bool → OwnFiles → Asked → World → World → Typ
 LeavesAlone tells own asked old new = IsTrue tells → FilesAreKept own asked.graph.edges old.history new.history → AreLeftAlone asked.graph.edges old.history new.history
 
 -- The graph was built, whose edges are `grown` at the end, with what the loaded dyndep files add, and the report says how, and names the
--- fault of edges that are no graph; a dyndep file that has ended the build is refused with its cause; the build is as the headline says,
+-- fault of edges that are no graph, and no other refusal of these; a dyndep file that has ended the build is refused with its cause; the build is as the headline says,
 -- keeps its logs, leaves the files of running commands alone, and removes those of commands that ended well.
 pub record Builds (tells : Bool) (B : Behaviour) (format : LogFormat) (own : OwnFiles) (graph : BuildGraph) (folder : List ℕ) (limits : Limits) (given targets : List (List ℕ)) (grown : List Edge) (old new : World) (report : Report) : Type 0 where
   pub answer : Answer
   pub said : Says graph.edges given targets report answer
-  pub named : NamesFault graph.edges report
+  pub named : NamesFault graph.edges grown report
   pub build : SingleBuild tells B format own (asked_with (asked_of graph folder limits targets) grown) old new answer
   pub refused : RefusesFile tells own (asked_with (asked_of graph folder limits targets) grown) build.store (steps_of build.schedule.lawful.earlier ++ build.schedule.lawful.last) old new report
   pub headline : IsHeadline tells B format own (asked_with (asked_of graph folder limits targets) grown) old new answer build

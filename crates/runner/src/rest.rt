@@ -20,12 +20,13 @@ use plan::Plan;
 use site::Site;
 
 /// Takes in what runs after a fault that came between two calls of a run, of which this is the plan: nothing of that is recorded or
-/// shown. It gives the fault of the run.
+/// shown. It gives the fault of the run: that the site stopped, where it did, and else this one, whatever a wait meets behind it.
 pub fn give_up<S: Site>(site: &mut S, plan: &Plan, fault: SiteFault) -> Cut
     requires met { (course : Course) × (graph : Graph) × IsCut S.tells course graph plan.now (S.world site.old) }
     requires stopped { (S.world site.old).stopped ≡ is_stop {T = Unit {0}} (Err fault) }
     ensures ran { (course : Course) (graph : Graph) → IsCut S.tells course graph plan.now (S.world site.old) → HasRun S.tells course (S.world site.new) (Err result) }
     ensures seen { StaysSeen (S.world site.old) (S.world site.new) (Other fault) result }
+    ensures first { (fault_of result ≡ fault) ⊎ (fault_of result ≡ SiteFault.Stopped) }
     ensures left { IsLeft (S.world site.new) result }
     ensures grows { ComesAfter S.tells (S.world site.old) (S.world site.new) }
     ensures takes_in { TakesIn (S.world site.old) (S.world site.new) result }

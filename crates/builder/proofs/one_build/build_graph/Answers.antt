@@ -18,8 +18,8 @@ returns-in_err-cone g c = (
       let graph = c.args.graph.now in
       let asked = c.args.asked.now in
       let old = g.S.Texts.world c.args.site.now in
-      builds_uncut g.S.Texts.tells course.behaviour course.format course.own (declared_by graph) asked.folder asked.limits asked.given.now asked.targets course.store course.entry old has.found has.idle has.looked
-      graph refl has.in_use (report_in c.from_residual.result)
+      builds_uncut g.S.Texts.tells course.behaviour course.format course.own (declared_by graph) asked.folder asked.limits asked.given.now asked.targets course.store course.entry old has.found has.idle
+      (record { once = c.requires.once; inputs = c.requires.inputs }) has.looked graph refl has.in_use (report_in c.from_residual.result)
       (subst (λ (r : Report). SaysNoCone graph asked.given.now asked.targets r) (sym {A = Report} (told_by _ c.from_residual.result c.from_residual.ensures.1)) c.in_err-cone.ensures.refused),
 )
 

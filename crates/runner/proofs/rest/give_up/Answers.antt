@@ -10,6 +10,9 @@ take_in_rest-requires-clause-many g c =
     many_by_steps g.S.Texts.tells course.own (task_of course.asked course.store) cut.steps course.entry (g.S.Texts.world c.args.site.now) c.running.result cut.cut.beside.idle cut.run
     (c.running.ensures.steps (task_of course.asked course.store) c.requires.met.1 cut.steps cut.planned cut.taken)
 
+pub returns-clause-first : goal.returns-clause-first
+returns-clause-first g c = c.take_in_rest.ensures.first
+
 pub returns-clause-ran : goal.returns-clause-ran
 returns-clause-ran g c course graph cut =
     ran_cut g.S.Texts.tells course graph (g.S.Texts.world c.args.site.now) c.args.plan.now (g.S.Texts.world c.take_in_rest.new.site) c.take_in_rest.result cut
