@@ -1,5 +1,5 @@
 -- What the logs tell of earlier builds, and the inputs that commands discovered.
-use Rattle.std.specs.Prelude.{◌≡◌, ℕ, ◌≤◌, ◌==◌, ◌&&◌, Bool, true, false, if◌then◌else◌, List, [], ◌∷◌, ◌++◌, Option, Some, None, is_some, bytes_eq}
+use Rattle.std.specs.Prelude.{◌≡◌, ◌⊎◌, ℕ, ◌≤◌, ◌==◌, ◌&&◌, Bool, true, false, if◌then◌else◌, List, [], ◌∷◌, ◌++◌, Option, Some, None, is_some, bytes_eq}
 use Rattle.std.specs.List.{AllByRecursion, list_all}
 use Rattle.model.specs.declared.act.Act.{Act}
 use Rattle.model.specs.declared.graph.Edge.{Edge}
@@ -54,8 +54,12 @@ file_in (c ∷ d ∷ folder) name = (c ∷ d ∷ folder) ++ 47 ∷ name
 abbrev pub IsDigit : ℕ → Type 0
 IsDigit c = (48 ≤ c) × (c ≤ 57)
 
+-- a digit or a full stop
+abbrev pub IsInNumbers : ℕ → Type 0
+IsInNumbers c = IsDigit c ⊎ (c ≡ 46)
+
 -- The program's own files are those of this folder: .nj_log, .nj_deps and .nj_tick, what a log is replaced by before it gets its
--- name, and the files .nj_out.N of running commands.
+-- name, and the files .nj_out.PROCESS.N of running commands.
 pub record IsOwnIn (own : OwnFiles) (folder : List ℕ) : Type 0 where
   pub build_log : own.build_log ≡ file_in folder build_log_name
   pub deps_log : own.deps_log ≡ file_in folder deps_log_name
@@ -64,7 +68,7 @@ pub record IsOwnIn (own : OwnFiles) (folder : List ℕ) : Type 0 where
   pub tick : own.files (file_in folder tick_name) ≡ true
   pub new_log : own.files (file_in folder build_log_name ++ new_suffix) ≡ true
   pub new_deps : own.files (file_in folder deps_log_name ++ new_suffix) ≡ true
-  pub outputs : (digits : List ℕ) → AllByRecursion IsDigit digits → own.files (file_in folder (output_name ++ digits)) ≡ true
+  pub outputs : (numbers : List ℕ) → AllByRecursion IsInNumbers numbers → own.files (file_in folder (output_name ++ numbers)) ≡ true
 
 -- what is read of a log that is absent, damaged, or neither
 abbrev pub read_log : {A : Type 0} → (List ℕ → Option (List A)) → Option (List ℕ) → List A
