@@ -5,7 +5,7 @@ ghost use Rattle.std.specs.Fs.{asks_append, asks_truncate};
 
 use crate::clock::Touches;
 use crate::content::content_of;
-use crate::held::{is_at, rest};
+use crate::held::rest;
 use crate::logs::{Logs, is_log};
 use locks::Identity;
 use std::alloc::{AllocError, Global};
@@ -228,15 +228,15 @@ impl<'a> Disk<'a> {
         rest(self.rt, tries);
     }
 
-    /// Whether the path leads to this file, which was opened there.
-    pub fn is_at(&self, path: &str, file: &File) -> bool {
-        is_at(self.rt, path, file)
+    /// The system whose files they are.
+    pub fn runtime(&self) -> &'a HostRuntime {
+        self.rt
     }
 
-    /// Whether there is an empty file at the path that can be read, and no link.
-    pub fn has_empty(&self, path: &str) -> bool {
+    /// Whether there is something at the path but an empty file that can be read: a link, for example.
+    pub fn has_other(&self, path: &str) -> bool {
         match fs::symlink_metadata(self.rt, path) {
-            Ok(metadata) => is_empty_file(&metadata) && self.open(path).is_ok(),
+            Ok(metadata) => !is_empty_file(&metadata) || unless_absent(self.open(path)).is_err(),
             Err(_) => false,
         }
     }

@@ -1,9 +1,10 @@
-//! The files that commands read and print into. They stand beside the logs, and a build removes those that it made once it has taken in its
-//! commands: so they are left only where it was killed. What is left is locked as long as a command has it, or a process that got it from
-//! there: an exclusive lock on another opening is refused to a later build until then.
+//! The files that commands read and print into. They stand beside the logs, and a build removes them once it has taken in its commands: so
+//! they are left only where it was killed. What is left is locked as long as a command has it, or a process that got it from there: an
+//! exclusive lock on another opening is refused to a later build until then.
 //!
-//! Builds in several folders may have one folder of logs. Each gives the files for what its commands print names with its process, and never
-//! makes one where something stands; all share one file for commands to read. What another build takes away between two steps is made anew.
+//! Builds in several folders may have one folder of logs. Each gives the files for what its commands print names with its process, makes
+//! none where something stands, and removes no other; all share one file for commands to read, which the last of them removes. What another
+//! build takes away between two steps is made anew.
 
 use crate::disk::{Disk, unless_absent, writing};
 use crate::held::is_at;
@@ -42,21 +43,10 @@ pub struct Files {
 /// An empty file that all commands read.
 #[derive(Drop)]
 struct Input {
-    path: String,
-    origin: Origin,
+    /// Where it stands, unless it is one of the system.
+    path: Option<String>,
     /// The opening that each of them gets, and so all hold its lock.
     file: File,
-}
-
-/// Where what commands read comes from.
-#[derive(Clone, Copy, PartialEq, Eq)]
-enum Origin {
-    /// The system has it.
-    Null,
-    /// This build has made it.
-    Made,
-    /// Another build has made it, and removes it at its end.
-    Found,
 }
 
 /// A file into which commands print, one after another, each both its output and its errors.
@@ -123,7 +113,7 @@ impl Files {
 
     /// New files for a command that is to be started: to print into, where nothing stood before, and to read, if there is none yet.
     pub fn make(&mut self, disk: &mut Disk<'_>) -> Result<Made, AllocError> {
-        if !self.has_input(disk) {
+        if self.input.is_none() {
             let path = self.input_path(disk.folder())?;
             if let Err(reason) = self.make_input(disk, path.as_str()) {
                 return Ok(Made {
@@ -133,14 +123,6 @@ impl Files {
             }
         }
         self.make_output(disk)
-    }
-
-    /// Whether there is a file for commands to read. One that another build has made may be gone.
-    fn has_input(&self, disk: &Disk<'_>) -> bool {
-        match &self.input {
-            Some(input) => input.is_there(disk),
-            None => false,
-        }
     }
 
     /// The path of the file for commands to read, where their files stand in this folder.
@@ -154,31 +136,26 @@ impl Files {
     /// Makes the file for commands to read, or finds one that another build has made. Its lock, which not every file system allows, is held
     /// until this program and all commands that have it as their input have let it go. An inner build opens what is there.
     fn make_input(&mut self, disk: &mut Disk<'_>, path: &str) -> io::Result<()> {
-        let name = String::from_str(self.alloc, path)?;
-        let (file, origin) = if self.is_inner {
-            (disk.open(path)?, Origin::Null)
+        let input = if self.is_inner {
+            Input {
+                path: None,
+                file: disk.open(path)?,
+            }
         } else {
-            input_at(disk, path)?
+            Input {
+                path: Some(String::from_str(self.alloc, path)?),
+                file: input_at(disk, path)?,
+            }
         };
-        self.input = Some(Input {
-            path: name,
-            origin,
-            file,
-        });
+        self.input = Some(input);
         Ok(())
     }
 
     /// The files for a command that is to be started, with one to print into that an earlier one left as good as new, if there is such a
     /// one. A command may have removed it, and something else may stand there since.
     pub fn reopen(&mut self, disk: &mut Disk<'_>) -> Option<Opened> {
-        if !self.has_input(disk) {
-            return None;
-        }
         let printed = self.unused.pop()?;
-        match self.opened(disk, printed) {
-            Ok(Some(opened)) if opened.is_the_same() => Some(opened),
-            _ => None,
-        }
+        self.opened(disk, printed).ok()?
     }
 
     /// The files for a command, with a new one to print into: at the first path at which nothing stands, and from which nobody takes it
@@ -226,10 +203,10 @@ impl Files {
         self.opened(disk, printed)
     }
 
-    /// The files for a command, with this one to print into, or nothing where another build has taken it away. One that cannot be opened is
-    /// removed.
-    fn opened(&self, disk: &mut Disk<'_>, mut printed: Printed) -> io::Result<Option<Opened>> {
-        match self.openings(disk, printed.path.as_str()) {
+    /// The files for a command, with this one to print into, or nothing where it is not there any more, or another build is looking at it.
+    /// It is removed then, as one is that cannot be opened.
+    fn opened(&self, disk: &Disk<'_>, mut printed: Printed) -> io::Result<Option<Opened>> {
+        match self.openings(disk, &printed) {
             Ok(Some((input, Output { file, is_locked }))) => {
                 printed.is_locked = is_locked;
                 Ok(Some(Opened {
@@ -239,24 +216,27 @@ impl Files {
                 }))
             }
             Ok(None) => {
-                remove_from(disk, &printed);
+                printed.remove(disk.runtime());
                 Ok(None)
             }
             Err(reason) => {
-                remove_from(disk, &printed);
+                printed.remove(disk.runtime());
                 Err(reason)
             }
         }
     }
 
-    /// The openings that a command gets which prints into the file at the path, or nothing where there is no file that it may have.
-    fn openings(&self, disk: &Disk<'_>, path: &str) -> io::Result<Option<(i32, Output)>> {
+    /// The openings that a command gets which prints into this file, or nothing where it may not have it.
+    fn openings(&self, disk: &Disk<'_>, printed: &Printed) -> io::Result<Option<(i32, Output)>> {
         let Some(input) = &self.input else {
             return Err(io::Error::from(ErrorKind::NotFound));
         };
-        let Some(file) = unless_absent(disk.open_to_append(path))? else {
+        let Some(file) = unless_absent(disk.open_to_append(printed.path.as_str()))? else {
             return Ok(None);
         };
+        if !printed.is_of(&file) {
+            return Ok(None);
+        }
         match locked(file) {
             Some(output) => Ok(Some((input.file.as_raw_fd(), output))),
             None => Ok(None),
@@ -304,40 +284,26 @@ impl Files {
     }
 }
 
-/// Removes a file to print into, if it stands there still.
-fn remove_from(disk: &mut Disk<'_>, printed: &Printed) {
-    if disk.is_at(printed.path.as_str(), &printed.file) {
-        let _ = disk.remove(printed.path.as_str());
-    }
-}
-
-/// The file at the path for commands to read, and where it comes from. It is tried a few times, with rests, where others take it away; where
-/// one has it for itself all that time, it is read without a lock.
-fn input_at(disk: &mut Disk<'_>, path: &str) -> io::Result<(File, Origin)> {
-    let mut origin = Origin::Found;
+/// The file at the path for commands to read. It is tried a few times, with rests, where others take it away; where one has it for itself all
+/// that time, it is read without a lock.
+fn input_at(disk: &mut Disk<'_>, path: &str) -> io::Result<File> {
     for turn in 0..TRIES {
-        if makes_input(disk, path)? {
-            origin = Origin::Made;
-        }
-        if let Some(file) = locked_input(disk, path)? {
-            return Ok((file, origin));
+        if let Some(file) = try_input(disk, path)? {
+            return Ok(file);
         }
         disk.rest(turn);
     }
-    Ok((disk.open(path)?, origin))
+    disk.open(path)
 }
 
-/// Makes the file at the path for commands to read, unless another build has made one, and answers whether it did so. Whatever else stood
-/// there, as a link, is removed.
-fn makes_input(disk: &mut Disk<'_>, path: &str) -> io::Result<bool> {
-    if disk.make_new(path, &mut writing())?.is_some() {
-        return Ok(true);
+/// The same, where it is made or found at once. What stands there and is no such file, as a link, is removed for the next try.
+fn try_input(disk: &mut Disk<'_>, path: &str) -> io::Result<Option<File>> {
+    let made = disk.make_new(path, &mut writing())?;
+    if made.is_none() && disk.has_other(path) {
+        disk.remove(path)?;
+        return Ok(None);
     }
-    if disk.has_empty(path) {
-        return Ok(false);
-    }
-    disk.new_file(path, &mut writing())?;
-    Ok(true)
+    locked_input(disk, path)
 }
 
 /// The file at the path, locked together with others, or nothing where another build took it away before that, or is about to.
@@ -348,7 +314,7 @@ fn locked_input(disk: &Disk<'_>, path: &str) -> io::Result<Option<File>> {
     let Some(Output { file, .. }) = locked(file) else {
         return Ok(None);
     };
-    if disk.is_at(path, &file) {
+    if is_at(disk.runtime(), path, &file) {
         Ok(Some(file))
     } else {
         Ok(None)
@@ -387,21 +353,22 @@ fn locked(file: File) -> Option<Output> {
 }
 
 impl Input {
-    /// Whether commands that have it are known by it: not, where the build that made it has removed it.
-    fn is_there(&self, disk: &Disk<'_>) -> bool {
-        match self.origin {
-            Origin::Null | Origin::Made => true,
-            Origin::Found => disk.is_at(self.path.as_str(), &self.file),
-        }
-    }
-
-    /// Removes the file, if it was made by this build and stands there still.
+    /// Removes the file, if it was made for builds and stands there still, and no other build has it, nor a command of one that was killed:
+    /// where one has, that is left to it, and processes which commands of this build left behind have the file without a lock from now on.
     fn remove(self, rt: &HostRuntime) {
-        let Input { path, origin, file } = self;
-        if origin == Origin::Made && is_at(rt, path.as_str(), &file) {
-            let _ = fs::remove_file(rt, path.as_str());
+        let Input { path, file } = self;
+        if let Some(path) = path {
+            if is_last(&file) && is_at(rt, path.as_str(), &file) {
+                let _ = fs::remove_file(rt, path.as_str());
+            }
         }
     }
+}
+
+/// Whether nobody has a lock of the file but by this opening, which gets it for itself then, and else gives it back.
+fn is_last(file: &File) -> bool {
+    let _ = file.unlock();
+    !matches!(file.try_lock(), Err(TryLockError::WouldBlock))
 }
 
 impl Opened {
@@ -409,12 +376,6 @@ impl Opened {
     pub fn streams(&self) -> Streams {
         let output = self.output.as_raw_fd();
         [self.input, output, output]
-    }
-
-    /// Whether the command prints into the file that is read afterwards: another build may have made one at its path, where both are the
-    /// process of one number in two containers.
-    fn is_the_same(&self) -> bool {
-        Identity::of_file(&self.output) == self.printed.identity
     }
 }
 
@@ -441,8 +402,16 @@ impl Printed {
         })
     }
 
-    /// Removes the file. One that cannot be removed stays, and is removed by a later build.
+    /// Whether the opening is one of this file: not, where a command has put another one in its place, or another build has, which is the
+    /// process of the same number in another container.
+    fn is_of(&self, file: &File) -> bool {
+        Identity::of_file(file) == self.identity
+    }
+
+    /// Removes the file, if it stands there still. One that cannot be removed stays, and is removed by a later build.
     pub fn remove(self, rt: &HostRuntime) {
-        let _ = fs::remove_file(rt, self.path.as_str());
+        if Identity::at(rt, self.path.as_str()) == self.identity {
+            let _ = fs::remove_file(rt, self.path.as_str());
+        }
     }
 }

@@ -99,21 +99,13 @@ impl Held {
     }
 }
 
-/// Whether the path leads to this file still, which was opened there.
-pub fn is_at(rt: &HostRuntime, path: &str, file: &File) -> bool {
-    match file.metadata() {
-        Ok(metadata) => has_name(rt, path, &metadata),
-        Err(_) => false,
-    }
-}
-
 /// Whether the file has a name. Where none is counted, as on file systems that count none, it is looked for at the path.
 fn has_name(rt: &HostRuntime, path: &str, metadata: &Metadata) -> bool {
     metadata.nlink() > 0 || Identity::at(rt, path) == Some(Identity::of(metadata))
 }
 
 /// Whether the path leads to the file of the opening.
-fn leads_to(rt: &HostRuntime, path: &str, file: &File) -> bool {
+pub fn is_at(rt: &HostRuntime, path: &str, file: &File) -> bool {
     match Identity::of_file(file) {
         Some(identity) => Identity::at(rt, path) == Some(identity),
         None => false,
@@ -130,7 +122,7 @@ pub fn lock_alone(rt: &HostRuntime, path: &str) -> io::Result<Alone> {
 fn alone_with(rt: &HostRuntime, path: &str, file: File) -> Alone {
     match file.try_lock() {
         Ok(()) => {
-            if leads_to(rt, path, &file) {
+            if is_at(rt, path, &file) {
                 Alone::Yes(file)
             } else {
                 Alone::No
@@ -172,7 +164,7 @@ fn try_make_alone(rt: &HostRuntime, path: &str) -> io::Result<Option<File>> {
 fn locked_new(rt: &HostRuntime, path: &str, file: File) -> Option<File> {
     match file.try_lock() {
         Ok(()) => {
-            if leads_to(rt, path, &file) {
+            if is_at(rt, path, &file) {
                 Some(file)
             } else {
                 None
