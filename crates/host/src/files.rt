@@ -7,7 +7,7 @@
 //! build takes away between two steps is made anew.
 
 use crate::disk::{Disk, unless_absent, writing};
-use crate::held::is_at;
+use crate::held::{Lock, ask_shared, is_at};
 use crate::process::Streams;
 use locks::{INPUT, Identity, OUTPUT, path_in};
 use std::alloc::{AllocError, Global};
@@ -339,17 +339,12 @@ fn made_at(path: String, tried: io::Result<Option<Opened>>) -> Option<Made> {
 /// Locks an opening together with others, which not every file system allows. Where another has the file for itself, it may be about to
 /// remove it: then there is none.
 fn locked(file: File) -> Option<Output> {
-    match file.try_lock_shared() {
-        Ok(()) => Some(Output {
-            file,
-            is_locked: true,
-        }),
-        Err(TryLockError::WouldBlock) => None,
-        Err(TryLockError::Error(_)) => Some(Output {
-            file,
-            is_locked: false,
-        }),
+    let lock = ask_shared(&file);
+    if lock == Lock::Refused {
+        return None;
     }
+    let is_locked = lock == Lock::Shared;
+    Some(Output { file, is_locked })
 }
 
 impl Input {
@@ -365,9 +360,9 @@ impl Input {
     }
 }
 
-/// Whether nobody has a lock of the file but by this opening, which gets it for itself then, and else gives it back.
+/// Whether nobody has a lock of the file but by this opening, which gets it for itself then. Else it has none from now on, as that is what
+/// asking for the other lock does.
 fn is_last(file: &File) -> bool {
-    let _ = file.unlock();
     !matches!(file.try_lock(), Err(TryLockError::WouldBlock))
 }
 

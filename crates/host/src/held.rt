@@ -75,17 +75,22 @@ pub fn open_held(rt: &HostRuntime, path: &str, looks: u64) -> io::Result<Held> {
 
 fn open_asked(rt: &HostRuntime, path: &str) -> io::Result<Held> {
     let file = File::open(rt, path)?;
-    let lock = match file.try_lock_shared() {
-        Ok(()) => Lock::Shared,
-        Err(TryLockError::WouldBlock) => Lock::Refused,
-        Err(TryLockError::Error(_)) => Lock::Missing,
-    };
+    let lock = ask_shared(&file);
     let metadata = file.metadata()?;
     Ok(Held {
         file,
         metadata,
         lock,
     })
+}
+
+/// Asks for the lock of an open file that others may have too.
+pub fn ask_shared(file: &File) -> Lock {
+    match file.try_lock_shared() {
+        Ok(()) => Lock::Shared,
+        Err(TryLockError::WouldBlock) => Lock::Refused,
+        Err(TryLockError::Error(_)) => Lock::Missing,
+    }
 }
 
 impl Held {
