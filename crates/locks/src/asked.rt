@@ -13,7 +13,9 @@ pub enum Asked {
     Free(File),
     /// Another opening. This one has none.
     Held(File),
-    /// There is no file that can be opened, or there are no locks here.
+    /// There are no locks here.
+    Lockless(File),
+    /// There is no file that can be opened.
     Nothing,
 }
 
@@ -51,6 +53,6 @@ pub fn ask_again(file: File) -> Asked {
     match file.try_lock() {
         Ok(()) => Asked::Free(file),
         Err(TryLockError::WouldBlock) => Asked::Held(file),
-        Err(TryLockError::Error(_)) => Asked::Nothing,
+        Err(TryLockError::Error(_)) => Asked::Lockless(file),
     }
 }

@@ -42,7 +42,7 @@ impl Model for Entered {
 pub fn enter(alloc: Global, rt: &HostRuntime) -> Entered {
     match ask_folder(rt) {
         Asked::Free(lock) => Entered::with(lock),
-        Asked::Nothing => Entered::without(None),
+        Asked::Lockless(_) | Asked::Nothing => Entered::without(None),
         Asked::Held(refused) => entered_by(wait_for(Sight { alloc, rt }, Awaited::Folder, refused)),
     }
 }

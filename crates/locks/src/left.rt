@@ -16,8 +16,8 @@ use std::fs::File;
 /// it waited, so that everything is to be read anew.
 ///
 /// Only where `INPUT` is there, the folder is looked at. Of that file, and of those whose names begin with `OUTPUT`, each is removed
-/// that nobody has a lock on, `INPUT` as the last, but for those that the build which made them has open still: one that is at work in
-/// another folder keeps files without a lock for its next commands. Where another process holds one, the working folder is given back
+/// that nobody has a lock on, `INPUT` as the last, and where there are no locks, but for those that the build which made them has open
+/// still: one that is at work in another folder keeps files without a lock for its next commands. Where another process holds one, the working folder is given back
 /// for as long as that lasts, and then entered anew. A file that somebody deletes meanwhile is not waited for, and where `INPUT` is
 /// deleted, none is.
 ///
@@ -81,7 +81,7 @@ fn enter_after(sight: Sight<'_>, input: &str, held: &[String]) -> Entered {
 /// Waits until nobody holds the file at the path, and answers whether it came to that: not, where no process is seen that holds it.
 fn wait_at(sight: Sight<'_>, path: &str) -> bool {
     match ask_file(sight.rt, path) {
-        Asked::Free(_) | Asked::Nothing => true,
+        Asked::Free(_) | Asked::Lockless(_) | Asked::Nothing => true,
         Asked::Held(refused) => {
             let outcome = wait_for(sight, Awaited::Left(path), refused);
             !matches!(outcome, Outcome::Unseen)
@@ -157,10 +157,12 @@ impl<'a> Left<'a> {
     /// Removes the file of this name at the path, where nobody holds it. Nobody gets a lock on it before it is gone.
     fn clear_output(&mut self, name: &str, path: String) -> Result<(), AllocError> {
         match ask_file(self.sight.rt, path.as_str()) {
-            Asked::Free(lock) => {
-                if !self.is_in_use(name, &lock) {
-                    self.remove(path.as_str());
-                }
+            Asked::Free(file) => {
+                self.remove_unused(name, path.as_str(), &file);
+                Ok(())
+            }
+            Asked::Lockless(file) => {
+                self.remove_unused(name, path.as_str(), &file);
                 Ok(())
             }
             Asked::Held(file) => self.note(path, &file),
@@ -168,11 +170,14 @@ impl<'a> Left<'a> {
         }
     }
 
-    /// Whether the build that made the file of this name is at work still, and has it open.
-    fn is_in_use(&self, name: &str, file: &File) -> bool {
-        match maker_of(name) {
+    /// Removes the file of this name at the path, unless the build that made it is at work still, and has it open.
+    fn remove_unused(&self, name: &str, path: &str, file: &File) {
+        let is_used = match maker_of(name) {
             Some(process) => self.sight.may_use(process, file),
             None => false,
+        };
+        if !is_used {
+            self.remove(path);
         }
     }
 

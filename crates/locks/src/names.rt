@@ -1,9 +1,10 @@
 //! The names of the files by which the commands of a build are known.
 
-ghost use Rattle.std.specs.Prelude.{◌≡◌, ◌↔◌, ◌++◌, IsTrue, IfOk, IfSome, IsSome, None, codes, string_bytes};
-ghost use Rattle.locks.specs.Names.{BeginsWith, IsLeft, IsOutput};
+ghost use Rattle.std.specs.Prelude.{◌≡◌, ◌↔◌, ◌++◌, IsTrue, IfOk, IfSome, None, codes, string_bytes};
+ghost use Rattle.locks.specs.Names.{BeginsWith, BeginsWithNumber, IsLeft, IsMadeBy, IsOutput};
 
 use std::alloc::{AllocError, Global};
+use std::str;
 
 /// The name of the file, beside the logs, whose openings are the inputs of commands.
 pub const INPUT: &str = ".nj_in";
@@ -22,18 +23,26 @@ pub fn is_output(name: &str) -> bool
 /// The process of the build that made a file of this name for what a command prints: 12 for `.nj_out.12.3`. Builds of old gave their files
 /// a number alone.
 pub fn maker_of(name: &str) -> Option<u32>
-    ensures { IsSome result → IsOutput name.now }
+    ensures { IfSome result (λ process. IsMadeBy process name.now) }
 {
-    if is_output(name) {
-        number_in(name)
-    } else {
-        None
-    }
+    let numbers = behind(OUTPUT, name)?;
+    first_number(numbers)
 }
 
-fn number_in(name: &str) -> Option<u32> {
-    let (process, _) = name.strip_prefix(OUTPUT)?.split_once('.')?;
-    process.parse::<u32>().ok()
+/// What stands behind this beginning of a text, where it stands there.
+fn behind<'t>(start: &str, text: &'t str) -> Option<&'t str>
+    ensures { IfSome result (λ rest. text.now ≡ start.now ++ rest.now) }
+{
+    let rest = text.as_bytes().strip_prefix(start.as_bytes())?;
+    str::from_utf8(rest).ok()
+}
+
+/// The number in front of the first full stop.
+fn first_number(text: &str) -> Option<u32>
+    ensures { IfSome result (λ number. BeginsWithNumber number text.now) }
+{
+    let (word, _) = text.split_once('.')?;
+    word.parse::<u32>().ok()
 }
 
 /// Whether a text begins with another.

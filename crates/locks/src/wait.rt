@@ -125,7 +125,7 @@ impl<'a> Wait<'a> {
         };
         match asked {
             Asked::Free(file) => Turn::Ended(Outcome::Free(file)),
-            Asked::Nothing => Turn::Ended(Outcome::Nothing),
+            Asked::Lockless(_) | Asked::Nothing => Turn::Ended(Outcome::Nothing),
             Asked::Held(file) => self.go_on(file, is_look),
         }
     }
