@@ -1,8 +1,11 @@
 -- What a command that runs is, as contracts see it, and what is handed over to start one.
-use Rattle.std.specs.Prelude.{◌≡◌, ℕ, ℤ, ◌<◌, ◌↔◌, List, [], ◌∷◌, ◌++◌, map, length, pos, codes, Option, Some, None, IsTrue, slice_index_or}
+use Rattle.std.specs.Prelude.{◌≡◌, ℕ, ℤ, ◌<◌, ◌↔◌, List, [], ◌∷◌, ◌++◌, map, length, pos, codes, Option, Some, None, IfSome, IsTrue, slice_index_or}
 use Rattle.os.specs.Paths.{HasNoNul}
 use Rattle.host.specs.declared.commands.Running.{Running}
 use Rattle.host.specs.declared.commands.End.{End}
+use Rattle.host.specs.declared.files.Hold.{Hold}
+use Rattle.host.specs.declared.files.Hold.TheVariants.{Untold, Locked, Alone}
+use Rattle.host.specs.declared.files.Printed.{Printed}
 use Rattle.host.specs.declared.process.Handed.{Handed}
 use Rattle.host.specs.declared.process.State.{State}
 use Rattle.host.specs.declared.process.State.TheVariants.{Runs, Ended, Lost}
@@ -52,6 +55,35 @@ IsZero (Runs own) = ⊥
 IsZero (Ended status) = status.bits ≡ pos 0
 IsZero Lost = ⊥
 
+-- ---- files into which commands print
+
+-- by the last answer of the system another opening has the file locked
+abbrev pub IsHeldBy : Hold → Type 0
+IsHeldBy Untold = ⊥
+IsHeldBy Locked = Unit {0}
+IsHeldBy Alone = ⊥
+
+abbrev pub IsLocked : Printed → Type 0
+IsLocked printed = IsHeldBy printed.hold
+
+-- none has, or there are no locks
+abbrev pub IsFree : Hold → Type 0
+IsFree Untold = Unit {0}
+IsFree Locked = ⊥
+IsFree Alone = Unit {0}
+
+abbrev pub IsLetGo : Printed → Type 0
+IsLetGo printed = IsFree printed.hold
+
+-- none has
+abbrev pub IsOwn : Hold → Type 0
+IsOwn Untold = ⊥
+IsOwn Locked = ⊥
+IsOwn Alone = Unit {0}
+
+abbrev pub IsAlone : Printed → Type 0
+IsAlone printed = IsOwn printed.hold
+
 -- ---- commands
 
 -- the jobs that commands were started for, in their order
@@ -62,9 +94,13 @@ jobs_of commands = map (λ command. command.job) commands
 abbrev pub HasNumber : ℤ → Running → Type 0
 HasNumber number command = IsOf number command.process.state
 
--- a wait has put how the process ended
+-- no other opening has locked the file into which it prints, unless it prints elsewhere
+abbrev pub HasLetGo : Running → Type 0
+HasLetGo command = IfSome command.printed IsLetGo
+
+-- a wait has put how the process ended, and nobody has its output
 abbrev pub HasEnded : Running → Type 0
-HasEnded command = IsPut command.process.state
+HasEnded command = IsPut command.process.state × HasLetGo command
 
 abbrev pub HasEndedAt : ℕ → List Running → Type 0
 HasEndedAt place commands = place < length commands × ((default : Running) → HasEnded (slice_index_or commands place default))

@@ -1,7 +1,7 @@
 //! Real commands: starting one, and how it ended.
 
-ghost use Rattle.std.specs.Prelude.{◌≡◌, ℤ, IfOk, IsTrue};
-ghost use Rattle.host.specs.Process.{HasEnded, HasNumber, IsEndOf};
+ghost use Rattle.std.specs.Prelude.{◌≡◌, ℤ, IfOk, IsTrue, OnErr};
+ghost use Rattle.host.specs.Process.{HasEnded, HasLetGo, HasNumber, IsEndOf};
 
 use crate::files::{Opened, Printed, Taken};
 use crate::process::{Process, Streams, handed_over};
@@ -9,6 +9,7 @@ use std::alloc::Global;
 use std::io;
 use std::os::unix::process::ExitStatusExt;
 use std::process::ExitStatus;
+use std::time::Instant;
 use text::Bytes;
 
 /// A command that runs.
@@ -19,6 +20,8 @@ pub struct Running {
     process: Process,
     /// What it prints; none where it has the program's own output.
     printed: Option<Printed>,
+    /// When it was seen first that its process had ended and another one has its output open, where there is a clock.
+    held_since: Option<Instant>,
 }
 
 /// How a command ended.
@@ -47,6 +50,7 @@ pub fn start(
         job,
         process,
         printed: opened.take().map(|opened| opened.printed),
+        held_since: None,
     })
 }
 
@@ -59,14 +63,44 @@ fn streams(opened: &Option<Opened>) -> Streams {
 }
 
 impl Running {
-    /// Whether it has ended. One that has is not asked again.
-    pub fn has_ended(&mut self) -> io::Result<bool>
+    /// Whether it has ended: its process has, well or not, and no other opening has its output locked, as a process has that it left
+    /// behind. A wait for its process that fails is answered once nobody has its output. One that has ended is not asked again.
+    pub fn has_ended(&mut self, rt: &HostRuntime) -> io::Result<bool>
         ensures job { self.new.job ≡ self.old.job }
         ensures number { (number : ℤ) → HasNumber number self.old → HasNumber number self.new }
         ensures kept { HasEnded self.old → self.new.process ≡ self.old.process }
         ensures ended { IfOk result (λ ended. IsTrue ended → HasEnded self.new) }
+        ensures lost { OnErr result (HasLetGo self.new) }
     {
-        self.process.has_ended()
+        let answer = self.process.has_ended();
+        if matches!(answer, Ok(false)) || self.is_let_go(rt) {
+            return answer;
+        }
+        Ok(false)
+    }
+
+    /// Whether nobody has its output, of a command whose process has ended. When that is first seen not to be so is noted.
+    fn is_let_go(&mut self, rt: &HostRuntime) -> bool
+        ensures job { self.new.job ≡ self.old.job }
+        ensures process { self.new.process ≡ self.old.process }
+        ensures free { IsTrue result → HasLetGo self.new }
+    {
+        if let Some(printed) = &mut self.printed {
+            if !printed.is_let_go() {
+                if self.held_since.is_none() {
+                    self.held_since = Instant::now(rt).ok();
+                }
+                return false;
+            }
+        }
+        true
+    }
+
+    /// Where its process has ended and another one has its output open: the file, and since when that is seen.
+    pub fn held(&self) -> Option<(&Printed, Instant)> {
+        let since = self.held_since?;
+        let printed = self.printed.as_ref()?;
+        printed.is_locked().then_some((printed, since))
     }
 
     /// How it ended.

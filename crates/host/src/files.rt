@@ -6,6 +6,9 @@
 //! none where something stands, and removes no other; all share one file for commands to read, which the last of them removes. What another
 //! build takes away between two steps is made anew.
 
+ghost use Rattle.std.specs.Prelude.{◌≡◌, ◌↔◌, false, IfOk, IsTrue};
+ghost use Rattle.host.specs.Process.{IsAlone, IsLetGo, IsLocked};
+
 use crate::disk::{Disk, unless_absent, writing};
 use crate::held::{Lock, ask_shared, is_at};
 use crate::process::Streams;
@@ -57,15 +60,25 @@ pub struct Printed {
     file: File,
     /// Which file it is.
     identity: Option<Identity>,
-    /// Whether it is locked until all processes have closed the opening of the last command that have it from there.
-    is_locked: bool,
+    hold: Hold,
+}
+
+/// Who has the file into which a command prints.
+#[derive(Clone, Copy)]
+pub enum Hold {
+    /// There are no locks here, and it cannot be told.
+    Untold,
+    /// It is locked until all processes have closed the opening of the last command that have it from there.
+    Locked,
+    /// No other opening has it locked.
+    Alone,
 }
 
 /// What a command printed.
 #[derive(Drop)]
 pub struct Taken {
     pub output: Bytes,
-    /// Whether the file is as a new one: it is empty, and no process that the command left behind has it open still.
+    /// Whether the file is as a new one: it is empty, and no process that the command left behind has it open.
     pub is_unused: bool,
 }
 
@@ -198,7 +211,7 @@ impl Files {
             path,
             file,
             identity,
-            is_locked: false,
+            hold: Hold::Untold,
         };
         self.opened(disk, printed)
     }
@@ -208,7 +221,11 @@ impl Files {
     fn opened(&self, disk: &Disk<'_>, mut printed: Printed) -> io::Result<Option<Opened>> {
         match self.openings(disk, &printed) {
             Ok(Some((input, Output { file, is_locked }))) => {
-                printed.is_locked = is_locked;
+                printed.hold = if is_locked {
+                    Hold::Locked
+                } else {
+                    Hold::Untold
+                };
                 Ok(Some(Opened {
                     printed,
                     output: file,
@@ -380,10 +397,36 @@ impl Printed {
         &self.file
     }
 
+    /// Which file it is, if that is known.
+    pub fn identity(&self) -> Option<Identity> {
+        self.identity
+    }
+
+    /// Whether another opening has the file locked, by what was answered last.
+    pub fn is_locked(&self) -> bool
+        ensures { IsTrue result ↔ IsLocked self.now }
+    {
+        matches!(self.hold, Hold::Locked)
+    }
+
+    /// Whether no other opening has the file locked, where there are locks. While one has, this asks for the whole lock by an opening of the
+    /// program's own, which a file has that was removed as well, and gives it back at once. What nobody has is not asked again.
+    pub fn is_let_go(&mut self) -> bool
+        ensures free { IsTrue result → IsLetGo self.new }
+        ensures held { result ≡ false → IsLocked self.new }
+        ensures kept { IsLetGo self.old → self.new ≡ self.old }
+    {
+        if self.is_locked() {
+            self.hold = asked(&self.file);
+        }
+        !self.is_locked()
+    }
+
     /// What the last command printed so far, and whether the file can be used for another one.
-    pub fn take(&self, alloc: Global) -> io::Result<Taken> {
-        // first whether others have it still, who may write into it
-        let is_alone = self.is_locked && self.file.try_lock().is_ok() && self.file.unlock().is_ok();
+    pub fn take(&self, alloc: Global) -> io::Result<Taken>
+        ensures { IfOk result (λ taken. IsTrue taken.is_unused → IsAlone self.now) }
+    {
+        let is_alone = matches!(self.hold, Hold::Alone);
         let mut file = &self.file;
         let mut bytes = Vec::new(alloc);
         let is_empty = file.seek(SeekFrom::End(0))? == 0;
@@ -408,5 +451,21 @@ impl Printed {
         if Identity::at(rt, self.path.as_str()) == self.identity {
             let _ = fs::remove_file(rt, self.path.as_str());
         }
+    }
+}
+
+/// Who has the file of this opening: its lock is asked for, for this opening alone, and given back.
+fn asked(file: &File) -> Hold {
+    match file.try_lock() {
+        Ok(()) => given_back(file),
+        Err(TryLockError::WouldBlock) => Hold::Locked,
+        Err(TryLockError::Error(_)) => Hold::Untold,
+    }
+}
+
+fn given_back(file: &File) -> Hold {
+    match file.unlock() {
+        Ok(()) => Hold::Alone,
+        Err(_) => Hold::Untold,
     }
 }

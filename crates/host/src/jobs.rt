@@ -52,7 +52,11 @@ impl Jobs {
             events: Vec::new(alloc),
             before: 0,
             commands: Vec::new(alloc),
-            round: Round { place: 0, left: 0 },
+            round: Round {
+                place: 0,
+                left: 0,
+                some_held: false,
+            },
             environment: None,
         }
     }

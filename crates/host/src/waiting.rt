@@ -22,6 +22,8 @@ pub struct Round {
     pub place: usize,
     /// How many are asked before the next rest, if none of them has ended.
     pub left: usize,
+    /// Whether a command may be held: its process has ended, and another one has its output open.
+    pub some_held: bool,
 }
 
 /// Waits until one of the commands has ended, and answers its place. They are asked in turn, with rests that grow with the time waited.
@@ -47,12 +49,13 @@ pub fn wait_first(
         round.left = running;
     }
     for _ in 0..1u64 << 63 {
-        if ask_round(commands, round)? {
+        if ask_round(rt, commands, round)? {
             return Ok(round.place);
         }
         if rests.rest(rt) {
             watch.has_waited_long(commands.as_slice());
         }
+        round.some_held = round.some_held && watch.tells_held(commands.as_slice());
         round.left = in_a_round(running);
     }
     Err(io::Error::from(ErrorKind::TimedOut))
@@ -67,7 +70,7 @@ fn in_a_round(running: usize) -> usize
 
 /// Asks the commands that are left in the round whether they have ended, up to the first one that has: whether there is one. The round
 /// stands there then.
-fn ask_round(commands: &mut Vec<Running>, round: &mut Round) -> io::Result<bool>
+fn ask_round(rt: &HostRuntime, commands: &mut Vec<Running>, round: &mut Round) -> io::Result<bool>
     ensures jobs { jobs_of commands.new.items ≡ jobs_of commands.old.items }
     ensures ended { IfOk result (λ asked. IsTrue asked → HasEndedAt round.new.place commands.new.items) }
 {
@@ -75,8 +78,11 @@ fn ask_round(commands: &mut Vec<Running>, round: &mut Round) -> io::Result<bool>
         if round.place >= commands.len() {
             round.place = 0;
         }
-        if ask_at(commands, round.place)? {
+        if ask_at(rt, commands, round.place)? {
             return Ok(true);
+        }
+        if commands[round.place].held().is_some() {
+            round.some_held = true;
         }
         round.place += 1;
         round.left = round.left.saturating_sub(1);
@@ -85,13 +91,13 @@ fn ask_round(commands: &mut Vec<Running>, round: &mut Round) -> io::Result<bool>
 }
 
 /// Whether the command at the place has ended.
-fn ask_at(commands: &mut Vec<Running>, place: usize) -> io::Result<bool>
+fn ask_at(rt: &HostRuntime, commands: &mut Vec<Running>, place: usize) -> io::Result<bool>
     requires { place < vec_len commands.old }
     ensures jobs { jobs_of commands.new.items ≡ jobs_of commands.old.items }
     ensures same { vec_len commands.new ≡ vec_len commands.old }
     ensures ended { IfOk result (λ ended. IsTrue ended → HasEndedAt place commands.new.items) }
 {
-    commands[place].has_ended()
+    commands[place].has_ended(rt)
 }
 
 /// Waits until all of the commands have ended, and removes the files into which they printed.
@@ -108,11 +114,12 @@ pub fn wait_all(rt: &HostRuntime, commands: Vec<Running>, watch: &mut Watch<'_>)
 fn wait_for(rt: &HostRuntime, command: &mut Running, watch: &mut Watch<'_>) {
     let mut rests = Rests::new(0);
     for _ in 0..1u64 << 63 {
-        match command.has_ended() {
+        match command.has_ended(rt) {
             Ok(false) => {
                 if rests.rest(rt) {
                     watch.has_waited_long(slice::from_ref(command));
                 }
+                watch.tells_held(slice::from_ref(command));
             }
             _ => return,
         }

@@ -1,8 +1,9 @@
 //! What a build does for others while it lasts.
 
 use crate::commands::Running;
-use locks::{Entered, Watch as Passed, enter, wait_for_left};
+use locks::{Behind, Entered, Identity, Watch as Passed, enter, wait_for_left};
 use std::alloc::Global;
+use std::time::Instant;
 
 /// What the build holds of the working folder, and what it does for others while its commands run and none ends.
 #[derive(Drop)]
@@ -12,6 +13,7 @@ pub struct Watch<'a> {
     /// Nothing before the folder is entered.
     entered: Option<Entered>,
     passed: Passed,
+    behind: Behind,
 }
 
 impl<'a> Watch<'a> {
@@ -22,6 +24,7 @@ impl<'a> Watch<'a> {
             alloc,
             entered: None,
             passed: Passed::new(alloc),
+            behind: Behind::new(),
         }
     }
 
@@ -57,11 +60,27 @@ impl<'a> Watch<'a> {
         }
     }
 
-    /// To be called when no command has ended for ten seconds, and each ten seconds again: gives the folder back where a process that was
-    /// started here waits for it, and passes on that one of these commands waits.
+    /// To be called where a command is held, which has ended but for a process that has its output open: tells that, where it is due, by one
+    /// line for all of these commands. Answers whether one of them is held.
+    pub fn tells_held(&mut self, commands: &[Running]) -> bool {
+        let Some(ended) = first_end(commands) else {
+            return false;
+        };
+        if let Ok(now) = Instant::now(self.rt) {
+            if self.behind.is_due(ended, now) {
+                let held = held_files(self.alloc, commands);
+                self.behind.tell(self.alloc, self.rt, held.as_slice());
+            }
+        }
+        true
+    }
+
+    /// To be called when no command has ended for ten seconds, and each ten seconds again: gives the folder back where a process that a
+    /// command began waits for it, also one that a held command left behind, and passes on that one of these commands waits.
     pub fn has_waited_long(&mut self, commands: &[Running]) {
         if let Some(entered) = &mut self.entered {
-            entered.give_way(self.alloc, self.rt);
+            let held = held_files(self.alloc, commands);
+            entered.give_way(self.alloc, self.rt, held.as_slice());
         }
         for command in commands {
             if let Some(printed) = command.printed() {
@@ -69,4 +88,35 @@ impl<'a> Watch<'a> {
             }
         }
     }
+}
+
+/// When the process of the first of those commands ended that are held.
+fn first_end(commands: &[Running]) -> Option<Instant> {
+    let mut first = None;
+    for command in commands {
+        if let Some((_, since)) = command.held() {
+            first = Some(earlier(first, since));
+        }
+    }
+    first
+}
+
+fn earlier(first: Option<Instant>, other: Instant) -> Instant {
+    match first {
+        Some(first) if first <= other => first,
+        _ => other,
+    }
+}
+
+/// The outputs of those commands that are held. One for which there is no memory is left out.
+fn held_files(alloc: Global, commands: &[Running]) -> Vec<Identity> {
+    let mut files = Vec::new(alloc);
+    for command in commands {
+        if let Some((printed, _)) = command.held() {
+            if let Some(identity) = printed.identity() {
+                let _ = files.push(identity);
+            }
+        }
+    }
+    files
 }

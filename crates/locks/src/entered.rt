@@ -3,6 +3,7 @@
 ghost use Rattle.std.specs.Prelude.{◌≡◌, IfSome, None, Some, true};
 
 use crate::asked::{Asked, ask_folder};
+use crate::identity::Identity;
 use crate::lines::{Line, tell};
 use crate::sight::Sight;
 use crate::wait::{Awaited, Outcome, wait_for};
@@ -15,8 +16,8 @@ use std::os::fd::IntoRawFd;
 /// a parent of the program has the lock, or where the build is an inner one. The lock is given back where it is dropped.
 ///
 /// A build is an *inner* one where its program was started by a build in the same working folder: a parent of it is one, or it has
-/// from a parent a file by which commands of a build here are known. It is one too where it goes on beside another build or a command
-/// that it cannot see. It waits for nobody, and leaves alone the files by which commands of a build are known.
+/// from a parent a file by which commands of a build here are known, wherever its logs are. It is one too where it goes on beside another
+/// build or a command that it cannot see. It waits for nobody, and leaves alone the files by which commands of a build are known.
 ///
 /// Contracts see what is known of that: `Some true` of an inner build, `Some false` of any other, `None` before somebody asked.
 #[derive(Drop)]
@@ -102,15 +103,15 @@ impl Entered {
         }
     }
 
-    /// Gives the lock back where a process that was started by this program waits for it in a call that blocks, and tells so. To be
-    /// called where a build lasts.
-    pub fn give_way(&mut self, alloc: Global, rt: &HostRuntime)
+    /// Gives the lock back where a process that a command of this program began waits for it in a call that blocks, and tells so: one below
+    /// this program, or one that has one of the held files open with a lock, or is below such a process. To be called where a build lasts.
+    pub fn give_way(&mut self, alloc: Global, rt: &HostRuntime, held: &[Identity])
         ensures { self.new ≡ self.old }
     {
         let Some(lock) = &self.lock else {
             return;
         };
-        let Some(process) = (Sight { alloc, rt }).waiting_below(lock) else {
+        let Some(process) = (Sight { alloc, rt }).waiting(lock, held) else {
             return;
         };
         tell(alloc, rt, Line::GivenUp(process));

@@ -2,6 +2,7 @@
 #![tactic(auto)]
 
 mod asked;
+mod behind;
 mod entered;
 mod identity;
 mod left;
@@ -13,6 +14,7 @@ mod sight;
 mod wait;
 mod watch;
 
+pub use behind::Behind;
 pub use entered::{Entered, enter};
 pub use identity::Identity;
 pub use left::wait_for_left;

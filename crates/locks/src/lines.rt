@@ -1,6 +1,6 @@
 //! What is told on standard error.
 
-ghost use Rattle.std.specs.Prelude.{◌↔◌, IsTrue, IfSome};
+ghost use Rattle.std.specs.Prelude.{◌≡◌, ◌+◌, ◌<◌, ◌↔◌, IsTrue, IfSome, IsSome, Some, None};
 ghost use Rattle.locks.specs.Lines.{IsEndOf, TellsWait};
 
 use crate::names::begins_with;
@@ -10,6 +10,8 @@ use std::{fmt, str};
 const FOLDER: &str = "nj: waiting for another nj in this folder";
 
 const COMMAND: &str = "nj: waiting for a command of an earlier build";
+
+const BEHIND: &str = "nj: waiting for what a command left behind";
 
 /// A line that is told.
 #[derive(Clone, Copy)]
@@ -22,8 +24,19 @@ pub enum Line<'a> {
     UnseenFolder,
     /// No process is seen that holds the file at the path.
     UnseenCommand(&'a str),
-    /// A process that was started by this build waits for the folder.
+    /// A process that a command of this build began waits for the folder.
     GivenUp(u32),
+    /// These processes have the output of a command open, which has ended but for that.
+    Behind(Holders),
+}
+
+/// The processes that are seen to hold something.
+#[derive(Clone, Copy)]
+pub struct Holders {
+    /// One of them, if any is seen.
+    pub first: Option<u32>,
+    /// How many others there are.
+    pub more: u64,
 }
 
 impl fmt::Display for Line<'_> {
@@ -51,6 +64,7 @@ impl fmt::Display for Line<'_> {
                 f,
                 "nj: letting others into this folder, for which a command waits (process {process})"
             ),
+            Line::Behind(holders) => write!(f, "{BEHIND}{holders} lets this build go on"),
         }
     }
 }
@@ -64,6 +78,30 @@ impl fmt::Display for Holder {
         match self.0 {
             Some(process) => write!(f, " (process {process})"),
             None => Ok(()),
+        }
+    }
+}
+
+impl Holders {
+    /// One more is seen.
+    pub fn add(&mut self, process: u32)
+        ensures first { self.old.first ≡ None → self.new ≡ record self.old { first = Some process } }
+        ensures more { IsSome self.old.first → self.old.more < 18446744073709551615 → self.new ≡ record self.old { more = self.old.more + 1 } }
+    {
+        match self.first {
+            Some(_) => self.more = self.more.saturating_add(1),
+            None => self.first = Some(process),
+        }
+    }
+}
+
+impl fmt::Display for Holders {
+    fn fmt<W: fmt::Write>(&self, f: &mut fmt::Formatter<W>) -> fmt::Result {
+        let more = self.more;
+        match self.first {
+            None => f.write_str(": ending it"),
+            Some(process) if more == 0 => write!(f, " (process {process}): ending it"),
+            Some(process) => write!(f, " (process {process} and {more} more): ending them"),
         }
     }
 }
@@ -98,5 +136,5 @@ pub fn last_waiting(text: &[u8]) -> Option<&str>
 fn is_waiting(line: &str) -> bool
     ensures { IsTrue result ↔ TellsWait line.now }
 {
-    begins_with(line, FOLDER) || begins_with(line, COMMAND)
+    begins_with(line, FOLDER) || begins_with(line, COMMAND) || begins_with(line, BEHIND)
 }

@@ -58,14 +58,18 @@ fn file_number(word: &str) -> Option<FileNumber> {
     })
 }
 
-/// Whether one of the lines tells of a lock of a whole file that an open file has: `lock:`, and then as in the list of all.
-pub fn has_lock(open_file: &[u8]) -> bool {
-    open_file
-        .split(|byte| *byte == b'\n')
-        .any(|line| match named(line, "lock:") {
-            Some(lock) => lock_of(lock).is_some(),
-            None => false,
-        })
+/// The first lock of a whole file that an open file has, by lines with `lock:`, and then as in the list of all.
+pub fn lock_in(open_file: &[u8]) -> Option<Lock> {
+    for line in open_file.split(|byte| *byte == b'\n') {
+        if let Some(lock) = lock_on(line) {
+            return Some(lock);
+        }
+    }
+    None
+}
+
+fn lock_on(line: &[u8]) -> Option<Lock> {
+    lock_of(named(line, "lock:")?)
 }
 
 /// What stands on the first line that begins with the name, after it, without white space around.

@@ -59,6 +59,14 @@ pub fn is_left(name: &str) -> bool
     name == INPUT || is_output(name)
 }
 
+/// The name of a file as the system tells it of an opening, without what that puts behind it where the file is not there any more.
+pub fn name_told(told: &str) -> &str {
+    match told.strip_suffix(" (deleted)") {
+        Some(name) => name,
+        None => told,
+    }
+}
+
 /// The path of a name in a folder, of which the working folder is `None`.
 pub fn path_in(alloc: Global, folder: Option<&str>, name: &str) -> Result<String, AllocError>
     ensures here { folder.entry ≡ None → IfOk result (λ path. string_bytes path ≡ name.now) }

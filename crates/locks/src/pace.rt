@@ -1,6 +1,7 @@
 //! How a wait goes on: its rests, and what is due between them. Times are in milliseconds.
 
 ghost use Rattle.std.specs.Prelude.{◌≡◌, ◌+◌, ◌^◌, ◌<◌, ◌≤◌, ◌↔◌, IsTrue};
+ghost use Rattle.locks.specs.Lines.{IsBehindDue};
 
 /// The longest rest.
 pub const LONGEST: u64 = 50;
@@ -33,6 +34,20 @@ impl Due {
         }
         self.at = now.saturating_add(self.every);
         true
+    }
+}
+
+/// Whether it is due to tell what commands left behind, where the process of one that is held ended so long ago, and it was told last so
+/// long ago, if it was told: half a second after the first end, and not before a minute has passed since the last line.
+pub fn is_behind_due(ended: u64, told: Option<u64>) -> bool
+    ensures { IsTrue result ↔ IsBehindDue ended told }
+{
+    if ended < FIRST_LINE {
+        return false;
+    }
+    match told {
+        Some(told) => MINUTE <= told,
+        None => true,
     }
 }
 

@@ -3,8 +3,9 @@
 
 use crate::asked::HERE;
 use crate::identity::Identity;
-use crate::lists::{FileNumber, Lock, device_of, field, has_lock, is_builder, lock_of};
-use crate::names::is_left;
+use crate::lines::Holders;
+use crate::lists::{FileNumber, Lock, device_of, field, is_builder, lock_in, lock_of};
+use crate::names::{is_left, name_told};
 use std::alloc::Global;
 use std::fs::{DirEntry, File, ReadDir};
 use std::os::fd::AsRawFd;
@@ -118,16 +119,15 @@ impl<'a> Sight<'a> {
         answer
     }
 
-    /// Whether the process has a file open, with a lock, by which commands of a build are known whose logs are in this folder.
+    /// Whether the process has a file open, with a lock, by which commands are known of a build whose logs are in this folder, or which
+    /// works in it and has taken the lock.
     fn is_command_in(&self, process: u32, folder: Identity) -> bool {
         let Some(openings) = self.openings(process) else {
             return false;
         };
         for opening in openings {
             if let Ok(opening) = opening {
-                if self.is_left_in(&opening, folder)
-                    && self.is_locked(process, opening.file_name())
-                {
+                if self.is_of_command(process, &opening, folder) {
                     return true;
                 }
             }
@@ -135,30 +135,86 @@ impl<'a> Sight<'a> {
         false
     }
 
-    /// Whether a process has in this opening a file that is still in the folder, under a name by which commands are known.
-    fn is_left_in(&self, opening: &DirEntry, folder: Identity) -> bool {
+    /// Whether this opening of the process is of such a file.
+    fn is_of_command(&self, process: u32, opening: &DirEntry, folder: Identity) -> bool {
         let Ok(path) = fs::read_link(self.rt, opening.path()) else {
             return false;
         };
         let path = path.as_path().as_str();
-        match path.rsplit_once('/') {
-            Some((place, name)) if is_left(name) => {
-                self.identity(place) == Some(folder)
-                    && self.identity(path) == self.identity(opening.path().as_str())
+        let Some((place, name)) = path.rsplit_once('/') else {
+            return false;
+        };
+        if !is_left(name_told(name)) {
+            return false;
+        }
+        let Some(lock) = self.lock(process, opening.file_name()) else {
+            return false;
+        };
+        if let Some(taker) = lock.process {
+            if self.is_builder_in(taker, folder) {
+                return true;
             }
-            _ => false,
+        }
+        self.identity(place) == Some(folder)
+            && self.identity(path) == self.identity(opening.path().as_str())
+    }
+
+    /// The lock of a whole file that an opening of a process has.
+    fn lock(&self, process: u32, opening: &str) -> Option<Lock> {
+        let path = format!(in self.alloc; "/proc/{process}/fdinfo/{opening}").ok()?;
+        let told = self.read(path.as_str())?;
+        lock_in(told.as_slice())
+    }
+
+    fn is_locked(&self, process: u32, opening: &str) -> bool {
+        self.lock(process, opening).is_some()
+    }
+
+    /// Whether the process is seen to have one of the files open with a lock of a whole file.
+    fn holds_any(&self, process: u32, files: &[Identity]) -> bool {
+        if files.is_empty() {
+            return false;
+        }
+        let Some(openings) = self.openings(process) else {
+            return false;
+        };
+        for opening in openings {
+            if let Ok(opening) = opening {
+                if self.is_any(&opening, files) && self.is_locked(process, opening.file_name()) {
+                    return true;
+                }
+            }
+        }
+        false
+    }
+
+    /// Whether the opening is of one of the files.
+    fn is_any(&self, opening: &DirEntry, files: &[Identity]) -> bool {
+        match self.identity(opening.path().as_str()) {
+            Some(found) => files.contains(&found),
+            None => false,
         }
     }
 
-    /// Whether an opening of a process has a lock of a whole file.
-    fn is_locked(&self, process: u32, opening: &str) -> bool {
-        let Ok(path) = format!(in self.alloc; "/proc/{process}/fdinfo/{opening}") else {
-            return false;
+    /// The processes that are seen to have one of the files open with a lock on it. This looks at each process that there is.
+    pub fn holders(&self, files: &[Identity]) -> Holders {
+        let mut holders = Holders {
+            first: None,
+            more: 0,
         };
-        match self.read(path.as_str()) {
-            Some(told) => has_lock(told.as_slice()),
-            None => false,
+        let Ok(entries) = fs::read_dir(self.rt, "/proc") else {
+            return holders;
+        };
+        for entry in entries {
+            if let Ok(entry) = entry {
+                if let Ok(process) = entry.file_name().parse::<u32>() {
+                    if self.holds_any(process, files) {
+                        holders.add(process);
+                    }
+                }
+            }
         }
+        holders
     }
 
     /// How the lists of locks name an open file.
@@ -266,14 +322,15 @@ impl<'a> Sight<'a> {
         None
     }
 
-    /// A process below this program that waits for the lock of the file in a call that blocks.
-    pub fn waiting_below(&self, file: &File) -> Option<u32> {
+    /// A process that waits for the lock of the file in a call that blocks, and that a command of this program began: it is below this
+    /// program, or it or one above it has one of these other files open with a lock.
+    pub fn waiting(&self, file: &File, held: &[Identity]) -> Option<u32> {
         let number = self.number(file)?;
         let itself = self.itself()?;
         let locks = self.read("/proc/locks")?;
         for line in locks.split(|byte| *byte == b'\n') {
             if let Some(process) = process_on(line, number, true) {
-                if self.is_below(process, itself) {
+                if self.is_begun(process, itself, held) {
                     return Some(process);
                 }
             }
@@ -281,12 +338,14 @@ impl<'a> Sight<'a> {
         None
     }
 
-    /// Whether the process was started by this one, or by one that was.
-    fn is_below(&self, process: u32, above: u32) -> bool {
+    /// Whether the process is this one, or has one of the files open with a lock, or was started by one of which that is so.
+    fn is_begun(&self, process: u32, above: u32, files: &[Identity]) -> bool {
         let mut next = process;
         for _ in 0..MOST_PARENTS {
+            if next == above || self.holds_any(next, files) {
+                return true;
+            }
             match self.parent(next) {
-                Some(parent) if parent == above => return true,
                 Some(parent) => next = parent,
                 None => return false,
             }
