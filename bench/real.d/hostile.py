@@ -18,6 +18,9 @@ NOBODY = 65534
 # How a build tells that it was refused, or that commands failed.
 NAMED = re.compile(r"^nj: (error: N\d+: .*|build stopped, failed commands: \d+)$", re.M)
 
+# How it is told that three processes are waited for, which commands left behind.
+BEHIND = re.compile(r"^nj: waiting for what a command left behind \(process \d+ and 2 more\): ending them lets this build go on$", re.M)
+
 
 class Case:
     """A folder in which outputs are copies of sources, and builds in it."""
@@ -317,7 +320,15 @@ def runs_of_lines(path):
 
 def left_behind(place):
     case = Case(place, "a command that leaves a process behind, which holds its output")
-    case.fan(3, CAT.replace("cat $in >", "sleep 77 & echo $$! >> sleepers; cat $in >"))
+    case.fan(3, CAT.replace("cat $in >", "sleep 3 & echo $$! >> sleepers; cat $in >"))
+    begun = time.monotonic()
+    ran = case.build()
+    case.is_right(ran, "a process is left behind")
+    place.expect(time.monotonic() - begun >= 3, case.where, "it was not waited for")
+    place.expect(len(BEHIND.findall(ran.text)) == 1, case.where, f"it is to be told once: {ran.text[-600:]}")
+    case.rests()
+    case = Case(place, "a command that leaves a process behind, whose output leads elsewhere")
+    case.fan(3, CAT.replace("cat $in >", "sleep 77 > /dev/null 2>&1 & echo $$! >> sleepers; cat $in >"))
     begun = time.monotonic()
     case.is_right(case.build(), "a process is left behind")
     place.expect(time.monotonic() - begun < 60, case.where, "it was waited for")

@@ -1,5 +1,5 @@
 """Compilers behind launchers: distcc over three daemons on this machine, one of which is killed in the middle of a build, and ccache, with hard
-links too."""
+links too; and launchers that end before what they started has."""
 
 import os
 import re
@@ -13,9 +13,6 @@ import own
 from ground import Pair, differences, files_of, in_short, is_idle, must_run, replace, run, touch, write
 
 UNITS = 82
-
-# A command that has ended once all that holds its output has, also a preprocessor that distcc leaves behind where a host is down.
-WHOLE = "bash -o pipefail -c '\"$$@\" 2>&1 | cat' whole"
 
 # Where a command failed: ninja removes what it left as a depfile, and nj one of an earlier run, before it starts.
 DEPFILES = re.compile(r"\.o\.d$")
@@ -49,7 +46,55 @@ def fill_with(launcher):
     return fill
 
 
+# A launcher that ends at once and leaves all work to a process that has its output open: `late.sh HOW WHAT NAP OUT IN..`. HOW is which
+# streams that process keeps, or what becomes of it or of the launcher; WHAT comes late: the depfile, its second line, or the output, in place
+# of which nothing stands till then.
+LATE_LAUNCHER = r"""
+how=$1 what=$2 nap=$3 out=$4
+shift 4
+work() {
+  case $what in
+  depfile) cat "$@" h > $out; sleep $nap; echo "$out: $* h" > $out.d ;;
+  unfinished) cat "$@" h > $out; echo "$out: $* \\" > $out.d; sleep $nap; echo "  h" >> $out.d ;;
+  output) sleep $nap; cat "$@" > $out ;;
+  same) cat "$@" > $out.new; sleep $nap; cmp -s $out.new $out && rm $out.new || mv $out.new $out ;;
+  esac
+}
+case $how in
+both) work "$@" & ;;
+out) work "$@" 2> /dev/null & ;;
+errors) work "$@" > /dev/null & ;;
+setsid) setsid sh $0 within $what $nap $out "$@" & ;;
+within) work "$@" ;;
+child_killed) work "$@" & (sleep 0.2; kill -9 $!) & ;;
+shell_killed) work "$@" & kill -9 $$ ;;
+esac
+"""
+
+LATE_RULES = """\
+nap = NAP
+rule late
+  command = sh late.sh $how $what $nap $out $in
+rule late_depfile
+  command = sh late.sh $how $what $nap $out $in
+  depfile = $out.d
+rule copy
+  command = cat $in > $out
+"""
+
+# What comes late, the rule, and what its edge has besides.
+LATE_KINDS = (("depfile", "late_depfile", ""), ("depfile", "late_depfile", "  deps = gcc\n"), ("unfinished", "late_depfile", ""),
+              ("unfinished", "late_depfile", "  deps = gcc\n"), ("output", "late", ""), ("same", "late", "  restat = 1\n"))
+
+# Depfiles of edges whose launcher was killed.
+LATE_DEPFILES = re.compile(r"^o\d+\.d$")
+
+# The ways in which what is left keeps the command's output, where the command ends well.
+WAYS = ("both", "out", "errors", "setsid")
+
+
 def run_all(place):
+    late(place)
     distcc(place)
     ccache(place, "ccache", {})
     ccache(place, "ccache with hard links", {"CCACHE_HARDLINK": "1"})
@@ -68,6 +113,55 @@ def check_made(place, where, folder, jobs=SLOTS):
                        {path: it for path, it in files_of(alone).items() if path != "build.ninja"}, ("the launcher", "the compiler alone"))
     place.expect(not told, where, f"files: {in_short(told)}")
     shutil.rmtree(alone)
+
+
+# ---- launchers that end before their work
+
+def late_edges(ways, count):
+    """So many edges for each way and each thing that comes late; each has a copy above it."""
+    edges, number = "", 0
+    for how in ways:
+        for what, rule, kind in LATE_KINDS * count:
+            number += 1
+            edges += f"build o{number}: {rule} a{number % 7}\n  how = {how}\n  what = {what}\n{kind}build c{number}: copy o{number}\n"
+    return edges
+
+
+def fill_late(ways, nap, count=1):
+    def fill(folder):
+        write(folder, "build.ninja", LATE_RULES.replace("NAP", str(nap)) + late_edges(ways, count))
+        write(folder, "late.sh", LATE_LAUNCHER)
+        write(folder, "h", "header\n")
+        for n in range(7):
+            write(folder, f"a{n}", f"source {n}\n")
+    return fill
+
+
+def late(place):
+    """What a launcher leaves behind is waited for, and read once it has ended: commands and files are those of ninja."""
+    if place.lacks("launchers that end early", "ninja", "setsid"):
+        return
+    for jobs, nap, count in (("1", 0.05, 1), ("8", 2, 1), ("0", 2, 21)):
+        pair = Pair(place, f"left behind, -j {jobs}", fill_late(WAYS, nap, count))
+        pair.step("a first build", "-j", jobs)
+        pair.rests()
+        for what, change in (
+            ("the header", lambda it: write(it, "h", "another\n")),
+            ("a source", lambda it: write(it, "a3", "another source\n")),
+            ("a source is touched", lambda it: touch(it, "a4")),
+        ):
+            pair.edit(change)
+            pair.step(what, "-j", jobs)
+            pair.rests(f"{what}, again")
+    ended_early(place)
+
+
+def ended_early(place):
+    """Where what was left is killed, nothing waits for it, and a launcher that is killed has failed: both no sooner than ninja says so."""
+    pair = Pair(place, "left behind and killed", fill_late(("child_killed",), 1))
+    pair.step("a first build", "-j", "8", "-k", "0", status=1)
+    pair = Pair(place, "left behind by a launcher that is killed", fill_late(("shell_killed",), 1))
+    pair.step("a first build", "-j", "8", "-k", "0", status=1, passed_over=LATE_DEPFILES)
 
 
 # ---- distcc
@@ -116,7 +210,7 @@ def distcc(place):
         hosts = " ".join(f"127.0.0.1:{it.port}/{SLOTS}" for it in daemons)
         state = os.path.join(folder, "state")
         os.makedirs(state)
-        over(place, daemons, f"{WHOLE} env DISTCC_HOSTS='{hosts}' DISTCC_DIR={state} distcc")
+        over(place, daemons, f"env DISTCC_HOSTS='{hosts}' DISTCC_DIR={state} distcc")
     finally:
         for it in daemons:
             it.kill()

@@ -14,31 +14,35 @@ TREES = 30
 STEPS = 16
 
 # A source whose text has BAD makes each command that has it as an input fail. A line `use PATH..` of a source names what a
-# command reads that scans it.
+# command reads that scans it. What stands between `$open` and `$shut` is left to a process that runs on for a while, where an edge has LATE.
 RULES = """\
 rule copy
-  command = : $word; ! grep -q BAD $in && cat $in $also | tee $out > /dev/null
+  command = : $word; ! grep -q BAD $in && $open cat $in $also | tee $out > /dev/null $shut
 rule stable
-  command = : $word; ! grep -q BAD $in && head -n 2 $in > $out.new && { cmp -s $out.new $out && rm $out.new || mv $out.new $out; }
+  command = : $word; ! grep -q BAD $in && $open head -n 2 $in > $out.new && { cmp -s $out.new $out && rm $out.new || mv $out.new $out; } $shut
   restat = 1
 rule scan
-  command = : $word; ! grep -q BAD $in && r=$$(sed -n 's/^use //p' $in) && cat $in $$r > $out && echo $out: $in $$r > $out.d
+  command = : $word; ! grep -q BAD $in && $open r=$$(sed -n 's/^use //p' $in) && cat $in $$r > $out && echo $out: $in $$r > $out.d $shut
   depfile = $out.d
   deps = gcc
 rule scan_stable
-  command = : $word; ! grep -q BAD $in && r=$$(sed -n 's/^use //p' $in) && cat $in $$r > $out.all && sort -u $out.all | head -n 2 > $out.new && $
-      rm $out.all && { cmp -s $out.new $out && rm $out.new || mv $out.new $out; } && echo $out: $in $$r > $out.d
+  command = : $word; ! grep -q BAD $in && $open r=$$(sed -n 's/^use //p' $in) && cat $in $$r > $out.all && $
+      sort -u $out.all | head -n 2 > $out.new && rm $out.all && { cmp -s $out.new $out && rm $out.new || mv $out.new $out; } && $
+      echo $out: $in $$r > $out.d $shut
   depfile = $out.d
   deps = gcc
   restat = 1
 rule scan_keeping
-  command = : $word; ! grep -q BAD $in && r=$$(sed -n 's/^use //p' $in) && cat $in $$r > $out && echo $out: $in $$r > $out.d
+  command = : $word; ! grep -q BAD $in && $open r=$$(sed -n 's/^use //p' $in) && cat $in $$r > $out && echo $out: $in $$r > $out.d $shut
   depfile = $out.d
 rule args
   command = ! grep -q BAD $in && cat $$(sed 's/word[0-9]*//' $out.rsp) > $out
   rspfile = $out.rsp
   rspfile_content = word$word $in
 """
+
+# Who runs on has the command's output open, and both tools wait for that.
+LATE = "  open = ( ( sleep 0.05;\n  shut = ) & )\n"
 
 # Depfiles of commands that failed, and what commands that were killed left.
 BESIDE = re.compile(r"\.(d|new|all)$")
@@ -49,6 +53,7 @@ class Graph:
 
     def __init__(self, number):
         self.chance = random.Random(number)
+        self.late = random.Random(-1 - number)
         self.headers = [f"h{n}" for n in range(5)]
         self.sources = [f"s{n}" for n in range(8)]
         self.edges = []
@@ -71,7 +76,7 @@ class Graph:
             known = self.sources + made + self.groups
             first = [self.chance.choice(self.sources if rule.startswith("scan") else self.sources + made)]
             edge = {"rule": rule, "outs": [f"o{n}"], "ins": first, "implicit": self.some(known, 2), "order": self.some(made + self.groups, 2),
-                    "valid": [], "word": self.chance.randrange(100)}
+                    "valid": [], "word": self.chance.randrange(100), "late": self.late.random() < 0.1}
             if rule == "copy" and self.chance.random() < 0.4:
                 edge["outs"].append(f"o{n}b")
             if rule in ("copy", "args", "phony"):
@@ -103,7 +108,7 @@ class Graph:
                 line += mark + " ".join(it[name]) if it[name] else ""
             lines.append(line + "\n")
             if it["rule"] != "phony":
-                lines.append(f"  word = {it['word']}\n")
+                lines.append(f"  word = {it['word']}\n{LATE if it['late'] else ''}")
         return "".join(lines)
 
     def write_all(self, folder):
