@@ -1,6 +1,6 @@
 //! The names of the files by which the commands of a build are known.
 
-ghost use Rattle.std.specs.Prelude.{◌≡◌, ◌↔◌, ◌++◌, IsTrue, IfOk, IfSome, None, codes, string_bytes};
+ghost use Rattle.std.specs.Prelude.{◌≡◌, ◌⊎◌, ◌↔◌, ◌++◌, IsTrue, IfOk, IfSome, None, codes, string_bytes};
 ghost use Rattle.locks.specs.Names.{BeginsWith, BeginsWithNumber, IsLeft, IsMadeBy, IsOutput};
 
 use std::alloc::{AllocError, Global};
@@ -12,6 +12,9 @@ pub const INPUT: &str = ".nj_in";
 /// With this begin the names of the files, beside the logs, into which commands print. Behind it come the process of the build, a full
 /// stop and a number.
 pub const OUTPUT: &str = ".nj_out.";
+
+/// What the system puts behind the name of a file that is open, and not there any more.
+const GONE: &str = " (deleted)";
 
 /// Whether a file of this name may be one into which a command prints.
 pub fn is_output(name: &str) -> bool
@@ -59,12 +62,22 @@ pub fn is_left(name: &str) -> bool
     name == INPUT || is_output(name)
 }
 
-/// The name of a file as the system tells it of an opening, without what that puts behind it where the file is not there any more.
-pub fn name_told(told: &str) -> &str {
-    match told.strip_suffix(" (deleted)") {
+/// The name in what the system tells of the file of an opening, which has something behind it where the file is not there any more.
+pub fn name_told(told: &str) -> &str
+    ensures { (told.now ≡ result.now) ⊎ (told.now ≡ result.now ++ codes " (deleted)") }
+{
+    match in_front(GONE, told) {
         Some(name) => name,
         None => told,
     }
+}
+
+/// What stands in front of this end of a text, where it ends so.
+fn in_front<'t>(end: &str, text: &'t str) -> Option<&'t str>
+    ensures { IfSome result (λ front. text.now ≡ front.now ++ end.now) }
+{
+    let front = text.as_bytes().strip_suffix(end.as_bytes())?;
+    str::from_utf8(front).ok()
 }
 
 /// The path of a name in a folder, of which the working folder is `None`.
