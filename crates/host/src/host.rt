@@ -31,7 +31,8 @@ const OUTPUT: &str = "standard output";
 /// The site of real files and real commands: paths are those of the system, taken from the working folder, a stamp is when
 /// a file was written last, in nanoseconds since 1970, and a command is run by `/bin/sh -c`. What a command prints, output
 /// and errors alike, goes to a file of its own, `.nj_out.`, the number of the program's process, a full stop and a number, beside the
-/// file of the last tick. Its input is an empty file, `.nj_in`, beside them. It never stops.
+/// file of the last tick. Its input is an empty file, `.nj_in`, beside them. It has ended once its process has and no other opening has its
+/// output locked, as those have that a process got which it left behind. It never stops.
 ///
 /// What contracts tell of it: its starts and finishes, the calls that the device refused, and the last wait among them. Of files they
 /// tell nothing.
