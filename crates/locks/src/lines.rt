@@ -1,6 +1,6 @@
 //! What is told on standard error.
 
-ghost use Rattle.std.specs.Prelude.{◌≡◌, ◌+◌, ◌<◌, ◌↔◌, IsTrue, IfSome, IsSome, Some, None};
+ghost use Rattle.std.specs.Prelude.{◌≡◌, ◌+◌, ◌^◌, ◌<◌, ◌↔◌, IsTrue, IfSome, IsSome, Some, None};
 ghost use Rattle.locks.specs.Lines.{IsEndOf, TellsWait};
 
 use crate::names::begins_with;
@@ -86,7 +86,7 @@ impl Holders {
     /// One more is seen.
     pub fn add(&mut self, process: u32)
         ensures first { self.old.first ≡ None → self.new ≡ record self.old { first = Some process } }
-        ensures more { IsSome self.old.first → self.old.more < 18446744073709551615 → self.new ≡ record self.old { more = self.old.more + 1 } }
+        ensures more { IsSome self.old.first → self.old.more + 1 < 2 ^ 64 → self.new ≡ record self.old { more = self.old.more + 1 } }
     {
         match self.first {
             Some(_) => self.more = self.more.saturating_add(1),
