@@ -1,7 +1,7 @@
 //! What is told on standard error.
 
 ghost use Rattle.std.specs.Prelude.{◌≡◌, ◌+◌, ◌^◌, ◌<◌, ◌↔◌, IsTrue, IfSome, IsSome, Some, None};
-ghost use Rattle.locks.specs.Lines.{IsEndOf, TellsWait};
+ghost use Rattle.locks.specs.Lines.{IsEndOf, TellsWait, with_one_more};
 
 use crate::names::begins_with;
 use std::alloc::Global;
@@ -86,7 +86,7 @@ impl Holders {
     /// One more is seen.
     pub fn add(&mut self, process: u32)
         ensures first { self.old.first ≡ None → self.new ≡ record self.old { first = Some process } }
-        ensures more { IsSome self.old.first → self.old.more + 1 < 2 ^ 64 → self.new ≡ record self.old { more = self.old.more + 1 } }
+        ensures more { IsSome self.old.first → self.old.more + 1 < 2 ^ 64 → self.new ≡ with_one_more self.old }
     {
         match self.first {
             Some(_) => self.more = self.more.saturating_add(1),
