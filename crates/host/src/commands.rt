@@ -73,7 +73,10 @@ impl Running {
         ensures lost { OnErr result (HasLetGo self.new) }
     {
         let answer = self.process.has_ended();
-        if matches!(answer, Ok(false)) || self.is_let_go(rt) {
+        if matches!(answer, Ok(false)) {
+            return answer;
+        }
+        if self.is_let_go(rt) {
             return answer;
         }
         Ok(false)
