@@ -1,4 +1,4 @@
-use Rattle.std.proofs.Common.{◌≡◌, sym, subst}
+use Rattle.std.proofs.Common.{sym, subst}
 use Rattle.host.specs.Process.{IsOf}
 use Rattle.host.proofs.commands.Running.has_ended.Goals as goal
 
