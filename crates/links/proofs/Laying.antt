@@ -77,7 +77,7 @@ laid_next count end next rooms new are more grown = subst (AreLaid (count + 1) n
 nothing_in : (items : List ℕ) (room : Room) → room.stop ≡ room.start → room_of items room ≡ []
 nothing_in items room is = let none : room.stop - room.start ≡ 0 = omega (arith, is) in ap (λ (n : ℕ). take n (drop room.start items)) none
 
-view_of : (items : List ℕ) (rooms : List Room) → ((k : ℕ) → (room_at rooms k).stop ≡ (room_at rooms k).start) → map (room_of items) rooms ≡ replicate (length rooms) []
+pub view_of : (items : List ℕ) (rooms : List Room) → ((k : ℕ) → (room_at rooms k).stop ≡ (room_at rooms k).start) → map (room_of items) rooms ≡ replicate (length rooms) []
 view_of items [] each = refl
 view_of items (room ∷ rooms) each =
     ap (λ (l : List ℕ). l ∷ map (room_of items) rooms) (nothing_in items room (each 0)) ∙ ap (λ (l : List (List ℕ)). [] ∷ l) (view_of items rooms (λ k. each (suc k)))

@@ -1,9 +1,9 @@
 //! For each path the edges that name it, in flat memory.
 
-ghost use Rattle.std.specs.Prelude.{◌≡◌, ◌<◌, ◌+◌, ◌++◌, ◌∷◌, ◌-◌, ◌≤◌, ℕ, List, All, [], length, take, drop, IfOk, OnOk, OnErr};
+ghost use Rattle.std.specs.Prelude.{◌≡◌, ◌<◌, ◌+◌, ◌++◌, ◌∷◌, ◌-◌, ◌≤◌, ℕ, List, All, [], length, take, drop, map, IfOk, OnOk, OnErr};
 ghost use Rattle.std.proofs.Math.ListN.{replicate};
 ghost use Rattle.paths.specs.Lists.{between, Extends};
-ghost use Rattle.links.specs.Rooms.{IsMoved, AreLaid};
+ghost use Rattle.links.specs.Rooms.{IsMoved, AreLaid, AreEmptied, emptied_room};
 ghost use Rattle.links.specs.Held.{list_at, push_at, pushed, pop_at};
 
 use paths::{EdgeId, PathId};
@@ -70,8 +70,8 @@ impl Users {
         Ok(Users { edges, rooms })
     }
 
-    /// So many paths that no edge names, with rooms of two places and more as they are here, laid out as `with_rooms` does, and places
-    /// for so many edges more. There are places for what lists left when they moved as well, though nothing of it is laid out.
+    /// So many paths that no edge names, each with the room that it has here, and places for so many edges more. Each room stays
+    /// where it is, so what lists left when they moved is laid out as well: each moved into more than twice what it left.
     pub(crate) fn emptied(
         &self,
         alloc: Global,
@@ -80,9 +80,10 @@ impl Users {
     ) -> Result<Users, AllocError>
         ensures { IfOk result (λ users. users ≡ replicate paths []) }
     {
-        let (rooms, end) = laid_again(alloc, &self.rooms, paths)?;
-        let mut edges = Vec::with_capacity(alloc, self.edges.len().saturating_add(more))?;
-        edges.resize(end, EdgeId::at_below(0))?;
+        let rooms = emptied_rooms(alloc, &self.rooms, paths)?;
+        let places = self.edges.len();
+        let mut edges = Vec::with_capacity(alloc, places.saturating_add(more))?;
+        edges.resize(places, EdgeId::at_below(0))?;
         Ok(Users { edges, rooms })
     }
 
@@ -255,33 +256,24 @@ fn sum(counts: &[usize]) -> usize {
     sum
 }
 
-/// Rooms for so many paths, empty, each behind the one before it and as large as it is here, and the end of the last. A room of one
-/// place is laid out without it, and so is a path that is not here.
-fn laid_again(alloc: Global, old: &[Room], paths: usize) -> Result<(Vec<Room>, usize), AllocError>
-    ensures { IfOk result (λ laid. AreLaid paths laid.1 laid.0.items) }
+/// Rooms for so many paths, empty, each where it is here. A path that is not here has none.
+fn emptied_rooms(alloc: Global, old: &[Room], paths: usize) -> Result<Vec<Room>, AllocError>
+    ensures { IfOk result (λ rooms. AreEmptied paths old.now rooms.items) }
 {
     let mut rooms = Vec::with_capacity(alloc, paths)?;
     rooms.extend_from_slice(&old[..old.len().min(paths)])?;
     rooms.resize(paths, Room::NONE)?;
-    let end = lay_again(rooms.as_mut_slice())?;
-    Ok((rooms, end))
+    empty(rooms.as_mut_slice());
+    Ok(rooms)
 }
 
-/// Empties each room and puts it behind the one before it, without its place if it is of one, and gives the end of the last.
-fn lay_again(rooms: &mut [Room]) -> Result<usize, AllocError>
-    ensures { IfOk result (λ end. AreLaid (length rooms.old) end rooms.new) }
+/// Empties each room, which stays where it is.
+fn empty(rooms: &mut [Room])
+    ensures { rooms.new ≡ map emptied_room rooms.old }
 {
-    let mut end = 0usize;
     for room in rooms.iter_mut() {
-        let Some(next) = end.checked_add(laid_places(room.end.saturating_sub(room.start))) else {
-            return Err(AllocError);
-        };
-        room.start = end;
-        room.stop = end;
-        room.end = next;
-        end = next;
+        room.stop = room.start;
     }
-    Ok(end)
 }
 
 /// Puts an empty room of so many places behind the others, which end here, and gives its end.
