@@ -40,7 +40,8 @@ pub struct Texts {
     /// How often a guess was noted in the table.
     noted: usize,
     /// How many texts of the list that is read `take_known` told by their sums, since the list began, it told one by the text
-    /// in front, or `take_by_sum` missed one or found one that is noted behind the text in front. Others may stand between.
+    /// in front, or `take_by_sum` missed one or found the second in turn that is noted behind the text in front; one more behind the
+    /// first. Others may stand between.
     by_sum: usize,
     /// How many texts the table did not tell since it last told one, where no text in front told them: those for which it was not
     /// asked are counted too.
@@ -189,8 +190,8 @@ impl Texts {
     /// it in its list were told by their sums alone, and it is told so too. In front of a list's first text `last` is no number. A text
     /// that is not told so is answered by an error, with what seems to stand in front where its sum was made and tells no text.
     ///
-    /// Where the text was noted behind `last`, the list is in an order that came before: the texts behind it are told by the ones
-    /// in front of them again.
+    /// Where the text was noted behind `last`, and so was the one before it behind its own, the list is in an order that came before:
+    /// the texts behind it are told by the ones in front of them again.
     #[inline(always)]
     pub(crate) fn take_by_sum<'a>(
         &mut self,
@@ -213,9 +214,7 @@ impl Texts {
             self.by_sum = 0;
             return Err(Some(front));
         };
-        if self.is_noted(last, found.number) {
-            self.by_sum = 0;
-        }
+        self.by_sum = self.turns_behind(self.is_noted(last, found.number));
         Ok((found.number as usize, after))
     }
 
@@ -262,6 +261,20 @@ impl Texts {
         let missed = self.missed;
         self.missed = missed.wrapping_add(1);
         missed < PATIENCE || missed % SELDOM == 0
+    }
+
+    /// What `by_sum` is behind a text that `take_by_sum` told, and that is noted behind the text in front or is not: none behind the
+    /// second in turn that is.
+    #[inline(always)]
+    fn turns_behind(&self, noted: bool) -> usize {
+        if !noted {
+            return TURNS_BY_SUM;
+        }
+        if self.by_sum > TURNS_BY_SUM {
+            0
+        } else {
+            TURNS_BY_SUM + 1
+        }
     }
 
     /// Whether the text with this number is one of the two that are noted behind `last`.
