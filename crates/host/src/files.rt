@@ -3,16 +3,17 @@
 //! exclusive lock on another opening is refused to a later build until then.
 //!
 //! Builds in several folders may have one folder of logs. Each gives the files for what its commands print names with its process, makes
-//! none where something stands, and removes no other; all share one file for commands to read, which the last of them removes. What another
-//! build takes away between two steps is made anew.
+//! none where something stands, and removes no other; all share one file for commands to read, which the last of them removes, unless
+//! another file stands there still: that is of a build that was killed, and it is looked at only where the file to read is there. What
+//! another build takes away between two steps is made anew.
 
 ghost use Rattle.std.specs.Prelude.{◌≡◌, ◌↔◌, false, IfOk, IsTrue};
 ghost use Rattle.host.specs.Process.{IsAlone, IsLetGo, IsLocked};
 
 use crate::disk::{Disk, unless_absent, writing};
-use crate::held::{Lock, ask_shared, is_at};
+use crate::held::{Lock, ask_shared};
 use crate::process::Streams;
-use locks::{INPUT, Identity, OUTPUT, path_in};
+use locks::{INPUT, Identity, OUTPUT, has_outputs, is_at, path_in};
 use std::alloc::{AllocError, Global};
 use std::fs::{File, OpenOptions, TryLockError};
 use std::io::{ErrorKind, Read, Seek, SeekFrom};
@@ -367,11 +368,14 @@ fn locked(file: File) -> Option<Output> {
 impl Input {
     /// Removes the file, if it was made for builds and stands there still, and no other build has it, nor a command of one that was killed:
     /// where one has, that is left to it, and processes which commands of this build left behind have the file without a lock from now on.
+    /// It stays, too, where one into which a command printed stands beside it, as of a build that was killed: its command may have that
+    /// alone.
     fn remove(self, rt: &HostRuntime) {
         let Input { path, file } = self;
         if let Some(path) = path {
-            if is_last(&file) && is_at(rt, path.as_str(), &file) {
-                let _ = fs::remove_file(rt, path.as_str());
+            let path = path.as_str();
+            if is_last(&file) && is_at(rt, path, &file) && !has_outputs(rt, path) {
+                let _ = fs::remove_file(rt, path);
             }
         }
     }

@@ -8,7 +8,7 @@ ghost use Rattle.std.specs.Prelude.{◌≡◌, true, false};
 ghost use Rattle.std.specs.Fs.{asks_append, asks_truncate};
 
 use crate::disk::{appending, unless_absent};
-use locks::Identity;
+use locks::{Identity, is_at};
 use std::fs::{File, Metadata, OpenOptions, TryLockError};
 use std::io::ErrorKind;
 use std::os::unix::fs::MetadataExt;
@@ -107,14 +107,6 @@ impl Held {
 /// Whether the file has a name. Where none is counted, as on file systems that count none, it is looked for at the path.
 fn has_name(rt: &HostRuntime, path: &str, metadata: &Metadata) -> bool {
     metadata.nlink() > 0 || Identity::at(rt, path) == Some(Identity::of(metadata))
-}
-
-/// Whether the path leads to the file of the opening.
-pub fn is_at(rt: &HostRuntime, path: &str, file: &File) -> bool {
-    match Identity::of_file(file) {
-        Some(identity) => Identity::at(rt, path) == Some(identity),
-        None => false,
-    }
 }
 
 /// Locks the file at the path, so that no other opening has a lock of it, where that is done at once. It fails as opening does.

@@ -27,7 +27,7 @@ impl Room {
 }
 
 /// The edges that name each path, which contracts see as one list for each path. A path takes 24 bytes, and 4 to 16 for
-/// each edge of its list: a list without room moves to the end, into twice the room.
+/// each edge that its list had when it was longest: a list without room moves to the end, into twice the room.
 #[derive(Drop)]
 pub struct Users {
     edges: Vec<EdgeId>,
@@ -70,7 +70,7 @@ impl Users {
         Ok(Users { edges, rooms })
     }
 
-    /// So many paths that no edge names, each with the room that it has here, and places for so many edges more. Each room stays
+    /// So many paths that no edge names, those that are here with the room that they have, and places for so many edges more. Each room stays
     /// where it is, so what lists left when they moved is laid out as well: each moved into more than twice what it left.
     pub(crate) fn emptied(
         &self,

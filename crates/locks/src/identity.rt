@@ -36,3 +36,11 @@ impl Identity {
         }
     }
 }
+
+/// Whether the path leads to the file of the opening.
+pub fn is_at(rt: &HostRuntime, path: &str, file: &File) -> bool {
+    match Identity::of_file(file) {
+        Some(identity) => Identity::at(rt, path) == Some(identity),
+        None => false,
+    }
+}

@@ -4,6 +4,7 @@ ghost use Rattle.std.specs.Prelude.{◌≡◌, Some, true, false};
 
 use crate::asked::{Asked, HERE, ask_file, is_file};
 use crate::entered::{Entered, enter};
+use crate::identity::is_at;
 use crate::names::{INPUT, is_output, maker_of, path_in};
 use crate::sight::{Lineage, Sight};
 use crate::wait::{Awaited, Outcome, wait_for};
@@ -47,6 +48,30 @@ pub fn wait_for_left(
             drop(entered);
             (enter_after(sight, input.as_str(), held.as_slice()), true)
         }
+    }
+}
+
+/// Whether a file for what a command prints stands in the folder of this input: where the folder cannot be listed, none is seen.
+pub fn has_outputs(rt: &HostRuntime, input: &str) -> bool {
+    let Ok(entries) = fs::read_dir(rt, folder_of(input)) else {
+        return false;
+    };
+    for entry in entries {
+        if let Ok(entry) = entry {
+            if is_output(entry.file_name()) {
+                return true;
+            }
+        }
+    }
+    false
+}
+
+/// The folder in which the input at this path stands.
+fn folder_of(input: &str) -> &str {
+    match input.rsplit_once('/') {
+        Some(("", _)) => "/",
+        Some((folder, _)) => folder,
+        None => HERE,
     }
 }
 
@@ -125,13 +150,22 @@ impl<'a> Left<'a> {
         Ok(())
     }
 
-    /// Removes the input, unless somebody has it by now. Nobody gets a lock on it before it is gone.
+    /// Removes the input, unless somebody has it by now.
     fn clear_input(&self, input: &str) {
-        let asked = ask_file(self.sight.rt, input);
-        if !matches!(asked, Asked::Held(_)) {
-            self.remove(input);
+        match ask_file(self.sight.rt, input) {
+            Asked::Free(file) => self.remove(input, &file),
+            Asked::Lockless(file) => self.remove(input, &file),
+            Asked::Held(_) => {}
+            Asked::Nothing => self.remove_closed(input),
         }
-        drop(asked);
+    }
+
+    /// Removes an input that cannot be opened. Where it was gone alone, another build may have made a new one by now, which can be.
+    fn remove_closed(&self, input: &str) {
+        let rt = self.sight.rt;
+        if is_file(rt, input) && matches!(ask_file(rt, input), Asked::Nothing) {
+            let _ = fs::remove_file(rt, input);
+        }
     }
 
     fn clear_outputs(&mut self, folder: Option<&str>) -> Result<(), AllocError> {
@@ -154,7 +188,7 @@ impl<'a> Left<'a> {
         Ok(())
     }
 
-    /// Removes the file of this name at the path, where nobody holds it. Nobody gets a lock on it before it is gone.
+    /// Removes the file of this name at the path, where nobody holds it.
     fn clear_output(&mut self, name: &str, path: String) -> Result<(), AllocError> {
         match ask_file(self.sight.rt, path.as_str()) {
             Asked::Free(file) => {
@@ -177,7 +211,7 @@ impl<'a> Left<'a> {
             None => false,
         };
         if !is_used {
-            self.remove(path);
+            self.remove(path, file);
         }
     }
 
@@ -191,9 +225,14 @@ impl<'a> Left<'a> {
         Ok(())
     }
 
-    /// One that cannot be removed stays.
-    fn remove(&self, path: &str) {
-        let _ = fs::remove_file(self.sight.rt, path);
+    /// Removes the file of this opening, which has its lock where there are locks, so that nobody gets it before the file is gone. Another
+    /// build may have removed it between its opening and its lock, and made a new one at the path: that stays, and so does one that cannot
+    /// be removed.
+    fn remove(&self, path: &str, file: &File) {
+        let rt = self.sight.rt;
+        if is_at(rt, path, file) {
+            let _ = fs::remove_file(rt, path);
+        }
     }
 
     fn cleared(self) -> Cleared {
