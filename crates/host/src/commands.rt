@@ -65,6 +65,7 @@ fn streams(opened: &Option<Opened>) -> Streams {
 impl Running {
     /// Whether it has ended: its process has, well or not, and no other opening has its output locked, as a process has that it left
     /// behind. A wait for its process that fails is answered once nobody has its output. One that has ended is not asked again.
+    #[inline(always)]
     pub fn has_ended(&mut self, rt: &HostRuntime) -> io::Result<bool>
         ensures job { self.new.job ≡ self.old.job }
         ensures number { (number : ℤ) → HasNumber number self.old → HasNumber number self.new }
@@ -83,6 +84,7 @@ impl Running {
     }
 
     /// Whether nobody has its output, of a command whose process has ended. When that is first seen not to be so is noted.
+    #[inline(never)]
     fn is_let_go(&mut self, rt: &HostRuntime) -> bool
         ensures job { self.new.job ≡ self.old.job }
         ensures process { self.new.process ≡ self.old.process }
@@ -97,6 +99,12 @@ impl Running {
             }
         }
         true
+    }
+
+    /// Whether it was seen, where there is a clock, that its process had ended and another one had its output open.
+    #[inline(always)]
+    pub fn was_held(&self) -> bool {
+        self.held_since.is_some()
     }
 
     /// Where its process has ended and another one has its output open: the file, and since when that is seen.

@@ -81,7 +81,7 @@ fn ask_round(rt: &HostRuntime, commands: &mut Vec<Running>, round: &mut Round) -
         if ask_at(rt, commands, round.place)? {
             return Ok(true);
         }
-        if commands[round.place].held().is_some() {
+        if commands[round.place].was_held() {
             round.some_held = true;
         }
         round.place += 1;
@@ -91,6 +91,7 @@ fn ask_round(rt: &HostRuntime, commands: &mut Vec<Running>, round: &mut Round) -
 }
 
 /// Whether the command at the place has ended.
+#[inline(always)]
 fn ask_at(rt: &HostRuntime, commands: &mut Vec<Running>, place: usize) -> io::Result<bool>
     requires { place < vec_len commands.old }
     ensures jobs { jobs_of commands.new.items ≡ jobs_of commands.old.items }

@@ -58,7 +58,7 @@ pub fn has_outputs(rt: &HostRuntime, input: &str) -> bool {
     };
     for entry in entries {
         if let Ok(entry) = entry {
-            if is_output(entry.file_name()) {
+            if is_output(entry.file_name()) && is_file(rt, entry.path().as_str()) {
                 return true;
             }
         }
