@@ -12,6 +12,7 @@ use bstr::ByteSlice;
 use indexmap::IndexSet;
 use std::alloc::{AllocError, Global};
 use std::marker::Model;
+use std::simd::prelude::*;
 use text::{Bytes, Items};
 
 /// How many texts a run has at most.
@@ -40,8 +41,8 @@ pub struct Texts {
     /// How often a guess was noted in the table.
     noted: usize,
     /// How many texts of the list that is read `take_known` told by their sums, since the list began, it told one by the text
-    /// in front, or `take_by_sum` missed one or found the second in turn that is noted behind the text in front; one more behind the
-    /// first. Others may stand between.
+    /// in front, or `take_by_sum` missed one or found the second in turn that is noted behind the text in front. Others may stand
+    /// between. Behind the first such text it is one more than `TURNS_BY_SUM`, and that again behind one that is not noted so.
     by_sum: usize,
     /// How many texts the table did not tell since it last told one, where no text in front told them: those for which it was not
     /// asked are counted too.
@@ -318,7 +319,7 @@ impl Texts {
                 return bytes.get(..len);
             }
         }
-        bytes.get(..bytes.find_byte(b'\t')?)
+        bytes.get(..tab_in(bytes)?)
     }
 
     /// The guess at a text with this sum, of which it may be that it stands in front.
@@ -601,6 +602,24 @@ fn small(number: usize) -> Option<u32>
     ensures { IfSome result (λ same. same ≡ number) }
 {
     u32::try_from(number).ok()
+}
+
+/// Where the first tab stands, looked for in 16 bytes at a time as long as there are so many.
+#[inline(always)]
+fn tab_in(bytes: &[u8]) -> Option<usize> {
+    let mut place = 0usize;
+    let mut rest = bytes;
+    while let Some((chunk, after)) = rest.split_first_chunk::<16>() {
+        let tabs = u8x16::from_array(*chunk)
+            .simd_eq(u8x16::splat(b'\t'))
+            .to_bitmask();
+        if tabs != 0 {
+            return Some(place.wrapping_add(tabs.trailing_zeros() as usize));
+        }
+        place = place.wrapping_add(16);
+        rest = after;
+    }
+    Some(place.wrapping_add(rest.find_byte(b'\t')?))
 }
 
 /// The byte at this place, or 0.
