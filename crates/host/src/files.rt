@@ -25,8 +25,8 @@ use text::Bytes;
 /// What commands of an inner build read.
 const NULL: &str = "/dev/null";
 
-/// The bit of the mode by which a file for commands to read is marked, as one that several builds have had: that it may be run, which
-/// nobody does.
+/// The bit of the mode by which a file for commands to read is marked, as one beside which files of another build may stand: that it may
+/// be run, which nobody does.
 const MARK: u32 = 0o100;
 
 /// How often the file for commands to read is made anew, where others take it away.
@@ -41,6 +41,8 @@ pub struct Files {
     alloc: Global,
     /// Whether it is a build that a command of another build in the same folder began.
     is_inner: bool,
+    /// Whether files of an earlier build may stand beside, since it was waited for.
+    is_beside_left: bool,
     /// What commands read, from the first of them on.
     input: Option<Input>,
     /// How many files for what commands print got a path.
@@ -119,6 +121,7 @@ impl Files {
         Files {
             alloc,
             is_inner: false,
+            is_beside_left: false,
             input: None,
             outputs: 0,
             unused: Vec::new(alloc),
@@ -128,6 +131,11 @@ impl Files {
     /// From now on they are those of an inner build.
     pub fn set_inner(&mut self) {
         self.is_inner = true;
+    }
+
+    /// From now on files of an earlier build may stand beside, as where it was waited for until somebody removed some.
+    pub fn set_beside_left(&mut self) {
+        self.is_beside_left = true;
     }
 
     /// New files for a command that is to be started: to print into, where nothing stood before, and to read, if there is none yet.
@@ -167,6 +175,9 @@ impl Files {
                 file: input_at(disk, path)?,
             }
         };
+        if self.is_beside_left {
+            mark(&input.file);
+        }
         self.input = Some(input);
         Ok(())
     }
@@ -401,7 +412,7 @@ impl Input {
     /// Removes the file, if it was made for builds and stands there still, and no other build has it, nor a command of one that was killed:
     /// where one has, that is left to it, and processes which commands of this build left behind have the file without a lock from now on.
     /// It stays, too, where one into which a command printed stands beside it, as of a build that was killed: its command may have that
-    /// alone. A folder of many files takes long to look through, so that is done only where another build has marked the file.
+    /// alone. A folder of many files takes long to look through, so that is done only where the file is marked.
     fn remove(self, rt: &HostRuntime) {
         let Input { path, file } = self;
         if let Some(path) = path {
