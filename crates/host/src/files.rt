@@ -170,14 +170,16 @@ impl Files {
                 file: disk.open(path)?,
             }
         } else {
+            let own = String::from_str(self.alloc, path)?;
+            let file = input_at(disk, path)?;
+            if self.is_beside_left {
+                mark(&file);
+            }
             Input {
-                path: Some(String::from_str(self.alloc, path)?),
-                file: input_at(disk, path)?,
+                path: Some(own),
+                file,
             }
         };
-        if self.is_beside_left {
-            mark(&input.file);
-        }
         self.input = Some(input);
         Ok(())
     }
@@ -362,8 +364,10 @@ fn mark_outer(alloc: Global, disk: &Disk<'_>) {
 /// Marks a file for commands to read. One of another user, of which that is not allowed, stays as it is.
 fn mark(file: &File) {
     if let Ok(metadata) = file.metadata() {
-        let mode = metadata.permissions().mode();
-        let _ = file.set_permissions(Permissions::from_mode(mode | MARK));
+        if metadata.is_file() {
+            let mode = metadata.permissions().mode();
+            let _ = file.set_permissions(Permissions::from_mode(mode | MARK));
+        }
     }
 }
 
