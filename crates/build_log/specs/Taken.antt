@@ -31,6 +31,13 @@ pub record IsTakenBehind (known : List (List ℕ)) (old bytes : List ℕ) (most 
   pub few : length more ≤ most
   pub taken : AreTakenFrom known bytes (length more) more rest
 
+-- the numbers of texts whose fields stand in front of the bytes, so many at most, were put behind the old ones
+pub record AreTakenBehind (known : List (List ℕ)) (old bytes : List ℕ) (most : ℕ) (new rest : List ℕ) : Type 0 where
+  pub more : List ℕ
+  pub pushed : new ≡ old ++ more
+  pub few : length more ≤ most
+  pub taken : AreTakenFrom known bytes (length more) more rest
+
 -- where something was found, that is so of it
 abbrev pub TakesSome : {E : Type 0} → Result (Option (Bor (List ℕ))) E → List (List ℕ) → List ℕ → ℕ → List ℕ → List ℕ → Type 0
 TakesSome result known bytes most old new = IfFound result (λ rest. IsTakenBehind known old bytes most new rest.now)

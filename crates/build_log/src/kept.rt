@@ -9,7 +9,7 @@ ghost use Rattle.build_log.specs.Found.{texts_in, tellings_in, AreNamed, PutsFou
 ghost use Rattle.build_log.specs.Steps.{IsFilled, IsGrown, IsSaid};
 ghost use Rattle.text.specs.Marks.{Lacks};
 ghost use Rattle.build_log.specs.Answered.{IfFound};
-ghost use Rattle.build_log.specs.Taken.{AreTakenFrom, IsTaken, TakesSome};
+ghost use Rattle.build_log.specs.Taken.{AreTakenFrom, AreTakenBehind, IsTaken, TakesSome};
 
 use crate::field::Field;
 use crate::line::plain_field;
@@ -17,6 +17,10 @@ use crate::texts::{Front, Texts};
 use std::alloc::{AllocError, Global};
 use std::marker::Model;
 use text::Items;
+
+/// How many texts more are taken behind one that the one in front told before a run is looked for again: as many in all as a run has, so
+/// that the next look is where a run began that came before.
+const MORE: usize = 7;
 
 /// Which record of each output is in force, where a record tells something (`T`) of several outputs at once, or says
 /// that from now on nothing is in force for them.
@@ -175,7 +179,8 @@ impl<T: Drop> Kept<T> {
         }
         if let Some((number, after)) = self.outputs.follow_on(last, bytes) {
             numbers.push(number)?;
-            return Ok(Some(after));
+            let rest = self.follow_more(number, after, most - 1, numbers)?;
+            return Ok(Some(rest));
         }
         self.take_few(alloc, last, bytes, most, missed, numbers)
     }
@@ -259,6 +264,32 @@ impl<T: Drop> Kept<T> {
         };
         numbers.push(number)?;
         Ok(Some(after))
+    }
+
+    /// Puts the numbers of texts whose fields stand in front, each of which came behind the one before it, behind those of the texts before
+    /// them, and gives what stands behind their fields. So many are taken at most, `MORE` at most, and none where a run is to begin.
+    #[inline(always)]
+    fn follow_more<'a>(
+        &mut self,
+        last: usize,
+        bytes: &'a [u8],
+        most: usize,
+        numbers: &mut Vec<usize>,
+    ) -> Result<&'a [u8], AllocError>
+        ensures same { self.new ≡ self.old }
+        ensures taken { IfOk result (λ rest. AreTakenBehind self.new.outputs numbers.old.items bytes.now most numbers.new.items rest.now) }
+    {
+        let mut rest = bytes;
+        let mut before = last;
+        for _ in 0..most.min(MORE) {
+            let Some((number, after)) = self.outputs.follow_on(before, rest) else {
+                break;
+            };
+            numbers.push(number)?;
+            rest = after;
+            before = number;
+        }
+        Ok(rest)
     }
 
     /// The number of the text whose field stands in front, behind that of `last`, and what stands behind its tab, where no byte
