@@ -28,3 +28,4 @@ pub mod Undoing
 pub mod TakingBack
 pub mod Same
 pub mod Laying
+pub mod Beside
