@@ -9,9 +9,9 @@ invariant_of-result c =
     let manifest = c.args.manifest in
     let none : c.in_ok-recorded.recorded ≡ replicate (length manifest.lines) [] = c.in_ok-recorded.ensures ∙ ap (λ (n : ℕ). replicate n []) c.len.ensures in
     record {
-      apart = c.in_ok-users.ensures.apart;
+      apart = c.in_ok-counts.ensures.apart;
       making = c.requires.makers;
       dyndeps = c.requires.dyndeps;
       recording = nothing_recorded manifest c.len.result c.in_ok-recorded.recorded c.len.ensures c.in_ok-recorded.ensures;
-      using = subst (λ (l : List (List ℕ)). AreUsers manifest l c.in_ok-users.users) (sym {A = List (List ℕ)} none) c.in_ok-users.ensures.users;
+      using = subst (λ (l : List (List ℕ)). AreUsers manifest l c.in_ok-users.users) (sym {A = List (List ℕ)} none) c.in_ok-users.ensures;
     }
