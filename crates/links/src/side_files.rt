@@ -5,7 +5,7 @@ ghost use Rattle.model.specs.Graph.{edge_at, first_output};
 ghost use Rattle.paths.specs.Told.{graph_of};
 ghost use Rattle.links.specs.declared.side_files.Naming.TheVariants.{Nobody, Maker, More};
 ghost use Rattle.links.specs.Occupying.{own_start, is_own_end, IsOwnFile, IsNamedBeside};
-ghost use Rattle.links.specs.Namings.{declared_file, naming_in, made_too, is_beside, stop_at, AreNamings, AreNoted, AllAreFree, FindsLowest, IsFileOccupied, IsFreePath, IsLowestFile, IsFaultAt};
+ghost use Rattle.links.specs.Namings.{declared_file, naming_in, made_too, is_beside, stop_at, AreNamings, AreNoted, AllAreFree, FindsLowest, IsFileOccupied, IsFreePath, IsFaultAt};
 
 use crate::fault::{GraphFault, Occupied, SideFile};
 use paths::{Action, EdgeId, Manifest, PathId};
