@@ -10,7 +10,7 @@ import subprocess
 import time
 
 import own
-from ground import Pair, differences, files_of, in_short, is_idle, must_run, replace, run, touch, write
+from ground import Pair, Ran, differences, files_of, in_short, is_idle, must_run, read, replace, run, touch, write
 
 UNITS = 82
 
@@ -46,37 +46,53 @@ def fill_with(launcher):
     return fill
 
 
-# A launcher that ends at once and leaves all work to a process that has its output open: `late.sh HOW WHAT NAP OUT IN..`. HOW is which
-# streams that process keeps, or what becomes of it or of the launcher; WHAT comes late: the depfile, its second line, or the output, in place
-# of which nothing stands till then.
+# A launcher that ends at once and leaves all work to a process that has its output open: `late.sh HOW WHAT OUT IN..`. HOW is which streams
+# that process keeps, or what becomes of it or of the launcher, as long as nobody is spared; WHAT comes late: the depfile, its second line,
+# or the output, in place of which nothing stands till then. How long it rests before that stands beside the tree, and there it notes
+# that it rests, and that it has rested: so no command changes with it, and no file of the tree.
 LATE_LAUNCHER = r"""
-how=$1 what=$2 nap=$3 out=$4
-shift 4
+how=$1 what=$2 out=$3
+shift 3
+rest() {
+  read nap < ../nap
+  echo b >> ../rests
+  : > ../rests.$out
+  sleep $nap
+  echo e >> ../rests
+}
 work() {
   case $what in
-  depfile) cat "$@" h > $out; sleep $nap; echo "$out: $* h" > $out.d ;;
-  unfinished) cat "$@" h > $out; echo "$out: $* \\" > $out.d; sleep $nap; echo "  h" >> $out.d ;;
-  output) sleep $nap; cat "$@" > $out ;;
-  same) cat "$@" > $out.new; sleep $nap; cmp -s $out.new $out && rm $out.new || mv $out.new $out ;;
+  depfile) cat "$@" h > $out; rest; echo "$out: $* h" > $out.d ;;
+  unfinished) cat "$@" h > $out; echo "$out: $* \\" > $out.d; rest; echo "  h" >> $out.d ;;
+  output) rest; cat "$@" > $out ;;
+  same) cat "$@" > $out.new; rest; cmp -s $out.new $out && rm $out.new || mv $out.new $out ;;
   esac
+}
+kill_child() {
+  until test -e ../rests.$out; do sleep 0.05; done
+  kill -9 $1
 }
 case $how in
 both) work "$@" & ;;
 out) work "$@" 2> /dev/null & ;;
 errors) work "$@" > /dev/null & ;;
-setsid) setsid sh $0 within $what $nap $out "$@" & ;;
+setsid) setsid sh $0 within $what $out "$@" & ;;
 within) work "$@" ;;
-child_killed) work "$@" & (sleep 0.2; kill -9 $!) & ;;
-shell_killed) work "$@" & kill -9 $$ ;;
+child_killed)
+  rm -f ../rests.$out
+  work "$@" &
+  test -e ../spared || kill_child $! & ;;
+shell_killed)
+  work "$@" &
+  test -e ../spared || kill -9 $$ ;;
 esac
 """
 
 LATE_RULES = """\
-nap = NAP
 rule late
-  command = sh late.sh $how $what $nap $out $in
+  command = sh late.sh $how $what $out $in
 rule late_depfile
-  command = sh late.sh $how $what $nap $out $in
+  command = sh late.sh $how $what $out $in
   depfile = $out.d
 rule copy
   command = cat $in > $out
@@ -91,6 +107,15 @@ LATE_DEPFILES = re.compile(r"^o\d+\.d$")
 
 # The ways in which what is left keeps the command's output, where the command ends well.
 WAYS = ("both", "out", "errors", "setsid")
+
+# How long what is late rests, in seconds: a usual rest, one in which 500 launchers can be started, and one that is over at once.
+NAP, LONG_NAP, SHORT_NAP = 2, 10, 0.05
+
+# So many commands at least are to be held at once by `-j 0`, of 504.
+MANY = 500
+
+# How long such a build may take, in seconds.
+LATE_LONGEST = 300
 
 
 def run_all(place):
@@ -127,9 +152,9 @@ def late_edges(ways, count):
     return edges
 
 
-def fill_late(ways, nap, count=1):
+def fill_late(ways, count=1):
     def fill(folder):
-        write(folder, "build.ninja", LATE_RULES.replace("NAP", str(nap)) + late_edges(ways, count))
+        write(folder, "build.ninja", LATE_RULES + late_edges(ways, count))
         write(folder, "late.sh", LATE_LAUNCHER)
         write(folder, "h", "header\n")
         for n in range(7):
@@ -137,31 +162,108 @@ def fill_late(ways, nap, count=1):
     return fill
 
 
+class LatePair(Pair):
+    """A pair of trees with such launchers. `naps` says for each tool how long what is late rests, and `most` how many rested at once in its
+    last build."""
+
+    def __init__(self, ground, name, ways, count=1):
+        super().__init__(ground, name, fill_late(ways, count))
+        self.naps = dict.fromkeys(self.TOOLS, NAP)
+        self.most = {}
+
+    def build(self, tool, *words):
+        write(self.around, "nap", f"{self.naps[tool]}\n")
+        write(self.around, "rests", "")
+        program = self.ground.nj if tool == "nj" else self.ground.ninja
+        with self.at_home(tool) as folder:
+            try:
+                ran = run([program, "-C", self.below, "-v", *words], folder, limit=LATE_LONGEST)
+            except subprocess.TimeoutExpired:
+                ran = Ran(-1, [], f"it did not end in {LATE_LONGEST} s")
+        self.most[tool] = most_at_once(read(self.around, "rests").split())
+        return ran
+
+    def held(self, what, least, most):
+        """In the last builds so many commands were held at once: each keeps its job until what it left has ended."""
+        for tool, count in self.most.items():
+            self.ground.expect(least <= count <= most, f"{self.name}, {what}", f"{tool} held {count} commands at once, and not {least} to {most}")
+
+    def spare(self):
+        """From now on nobody is killed."""
+        write(self.around, "spared", "")
+
+
+def most_at_once(words):
+    """How many had begun and not ended at once, of those that noted both."""
+    most = now = 0
+    for word in words:
+        now += 1 if word == "b" else -1
+        most = max(most, now)
+    return most
+
+
 def late(place):
     """What a launcher leaves behind is waited for, and read once it has ended: commands and files are those of ninja."""
     if place.lacks("launchers that end early", "ninja", "setsid"):
         return
-    for jobs, nap, count in (("1", 0.05, 1), ("8", 2, 1), ("0", 2, 21)):
-        pair = Pair(place, f"left behind, -j {jobs}", fill_late(WAYS, nap, count))
+    for jobs, count in (("1", 1), ("8", 1), ("0", 21)):
+        pair = LatePair(place, f"left behind, -j {jobs}", WAYS, count)
+        edges = len(WAYS) * len(LATE_KINDS) * count
+        # two seconds each, one after the other, are enough of a wait for nj alone
+        if jobs == "1":
+            pair.naps["ninja"] = SHORT_NAP
+        if jobs == "0":
+            pair.naps = dict.fromkeys(pair.TOOLS, LONG_NAP)
         pair.step("a first build", "-j", jobs)
+        pair.held("a first build", *((MANY, edges) if jobs == "0" else (int(jobs), int(jobs))))
         pair.rests()
+        if jobs == "0":
+            pair.naps = dict.fromkeys(pair.TOOLS, NAP)
         for what, change in (
             ("the header", lambda it: write(it, "h", "another\n")),
             ("a source", lambda it: write(it, "a3", "another source\n")),
             ("a source is touched", lambda it: touch(it, "a4")),
+            ("the header once more", lambda it: write(it, "h", "a third\n")),
         ):
             pair.edit(change)
             pair.step(what, "-j", jobs)
+            pair.held(what, 1, edges if jobs == "0" else int(jobs))
             pair.rests(f"{what}, again")
+            # after two builds in which each was late for two seconds
+            if jobs == "1":
+                pair.naps["nj"] = SHORT_NAP
     ended_early(place)
 
 
 def ended_early(place):
-    """Where what was left is killed, nothing waits for it, and a launcher that is killed has failed: both no sooner than ninja says so."""
-    pair = Pair(place, "left behind and killed", fill_late(("child_killed",), 1))
-    pair.step("a first build", "-j", "8", "-k", "0", status=1)
-    pair = Pair(place, "left behind by a launcher that is killed", fill_late(("shell_killed",), 1))
-    pair.step("a first build", "-j", "8", "-k", "0", status=1, passed_over=LATE_DEPFILES)
+    """Where what was left is killed, nothing waits for it, and a launcher that is killed has failed: both no sooner than ninja says so, and
+    what is done again after that is what ninja does."""
+    many = ("-j", "8", "-k", "0")
+    for how, name, passed_over in (
+        ("child_killed", "left behind and killed", None),
+        ("shell_killed", "left behind by a launcher that is killed", LATE_DEPFILES),
+    ):
+        pair = LatePair(place, name, (how,))
+        pair.step("a first build", *many, status=1, passed_over=passed_over)
+        pair.held("a first build", len(LATE_KINDS), len(LATE_KINDS))
+        pair.step("the same again", *many, status=1, passed_over=passed_over)
+        pair.edit(lambda it: write(it, "h", "another\n"))
+        pair.step("the header", *many, status=1, passed_over=passed_over)
+        pair.edit(lambda it: write(it, "a3", "another source\n"))
+        pair.step("a source", *many, status=1, passed_over=passed_over)
+        # a command that ended well without its depfile is not run again for the header alone
+        pair.spare()
+        pair.edit(all_sources)
+        pair.step("all sources, and nobody is killed any more", *many)
+        pair.rests("all sources, again")
+        pair.edit(lambda it: write(it, "h", "a third\n"))
+        pair.step("the header once more", *many)
+        pair.rests("the header once more, again")
+
+
+def all_sources(folder):
+    for n in range(7):
+        write(folder, f"a{n}", f"the last source {n}\n")
 
 
 # ---- distcc

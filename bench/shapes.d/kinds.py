@@ -101,13 +101,14 @@ class Includes:
 
 
 def of_lists(draw):
-    """The writer of a kind of lists: `draw` gives what is told of it, how many headers a unit has, and the numbers of a unit's headers."""
+    """The writer of a kind of lists: `draw` gives what is told of it, how many headers a unit has, and the numbers of a unit's headers, or of
+    those of another part that part and the number."""
 
     def written(folder, chance):
         lists = Lists(chance)
         told, each, numbers = draw(lists, chance)
         lists.fit(each)
-        lists.write(folder, lambda unit, part: [lists.name(part, it) for it in numbers(unit, part)])
+        lists.write(folder, lambda unit, part: [lists.name(*it) if isinstance(it, tuple) else lists.name(part, it) for it in numbers(unit, part)])
         return Tree(lists.told(told), without=[".nj_deps"])
 
     return written
@@ -167,6 +168,19 @@ def ordered(_, chance):
     heads, kept = chance.choice([50, 200, 400]), chance.choice([.3, .6, .95])
     return f"{int(kept * 100)} in 100 of {heads} headers, in one order", int(heads * kept) + 1, \
         lambda unit, part: [it for it in range(heads) if chance.random() < kept]
+
+
+def reordered(lists, chance):
+    heads, few, orders = chance.choice([60, 200, 400]), chance.choice([0, 1, 3, 8]), {}
+    if chance.random() < .5:
+        lists.parts, lists.mixed = chance.choice([10, 30]), False
+
+    def numbers(_, part):
+        if part not in orders:
+            orders[part] = [(lists.parts, it) for it in chance.sample(range(heads), heads)]
+        return [1000 + it for it in chance.sample(range(100), few)] + orders[part]
+
+    return f"{few} of 100 headers in any order, then {heads} that all parts read, each part in an order of its own", few + heads, numbers
 
 
 # ---- build files and graphs
@@ -298,6 +312,6 @@ def values(folder, chance):
 
 
 KINDS = {
-    **{it.__name__: of_lists(it) for it in (subset, few_then_run, few_then_runs, walk, rooted, walk_then_run, once, ordered)},
+    **{it.__name__: of_lists(it) for it in (subset, few_then_run, few_then_runs, walk, rooted, walk_then_run, once, ordered, reordered)},
     **{it.__name__: it for it in (commands, phony, orders, loads, scopes, long_lines, values)},
 }

@@ -114,8 +114,8 @@ impl<T: Drop> Kept<T> {
     /// The numbers of the texts whose fields, so many, stand in front, and what stands behind them, where no byte of them is
     /// written as two. Texts that have no number get one. What is kept stands for the same records as before.
     ///
-    /// Of a text that came behind the one before it in an earlier call little more is done than to compare it. After texts that came
-    /// in no such order a text is looked for by a sum of its bytes first, and then compared; where sums tell nothing for long, only
+    /// Of a text that came behind the one before it in an earlier call little more is done than to compare it. Where more texts came in
+    /// no such order than did, a text is looked for by a sum of its bytes first, and then compared; where sums tell nothing for long, only
     /// one text in eight is. The longest call doubles the table of sums, of at most as many places as there are texts.
     #[inline(never)]
     pub fn take_numbers<'a>(
@@ -173,12 +173,16 @@ impl<T: Drop> Kept<T> {
             numbers.extend_from_slice(run)?;
             return Ok(Some(after));
         }
+        if let Some((number, after)) = self.outputs.follow_on(last, bytes) {
+            numbers.push(number)?;
+            return Ok(Some(after));
+        }
         self.take_few(alloc, last, bytes, most, missed, numbers)
     }
 
-    /// The same, where no run that came behind `last` stands in front, and `missed` is what seems to stand there if its sum tells no
-    /// text. What came behind `last` one by one is a run from now on, where there is room for one; a text that only its sum told begins
-    /// none.
+    /// The same, where no run that came behind `last` stands in front, nor a text that came behind it, unless there is room for a run,
+    /// and `missed` is what seems to stand there if its sum tells no text. What came behind `last` one by one is a run from now on, where
+    /// there is room for one; a text that only its sum told begins none.
     #[inline(never)]
     fn take_few<'a>(
         &mut self,

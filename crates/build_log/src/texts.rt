@@ -12,13 +12,17 @@ use bstr::ByteSlice;
 use indexmap::IndexSet;
 use std::alloc::{AllocError, Global};
 use std::marker::Model;
+use std::simd::prelude::*;
 use text::{Bytes, Items};
 
 /// How many texts a run has at most.
 const MOST_IN_RUN: usize = 8;
 
-/// After so many texts that only their sum told, the next texts of a list are looked for by their sums first.
-const TURNS_BY_SUM: usize = 2;
+/// Where `by_sum` begins in a list, with room below for as many texts as a list has.
+const AT_FIRST: usize = 1 << 30;
+
+/// Where `by_sum` is this or more, the next texts of a list are looked for by their sums first.
+const BY_SUM: usize = AT_FIRST + 2;
 
 /// After so many texts in turn that the table of sums did not tell, it is asked for one text in `SELDOM` alone.
 const PATIENCE: usize = 64;
@@ -39,12 +43,14 @@ pub struct Texts {
     table: Vec<Note>,
     /// How often a guess was noted in the table.
     noted: usize,
-    /// How many texts of the list that is read `take_known` told by their sums, since the list began, it told one by the text
-    /// in front, or `take_by_sum` missed one or found the second in turn that is noted behind the text in front; one more behind the
-    /// first. Others may stand between.
+    /// From `AT_FIRST` up, how many texts of the list that is read `take_known` told by their sums; below, how many more it is to tell so
+    /// than where a list begins: one for each that the one in front told, so the longer a list came in an order of before, the more of
+    /// what comes behind is noted. Others, and runs that were noted, may stand between. It is `AT_FIRST` again where a list begins, and
+    /// where `take_by_sum` missed a text or found the second in turn that is noted behind the text in front. Behind the first such text it
+    /// is one more than `BY_SUM`, and `BY_SUM` behind one that is not noted so.
     by_sum: usize,
     /// How many texts the table did not tell since it last told one, where no text in front told them: those for which it was not
-    /// asked are counted too.
+    /// asked are counted too, but not those that `take_by_sum` missed.
     missed: usize,
 }
 
@@ -129,7 +135,7 @@ impl Texts {
             places: Vec::new(alloc),
             table: Vec::new(alloc),
             noted: 0,
-            by_sum: 0,
+            by_sum: AT_FIRST,
             missed: 0,
         }
     }
@@ -186,6 +192,32 @@ impl Texts {
         standing(*note, bytes)
     }
 
+    /// The same as `follow`, but for none where a run is to begin behind `last`.
+    #[inline(always)]
+    pub(crate) fn follow_on<'a>(
+        &mut self,
+        last: usize,
+        bytes: &'a [u8],
+    ) -> Option<(usize, &'a [u8])>
+        ensures same { self.new ≡ self.old }
+        ensures taken { IfSome result (λ parts. IsTaken self.new bytes.now parts.0 parts.1.now) }
+    {
+        if self.has_room(last) {
+            return None;
+        }
+        let (number, after) = self.follow(last, bytes)?;
+        self.count_followed(1);
+        Some((number, after))
+    }
+
+    /// Counts so many texts that were told by the ones in front.
+    #[inline(always)]
+    fn count_followed(&mut self, count: usize)
+        ensures { self.new ≡ self.old }
+    {
+        self.by_sum = self.by_sum.min(AT_FIRST).saturating_sub(count);
+    }
+
     /// The number of the text whose field stands in front, and what stands behind the field and its tab, where enough texts before
     /// it in its list were told by their sums alone, and it is told so too. In front of a list's first text `last` is no number. A text
     /// that is not told so is answered by an error, with what seems to stand in front where its sum was made and tells no text.
@@ -202,25 +234,25 @@ impl Texts {
         ensures taken { IfOk result (λ parts. IsTaken self.new bytes.now parts.0 parts.1.now) }
     {
         if last == usize::MAX {
-            self.by_sum = 0;
+            self.by_sum = AT_FIRST;
         }
-        if self.by_sum < TURNS_BY_SUM {
+        if self.by_sum < BY_SUM {
             return Err(None);
         }
         let Some(front) = self.front_in(last, bytes) else {
             return Err(None);
         };
         let Some((found, after)) = self.look(front, bytes) else {
-            self.by_sum = 0;
+            self.by_sum = AT_FIRST;
             return Err(Some(front));
         };
         self.by_sum = self.turns_behind(self.is_noted(last, found.number));
         Ok((found.number as usize, after))
     }
 
-    /// The same as `follow`, but for none where a run is to begin behind `last`: of a text that was noted there, or has the sum of
-    /// what stands in front and is noted there from now on. A text that neither tells is answered by an error, with what seems to
-    /// stand in front where its sum was made. Where `missed` has that already, its sum tells no text, and is not asked again.
+    /// The same as `follow_on` where that gave none: none where a run is to begin behind `last`. Else the text has the sum of what stands
+    /// in front, and is noted behind `last` from now on. A text that is not told so is answered by an error, with what seems to stand in
+    /// front where its sum was made. Where `missed` has that already, its sum tells no text, and is not asked again.
     #[inline(always)]
     pub(crate) fn take_known<'a>(
         &mut self,
@@ -231,12 +263,8 @@ impl Texts {
         ensures same { self.new ≡ self.old }
         ensures taken { IfOk result (λ found. IfSome found (λ parts. IsTaken self.new bytes.now parts.0 parts.1.now)) }
     {
-        if let Some((number, after)) = self.follow(last, bytes) {
-            self.by_sum = 0;
-            if self.has_room(last) {
-                return Ok(None);
-            }
-            return Ok(Some((number, after)));
+        if self.has_room(last) && self.follow(last, bytes).is_some() {
+            return Ok(None);
         }
         if missed.is_some() || !self.is_to_ask() {
             return Err(missed);
@@ -263,17 +291,17 @@ impl Texts {
         missed < PATIENCE || missed % SELDOM == 0
     }
 
-    /// What `by_sum` is behind a text that `take_by_sum` told, and that is noted behind the text in front or is not: none behind the
-    /// second in turn that is.
+    /// What `by_sum` is behind a text that `take_by_sum` told, and that is noted behind the text in front or is not: as where a list
+    /// begins, behind the second in turn that is.
     #[inline(always)]
     fn turns_behind(&self, noted: bool) -> usize {
         if !noted {
-            return TURNS_BY_SUM;
+            return BY_SUM;
         }
-        if self.by_sum > TURNS_BY_SUM {
-            0
+        if self.by_sum > BY_SUM {
+            AT_FIRST
         } else {
-            TURNS_BY_SUM + 1
+            BY_SUM + 1
         }
     }
 
@@ -318,7 +346,7 @@ impl Texts {
                 return bytes.get(..len);
             }
         }
-        bytes.get(..bytes.find_byte(b'\t')?)
+        bytes.get(..tab_in(bytes)?)
     }
 
     /// The guess at a text with this sum, of which it may be that it stands in front.
@@ -495,7 +523,7 @@ impl Texts {
         Some((run.numbers.as_slice(), after))
     }
 
-    /// Notes that a run came behind a text, where fewer than three did before.
+    /// Notes that a run came behind a text, where fewer than three did before, and counts its texts.
     pub(crate) fn note_run(
         &mut self,
         alloc: Global,
@@ -506,6 +534,7 @@ impl Texts {
         requires { AreTaken self.old bytes.now numbers.now [] }
         ensures { self.new ≡ self.old }
     {
+        self.count_followed(numbers.len());
         if self.notes.len() <= last {
             return Ok(());
         }
@@ -601,6 +630,24 @@ fn small(number: usize) -> Option<u32>
     ensures { IfSome result (λ same. same ≡ number) }
 {
     u32::try_from(number).ok()
+}
+
+/// Where the first tab stands, looked for in 16 bytes at a time as long as there are so many.
+#[inline(always)]
+fn tab_in(bytes: &[u8]) -> Option<usize> {
+    let mut place = 0usize;
+    let mut rest = bytes;
+    while let Some((chunk, after)) = rest.split_first_chunk::<16>() {
+        let tabs = u8x16::from_array(*chunk)
+            .simd_eq(u8x16::splat(b'\t'))
+            .to_bitmask();
+        if tabs != 0 {
+            return Some(place.wrapping_add(tabs.trailing_zeros() as usize));
+        }
+        place = place.wrapping_add(16);
+        rest = after;
+    }
+    Some(place.wrapping_add(rest.find_byte(b'\t')?))
 }
 
 /// The byte at this place, or 0.

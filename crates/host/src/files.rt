@@ -13,16 +13,21 @@ ghost use Rattle.host.specs.Process.{IsAlone, IsLetGo, IsLocked};
 use crate::disk::{Disk, unless_absent, writing};
 use crate::held::{Lock, ask_shared};
 use crate::process::Streams;
-use locks::{INPUT, Identity, OUTPUT, has_outputs, is_at, path_in};
+use locks::{INPUT, Identity, OUTPUT, has_outputs, is_at, mode_at, path_in};
 use std::alloc::{AllocError, Global};
-use std::fs::{File, OpenOptions, TryLockError};
+use std::fs::{File, OpenOptions, Permissions, TryLockError};
 use std::io::{ErrorKind, Read, Seek, SeekFrom};
 use std::os::fd::AsRawFd;
+use std::os::unix::fs::PermissionsExt;
 use std::{fs, io};
 use text::Bytes;
 
 /// What commands of an inner build read.
 const NULL: &str = "/dev/null";
+
+/// The bit of the mode by which a file for commands to read is marked, as one beside which files of another build may stand: that it may
+/// be run, which nobody does.
+const MARK: u32 = 0o100;
 
 /// How often the file for commands to read is made anew, where others take it away.
 const TRIES: u64 = 20;
@@ -36,6 +41,8 @@ pub struct Files {
     alloc: Global,
     /// Whether it is a build that a command of another build in the same folder began.
     is_inner: bool,
+    /// Whether files of an earlier build may stand beside, since it was waited for.
+    is_beside_left: bool,
     /// What commands read, from the first of them on.
     input: Option<Input>,
     /// How many files for what commands print got a path.
@@ -114,6 +121,7 @@ impl Files {
         Files {
             alloc,
             is_inner: false,
+            is_beside_left: false,
             input: None,
             outputs: 0,
             unused: Vec::new(alloc),
@@ -123,6 +131,11 @@ impl Files {
     /// From now on they are those of an inner build.
     pub fn set_inner(&mut self) {
         self.is_inner = true;
+    }
+
+    /// From now on files of an earlier build may stand beside, as where it was waited for until somebody removed some.
+    pub fn set_beside_left(&mut self) {
+        self.is_beside_left = true;
     }
 
     /// New files for a command that is to be started: to print into, where nothing stood before, and to read, if there is none yet.
@@ -151,14 +164,20 @@ impl Files {
     /// until this program and all commands that have it as their input have let it go. An inner build opens what is there.
     fn make_input(&mut self, disk: &mut Disk<'_>, path: &str) -> io::Result<()> {
         let input = if self.is_inner {
+            mark_outer(self.alloc, disk);
             Input {
                 path: None,
                 file: disk.open(path)?,
             }
         } else {
+            let own = String::from_str(self.alloc, path)?;
+            let file = input_at(disk, path)?;
+            if self.is_beside_left {
+                mark(&file);
+            }
             Input {
-                path: Some(String::from_str(self.alloc, path)?),
-                file: input_at(disk, path)?,
+                path: Some(own),
+                file,
             }
         };
         self.input = Some(input);
@@ -311,7 +330,9 @@ fn input_at(disk: &mut Disk<'_>, path: &str) -> io::Result<File> {
         }
         disk.rest(turn);
     }
-    disk.open(path)
+    let file = disk.open(path)?;
+    mark(&file);
+    Ok(file)
 }
 
 /// The same, where it is made or found at once. What stands there and is no such file, as a link, is removed for the next try.
@@ -321,7 +342,33 @@ fn try_input(disk: &mut Disk<'_>, path: &str) -> io::Result<Option<File>> {
         disk.remove(path)?;
         return Ok(None);
     }
-    locked_input(disk, path)
+    let found = locked_input(disk, path)?;
+    if let (Some(file), None) = (&found, &made) {
+        mark(file);
+    }
+    Ok(found)
+}
+
+/// Marks the file for the outer build's commands to read, where that stands beside the logs of this inner build.
+fn mark_outer(alloc: Global, disk: &Disk<'_>) {
+    if let Ok(path) = path_in(alloc, disk.folder(), INPUT) {
+        let path = path.as_str();
+        if !disk.has_other(path) {
+            if let Ok(file) = disk.open(path) {
+                mark(&file);
+            }
+        }
+    }
+}
+
+/// Marks a file for commands to read. One of another user, of which that is not allowed, stays as it is.
+fn mark(file: &File) {
+    if let Ok(metadata) = file.metadata() {
+        if metadata.is_file() {
+            let mode = metadata.permissions().mode();
+            let _ = file.set_permissions(Permissions::from_mode(mode | MARK));
+        }
+    }
 }
 
 /// The file at the path, locked together with others, or nothing where another build took it away before that, or is about to.
@@ -369,13 +416,18 @@ impl Input {
     /// Removes the file, if it was made for builds and stands there still, and no other build has it, nor a command of one that was killed:
     /// where one has, that is left to it, and processes which commands of this build left behind have the file without a lock from now on.
     /// It stays, too, where one into which a command printed stands beside it, as of a build that was killed: its command may have that
-    /// alone.
+    /// alone. A folder of many files takes long to look through, so that is done only where the file is marked.
     fn remove(self, rt: &HostRuntime) {
         let Input { path, file } = self;
         if let Some(path) = path {
             let path = path.as_str();
-            if is_last(&file) && is_at(rt, path, &file) && !has_outputs(rt, path) {
-                let _ = fs::remove_file(rt, path);
+            if !is_last(&file) {
+                return;
+            }
+            if let Some(mode) = mode_at(rt, path, &file) {
+                if mode & MARK == 0 || !has_outputs(rt, path) {
+                    let _ = fs::remove_file(rt, path);
+                }
             }
         }
     }

@@ -161,7 +161,11 @@ impl<'a, W: Write> Host<'a, W> {
     pub fn waits_for_left(&mut self, folder: &str) -> bool
         ensures { world_of self.new ≡ world_of self.old }
     {
-        self.watch.waits_for_left(folder)
+        let has_waited = self.watch.waits_for_left(folder);
+        if has_waited {
+            self.files.set_beside_left();
+        }
+        has_waited
     }
 
     /// Waits until what is written from now on has a later stamp than each start, so that the next build sees it. To be called at the

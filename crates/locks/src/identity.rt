@@ -39,8 +39,15 @@ impl Identity {
 
 /// Whether the path leads to the file of the opening.
 pub fn is_at(rt: &HostRuntime, path: &str, file: &File) -> bool {
-    match Identity::of_file(file) {
-        Some(identity) => Identity::at(rt, path) == Some(identity),
-        None => false,
+    mode_at(rt, path, file).is_some()
+}
+
+/// The mode of the opening's file, if the path leads to that.
+pub fn mode_at(rt: &HostRuntime, path: &str, file: &File) -> Option<u32> {
+    let metadata = file.metadata().ok()?;
+    if Identity::at(rt, path) == Some(Identity::of(&metadata)) {
+        Some(metadata.mode())
+    } else {
+        None
     }
 }

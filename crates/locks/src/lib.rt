@@ -16,7 +16,7 @@ mod watch;
 
 pub use behind::Behind;
 pub use entered::{Entered, enter};
-pub use identity::{Identity, is_at};
+pub use identity::{Identity, is_at, mode_at};
 pub use left::{has_outputs, wait_for_left};
 pub use names::{INPUT, OUTPUT, path_in};
 pub use watch::Watch;
