@@ -10,6 +10,9 @@ use paths::{EdgeId, PathId};
 use std::alloc::{AllocError, Global};
 use std::marker::Model;
 
+/// At how many rooms `push_all` looks before it puts edges there.
+const AT_ONCE: usize = 16;
+
 /// Where a list stands, and up to where it may grow.
 #[derive(Clone, Copy)]
 pub struct Room {
@@ -193,12 +196,39 @@ impl Users {
         ensures err { OnErr result (self.new ≡ self.old) }
     {
         for (done, path) in paths.iter().enumerate() {
+            self.make_ready(done, paths);
             if self.push(*path, edge).is_err() {
                 self.pop_all(&paths[..done]);
                 return Err(AllocError);
             }
         }
         Ok(())
+    }
+
+    /// Behind each `AT_ONCE` paths that are done, looks at the rooms of as many that come next, and makes place for an edge of each that is
+    /// full, which is refused again where it is wanted. Nothing is written between these looks: where rooms are far apart, a processor
+    /// waits for several at a time, and not for one after another, as it does where each says to which place the next write goes.
+    #[inline(always)]
+    fn make_ready(&mut self, done: usize, paths: &[PathId])
+        ensures { self.new ≡ self.old }
+    {
+        if done % AT_ONCE != 0 {
+            return;
+        }
+        let Some(next) = paths.get(done..) else {
+            return;
+        };
+        let mut full = 0usize;
+        for path in next.iter().take(AT_ONCE) {
+            if let Some(room) = self.rooms.get(path.index()) {
+                if room.stop == room.end {
+                    full = full.saturating_add(1);
+                }
+            }
+        }
+        match self.edges.reserve(full) {
+            Ok(()) | Err(_) => {}
+        }
     }
 
     /// Takes back what was put behind those that name these paths.
