@@ -11,7 +11,7 @@ use Rattle.std.proofs.lemmas.Option.{slice_get_within, slice_get-get_or, slice_g
 use Rattle.build_log.specs.Line.{field_and_tab, IsPlain, AreTexts}
 use Rattle.build_log.specs.Kept.{AreNumbersOf}
 use Rattle.build_log.specs.Noted.{IsPlainAt, IsGuessIn, IsNoteIn, AreNotesOf, AreRunsOf}
-use Rattle.build_log.specs.Taken.{AreTakenFrom, IsTakenBehind}
+use Rattle.build_log.specs.Taken.{AreTakenFrom, SomeAreTakenBehind}
 use Rattle.build_log.specs.declared.texts.Note.{Note}
 use Rattle.build_log.specs.declared.texts.Guess.{Guess}
 use Rattle.build_log.specs.declared.texts.Run.{Run}
@@ -162,7 +162,7 @@ taken_append known bytes count numbers rest more others after first then = recor
 }
 
 -- the same behind numbers that were there
-pub taken_behind : (known : List (List ℕ)) (bytes old new rest : List ℕ) (most : ℕ) (after : List ℕ) → AreTakenFrom known bytes (length old) old rest → IsTakenBehind known old rest most new after → AreTakenFrom known bytes (length new) new after
+pub taken_behind : (known : List (List ℕ)) (bytes old new rest : List ℕ) (most : ℕ) (after : List ℕ) → AreTakenFrom known bytes (length old) old rest → SomeAreTakenBehind known old rest most new after → AreTakenFrom known bytes (length new) new after
 taken_behind known bytes old new rest most after before is =
     subst (λ (ns : List ℕ). AreTakenFrom known bytes (length ns) ns after) (sym is.pushed)
     (subst (λ (n : ℕ). AreTakenFrom known bytes n (old ++ is.more) after) (sym (length-append old is.more)) (taken_append known bytes (length old) old rest (length is.more) is.more after before is.taken))

@@ -24,7 +24,7 @@ abbrev pub IsTaken : List (List ℕ) → List ℕ → ℕ → List ℕ → Type 
 IsTaken known bytes n rest = (t : List ℕ) × (slice_get known n ≡ Some t) × IsUtf8 t × (bytes ≡ field_and_tab t ++ rest)
 
 -- the numbers of texts whose fields stand in front of the bytes, one at least and so many at most, were put behind the old ones
-pub record IsTakenBehind (known : List (List ℕ)) (old bytes : List ℕ) (most : ℕ) (new rest : List ℕ) : Type 0 where
+pub record SomeAreTakenBehind (known : List (List ℕ)) (old bytes : List ℕ) (most : ℕ) (new rest : List ℕ) : Type 0 where
   pub more : List ℕ
   pub pushed : new ≡ old ++ more
   pub some : 0 < length more
@@ -40,4 +40,4 @@ pub record AreTakenBehind (known : List (List ℕ)) (old bytes : List ℕ) (most
 
 -- where something was found, that is so of it
 abbrev pub TakesSome : {E : Type 0} → Result (Option (Bor (List ℕ))) E → List (List ℕ) → List ℕ → ℕ → List ℕ → List ℕ → Type 0
-TakesSome result known bytes most old new = IfFound result (λ rest. IsTakenBehind known old bytes most new rest.now)
+TakesSome result known bytes most old new = IfFound result (λ rest. SomeAreTakenBehind known old bytes most new rest.now)

@@ -19,7 +19,7 @@ use std::marker::Model;
 use text::Items;
 
 /// How many texts more are taken behind one that the one in front told before a run is looked for again: as many in all as a run has, so
-/// that the next look is where a run began that came before.
+/// that the next look is often where a run began that came before.
 const MORE: usize = 7;
 
 /// Which record of each output is in force, where a record tells something (`T`) of several outputs at once, or says

@@ -20,7 +20,7 @@ use Rattle.runner.specs.Ran.{HasRun}
 use Rattle.runner.proofs.Onward.{since_goes}
 use Rattle.runner.proofs.Refused.{HasPhases, on_refused, phased_finished}
 use Rattle.builder.specs.declared.report.Refusal.{Refusal}
-use Rattle.builder.specs.declared.report.Refusal.TheVariants.{File, MadeTwice, NoDyndepInput, NoDyndep, BadVersion, BadStatement, Unfit, UnknownTarget, Cycle, Missing}
+use Rattle.builder.specs.declared.report.Refusal.TheVariants.{File, MadeTwice, NoDyndepInput, Occupied, NoDyndep, BadVersion, BadStatement, Unfit, UnknownTarget, Cycle, Missing}
 use Rattle.builder.specs.Going.{grown_course, ended_course, task_over, StandsAt, HadAsked, IsRefusedBy, IsRefusedAt, HasStopped, WasCut}
 use Rattle.builder.proofs.Asking.{had_asked_on, whole}
 use Rattle.builder.proofs.Halting.{still_unstarted}
@@ -62,6 +62,7 @@ module _ (tells : Bool) (tick : List ℕ) (course : Course) (edges : List Edge) 
   cause_of : (of : Refusal) → IsRefusedBy tells course edges phases done now of → IsRefused stands.on.carried.phased
   cause_of (File fault) cause = absurd cause
   cause_of (NoDyndepInput path) cause = absurd cause
+  cause_of (Occupied occupied) cause = absurd cause
   cause_of (UnknownTarget target) cause = absurd cause
   cause_of (MadeTwice path) cause = inr (cause.1.file, due cause.1.file cause.1.is_next.due)
   cause_of (Cycle paths) cause = inr (cause.1.file, due cause.1.file cause.1.is_next.due)

@@ -53,20 +53,21 @@ pub names_inputs : (edges : List Edge) → ((i : ℕ) (file : List ℕ) → (edg
 names_inputs edges are file names = false≢true (sym names.other ∙ are names.edge file names.names)
 
 -- a report names no fault of edges that are a graph
-names_none : (edges grown : List Edge) (given targets : List (List ℕ)) (report : Report) (said : Answer) → AreGraphs edges grown → ((path : List ℕ) → said ≡ answer.NoDyndepInput path → ⊥) → Says edges given targets report said → NamesFault edges grown report
-names_none edges grown given targets (Success started) said graphs none says = tt
-names_none edges grown given targets (Failed outputs) said graphs none says = tt
-names_none edges grown given targets (Refused (refusal.File fault)) said graphs none says = tt
-names_none edges grown given targets (Refused (refusal.MadeTwice path)) said graphs none says = inl graphs
-names_none edges grown given targets (Refused (refusal.NoDyndepInput path)) said graphs none says = absurd (none path says)
-names_none edges grown given targets (Refused (refusal.NoDyndep path)) said graphs none says = graphs
-names_none edges grown given targets (Refused (refusal.BadVersion path)) said graphs none says = graphs
-names_none edges grown given targets (Refused (refusal.BadStatement path)) said graphs none says = graphs
-names_none edges grown given targets (Refused (refusal.Unfit unfit)) said graphs none says = graphs
-names_none edges grown given targets (Refused (refusal.UnknownTarget target)) said graphs none says = graphs
-names_none edges grown given targets (Refused (refusal.Cycle paths)) said graphs none says = graphs
-names_none edges grown given targets (Refused (refusal.Missing missing)) said graphs none says = graphs
-names_none edges grown given targets (Fault fault) said graphs none says = tt
+names_none : (folder : List ℕ) (edges grown : List Edge) (given targets : List (List ℕ)) (report : Report) (said : Answer) → AreGraphs edges grown → ((path : List ℕ) → said ≡ answer.NoDyndepInput path → ⊥) → Says edges given targets report said → NamesFault folder edges grown report
+names_none folder edges grown given targets (Success started) said graphs none says = tt
+names_none folder edges grown given targets (Failed outputs) said graphs none says = tt
+names_none folder edges grown given targets (Refused (refusal.File fault)) said graphs none says = tt
+names_none folder edges grown given targets (Refused (refusal.MadeTwice path)) said graphs none says = inl graphs
+names_none folder edges grown given targets (Refused (refusal.NoDyndepInput path)) said graphs none says = absurd (none path says)
+names_none folder edges grown given targets (Refused (refusal.Occupied occupied)) said graphs none says = tt
+names_none folder edges grown given targets (Refused (refusal.NoDyndep path)) said graphs none says = graphs
+names_none folder edges grown given targets (Refused (refusal.BadVersion path)) said graphs none says = graphs
+names_none folder edges grown given targets (Refused (refusal.BadStatement path)) said graphs none says = graphs
+names_none folder edges grown given targets (Refused (refusal.Unfit unfit)) said graphs none says = graphs
+names_none folder edges grown given targets (Refused (refusal.UnknownTarget target)) said graphs none says = graphs
+names_none folder edges grown given targets (Refused (refusal.Cycle paths)) said graphs none says = graphs
+names_none folder edges grown given targets (Refused (refusal.Missing missing)) said graphs none says = graphs
+names_none folder edges grown given targets (Fault fault) said graphs none says = tt
 
 module _ (tells : Bool) (B : Behaviour) (format : LogFormat) (own : OwnFiles) (graph : BuildGraph) (folder : List ℕ) (limits : Limits) (given targets : List (List ℕ)) (store : Store) (entry now : World) (found : IsFoundAt tells format own store entry now)
     (idle : IsIdle entry.events) where
@@ -83,7 +84,7 @@ module _ (tells : Bool) (B : Behaviour) (format : LogFormat) (own : OwnFiles) (g
   BuildsAs report = Builds tells B format own graph folder limits given targets graph.edges entry now report
 
   -- these are the edges at the end, and the report gives the answer
-  builds_named : (grown : List Edge) (report : Report) (said : Answer) → Says graph.edges given targets report said → NamesFault graph.edges grown report → Built tells B format own (asked_with The grown) entry now said report → BuildsOver grown report
+  builds_named : (grown : List Edge) (report : Report) (said : Answer) → Says graph.edges given targets report said → NamesFault folder graph.edges grown report → Built tells B format own (asked_with The grown) entry now said report → BuildsOver grown report
   builds_named grown report said says named built = record {
     answer = said;
     said = says;
@@ -107,11 +108,11 @@ module _ (tells : Bool) (B : Behaviour) (format : LogFormat) (own : OwnFiles) (g
       → Built tells B format own (asked_with The grown) entry now said report → BuildsOver grown report
   builds_over first grown last report said says built =
       builds_named grown report said says
-      (names_none graph.edges grown given targets report said (record { first = first; last = last }) (λ path is. first.inputs path (names_other grown said built.build path is)) says) built
+      (names_none folder graph.edges grown given targets report said (record { first = first; last = last }) (λ path is. first.inputs path (names_other grown said built.build path is)) says) built
 
   -- ---- refusals and faults before anything was loaded or judged
 
-  builds_looked : Looked tells entry now → (report : Report) (said : Answer) → Says graph.edges given targets report said → NamesFault graph.edges graph.edges report → RefusesFile tells own The store [] entry now report → (IsSuccess said → ⊥)
+  builds_looked : Looked tells entry now → (report : Report) (said : Answer) → Says graph.edges given targets report said → NamesFault folder graph.edges graph.edges report → RefusesFile tells own The store [] entry now report → (IsSuccess said → ⊥)
       → IsAnswer tells B own none_loaded The store [] [] [] entry now said → BuildsAs report
   builds_looked looked report said says named refused failed is =
       builds_named graph.edges report said says named
@@ -123,12 +124,14 @@ module _ (tells : Bool) (B : Behaviour) (format : LogFormat) (own : OwnFiles) (g
   pub builds_memory : Looked tells entry now → BuildsAs (Fault Memory)
   builds_memory looked = builds_looked looked (Fault Memory) (answer.Fault Memory) refl tt tt (λ h. h) (inl looked.unrefused.failures)
 
-  pub builds_ungraphed : Looked tells entry now → (fault : GraphFault) → IsFaultOf graph.edges fault → BuildsAs (ungraphed fault)
+  pub builds_ungraphed : Looked tells entry now → (fault : GraphFault) → IsFaultOf folder graph.edges fault → BuildsAs (ungraphed fault)
   builds_ungraphed looked graph_fault.Memory is = builds_memory looked
   builds_ungraphed looked (graph_fault.MadeTwice path) is =
       builds_looked looked (Refused (refusal.MadeTwice path)) (answer.MadeTwice path) refl (inr is) tt (λ h. h) ((λ none. looked.looks), (The, inl (refl, refl), is.0))
   builds_ungraphed looked (graph_fault.NoDyndepInput path) is =
       builds_looked looked (Refused (refusal.NoDyndepInput path)) (answer.NoDyndepInput path) refl is tt (λ h. h) ((λ none. looked.looks), refl, is.0)
+  builds_ungraphed looked (graph_fault.Occupied occupied) is =
+      builds_looked looked (Refused (refusal.Occupied occupied)) answer.Refused refl tt (refl, looked.looks, is) (λ h. h) ((λ none. looked.looks), inl refl)
 
   -- what is so of edges to which nothing was added
   graphs_now : AreGraph graph.edges → AreGraphs graph.edges graph.edges

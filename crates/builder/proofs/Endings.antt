@@ -33,7 +33,7 @@ use Rattle.runner.specs.Course.{Course}
 use Rattle.runner.specs.Cut.{fault_of}
 use Rattle.builder.specs.declared.report.Missing.{Missing as Lacking}
 use Rattle.builder.specs.declared.report.Refusal.{Refusal}
-use Rattle.builder.specs.declared.report.Refusal.TheVariants.{File, MadeTwice, NoDyndepInput, NoDyndep, BadVersion, BadStatement, Unfit, UnknownTarget, Cycle, Missing}
+use Rattle.builder.specs.declared.report.Refusal.TheVariants.{File, MadeTwice, NoDyndepInput, Occupied, NoDyndep, BadVersion, BadStatement, Unfit, UnknownTarget, Cycle, Missing}
 use Rattle.builder.specs.declared.report.Report.{Report}
 use Rattle.builder.specs.declared.report.Report.TheVariants.{Success, Failed, Refused, Fault}
 use Rattle.builder.specs.declared.stop.Stop.{Stop}
@@ -380,6 +380,7 @@ module _ (tells : Bool) (course : Course) (grown : List Edge) (now : World) (fou
   ends_refused : (refusal : Refusal) → HasStopped tells course grown now refusal → PassesNoFault course.entry now answer.Refused → EndsAs (Refused refusal)
   ends_refused (File fault) stopped passes = absurd stopped.cause
   ends_refused (NoDyndepInput path) stopped passes = absurd stopped.cause
+  ends_refused (Occupied occupied) stopped passes = absurd stopped.cause
   ends_refused (UnknownTarget target) stopped passes = absurd stopped.cause
   ends_refused (MadeTwice path) stopped passes = record {
     said = answer.MadeTwice path;

@@ -63,7 +63,7 @@ use Rattle.runner.proofs.Loaded.{HasMore, HasRoomFor, loaded_course, on_loaded, 
 use Rattle.runner.proofs.Quiet.{quiet_from}
 use Rattle.runner.proofs.Settled.{settled_rests}
 use Rattle.builder.specs.declared.report.Refusal.{Refusal}
-use Rattle.builder.specs.declared.report.Refusal.TheVariants.{File as BuildFile, MadeTwice, NoDyndepInput, NoDyndep, BadVersion, BadStatement, Unfit, UnknownTarget, Cycle, Missing}
+use Rattle.builder.specs.declared.report.Refusal.TheVariants.{File as BuildFile, MadeTwice, NoDyndepInput, Occupied, NoDyndep, BadVersion, BadStatement, Unfit, UnknownTarget, Cycle, Missing}
 use Rattle.builder.specs.Going.{grown_course, task_over, IsUnstarted, StandsAt, HasAsked, BeginsAt, IsLoadNext, IsHeldLoad, IsRefusedBy, HasBegun, IsStopped, IsCutThere, files_left}
 use Rattle.builder.specs.Joined.{WasHeld, IsUnread, IsUnfitBy, IsCircleBy, IsUnjoined, MayJoin, HasJoinedFile, GoesOnWith, HasRoomIn, StayKnown, IsAsBefore}
 use Rattle.builder.specs.Loads.{HeldThen, IsRefusedFile, IsSaying, IsUnfitFor}
@@ -278,6 +278,7 @@ module _ (tells : Bool) (tick : List ℕ) (course : Course) (edges : List Edge) 
     unread_cause (BuildFile fault) is = absurd is
     unread_cause (MadeTwice other) is = absurd is
     unread_cause (NoDyndepInput other) is = absurd is
+    unread_cause (Occupied occupied) is = absurd is
     unread_cause (NoDyndep other) is = subst (λ (p : List ℕ). IsRefusedFile tells course.own (asked_with course.asked edges) course.store steps course.entry new p (λ held. held ≡ None)) (sym {A = List ℕ} is.0) (refused_file (λ held. held ≡ None) is.1)
     unread_cause (BadVersion other) is =
         subst (λ (p : List ℕ). IsRefusedFile tells course.own (asked_with course.asked edges) course.store steps course.entry new p (IsSaying (Err said.BadVersion))) (sym {A = List ℕ} is.0) (refused_file (IsSaying (Err said.BadVersion)) is.1)
@@ -313,6 +314,7 @@ module _ (tells : Bool) (tick : List ℕ) (course : Course) (edges : List Edge) 
       unfit_cause (BuildFile fault) is = absurd is
       unfit_cause (MadeTwice other) is = (is.next, held_load is.next is.grown, is.twice)
       unfit_cause (NoDyndepInput other) is = absurd is
+      unfit_cause (Occupied occupied) is = absurd is
       unfit_cause (NoDyndep other) is = absurd is
       unfit_cause (BadVersion other) is = absurd is
       unfit_cause (BadStatement other) is = absurd is
@@ -327,6 +329,7 @@ module _ (tells : Bool) (tick : List ℕ) (course : Course) (edges : List Edge) 
       circle_cause (BuildFile fault) is = absurd is.circle
       circle_cause (MadeTwice other) is = absurd is.circle
       circle_cause (NoDyndepInput other) is = absurd is.circle
+      circle_cause (Occupied occupied) is = absurd is.circle
       circle_cause (NoDyndep other) is = absurd is.circle
       circle_cause (BadVersion other) is = absurd is.circle
       circle_cause (BadStatement other) is = absurd is.circle

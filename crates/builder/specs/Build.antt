@@ -22,7 +22,7 @@ use Rattle.model.specs.SingleBuild as answer
 use Rattle.manifest.specs.Answer.{ReadsFile, site_part}
 use Rattle.manifest.specs.declared.fault.ReadError.{ReadError}
 use Rattle.manifest.specs.declared.fault.ReadError.TheVariants as read
-use Rattle.builder.specs.declared.report.Refusal.TheVariants.{File, MadeTwice, NoDyndepInput, NoDyndep, BadVersion, BadStatement, Unfit, UnknownTarget, Cycle, Missing}
+use Rattle.builder.specs.declared.report.Refusal.TheVariants.{File, MadeTwice, NoDyndepInput, Occupied, NoDyndep, BadVersion, BadStatement, Unfit, UnknownTarget, Cycle, Missing}
 use Rattle.builder.specs.declared.report.Report.{Report}
 use Rattle.builder.specs.declared.report.Options.{Options}
 use Rattle.builder.specs.declared.asked.Asked.{Asked as Request}
@@ -67,6 +67,7 @@ Says edges given targets (Failed outputs) said = said ≡ answer.Failed outputs
 Says edges given targets (Refused (File fault)) said = ⊥
 Says edges given targets (Refused (MadeTwice path)) said = said ≡ answer.MadeTwice path
 Says edges given targets (Refused (NoDyndepInput path)) said = said ≡ answer.NoDyndepInput path
+Says edges given targets (Refused (Occupied occupied)) said = said ≡ answer.Refused
 Says edges given targets (Refused (NoDyndep path)) said = said ≡ answer.Refused
 Says edges given targets (Refused (BadVersion path)) said = said ≡ answer.Refused
 Says edges given targets (Refused (BadStatement path)) said = said ≡ answer.Refused
@@ -86,23 +87,24 @@ pub record AreGraphs (declared grown : List Edge) : Type 0 where
   pub first : AreGraph declared
   pub last : AreGraph grown
 
--- Where N17 or N53 is answered, the path is the one that the fault of the lowest edge names which has one; but for a path that is made
--- twice only with what a dyndep file adds. That, and any other refusal of a load, of targets or of their cone, is answered only where the
--- edges are a graph.
-abbrev pub NamesFault : List Edge → List Edge → Report → Type 0
-NamesFault edges grown (Success started) = Unit {0}
-NamesFault edges grown (Failed outputs) = Unit {0}
-NamesFault edges grown (Refused (File fault)) = Unit {0}
-NamesFault edges grown (Refused (MadeTwice path)) = AreGraphs edges grown ⊎ IsFaultOf edges (fault_of.MadeTwice path)
-NamesFault edges grown (Refused (NoDyndepInput path)) = IsFaultOf edges (fault_of.NoDyndepInput path)
-NamesFault edges grown (Refused (NoDyndep path)) = AreGraphs edges grown
-NamesFault edges grown (Refused (BadVersion path)) = AreGraphs edges grown
-NamesFault edges grown (Refused (BadStatement path)) = AreGraphs edges grown
-NamesFault edges grown (Refused (Unfit unfit)) = AreGraphs edges grown
-NamesFault edges grown (Refused (UnknownTarget target)) = AreGraphs edges grown
-NamesFault edges grown (Refused (Cycle paths)) = AreGraphs edges grown
-NamesFault edges grown (Refused (Missing missing)) = AreGraphs edges grown
-NamesFault edges grown (Fault fault) = Unit {0}
+-- Where N17 or N53 is answered, the path is the one that the fault of the lowest edge names which has one, where own files lie in this
+-- folder; but for a path that is made twice only with what a dyndep file adds. That, and any other refusal of a load, of targets or of
+-- their cone, is answered only where the edges are a graph. The same of N54 is in RefusesFile.
+abbrev pub NamesFault : List ℕ → List Edge → List Edge → Report → Type 0
+NamesFault folder edges grown (Success started) = Unit {0}
+NamesFault folder edges grown (Failed outputs) = Unit {0}
+NamesFault folder edges grown (Refused (File fault)) = Unit {0}
+NamesFault folder edges grown (Refused (MadeTwice path)) = AreGraphs edges grown ⊎ IsFaultOf folder edges (fault_of.MadeTwice path)
+NamesFault folder edges grown (Refused (NoDyndepInput path)) = IsFaultOf folder edges (fault_of.NoDyndepInput path)
+NamesFault folder edges grown (Refused (Occupied occupied)) = Unit {0}
+NamesFault folder edges grown (Refused (NoDyndep path)) = AreGraphs edges grown
+NamesFault folder edges grown (Refused (BadVersion path)) = AreGraphs edges grown
+NamesFault folder edges grown (Refused (BadStatement path)) = AreGraphs edges grown
+NamesFault folder edges grown (Refused (Unfit unfit)) = AreGraphs edges grown
+NamesFault folder edges grown (Refused (UnknownTarget target)) = AreGraphs edges grown
+NamesFault folder edges grown (Refused (Cycle paths)) = AreGraphs edges grown
+NamesFault folder edges grown (Refused (Missing missing)) = AreGraphs edges grown
+NamesFault folder edges grown (Fault fault) = Unit {0}
 
 -- A build that no fault has cut off has removed the response files of commands that ended well, and of their depfiles just those
 -- that are not to stay, where files are kept.
@@ -119,7 +121,7 @@ LeavesAlone tells own asked old new = IsTrue tells → FilesAreKept own asked.gr
 pub record Builds (tells : Bool) (B : Behaviour) (format : LogFormat) (own : OwnFiles) (graph : BuildGraph) (folder : List ℕ) (limits : Limits) (given targets : List (List ℕ)) (grown : List Edge) (old new : World) (report : Report) : Type 0 where
   pub answer : Answer
   pub said : Says graph.edges given targets report answer
-  pub named : NamesFault graph.edges grown report
+  pub named : NamesFault folder graph.edges grown report
   pub build : SingleBuild tells B format own (asked_with (asked_of graph folder limits targets) grown) old new answer
   pub refused : RefusesFile tells own (asked_with (asked_of graph folder limits targets) grown) build.store (steps_of build.schedule.lawful.earlier ++ build.schedule.lawful.last) old new report
   pub headline : IsHeadline tells B format own (asked_with (asked_of graph folder limits targets) grown) old new answer build

@@ -38,7 +38,7 @@ use Rattle.runner.specs.Going.{IsCut, IsFinished}
 use Rattle.runner.specs.Ran.{HasRun}
 use Rattle.builder.specs.declared.report.Missing.{Missing as Lacking}
 use Rattle.builder.specs.declared.report.Refusal.{Refusal}
-use Rattle.builder.specs.declared.report.Refusal.TheVariants.{File, MadeTwice, NoDyndepInput, NoDyndep, BadVersion, BadStatement, Unfit, UnknownTarget, Cycle, Missing}
+use Rattle.builder.specs.declared.report.Refusal.TheVariants.{File, MadeTwice, NoDyndepInput, Occupied, NoDyndep, BadVersion, BadStatement, Unfit, UnknownTarget, Cycle, Missing}
 use Rattle.builder.specs.declared.report.Report.TheVariants.{Refused}
 use Rattle.builder.specs.declared.stop.Stop.{Stop}
 use Rattle.builder.specs.declared.stop.Stop.TheVariants as stop
@@ -149,6 +149,7 @@ pub record IsLacking (tells : Bool) (course : Course) (edges : List Edge) (phase
 abbrev pub IsRefusedBy : Bool → Course → List Edge → List Phase → List Done → World → Refusal → Type 0
 IsRefusedBy tells course edges phases done now (File fault) = ⊥
 IsRefusedBy tells course edges phases done now (NoDyndepInput path) = ⊥
+IsRefusedBy tells course edges phases done now (Occupied occupied) = ⊥
 IsRefusedBy tells course edges phases done now (UnknownTarget target) = ⊥
 IsRefusedBy tells course edges phases done now (MadeTwice path) = (next : List Edge) × IsHeldLoad tells course edges done now next × IsMadeTwice next path
 IsRefusedBy tells course edges phases done now (Cycle paths) =

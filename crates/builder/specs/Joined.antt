@@ -28,7 +28,7 @@ use Rattle.plan.specs.Planned.{IsPlanOver}
 use Rattle.plan.specs.Extended.{GoesOn}
 use Rattle.runner.specs.declared.state.State.{State}
 use Rattle.builder.specs.declared.report.Refusal.{Refusal}
-use Rattle.builder.specs.declared.report.Refusal.TheVariants.{File, MadeTwice, NoDyndepInput, NoDyndep, BadVersion, BadStatement, Unfit, UnknownTarget, Cycle, Missing}
+use Rattle.builder.specs.declared.report.Refusal.TheVariants.{File, MadeTwice, NoDyndepInput, Occupied, NoDyndep, BadVersion, BadStatement, Unfit, UnknownTarget, Cycle, Missing}
 use Rattle.builder.specs.declared.stop.Stop.{Stop}
 use Rattle.builder.specs.declared.stop.Stop.TheVariants as stop
 use Rattle.builder.specs.Going.{IfFault}
@@ -48,6 +48,7 @@ abbrev pub IsUnread : Bool → List ℕ → World → World → Refusal → Type
 IsUnread tells path old new (File fault) = ⊥
 IsUnread tells path old new (MadeTwice other) = ⊥
 IsUnread tells path old new (NoDyndepInput other) = ⊥
+IsUnread tells path old new (Occupied occupied) = ⊥
 IsUnread tells path old new (NoDyndep file) = (file ≡ path) × WasHeld tells path (λ held. held ≡ None) old new
 IsUnread tells path old new (BadVersion file) = (file ≡ path) × WasHeld tells path (IsSaying (Err said.BadVersion)) old new
 IsUnread tells path old new (BadStatement file) = (file ≡ path) × WasHeld tells path (IsSaying (Err said.BadStatement)) old new
@@ -73,6 +74,7 @@ abbrev pub IsUnfitBy : List Edge → List ℕ → List Addition → Refusal → 
 IsUnfitBy edges file additions (File fault) = ⊥
 IsUnfitBy edges file additions (MadeTwice path) = IsRemadeBy edges file additions path
 IsUnfitBy edges file additions (NoDyndepInput other) = ⊥
+IsUnfitBy edges file additions (Occupied occupied) = ⊥
 IsUnfitBy edges file additions (NoDyndep other) = ⊥
 IsUnfitBy edges file additions (BadVersion other) = ⊥
 IsUnfitBy edges file additions (BadStatement other) = ⊥
@@ -86,6 +88,7 @@ abbrev pub IsCircle : Asked → Store → Refusal → Type 0
 IsCircle asked store (File fault) = ⊥
 IsCircle asked store (MadeTwice path) = ⊥
 IsCircle asked store (NoDyndepInput other) = ⊥
+IsCircle asked store (Occupied occupied) = ⊥
 IsCircle asked store (NoDyndep other) = ⊥
 IsCircle asked store (BadVersion other) = ⊥
 IsCircle asked store (BadStatement other) = ⊥

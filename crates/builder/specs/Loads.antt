@@ -1,8 +1,9 @@
 -- How dyndep files are read by a build, and why one ends it.
-use Rattle.std.specs.Prelude.{◌≡◌, ℕ, Bool, IsTrue, List, map, Option, None, Some, option_map, Result, Ok, Err}
+use Rattle.std.specs.Prelude.{◌≡◌, ℕ, Bool, IsTrue, List, [], map, Option, None, Some, option_map, Result, Ok, Err}
 use Rattle.model.specs.declared.event.Moment.{Moment}
 use Rattle.model.specs.declared.graph.Edge.{Edge}
 use Rattle.model.specs.World.{World, view_of}
+use Rattle.model.specs.Calls.{OnlyLooks}
 use Rattle.model.specs.Graph.{Addition}
 use Rattle.model.specs.Phases.{IsNextLoad, IsPointAfter}
 use Rattle.model.specs.Premises.{FilesAreKept}
@@ -14,9 +15,10 @@ use Rattle.dyndep.specs.declared.fault.DynFault.{DynFault}
 use Rattle.dyndep.specs.declared.fault.DynFault.TheVariants as said
 use Rattle.dyndep.specs.Dyndep.{IsRead, accepted}
 use Rattle.links.specs.Extended.{addition_of, IsUnfit}
+use Rattle.links.specs.Linked.{IsLowestOccupied}
 use Rattle.builder.specs.declared.report.Report.{Report}
 use Rattle.builder.specs.declared.report.Report.TheVariants.{Success, Failed, Refused, Fault}
-use Rattle.builder.specs.declared.report.Refusal.TheVariants.{File, MadeTwice, NoDyndepInput, NoDyndep, BadVersion, BadStatement, Unfit, UnknownTarget, Cycle, Missing}
+use Rattle.builder.specs.declared.report.Refusal.TheVariants.{File, MadeTwice, NoDyndepInput, Occupied, NoDyndep, BadVersion, BadStatement, Unfit, UnknownTarget, Cycle, Missing}
 
 -- a function that reads each dyndep file by its grammar, and gives None where it is refused
 abbrev pub ReadsDyndeps : (List ℕ → Option (List Addition)) → Type 0
@@ -44,13 +46,14 @@ abbrev pub IsUnfitFor : List Edge → List ℕ → List ℕ → Option (List ℕ
 IsUnfitFor edges file output held = (statements : List Statement) × IsSaying (Ok statements) held × IsUnfit edges file (map addition_of statements) output
 
 -- why a dyndep file has ended the build, where one has, by these steps up to it: it is absent, or holds what cannot be read or does
--- not fit
+-- not fit; and why a depfile or a response file has, before anything was done
 abbrev pub RefusesFile : Bool → OwnFiles → Asked → Store → List Step → World → World → Report → Type 0
 RefusesFile tells own asked store done old new (Success started) = Unit {0}
 RefusesFile tells own asked store done old new (Failed outputs) = Unit {0}
 RefusesFile tells own asked store done old new (Refused (File fault)) = Unit {0}
 RefusesFile tells own asked store done old new (Refused (MadeTwice path)) = Unit {0}
 RefusesFile tells own asked store done old new (Refused (NoDyndepInput path)) = Unit {0}
+RefusesFile tells own asked store done old new (Refused (Occupied occupied)) = (done ≡ []) × OnlyLooks tells old new × IsLowestOccupied asked.folder asked.declared occupied
 RefusesFile tells own asked store done old new (Refused (NoDyndep file)) = IsRefusedFile tells own asked store done old new file (λ held. held ≡ None)
 RefusesFile tells own asked store done old new (Refused (BadVersion file)) = IsRefusedFile tells own asked store done old new file (IsSaying (Err said.BadVersion))
 RefusesFile tells own asked store done old new (Refused (BadStatement file)) = IsRefusedFile tells own asked store done old new file (IsSaying (Err said.BadStatement))

@@ -38,7 +38,7 @@ use Rattle.runner.specs.Course.{Course, edges_of}
 use Rattle.builder.specs.declared.asked.Asked.{Asked as Request}
 use Rattle.builder.specs.declared.asked.Limits.{Limits}
 use Rattle.builder.specs.declared.report.Refusal.{Refusal}
-use Rattle.builder.specs.declared.report.Refusal.TheVariants.{MadeTwice, NoDyndepInput, UnknownTarget, Cycle}
+use Rattle.builder.specs.declared.report.Refusal.TheVariants.{MadeTwice, NoDyndepInput, Occupied, UnknownTarget, Cycle}
 use Rattle.builder.specs.declared.stop.Stop.{Stop}
 use Rattle.builder.specs.declared.stop.Stop.TheVariants as stop
 use Rattle.builder.specs.declared.report.Report.{Report}
@@ -69,6 +69,7 @@ abbrev pub ungraphed : GraphFault → Report
 ungraphed graph.Memory = Fault Memory
 ungraphed (graph.MadeTwice path) = Refused (MadeTwice path)
 ungraphed (graph.NoDyndepInput path) = Refused (NoDyndepInput path)
+ungraphed (graph.Occupied occupied) = Refused (Occupied occupied)
 
 -- no edge has a recorded input
 abbrev pub IsUnrecorded : Graph → Type 0

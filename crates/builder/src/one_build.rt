@@ -108,7 +108,7 @@ fn link_and_build<S: Site>(
     ensures { BuildsReading S.tells reading.entry (S.world site.old) (S.world site.new) (report_in result) }
 {
     let Reading { manifest, asked } = reading;
-    let mut graph = Graph::build(alloc, manifest)?;
+    let mut graph = Graph::build(alloc, manifest, asked.folder.as_str())?;
     build_linked(alloc, site, &mut graph, &asked, options)
 }
 

@@ -1,6 +1,6 @@
 //! What a build is asked, and what it answers.
 
-use links::GraphFault;
+use links::{GraphFault, Occupied};
 use manifest::{FileFault, ReadError};
 use model::SiteFault;
 use status::Pattern;
@@ -33,6 +33,9 @@ pub enum Refusal {
     MadeTwice(Path),
     /// A dyndep file is none of the inputs of an edge that names it.
     NoDyndepInput(Path),
+    /// A depfile or a response file stands at a path that a build line names, but as an output of its own edge, or at that of one
+    /// of the program's own files.
+    Occupied(Occupied),
     /// A dyndep file that is to be loaded is absent.
     NoDyndep(Path),
     /// A dyndep file begins with no known version.
@@ -58,6 +61,7 @@ impl fmt::Display for Refusal {
             }
             Refusal::MadeTwice(path) => write!(f, "N17: '{path}' is made twice"),
             Refusal::NoDyndepInput(path) => write!(f, "N53: dyndep '{path}' is not an input"),
+            Refusal::Occupied(occupied) => write!(f, "N54: {occupied}"),
             Refusal::NoDyndep(path) => write!(f, "N14: cannot find '{path}'"),
             Refusal::BadVersion(path) => write!(f, "N50: bad version of dyndep '{path}'"),
             Refusal::BadStatement(path) => write!(f, "N51: bad statement in dyndep '{path}'"),
@@ -157,6 +161,7 @@ impl From<GraphFault> for Report {
             GraphFault::Memory => Report::Fault(SiteFault::Memory),
             GraphFault::MadeTwice(path) => Report::Refused(Refusal::MadeTwice(path)),
             GraphFault::NoDyndepInput(path) => Report::Refused(Refusal::NoDyndepInput(path)),
+            GraphFault::Occupied(occupied) => Report::Refused(Refusal::Occupied(occupied)),
         }
     }
 }

@@ -11,7 +11,7 @@ use Rattle.model.specs.SingleBuild as answer
 use Rattle.model.specs.SingleBuild.{Answer, is_fault}
 use Rattle.paths.specs.Told.{text_at}
 use Rattle.builder.specs.Build.{Says, IsUnknown, missing_answer}
-use Rattle.builder.specs.declared.report.Refusal.TheVariants.{File, MadeTwice, NoDyndepInput, NoDyndep, BadVersion, BadStatement, Unfit, UnknownTarget, Cycle, Missing}
+use Rattle.builder.specs.declared.report.Refusal.TheVariants.{File, MadeTwice, NoDyndepInput, Occupied, NoDyndep, BadVersion, BadStatement, Unfit, UnknownTarget, Cycle, Missing}
 use Rattle.builder.specs.declared.report.Report.{Report}
 use Rattle.builder.specs.declared.report.Report.TheVariants.{Success, Failed, Refused, Fault}
 use Rattle.drive.specs.Driven.{words_of, builds_in, ReportEach}
@@ -33,6 +33,7 @@ said_once edges given targets (Failed outputs) a b p q = p ∙ sym q
 said_once edges given targets (Refused (File fault)) a b p q = absurd p
 said_once edges given targets (Refused (MadeTwice path)) a b p q = p ∙ sym q
 said_once edges given targets (Refused (NoDyndepInput path)) a b p q = p ∙ sym q
+said_once edges given targets (Refused (Occupied occupied)) a b p q = p ∙ sym q
 said_once edges given targets (Refused (NoDyndep path)) a b p q = p ∙ sym q
 said_once edges given targets (Refused (BadVersion path)) a b p q = p ∙ sym q
 said_once edges given targets (Refused (BadStatement path)) a b p q = p ∙ sym q
@@ -54,6 +55,7 @@ fault_same edges given targets (Failed outputs) a says = ap is_fault says
 fault_same edges given targets (Refused (File fault)) a says = absurd says
 fault_same edges given targets (Refused (MadeTwice path)) a says = ap is_fault says
 fault_same edges given targets (Refused (NoDyndepInput path)) a says = ap is_fault says
+fault_same edges given targets (Refused (Occupied occupied)) a says = ap is_fault says
 fault_same edges given targets (Refused (NoDyndep path)) a says = ap is_fault says
 fault_same edges given targets (Refused (BadVersion path)) a says = ap is_fault says
 fault_same edges given targets (Refused (BadStatement path)) a says = ap is_fault says

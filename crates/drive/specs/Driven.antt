@@ -88,7 +88,7 @@ HasCauseOf {tells} {B} {format} {own} {asked} {old} {new} {said} report build =
 
 -- the report says this answer of what was asked for with these words, and names the fault of edges that are no graph
 abbrev pub SaysOf : List (List ℕ) → Asked → Answer → Report → Type 0
-SaysOf words asked said report = Says asked.declared words asked.targets report said × NamesFault asked.declared asked.graph.edges report
+SaysOf words asked said report = Says asked.declared words asked.targets report said × NamesFault asked.folder asked.declared asked.graph.edges report
 
 -- The visit is a build that was asked for with these words, and this is its report, as `build` promises it, for any own files that lie
 -- in the folder.

@@ -2,7 +2,7 @@
 use Rattle.std.proofs.Common.{◌≡◌, inl, inr, ℕ, zero, suc, ◌+◌, ◌<◌, ◌≤◌, ◌==◌, true, List, [], ◌∷◌, ◌++◌, Option, Some, None, length, get_or, take, refl, sym, ◌∙◌, ap, subst, arith, append_assoc}
 use Rattle.std.specs.List.{AllByRecursion}
 use Rattle.std.specs.Option.{option_map}
-use Rattle.std.proofs.lemmas.Bool.{cases_eq, or_left, eq-eqb}
+use Rattle.std.proofs.lemmas.Bool.{cases_eq, cases_lt, or_left, eq-eqb}
 use Rattle.std.proofs.lemmas.List.{map-append, get_or_default}
 use Rattle.model.specs.declared.graph.Edge.{Edge}
 use Rattle.model.specs.Graph.{has, has_number, no_edge, inputs, outputs, all_outputs}
@@ -19,25 +19,25 @@ use Rattle.links.specs.declared.fault.GraphFault.{GraphFault}
 use Rattle.links.specs.declared.fault.GraphFault.TheVariants.{MadeTwice as MadeTwiceFault, NoDyndepInput as NoDyndepInputFault}
 use Rattle.links.specs.declared.makers.Flaw.{Flaw}
 use Rattle.links.specs.declared.makers.Flaw.TheVariants.{MadeTwice, NoDyndepInput}
-use Rattle.links.specs.Held.{dyndep_of, StandOnce}
-use Rattle.links.specs.Linked.{AreDistinct, NamesDyndepInput, IsFaultOf}
-use Rattle.links.specs.Making.{made_below, HaveClaimed, AreMakersBelow, HaveDyndepsBelow, IsOtherDyndep, IsRemade, IsFirstFlaw, IsClaimedTwice, IsFaultFor}
+use Rattle.links.specs.Held.{dyndep_of, DyndepsAreInputs, StandOnce}
+use Rattle.links.specs.Linked.{AreDistinct, AreInOrder, NamesDyndepInput}
+use Rattle.links.specs.Making.{made_below, HaveClaimed, AreMakersBelow, HaveDyndepsBelow, IsOtherDyndep, IsRemade, IsFirstFlaw, IsFlawBelow, IsClaimedTwice, IsFaultFor, IsMakingFault}
 use Rattle.links.proofs.Makes.{output_below, outputs_within, inputs_within, claimed_once, remade, distinct_texts, below_has}
 use Rattle.links.proofs.Repeats.{fault_turn, dyndep_fault_turn}
 use Rattle.links.proofs.Texts.{AreWithin, within_has, within_of, has_text, has_texts, outputs_of, inputs_of, dyndep_is, length-edges, edge_get, all_outputs_of, edges_take}
 
 -- ---- by numbers
 
-pub claim_flaw : (manifest : Manifest) (makers : List (Option ℕ)) (e : ℕ) → e < length manifest.lines → AreMakersBelow manifest.lines makers e → HaveDyndepsBelow manifest e → (flaw : Flaw)
-    → IsClaimedTwice makers (line_outputs (line_at manifest.lines e)) flaw → IsFirstFlaw manifest flaw
-claim_flaw manifest makers e lt below dyndeps (MadeTwice p) first = record { edge = e; within = lt; once = below.once; dyndeps = dyndeps; is = remade manifest.lines makers makers e lt below p first }
-claim_flaw manifest makers e lt below dyndeps (NoDyndepInput p) first = absurd first
+pub claim_flaw : (manifest : Manifest) (makers : List (Option ℕ)) (count e : ℕ) → e < count → e < length manifest.lines → AreMakersBelow manifest.lines makers e → HaveDyndepsBelow manifest e → (flaw : Flaw)
+    → IsClaimedTwice makers (line_outputs (line_at manifest.lines e)) flaw → IsFlawBelow manifest count flaw
+claim_flaw manifest makers count e low lt below dyndeps (MadeTwice p) first = (record { edge = e; within = lt; once = below.once; dyndeps = dyndeps; is = remade manifest.lines makers makers e lt below p first }, low)
+claim_flaw manifest makers count e low lt below dyndeps (NoDyndepInput p) first = absurd first
 
-pub dyndep_flaw : (manifest : Manifest) (makers new : List (Option ℕ)) (e : ℕ) → e < length manifest.lines → AreMakersBelow manifest.lines makers e → HaveDyndepsBelow manifest e → HaveClaimed makers new (line_outputs (line_at manifest.lines e)) e
-    → (flaw : Flaw) → IsOtherDyndep manifest e flaw → IsFirstFlaw manifest flaw
-dyndep_flaw manifest makers new e lt below dyndeps claimed (MadeTwice p) other = absurd other
-dyndep_flaw manifest makers new e lt below dyndeps claimed (NoDyndepInput p) other =
-    record { edge = e; within = lt; once = below.once; dyndeps = dyndeps; is = (claimed_once manifest.lines makers new e lt below claimed, other) }
+pub dyndep_flaw : (manifest : Manifest) (makers new : List (Option ℕ)) (count e : ℕ) → e < count → e < length manifest.lines → AreMakersBelow manifest.lines makers e → HaveDyndepsBelow manifest e → HaveClaimed makers new (line_outputs (line_at manifest.lines e)) e
+    → (flaw : Flaw) → IsOtherDyndep manifest e flaw → IsFlawBelow manifest count flaw
+dyndep_flaw manifest makers new count e low lt below dyndeps claimed (MadeTwice p) other = absurd other
+dyndep_flaw manifest makers new count e low lt below dyndeps claimed (NoDyndepInput p) other =
+    (record { edge = e; within = lt; once = below.once; dyndeps = dyndeps; is = (claimed_once manifest.lines makers new e lt below claimed, other) }, low)
 
 pub dyndeps_turn : (manifest : Manifest) (place e : ℕ) → e ≡ place → HaveDyndepsBelow manifest place
     → ((p : ℕ) → dyndep_of (get_or manifest.actions e no_action) ≡ Some p → has_number (line_inputs (line_at manifest.lines e)) p ≡ true) → HaveDyndepsBelow manifest (place + 1)
@@ -45,6 +45,20 @@ dyndeps_turn manifest place e same before here d p low names = elim (cases_eq e 
   | inl this ↦ subst (λ (n : ℕ). has_number (line_inputs (line_at manifest.lines n)) p ≡ true) this (here p (subst (λ (n : ℕ). dyndep_of (get_or manifest.actions n no_action) ≡ Some p) (sym this) names))
   | inr other ↦ before d p (omega (arith, low, other, same)) names
 ]
+
+past_action : (actions : List Action) (e : ℕ) → length actions ≤ e → dyndep_of (get_or actions e no_action) ≡ None
+past_action [] e past = refl
+past_action (action ∷ actions) zero past = absurd (omega (arith, past))
+past_action (action ∷ actions) (suc e) past = past_action actions e (omega (arith, past))
+
+pub dyndeps_whole : (manifest : Manifest) (count : ℕ) → count ≡ length manifest.lines → HaveDyndepsBelow manifest count → DyndepsAreInputs manifest
+dyndeps_whole manifest count whole below e p names = elim (cases_lt e count) [
+  | inl low ↦ below e p low names
+  | inr past ↦ absurd (none_some (sym (past_action manifest.actions e (omega (arith, past, whole, manifest.fits))) ∙ names))
+]
+  where
+    none_some : None ≡ Some p → ⊥
+    none_some is = cc
 
 -- ---- in texts
 
@@ -106,7 +120,14 @@ module _ (manifest : Manifest) (once : HaveOnePlace manifest.paths) where
     | inr right ↦ within_has (length manifest.paths) ys p b right
   ])
 
-  module _ (k : ℕ) (lt : k < length manifest.lines) (stand : StandOnce (made_below manifest.lines k)) (dyndeps : HaveDyndepsBelow manifest k) where
+  -- the first so many edges are in order
+  pub in_order_below : (k : ℕ) → StandOnce (made_below manifest.lines k) → HaveDyndepsBelow manifest k → AreInOrder (take k (graph_of manifest).edges)
+  in_order_below k stand dyndeps = record {
+    distinct = subst AreDistinct (below_texts k) (distinct_texts manifest.paths once (made_below manifest.lines k) (below_within k) stand);
+    dyndep = dyndeps_texts manifest.paths manifest.lines manifest.actions k dyndeps;
+  }
+
+  module _ (count k : ℕ) (low : k < count) (lt : k < length manifest.lines) (stand : StandOnce (made_below manifest.lines k)) (dyndeps : HaveDyndepsBelow manifest k) where
     edge : Edge
     edge = get_or (graph_of manifest).edges k no_edge
 
@@ -128,9 +149,9 @@ module _ (manifest : Manifest) (once : HaveOnePlace manifest.paths) where
     named_before : AllByRecursion NamesDyndepInput (take k (graph_of manifest).edges)
     named_before = dyndeps_texts manifest.paths manifest.lines manifest.actions k dyndeps
 
-    twice_told : (p : ℕ) → IsRemade manifest.lines k p → IsFaultOf (graph_of manifest).edges (MadeTwiceFault (text_at manifest.paths p))
+    twice_told : (p : ℕ) → IsRemade manifest.lines k p → IsMakingFault (graph_of manifest).edges count (MadeTwiceFault (text_at manifest.paths p))
     twice_told p again =
-        fault_turn (graph_of manifest).edges k (get_or (graph_of manifest).edges k no_edge) (texts_at manifest.paths (made_below manifest.lines k)) edge_lt edge_at_is (below_texts k) now_distinct named_before
+        fault_turn (graph_of manifest).edges k (get_or (graph_of manifest).edges k no_edge) (texts_at manifest.paths (made_below manifest.lines k)) edge_lt edge_at_is (below_texts k) now_distinct named_before count low
         (MadeTwiceFault (text_at manifest.paths p)) record {
           before = texts_at manifest.paths (made_below manifest.lines k ++ again.before);
           after = texts_at manifest.paths again.after;
@@ -148,9 +169,9 @@ module _ (manifest : Manifest) (once : HaveOnePlace manifest.paths) where
             (within_of (length manifest.paths) again.before (λ q h.
             within_has (length manifest.paths) (line_outputs (line_at manifest.lines k)) q (outputs_within manifest k) (subst (λ (l : List ℕ). has_number l q ≡ true) (sym again.splits) (has_number-left again.before (p ∷ again.after) q h))))
 
-    other_told : (p : ℕ) → StandOnce (made_below manifest.lines k ++ line_outputs (line_at manifest.lines k)) → IsOtherDyndep manifest k (NoDyndepInput p) → IsFaultOf (graph_of manifest).edges (NoDyndepInputFault (text_at manifest.paths p))
+    other_told : (p : ℕ) → StandOnce (made_below manifest.lines k ++ line_outputs (line_at manifest.lines k)) → IsOtherDyndep manifest k (NoDyndepInput p) → IsMakingFault (graph_of manifest).edges count (NoDyndepInputFault (text_at manifest.paths p))
     other_told p whole other =
-        dyndep_fault_turn (graph_of manifest).edges k (get_or (graph_of manifest).edges k no_edge) (texts_at manifest.paths (made_below manifest.lines k)) edge_lt edge_at_is (below_texts k) now_distinct named_before
+        dyndep_fault_turn (graph_of manifest).edges k (get_or (graph_of manifest).edges k no_edge) (texts_at manifest.paths (made_below manifest.lines k)) edge_lt edge_at_is (below_texts k) now_distinct named_before count low
         (texts_at manifest.paths (made_below manifest.lines k ++ line_outputs (line_at manifest.lines k)))
         (map-append (text_at manifest.paths) (made_below manifest.lines k) (line_outputs (line_at manifest.lines k)) ∙ ap (λ (l : List (List ℕ)). texts_at manifest.paths (made_below manifest.lines k) ++ l) (sym outputs_are))
         (distinct_texts manifest.paths once (made_below manifest.lines k ++ line_outputs (line_at manifest.lines k)) (joined_within (made_below manifest.lines k) (line_outputs (line_at manifest.lines k)) (below_within k) (outputs_within manifest k)) whole)
@@ -159,6 +180,8 @@ module _ (manifest : Manifest) (once : HaveOnePlace manifest.paths) where
           ap (λ (l : List (List ℕ)). has l (text_at manifest.paths p)) inputs_are ∙ (has_texts manifest.paths once (line_inputs (line_at manifest.lines k)) p (dyndep_low manifest k p other.0) (inputs_within manifest k) ∙ other.1),
         )
 
-  pub fault_told : (flaw : Flaw) (fault : GraphFault) → IsFirstFlaw manifest flaw → IsFaultFor manifest.paths flaw fault → IsFaultOf (graph_of manifest).edges fault
-  fault_told (MadeTwice p) fault first is = subst (IsFaultOf (graph_of manifest).edges) (sym is) (twice_told first.edge first.within first.once first.dyndeps p first.is)
-  fault_told (NoDyndepInput p) fault first is = subst (IsFaultOf (graph_of manifest).edges) (sym is) (other_told first.edge first.within first.once first.dyndeps p first.is.0 first.is.1)
+  pub fault_told : (count : ℕ) (flaw : Flaw) (fault : GraphFault) → IsFlawBelow manifest count flaw → IsFaultFor manifest.paths flaw fault → IsMakingFault (graph_of manifest).edges count fault
+  fault_told count (MadeTwice p) fault first is =
+      subst (IsMakingFault (graph_of manifest).edges count) (sym is) (twice_told count first.0.edge first.1 first.0.within first.0.once first.0.dyndeps p first.0.is)
+  fault_told count (NoDyndepInput p) fault first is =
+      subst (IsMakingFault (graph_of manifest).edges count) (sym is) (other_told count first.0.edge first.1 first.0.within first.0.once first.0.dyndeps p first.0.is.0 first.0.is.1)

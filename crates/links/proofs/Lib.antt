@@ -29,3 +29,4 @@ pub mod TakingBack
 pub mod Same
 pub mod Laying
 pub mod Emptying
+pub mod Beside

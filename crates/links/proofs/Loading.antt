@@ -1,7 +1,7 @@
 -- A manifest with what a dyndep file says.
-use Rattle.std.proofs.Common.{◌≡◌, ◌⊎◌, inl, inr, ℕ, zero, suc, ◌+◌, ◌<◌, ◌≤◌, ◌^◌, ◌||◌, Bool, true, false, List, [], ◌∷◌, ◌++◌, Option, Some, None, map, length, get_or, refl, sym, ◌∙◌, ap, subst, arith, append_assoc}
+use Rattle.std.proofs.Common.{◌≡◌, ◌⊎◌, inl, inr, ℕ, ◌<◌, ◌≤◌, true, List, [], ◌∷◌, ◌++◌, Option, Some, None, length, get_or, refl, sym, ◌∙◌, ap, subst, arith, append_assoc}
 use Rattle.std.proofs.lemmas.Bool.{cases_lt, false≢true}
-use Rattle.std.proofs.lemmas.List.{get_or_past, append-nil}
+use Rattle.std.proofs.lemmas.List.{get_or_past}
 use Rattle.model.specs.declared.graph.Edge.{Edge}
 use Rattle.model.specs.Graph.{has_number, outputs, all_outputs, Addition}
 use Rattle.build_theory.proofs.Lists.{has_number-left, has_number-right, has_number-cases}
@@ -13,11 +13,10 @@ use Rattle.paths.specs.Lists.{no_line, line_at, line_outputs, line_regular_input
 use Rattle.paths.specs.Commands.{no_action, dyndep_stop}
 use Rattle.paths.specs.Told.{graph_of}
 use Rattle.links.specs.declared.fault.GraphFault.{GraphFault}
-use Rattle.links.specs.declared.fault.GraphFault.TheVariants.{Memory, MadeTwice as MadeTwiceFault, NoDyndepInput as NoDyndepInputFault}
+use Rattle.links.specs.declared.fault.GraphFault.TheVariants.{Memory, MadeTwice as MadeTwiceFault, NoDyndepInput as NoDyndepInputFault, Occupied as OccupiedFault}
 use Rattle.links.specs.declared.loaded.Gain.{Gain}
-use Rattle.links.specs.Held.{dyndep_of, AreRecorded, DyndepsAreInputs}
-use Rattle.links.specs.Linked.{IsFirstRepeated, IsFirstFault, IsFaultOf}
-use Rattle.links.specs.Statements.{HasMore, AreGainsIn, gain_of, line_with, AreGrownLines, AreChoicesBelow, action_at, loaded_action, action_with, AreLoadedActions, IsMadeTwiceIn, IsPartsFault, extend_fault_of}
+use Rattle.links.specs.Making.{IsMakingFault}
+use Rattle.links.specs.Statements.{HasMore, AreGainsIn, gain_of, AreGrownLines, AreChoicesBelow, action_at, action_with, AreLoadedActions, IsMadeTwiceIn, IsPartsFault, extend_fault_of}
 use Rattle.links.proofs.Asked.{flat_has}
 use Rattle.links.proofs.Gaining.{more_length}
 use Rattle.links.proofs.Makes.{in_all}
@@ -141,9 +140,9 @@ outputs_behind (e ∷ before) edge after =
     ∙ (sym (append_assoc (outputs e) (all_outputs before ++ outputs edge) (all_outputs after))
     ∙ ap (λ (l : List (List ℕ)). l ++ all_outputs after) (sym (append_assoc (outputs e) (all_outputs before) (outputs edge))))
 
-pub made_twice_in : (manifest : Manifest) (p : List ℕ) → IsFaultOf (graph_of manifest).edges (MadeTwiceFault p) → IsMadeTwiceIn manifest.paths manifest.lines manifest.actions p
-made_twice_in manifest p fault =
-    let first = fault.1 in
+pub made_twice_in : (manifest : Manifest) (count : ℕ) (p : List ℕ) → IsMakingFault (graph_of manifest).edges count (MadeTwiceFault p) → IsMadeTwiceIn manifest.paths manifest.lines manifest.actions p
+made_twice_in manifest count p fault =
+    let first = fault.1.2 in
     record {
       twice = fault.0;
       first = record {
@@ -156,7 +155,8 @@ made_twice_in manifest p fault =
       };
     }
 
-pub parts_fault : (manifest : Manifest) (fault : GraphFault) → IsFaultOf (graph_of manifest).edges fault → IsPartsFault manifest (extend_fault_of fault)
-parts_fault manifest Memory is = tt
-parts_fault manifest (MadeTwiceFault p) is = made_twice_in manifest p is
-parts_fault manifest (NoDyndepInputFault p) is = tt
+pub parts_fault : (manifest : Manifest) (count : ℕ) (fault : GraphFault) → IsMakingFault (graph_of manifest).edges count fault → IsPartsFault manifest (extend_fault_of fault)
+parts_fault manifest count Memory is = tt
+parts_fault manifest count (MadeTwiceFault p) is = made_twice_in manifest count p is
+parts_fault manifest count (NoDyndepInputFault p) is = tt
+parts_fault manifest count (OccupiedFault occupied) is = tt

@@ -1,5 +1,5 @@
 -- Results, options and lists, taken apart.
-use Rattle.std.proofs.Common.{◌≡◌, ℕ, zero, suc, ◌<◌, ◌==◌, true, false, List, [], ◌∷◌, ◌++◌, Option, Some, None, IfSome, IfOk, IfErr, OnOk, OnErr, Result, Ok, Err, length, get_or, refl, sym, arith}
+use Rattle.std.proofs.Common.{◌≡◌, ℕ, zero, suc, ◌<◌, ◌==◌, true, false, List, [], ◌∷◌, ◌++◌, Option, Some, None, IfSome, IfNone, MatchOption, IfOk, IfErr, OnOk, OnErr, Result, Ok, Err, length, get_or, refl, sym, arith}
 use Rattle.std.specs.List.{AllByRecursion}
 use Rattle.std.specs.Option.{is_some}
 use Rattle.std.proofs.lemmas.Bool.{true≢false, eqb-true}
@@ -44,3 +44,15 @@ on_err_then (Err e) p f = f p
 pub on_ok_then : {T E P Q : Type 0} (r : Result T E) → OnOk r P → (P → Q) → OnOk r Q
 on_ok_then (Ok x) p f = f p
 on_ok_then (Err e) p f = tt
+
+pub if_ok_both : {T E : Type 0} {P Q R : T → Type 0} (r : Result T E) → IfOk r P → IfOk r Q → ((x : T) → P x → Q x → R x) → IfOk r R
+if_ok_both (Ok x) p q f = f x p q
+if_ok_both (Err e) p q f = tt
+
+pub match_some : {T : Type 0} (A : Type 0) (B : T → Type 0) (o : Option T) → MatchOption o A B → IfSome o B
+match_some A B None is = tt
+match_some A B (Some x) is = is
+
+pub match_none : {T : Type 0} (A : Type 0) (B : T → Type 0) (o : Option T) → MatchOption o A B → IfNone o A
+match_none A B None is = is
+match_none A B (Some x) is = tt

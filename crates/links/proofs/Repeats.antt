@@ -2,26 +2,29 @@
 use Rattle.std.proofs.Common.{◌≡◌, ◌≢◌, ◌⊎◌, inl, inr, ℕ, zero, suc, ◌+◌, ◌<◌, ◌≤◌, true, false, List, [], ◌∷◌, ◌++◌, Some, length, get_or, take, drop, refl, sym, ◌∙◌, ap, subst, bytes_eq, arith, append_assoc, drop-cons}
 use Rattle.std.specs.List.{AllByRecursion}
 use Rattle.std.proofs.lemmas.Bool.{or_cases, or_left, or_right, cases_Bool, false≢true}
-use Rattle.std.proofs.lemmas.List.{take-append-drop, get_or_default}
+use Rattle.std.proofs.lemmas.List.{take-append-drop, get_or_default, length-take-le}
 use Rattle.model.specs.declared.graph.Edge.{Edge}
 use Rattle.model.specs.Graph.{has, edge_at, no_edge, inputs, outputs, all_outputs, StandsTwice, IsMadeTwice, IsMadeOnce}
 use Rattle.model.specs.SingleBuild.{NamesOther}
 use Rattle.build_theory.proofs.Lists.{same_bytes, bytes_same, one_if, has-cases}
-use Rattle.links.specs.Linked.{AreDistinct, IsFirstRepeated, NamesDyndepInput, IsFaultOf}
+use Rattle.links.specs.Linked.{AreDistinct, IsFirstRepeated, NamesDyndepInput}
+use Rattle.links.specs.Making.{IsMakingFault}
 use Rattle.links.specs.declared.fault.GraphFault.{GraphFault}
-use Rattle.links.specs.declared.fault.GraphFault.TheVariants.{Memory, MadeTwice, NoDyndepInput}
+use Rattle.links.specs.declared.fault.GraphFault.TheVariants.{Memory, MadeTwice, NoDyndepInput, Occupied}
 
 -- why outputs cannot be added
 abbrev pub IsFaultIn : List (List ℕ) → GraphFault → Type 0
 IsFaultIn paths Memory = Unit {0}
 IsFaultIn paths (MadeTwice p) = IsFirstRepeated paths p
 IsFaultIn paths (NoDyndepInput p) = ⊥
+IsFaultIn paths (Occupied occupied) = ⊥
 
 -- why an edge's dyndep file is refused
 abbrev pub IsDyndepFault : Edge → GraphFault → Type 0
 IsDyndepFault edge Memory = Unit {0}
 IsDyndepFault edge (MadeTwice p) = ⊥
 IsDyndepFault edge (NoDyndepInput p) = (edge.dyndep ≡ Some p) × (has (inputs edge) p ≡ false)
+IsDyndepFault edge (Occupied occupied) = ⊥
 
 -- ---- how often
 
@@ -257,41 +260,57 @@ module _ (edges : List Edge) (k : ℕ) (edge : Edge) (now : List (List ℕ)) (lt
       ap all_outputs (split_edges edges k edge lt is) ∙ (all_outputs-append (take k edges) (edge ∷ drop (suc k) edges)
       ∙ sym (append_assoc (all_outputs (take k edges)) (outputs edge) (all_outputs (drop (suc k) edges))))
 
-  pub fault_turn : (fault : GraphFault) → IsFaultIn (now ++ outputs edge) fault → IsFaultOf edges fault
-  fault_turn Memory found = tt
-  fault_turn (NoDyndepInput p) found = absurd found
-  fault_turn (MadeTwice p) found = (
+  -- so many edges come before it
+  count_before : length (take k edges) ≡ k
+  count_before = length-take-le k edges (omega (arith, lt))
+
+  pub fault_turn : (count : ℕ) → k < count → (fault : GraphFault) → IsFaultIn (now ++ outputs edge) fault → IsMakingFault edges count fault
+  fault_turn count low Memory found = tt
+  fault_turn count low (NoDyndepInput p) found = absurd found
+  fault_turn count low (Occupied occupied) found = absurd found
+  fault_turn count low (MadeTwice p) found = (
     made_twice edges p (twice_of_repeated (all_outputs edges) p (subst (λ (l : List (List ℕ)). IsFirstRepeated l p) (sym whole_outputs) (repeated_more (all_outputs (take k edges) ++ outputs edge) (all_outputs (drop (suc k) edges)) p here))),
-    record {
-      before = take k edges;
-      edge = edge;
-      after = drop (suc k) edges;
-      splits = split_edges edges k edge lt is;
-      in_order = record { distinct = once_before; dyndep = dyndep };
-      faulty = here;
-    },
+    (
+      k,
+      low,
+      record {
+        before = take k edges;
+        edge = edge;
+        after = drop (suc k) edges;
+        splits = split_edges edges k edge lt is;
+        stands = count_before;
+        in_order = record { distinct = once_before; dyndep = dyndep };
+        faulty = here;
+      },
+    ),
   )
     where
       here : IsFirstRepeated (all_outputs (take k edges) ++ outputs edge) p
       here = subst (λ (l : List (List ℕ)). IsFirstRepeated (l ++ outputs edge) p) so_far found
 
-  pub dyndep_fault_turn : (next : List (List ℕ)) → next ≡ now ++ outputs edge → AreDistinct next → (fault : GraphFault) → IsDyndepFault edge fault → IsFaultOf edges fault
-  dyndep_fault_turn next grown once Memory found = tt
-  dyndep_fault_turn next grown once (MadeTwice p) found = absurd found
-  dyndep_fault_turn next grown once (NoDyndepInput p) found = (
+  pub dyndep_fault_turn : (count : ℕ) → k < count → (next : List (List ℕ)) → next ≡ now ++ outputs edge → AreDistinct next → (fault : GraphFault) → IsDyndepFault edge fault → IsMakingFault edges count fault
+  dyndep_fault_turn count low next grown once Memory found = tt
+  dyndep_fault_turn count low next grown once (MadeTwice p) found = absurd found
+  dyndep_fault_turn count low next grown once (Occupied occupied) found = absurd found
+  dyndep_fault_turn count low next grown once (NoDyndepInput p) found = (
     record {
       edge = suc k;
       names = ap (λ (e : Edge). e.dyndep) (sym this) ∙ found.0;
       other = ap (λ (e : Edge). has (inputs e) p) (sym this) ∙ found.1;
     },
-    record {
-      before = take k edges;
-      edge = edge;
-      after = drop (suc k) edges;
-      splits = split_edges edges k edge lt is;
-      in_order = record { distinct = once_before; dyndep = dyndep };
-      faulty = (subst (λ (l : List (List ℕ)). AreDistinct l) (grown ∙ ap (λ (l : List (List ℕ)). l ++ outputs edge) so_far) once, found.0, found.1);
-    },
+    (
+      k,
+      low,
+      record {
+        before = take k edges;
+        edge = edge;
+        after = drop (suc k) edges;
+        splits = split_edges edges k edge lt is;
+        stands = count_before;
+        in_order = record { distinct = once_before; dyndep = dyndep };
+        faulty = (subst (λ (l : List (List ℕ)). AreDistinct l) (grown ∙ ap (λ (l : List (List ℕ)). l ++ outputs edge) so_far) once, found.0, found.1);
+      },
+    ),
   )
     where
       this : edge ≡ get_or edges k no_edge

@@ -17,3 +17,5 @@ pub mod Statements
 pub mod Targets
 pub mod Alias
 pub mod ReadingOf
+pub mod Occupying
+pub mod Namings

@@ -1,14 +1,17 @@
 -- How the graph in numbers stands for edges.
-use Rattle.std.specs.Prelude.{◌≡◌, ℕ, suc, ◌<◌, true, false, List, [], ◌∷◌, ◌++◌, map, length, slice_index, Some}
+use Rattle.std.specs.Prelude.{◌≡◌, ℕ, suc, ◌<◌, true, false, List, [], ◌∷◌, ◌++◌, map, length, take, slice_index, Some}
 use Rattle.std.specs.List.{AllByRecursion}
 use Rattle.model.specs.declared.graph.Edge.{Edge}
-use Rattle.model.specs.Graph.{has, has_number, edge_at, maker, later_number, outputs, inputs, regular_inputs, roots, all_outputs, or_else, StandsTwice, IsMadeTwice}
+use Rattle.model.specs.Graph.{has, has_number, edge_at, maker, later_number, outputs, inputs, regular_inputs, first_output, roots, all_outputs, or_else, StandsTwice, IsMadeTwice}
 use Rattle.model.specs.Reading.{needs, IsInCone}
 use Rattle.model.specs.SingleBuild.{NamesOther}
 use Rattle.build_theory.specs.Order.{AreMakersFirst}
 use Rattle.paths.specs.Told.{text_at}
 use Rattle.links.specs.declared.fault.GraphFault.{GraphFault}
-use Rattle.links.specs.declared.fault.GraphFault.TheVariants.{Memory, MadeTwice, NoDyndepInput}
+use Rattle.links.specs.declared.fault.GraphFault.TheVariants.{Memory, MadeTwice, NoDyndepInput, Occupied}
+use Rattle.links.specs.declared.fault.Occupied.{Occupied as OccupiedPath}
+use Rattle.links.specs.declared.fault.SideFile.TheVariants.{Depfile, Response}
+use Rattle.links.specs.Occupying.{side_file, own_start, IsOccupied, IsSideOccupied, AreFreeUpTo}
 use Rattle.links.specs.declared.cone.Mark.{Mark}
 use Rattle.links.specs.Links.{Links, needs_at}
 use Rattle.links.specs.Cone.{maker_at, validator_at, mark_at, is_listed}
@@ -56,26 +59,47 @@ pub record AreInOrder (edges : List Edge) : Type 0 where
   pub distinct : AreDistinct (all_outputs edges)
   pub dyndep : AllByRecursion NamesDyndepInput edges
 
--- what is wrong with an edge after these, which are in order
+-- what is wrong with what an edge after these makes, or with its dyndep file; these are in order
 abbrev pub IsFaulty : List Edge → Edge → GraphFault → Type 0
 IsFaulty before edge Memory = ⊥
 IsFaulty before edge (MadeTwice p) = IsFirstRepeated (all_outputs before ++ outputs edge) p
 IsFaulty before edge (NoDyndepInput p) = AreDistinct (all_outputs before ++ outputs edge) × (edge.dyndep ≡ Some p) × (has (inputs edge) p ≡ false)
+IsFaulty before edge (Occupied occupied) = ⊥
 
--- the fault of the lowest edge that has one
-pub record IsFirstFault (edges : List Edge) (fault : GraphFault) : Type 0 where
+-- the lowest edge with such a fault has this one, and so many edges come before it
+pub record IsFirstFault (edges : List Edge) (place : ℕ) (fault : GraphFault) : Type 0 where
   pub before : List Edge
   pub edge : Edge
   pub after : List Edge
   pub splits : edges ≡ before ++ edge ∷ after
+  pub stands : length before ≡ place
   pub in_order : AreInOrder before
   pub faulty : IsFaulty before edge fault
 
--- why edges are no graph in numbers; want of memory is shown by tests alone
-abbrev pub IsFaultOf : List Edge → GraphFault → Type 0
-IsFaultOf edges Memory = Unit {0}
-IsFaultOf edges (MadeTwice p) = IsMadeTwice edges p × IsFirstFault edges (MadeTwice p)
-IsFaultOf edges (NoDyndepInput p) = NamesOther edges p × IsFirstFault edges (NoDyndepInput p)
+-- so it is, and no edge before that one has a depfile or a response file at a path that is occupied
+pub record IsLowestFault (folder : List ℕ) (edges : List Edge) (fault : GraphFault) : Type 0 where
+  pub place : ℕ
+  pub first : IsFirstFault edges place fault
+  pub free : AreFreeUpTo (own_start folder) edges place
+
+-- The depfile of the lowest edge that has any fault, or else its response file, stands at a path that is occupied: neither this
+-- edge nor one before it has another fault, and of a response file it is said that the depfile does not stand at such a path.
+pub record IsLowestOccupied (folder : List ℕ) (edges : List Edge) (occupied : OccupiedPath) : Type 0 where
+  pub edge : ℕ
+  pub within : edge < length edges
+  pub in_order : AreInOrder (take (suc edge) edges)
+  pub free : AreFreeUpTo (own_start folder) edges edge
+  pub path : occupied.path ≡ side_file (edge_at edges (suc edge)) occupied.file
+  pub output : occupied.output ≡ first_output (edge_at edges (suc edge))
+  pub is : IsOccupied (own_start folder) edges (suc edge) occupied.path
+  pub first : occupied.file ≡ Response → IsSideOccupied (own_start folder) edges (suc edge) Depfile → ⊥
+
+-- why edges are no graph in numbers, where the program's own files lie in this folder; want of memory is shown by tests alone
+abbrev pub IsFaultOf : List ℕ → List Edge → GraphFault → Type 0
+IsFaultOf folder edges Memory = Unit {0}
+IsFaultOf folder edges (MadeTwice p) = IsMadeTwice edges p × IsLowestFault folder edges (MadeTwice p)
+IsFaultOf folder edges (NoDyndepInput p) = NamesOther edges p × IsLowestFault folder edges (NoDyndepInput p)
+IsFaultOf folder edges (Occupied occupied) = IsLowestOccupied folder edges occupied
 
 -- what is built where no target is asked for and no default is declared
 abbrev pub default_targets : List Edge → List (List ℕ)

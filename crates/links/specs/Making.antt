@@ -1,7 +1,9 @@
 -- Makers while they are given, and what is wrong with the lowest edge that has a flaw.
 use Rattle.std.specs.Prelude.{◌≡◌, ◌⊎◌, ℕ, ◌<◌, true, false, if◌then◌else◌, List, ◌∷◌, ◌++◌, length, take, get_or, Option, Some, None, is_some}
 use Rattle.std.specs.List.{flat_map}
-use Rattle.model.specs.Graph.{has_number}
+use Rattle.model.specs.declared.graph.Edge.{Edge}
+use Rattle.model.specs.Graph.{has_number, IsMadeTwice}
+use Rattle.model.specs.SingleBuild.{NamesOther}
 use Rattle.paths.specs.declared.line.Line.{Line}
 use Rattle.paths.specs.declared.manifest.Manifest.{Manifest}
 use Rattle.paths.specs.Lists.{line_at, line_outputs, line_inputs}
@@ -10,8 +12,9 @@ use Rattle.paths.specs.Told.{text_at}
 use Rattle.links.specs.declared.makers.Flaw.{Flaw}
 use Rattle.links.specs.declared.makers.Flaw.TheVariants.{MadeTwice, NoDyndepInput}
 use Rattle.links.specs.declared.fault.GraphFault.{GraphFault}
-use Rattle.links.specs.declared.fault.GraphFault.TheVariants.{MadeTwice as MadeTwiceFault, NoDyndepInput as NoDyndepInputFault}
+use Rattle.links.specs.declared.fault.GraphFault.TheVariants.{Memory, MadeTwice as MadeTwiceFault, NoDyndepInput as NoDyndepInputFault, Occupied as OccupiedFault}
 use Rattle.links.specs.Held.{maker_in, dyndep_of, StandOnce}
+use Rattle.links.specs.Linked.{IsFirstFault}
 
 -- what the first so many edges make, in order
 abbrev pub made_below : List Line → ℕ → List ℕ
@@ -70,6 +73,21 @@ pub record IsFirstFlaw (manifest : Manifest) (flaw : Flaw) : Type 0 where
   pub once : StandOnce (made_below manifest.lines edge)
   pub dyndeps : HaveDyndepsBelow manifest edge
   pub is : IsFlaw manifest edge flaw
+
+-- that edge is one of the first so many
+abbrev pub IsFlawBelow : Manifest → ℕ → Flaw → Type 0
+IsFlawBelow manifest count flaw = (first : IsFirstFlaw manifest flaw) × (first.edge < count)
+
+-- the lowest edge with such a fault is one of the first so many
+abbrev pub IsFirstBelow : List Edge → ℕ → GraphFault → Type 0
+IsFirstBelow edges count fault = (k : ℕ) × (k < count) × IsFirstFault edges k fault
+
+-- why not each of the first so many edges becomes the maker of its outputs, in texts
+abbrev pub IsMakingFault : List Edge → ℕ → GraphFault → Type 0
+IsMakingFault edges count Memory = Unit {0}
+IsMakingFault edges count (MadeTwiceFault p) = IsMadeTwice edges p × IsFirstBelow edges count (MadeTwiceFault p)
+IsMakingFault edges count (NoDyndepInputFault p) = NamesOther edges p × IsFirstBelow edges count (NoDyndepInputFault p)
+IsMakingFault edges count (OccupiedFault occupied) = ⊥
 
 -- the fault has the text of the flaw
 abbrev pub IsFaultFor : List (List ℕ) → Flaw → GraphFault → Type 0

@@ -1,5 +1,5 @@
 -- Which statement of a dyndep file is chosen for which edge, and what edges get by it, in numbers.
-use Rattle.std.specs.Prelude.{◌≡◌, ℕ, zero, suc, ◌<◌, ◌++◌, ◌||◌, ◌==◌, Bool, true, false, if◌then◌else◌, List, [], map, length, get_or, slice_get, slice_index_or, Option, Some, None, MatchOption, bytes_eq}
+use Rattle.std.specs.Prelude.{◌≡◌, ℕ, suc, ◌<◌, ◌++◌, ◌||◌, ◌==◌, Bool, true, false, if◌then◌else◌, List, [], map, length, get_or, slice_get, slice_index_or, Option, Some, None, MatchOption, bytes_eq}
 use Rattle.model.specs.declared.graph.Edge.{Edge}
 use Rattle.model.specs.Graph.{has_number, edge_at, maker, all_outputs, Addition, IsMadeTwice}
 use Rattle.dyndep.specs.declared.addition.Addition.{Addition as Statement}
@@ -248,3 +248,4 @@ abbrev pub extend_fault_of : GraphFault → ExtendFault
 extend_fault_of graph.Memory = Memory
 extend_fault_of (graph.MadeTwice p) = MadeTwice p
 extend_fault_of (graph.NoDyndepInput p) = Memory
+extend_fault_of (graph.Occupied occupied) = Memory

@@ -6,41 +6,66 @@ ghost use Rattle.model.specs.Graph.{IsMadeOnce};
 ghost use Rattle.model.specs.SingleBuild.{NamesOther};
 ghost use Rattle.paths.specs.Numbers.{HaveOnePlace};
 ghost use Rattle.paths.specs.Told.{graph_of};
-ghost use Rattle.links.specs.Held.{AreUsers};
+ghost use Rattle.links.specs.Held.{AreMakers, AreUsers, DyndepsAreInputs};
 ghost use Rattle.links.specs.Linked.{IsFaultOf};
+ghost use Rattle.links.specs.Occupying.{AreApart};
 ghost use Rattle.links.specs.Told.{recorded_by};
 
 use crate::fault::GraphFault;
 use crate::graph::Graph;
-use crate::makers::makers_of;
+use crate::makers::makers_below;
 use crate::recorded::Recorded;
+use crate::side_files::{fault_at, first_occupied, stop_at};
 use crate::users::Users;
-use paths::{Manifest, PathId};
+use paths::{EdgeId, Manifest, PathId};
 use std::alloc::{AllocError, Global};
 
 impl Graph {
-    /// The graph of what build files declare, which it takes over. Nothing is recorded.
+    /// The graph of what build files declare, which it takes over. Nothing is recorded. The folder is that of the program's own
+    /// files: its canonical path, which is empty for the working folder.
     ///
-    /// `MadeTwice` and `NoDyndepInput` tell of the lowest edge that has such a fault, in this order at one edge:
-    /// `MadeTwice` has its first output that an edge before it makes, or it itself once more.
-    pub fn build(alloc: Global, manifest: Manifest) -> Result<Graph, GraphFault>
+    /// `MadeTwice`, `NoDyndepInput` and `Occupied` tell of the lowest edge that has such a fault, in this order at one edge:
+    /// `MadeTwice` has its first output that an edge before it makes, or it itself once more; `Occupied` its depfile, else its
+    /// response file. Each of these two is looked up once in the table of paths; only where one is found there, or is one of the
+    /// program's own files, the build lines are gone through once more.
+    pub fn build(alloc: Global, manifest: Manifest, folder: &str) -> Result<Graph, GraphFault>
         ensures manifest { IfOk result (λ graph. graph.manifest ≡ manifest) }
         ensures once { OnOk result (IsMadeOnce (graph_of manifest).edges) }
         ensures dyndep { OnOk result ((file : List ℕ) → NamesOther (graph_of manifest).edges file → ⊥) }
+        ensures apart { OnOk result (AreApart folder.now (graph_of manifest).edges) }
         ensures recorded { IfOk result (λ graph. (i : ℕ) → recorded_by graph i ≡ []) }
-        ensures fault { IfErr result (IsFaultOf (graph_of manifest).edges) }
+        ensures fault { IfErr result (IsFaultOf folder.now (graph_of manifest).edges) }
     {
-        let makers = makers_of(alloc, &manifest)?;
-        let recorded = Recorded::none(alloc, manifest.lines.len())?;
-        let counts = input_counts(alloc, &manifest)?;
-        let users = users_of(alloc, &manifest, &counts)?;
-        Ok(Graph {
-            manifest,
-            makers,
-            recorded,
-            users,
-        })
+        let occupied = first_occupied(alloc, &manifest, folder)?;
+        // an edge after the one whose file is occupied is not asked for other faults
+        let makers = makers_below(alloc, &manifest, stop_at(&manifest, occupied))?;
+        match occupied {
+            Some(at) => Err(fault_at(alloc, &manifest, at)?),
+            None => Ok(graph_with(alloc, manifest, makers)?),
+        }
     }
+}
+
+/// The graph of these makers, in which nothing is recorded.
+fn graph_with(
+    alloc: Global,
+    manifest: Manifest,
+    makers: Vec<Option<EdgeId>>,
+) -> Result<Graph, AllocError>
+    requires makers { AreMakers manifest makers.items }
+    requires dyndeps { DyndepsAreInputs manifest }
+    ensures manifest { IfOk result (λ graph. graph.manifest ≡ manifest) }
+    ensures recorded { IfOk result (λ graph. (i : ℕ) → recorded_by graph i ≡ []) }
+{
+    let recorded = Recorded::none(alloc, manifest.lines.len())?;
+    let counts = input_counts(alloc, &manifest)?;
+    let users = users_of(alloc, &manifest, &counts)?;
+    Ok(Graph {
+        manifest,
+        makers,
+        recorded,
+        users,
+    })
 }
 
 /// For each path the edges that name it, as many as its count: where a path has more, its list moves.

@@ -1,8 +1,37 @@
 //! Why build files declare no graph.
 
 use std::alloc::{AllocError, AllocFailed};
+use std::fmt;
 use text::Path;
 use thiserror::Error;
+
+/// A file that belongs to the command of an edge, beside its outputs.
+#[derive(Clone, Copy, Debug, PartialEq, Eq)]
+pub enum SideFile {
+    /// What the command tells of its inputs (manual: "depfile").
+    Depfile,
+    /// What the command is given (manual: "rspfile").
+    Response,
+}
+
+/// A path that cannot be the depfile or the response file of an edge.
+#[derive(Debug, Drop)]
+pub struct Occupied {
+    pub path: Path,
+    pub file: SideFile,
+    /// The first output of the edge.
+    pub output: Path,
+}
+
+impl fmt::Display for Occupied {
+    fn fmt<W: fmt::Write>(&self, f: &mut fmt::Formatter<W>) -> fmt::Result {
+        let (path, output) = (&self.path, &self.output);
+        match self.file {
+            SideFile::Depfile => write!(f, "'{path}' cannot be the depfile of '{output}'"),
+            SideFile::Response => write!(f, "'{path}' cannot be the response file of '{output}'"),
+        }
+    }
+}
 
 /// Why edges are no graph.
 #[derive(Debug, Drop, Error)]
@@ -16,6 +45,10 @@ pub enum GraphFault {
     /// A dyndep file that is none of the inputs of an edge which names it (manual: "Dynamic Dependencies").
     #[error("dyndep '{0}' is not an input")]
     NoDyndepInput(Path),
+    /// A depfile or a response file that a build line names, but as an output of its own edge, or that is one of the program's
+    /// own files.
+    #[error("{0}")]
+    Occupied(Occupied),
 }
 
 impl From<AllocError> for GraphFault {

@@ -16,6 +16,7 @@ mod makers;
 mod path_set;
 mod reading;
 mod recorded;
+mod side_files;
 mod statements;
 mod targets;
 mod users;
@@ -23,7 +24,7 @@ mod walk;
 
 pub use back::{Before, LoadedEdge};
 pub use cone::{Cone, ConeFault, Mark};
-pub use fault::{ExtendFault, GraphFault};
+pub use fault::{ExtendFault, GraphFault, Occupied, SideFile};
 pub use graph::Graph;
 pub use laws::{lists_stand, numbers_stand};
 pub use path_set::PathSet;

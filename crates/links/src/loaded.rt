@@ -206,7 +206,9 @@ fn extend_fault(fault: GraphFault) -> ExtendFault
 {
     match fault {
         GraphFault::MadeTwice(path) => ExtendFault::MadeTwice(path),
-        GraphFault::Memory | GraphFault::NoDyndepInput(_) => ExtendFault::Memory,
+        GraphFault::Memory | GraphFault::NoDyndepInput(_) | GraphFault::Occupied(_) => {
+            ExtendFault::Memory
+        }
     }
 }
 

@@ -2,10 +2,10 @@
 
 ghost use Rattle.std.specs.Prelude.{◌≡◌, ◌<◌, ◌≤◌, ◌++◌, All, length, None, IfOk, IfErr, OnOk, IfSome, MatchOption};
 ghost use Rattle.model.specs.Graph.{has_number};
+ghost use Rattle.paths.specs.Numbers.{HaveOnePlace};
 ghost use Rattle.paths.specs.Told.{graph_of, text_at};
 ghost use Rattle.links.specs.Held.{AreMakers, DyndepsAreInputs, DyndepIsInput};
-ghost use Rattle.links.specs.Linked.{IsFaultOf};
-ghost use Rattle.links.specs.Making.{IsFirstFlaw, HaveClaimed, IsClaimedTwice, IsOtherDyndep, IsFaultFor};
+ghost use Rattle.links.specs.Making.{IsFirstFlaw, IsFlawBelow, IsMakingFault, AreMakersBelow, HaveDyndepsBelow, HaveClaimed, IsClaimedTwice, IsOtherDyndep, IsFaultFor};
 
 use crate::fault::GraphFault;
 use paths::{Action, EdgeId, Manifest, PathId};
@@ -25,10 +25,26 @@ pub enum Flaw {
 pub fn makers_of(alloc: Global, manifest: &Manifest) -> Result<Vec<Option<EdgeId>>, GraphFault>
     ensures makers { IfOk result (λ makers. AreMakers manifest.now makers.items) }
     ensures dyndeps { OnOk result (DyndepsAreInputs manifest.now) }
-    ensures fault { IfErr result (IsFaultOf (graph_of manifest.now).edges) }
+    ensures fault { IfErr result (IsMakingFault (graph_of manifest.now).edges (length manifest.now.lines)) }
+{
+    makers_below(alloc, manifest, manifest.lines.len())
+}
+
+/// The same, of what the first so many edges make.
+pub fn makers_below(
+    alloc: Global,
+    manifest: &Manifest,
+    count: usize,
+) -> Result<Vec<Option<EdgeId>>, GraphFault>
+    requires { count ≤ length manifest.now.lines }
+    ensures fits { IfOk result (λ makers. length makers.items ≡ length manifest.now.paths) }
+    ensures makers { IfOk result (λ makers. AreMakersBelow manifest.now.lines makers.items count) }
+    ensures dyndeps { OnOk result (HaveDyndepsBelow manifest.now count) }
+    ensures once { OnOk result (HaveOnePlace manifest.now.paths) }
+    ensures fault { IfErr result (IsMakingFault (graph_of manifest.now).edges count) }
 {
     let mut makers = vec![in alloc; None; manifest.paths.len()]?;
-    match claim_all(manifest, &mut makers) {
+    match claim_all(manifest, count, &mut makers) {
         Ok(()) => Ok(makers),
         Err(flaw) => Err(fault_of(alloc, manifest, flaw)?),
     }
@@ -51,15 +67,17 @@ fn fault_of(alloc: Global, manifest: &Manifest, flaw: Flaw) -> Result<GraphFault
     }
 }
 
-/// Makes each edge the maker of its outputs; stops at the first flaw.
-fn claim_all(manifest: &Manifest, makers: &mut [Option<EdgeId>]) -> Result<(), Flaw>
+/// Makes each of the first so many edges the maker of its outputs; stops at the first flaw.
+fn claim_all(manifest: &Manifest, count: usize, makers: &mut [Option<EdgeId>]) -> Result<(), Flaw>
+    requires within { count ≤ length manifest.now.lines }
     requires fits { length makers.old ≡ length manifest.now.paths }
     requires none { All (λ maker. maker ≡ None) makers.old }
-    ensures makers { OnOk result (AreMakers manifest.now makers.new) }
-    ensures dyndeps { OnOk result (DyndepsAreInputs manifest.now) }
-    ensures flaw { IfErr result (IsFirstFlaw manifest.now) }
+    ensures fits { length makers.new ≡ length makers.old }
+    ensures makers { OnOk result (AreMakersBelow manifest.now.lines makers.new count) }
+    ensures dyndeps { OnOk result (HaveDyndepsBelow manifest.now count) }
+    ensures flaw { IfErr result (IsFlawBelow manifest.now count) }
 {
-    for place in 0..manifest.lines.len() {
+    for place in 0..count {
         let edge = manifest.edge(place);
         claim(makers, manifest.lines.outputs(edge), edge)?;
         check_dyndep(manifest, edge)?;

@@ -13,7 +13,7 @@ use std::marker::Model;
 /// At how many rooms `push_all` looks before it puts edges there.
 const AT_ONCE: usize = 16;
 
-/// From how many paths on: rooms of fewer lie near enough to the processor, so a look costs more than it spares.
+/// From how many paths on it looks: rooms of fewer may all lie in a processor's cache, where nothing is waited for. The bound is a guess.
 const FAR: usize = 1 << 16;
 
 /// Where a list stands, and up to where it may grow.
@@ -208,8 +208,8 @@ impl Users {
         Ok(())
     }
 
-    /// Before the first path and each sixteenth, where there are paths enough for rooms to lie far apart: looks at the rooms of the next
-    /// sixteen, so that a processor waits for several at a time, and not for one after another, as it does where each says to which place
+    /// Before the first path and each sixteenth after it, where there are paths enough for rooms to lie far apart: looks at the rooms of the
+    /// next sixteen, so that a processor waits for several at a time, and not for one after another, as it does where each says to which place
     /// the next write goes. What was seen is used to ask for a place for each full one; a refusal is let pass, since `push` asks again.
     #[inline(always)]
     fn make_ready(&mut self, done: usize, paths: &[PathId])

@@ -37,7 +37,7 @@ pub fn graph_of(alloc: Global, text: String) -> Result<Graph, Fail> {
         content: Some(Bytes::from_vec(text.into_bytes())),
     };
     let manifest = read(alloc, &mut site, "build.ninja")?;
-    match Graph::build(alloc, manifest) {
+    match Graph::build(alloc, manifest, "") {
         Ok(graph) => Ok(graph),
         Err(fault) => Err(fault.into()),
     }

@@ -37,5 +37,5 @@ pub fn graph_of(alloc: Global, text: String) -> Option<Graph> {
         content: Some(Bytes::from_vec(text.into_bytes())),
     };
     let manifest = read(alloc, &mut site, "build.ninja").ok()?;
-    Graph::build(alloc, manifest).ok()
+    Graph::build(alloc, manifest, "").ok()
 }

@@ -10,7 +10,7 @@ use Rattle.model.specs.Graph.{Addition}
 use Rattle.model.specs.Records.{OwnFiles, IsOwnIn, file_in, build_log_name, deps_log_name}
 use Rattle.model.specs.SingleBuild.{Answer, is_fault}
 use Rattle.builder.specs.declared.asked.Limits.{Limits}
-use Rattle.builder.specs.declared.report.Refusal.TheVariants.{File, MadeTwice, NoDyndepInput, NoDyndep, BadVersion, BadStatement, Unfit, UnknownTarget, Cycle, Missing}
+use Rattle.builder.specs.declared.report.Refusal.TheVariants.{File, MadeTwice, NoDyndepInput, Occupied, NoDyndep, BadVersion, BadStatement, Unfit, UnknownTarget, Cycle, Missing}
 use Rattle.builder.specs.declared.report.Report.{Report}
 use Rattle.builder.specs.declared.report.Report.TheVariants.{Success, Failed, Refused, Fault}
 use Rattle.deps_log.specs.Format.{HasFormat}
@@ -38,6 +38,7 @@ no_fault edges given targets (Failed outputs) said fine says = ap is_fault says
 no_fault edges given targets (Refused (File fault)) said fine says = absurd says
 no_fault edges given targets (Refused (MadeTwice path)) said fine says = ap is_fault says
 no_fault edges given targets (Refused (NoDyndepInput path)) said fine says = ap is_fault says
+no_fault edges given targets (Refused (Occupied occupied)) said fine says = ap is_fault says
 no_fault edges given targets (Refused (NoDyndep path)) said fine says = ap is_fault says
 no_fault edges given targets (Refused (BadVersion path)) said fine says = ap is_fault says
 no_fault edges given targets (Refused (BadStatement path)) said fine says = ap is_fault says

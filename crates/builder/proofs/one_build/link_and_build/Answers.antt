@@ -4,6 +4,7 @@ use Rattle.model.specs.World.{view_of}
 use Rattle.model.specs.Graph.{IsMadeOnce}
 use Rattle.model.specs.Records.{store_in}
 use Rattle.model.specs.SingleBuild.{NamesOther}
+use Rattle.links.specs.Linked.{IsFaultOf}
 use Rattle.manifest.specs.Answer.{IsGraph}
 use Rattle.paths.specs.Told.{graph_of}
 use Rattle.builder.specs.declared.report.Report.{Report}
@@ -24,7 +25,7 @@ returns-in_err-graph g c =
       λ B format own entry depfiles dyndeps reads owned idle looked.
           subst (λ (r : Report). Builds tells B format own graph asked.folder asked.limits asked.given.now asked.targets graph.edges entry old r) (sym {A = Report} (told_by _ c.from_residual.result c.from_residual.ensures.1))
           (builds_ungraphed tells B format own graph asked.folder asked.limits asked.given.now asked.targets (store_in format own (view_of entry.history)) entry old (λ tell edits. refl) idle
-          looked c.in_err-graph.field-0.0 c.in_err-graph.ensures.fault),
+          looked c.in_err-graph.field-0.0 (subst (λ (f : List ℕ). IsFaultOf f graph.edges c.in_err-graph.field-0.0) c.as_str.ensures c.in_err-graph.ensures.fault)),
     )
 
 -- the graph is that of what was read
