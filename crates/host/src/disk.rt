@@ -187,10 +187,10 @@ impl<'a> Disk<'a> {
         fs::rename(self.rt, new.as_str(), path)
     }
 
-    /// Writes the file at the path. Where it fails, the file may hold anything.
+    /// Writes a new file at the path: a link that stands there is removed, and not followed. Where it fails, the file may hold anything.
     pub fn write(&mut self, path: &str, content: &[u8]) -> io::Result<()> {
-        self.close(path);
-        fs::write(self.rt, path, content)
+        let mut file = self.new_file(path, &mut writing())?;
+        file.write_all(content)
     }
 
     /// Deletes the file at the path, if it is there.
