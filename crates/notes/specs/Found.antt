@@ -1,6 +1,5 @@
 -- Which notes are found.
-use Rattle.std.specs.Prelude.{◌≡◌, ℕ, ◌≤◌, ◌<◌, List, ◌∷◌, ◌++◌, Option, None, Result, IfOk, IfSome, false, length, suc}
-use Rattle.model.specs.Graph.{has_number}
+use Rattle.std.specs.Prelude.{◌≡◌, ℕ, ◌≤◌, List, ◌∷◌, ◌++◌, Option, Result, IfOk, IfSome}
 use Rattle.manifest.specs.declared.fault.FileFault.{FileFault}
 use Rattle.manifest.specs.declared.fault.FaultKind.TheVariants.{NotFound}
 use Rattle.notes.specs.Nearest.{IsNear}

@@ -1,6 +1,8 @@
 //! The name of the program that a command runs.
 
-ghost use Rattle.std.specs.Prelude.{IfSome};
+ghost use Rattle.std.specs.Prelude.{◌≢◌, [], IfSome, IsTrue};
+ghost use Rattle.std.specs.Str.Iter.{HasSubslice};
+ghost use Rattle.text.specs.Marks.{Lacks};
 ghost use Rattle.notes.specs.Program.{IsNameIn};
 
 /// What runs other programs, by what the next words say.
@@ -28,7 +30,10 @@ pub fn program_name(command: &str) -> Option<&str>
 }
 
 /// The word without quotes around it, and without the folder in front.
-fn last_part(word: &str) -> &str {
+fn last_part(word: &str) -> &str
+    ensures stands { HasSubslice word.now result.now }
+    ensures last { Lacks 47 result.now }
+{
     let bare = word.trim_matches('\'').trim_matches('"');
     match bare.rsplit_once('/') {
         Some((_, name)) => name,
@@ -37,7 +42,9 @@ fn last_part(word: &str) -> &str {
 }
 
 /// Whether a word may be the name of a program that is looked for.
-fn is_program(name: &str) -> bool {
+fn is_program(name: &str) -> bool
+    ensures { IsTrue result → name.now ≢ [] }
+{
     if name.is_empty() || name.starts_with('-') || name.contains('=') {
         return false;
     }
