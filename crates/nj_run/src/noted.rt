@@ -7,7 +7,7 @@ use notes::{
     Note, Older, clock_went_back, nearest_target, no_build_file, older_file, other_ninja,
     recorded_input,
 };
-use std::alloc::Global;
+use std::alloc::{AllocError, Global};
 use std::io;
 use std::io::Write;
 use text::Path;
@@ -21,6 +21,8 @@ pub struct Noted<'a> {
     notes: Vec<Note>,
     /// What was later than the build file when that was read. The build may write it anew.
     older: Option<Older>,
+    /// What the first target that no build line names was meant to be.
+    nearest: Option<Note>,
     /// The folder of the program's own files; empty is the working folder.
     folder: Path,
 }
@@ -33,6 +35,7 @@ impl<'a> Noted<'a> {
             is_wanted,
             notes: Vec::new(rt.alloc()),
             older: None,
+            nearest: None,
             folder: Path::new(rt.alloc()),
         }
     }
@@ -64,6 +67,7 @@ impl<'a> Noted<'a> {
         self.put(clock_went_back(alloc, self.rt, folder));
         self.put(other_ninja(alloc, self.rt, folder, file));
         self.older = older_file(alloc, self.rt, &reading.manifest, file).unwrap_or(None);
+        self.nearest = nearest(alloc, reading).unwrap_or(None);
         if let Ok(folder) = Path::from_str(alloc, folder) {
             self.folder = folder;
         }
@@ -85,6 +89,10 @@ impl<'a> Noted<'a> {
             if older.is_still_older(self.rt) {
                 self.put::<ReadError>(Ok(Some(Note::Older(older))));
             }
+        }
+        if let Report::Refused(Refusal::UnknownTarget(_)) = report {
+            let nearest = self.nearest.take();
+            self.put::<AllocError>(Ok(nearest));
         }
         let alloc = self.rt.alloc();
         let found = explained(alloc, host, file, self.folder.as_str(), report);
@@ -109,7 +117,17 @@ impl<'a> Noted<'a> {
     }
 }
 
-/// What helps where a build was reported so.
+/// What the first target that no build line names was meant to be. For that one the build is refused.
+fn nearest(alloc: Global, reading: &Reading<'_>) -> Result<Option<Note>, AllocError> {
+    for target in reading.asked.targets.as_slice() {
+        if reading.manifest.number_of(target.as_str()).is_none() {
+            return nearest_target(alloc, &reading.manifest, target.as_str());
+        }
+    }
+    Ok(None)
+}
+
+/// What helps where a build was reported so, that is found by a second reading.
 fn explained<W: Write + Drop>(
     alloc: Global,
     host: &mut Host<'_, W>,
@@ -119,9 +137,6 @@ fn explained<W: Write + Drop>(
 ) -> Result<Option<Note>, ReadError> {
     match report {
         Report::Refused(Refusal::File(fault)) => Ok(no_build_file(fault)?),
-        Report::Refused(Refusal::UnknownTarget(target)) => {
-            nearest_target(alloc, host, file, target.as_str())
-        }
         Report::Refused(Refusal::Cycle(round)) => {
             recorded_input(alloc, host, file, folder, round.as_slice())
         }

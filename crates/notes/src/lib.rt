@@ -4,6 +4,7 @@
 //! go on without it.
 #![tactic(auto)]
 
+mod alike;
 mod clock;
 mod edges;
 mod generator;

@@ -1,9 +1,10 @@
 //! What helps where a build was refused.
 
-ghost use Rattle.std.specs.Prelude.{◌<◌, ℕ, List, IfOk, IsSome, length};
+ghost use Rattle.std.specs.Prelude.{◌<◌, ℕ, List, IfOk, IfSome, IsSome, length};
+ghost use Rattle.notes.specs.Edges.{AreEdgesOf};
 ghost use Rattle.notes.specs.Found.{FindsOnly, IsAbsent, IsOfAbsent, IsOfRecorded};
 
-use crate::edges::{has, maker_of};
+use crate::edges::{has, makers_of};
 use crate::note::{Note, Recorded};
 use manifest::{FaultKind, FileFault, ReadError};
 use paths::{Action, EdgeId, Manifest};
@@ -24,7 +25,8 @@ pub fn no_build_file(fault: &FileFault) -> Result<Option<Note>, AllocError>
 }
 
 /// The first input on the way round a circle that no build line names: a command reported it, and that was recorded in this folder, of
-/// which the empty one is the working folder. Each path is made by an edge that needs the next one. The build file is read anew.
+/// which the empty one is the working folder. Each path is made by an edge that needs the next one. The build file is read anew, which takes
+/// as long as it took to read it for the build.
 ///
 /// # Errors
 ///
@@ -51,10 +53,11 @@ fn first_recorded(
 ) -> Result<Option<Note>, AllocError>
     ensures { FindsOnly (IsOfRecorded folder.now round.now) result }
 {
+    let makers = makers_of(alloc, manifest)?;
     for place in 1..round.len() {
         let output = round[place - 1].as_str();
         let input = round[place].as_str();
-        if is_recorded(manifest, output, input) {
+        if is_recorded(manifest, &makers, output, input) {
             return Ok(Some(Note::Recorded(Recorded {
                 output: Path::from_str(alloc, output)?,
                 input: Path::from_str(alloc, input)?,
@@ -67,14 +70,26 @@ fn first_recorded(
 
 /// Whether the edge that makes the output needs the input by a record, where it needs it at all: a command without a dyndep file makes the
 /// output, and no build line names the input.
-fn is_recorded(manifest: &Manifest, output: &str, input: &str) -> bool {
-    let Some(output) = manifest.number_of(output) else {
-        return false;
-    };
-    match maker_of(manifest, output) {
+fn is_recorded(
+    manifest: &Manifest,
+    makers: &[Option<EdgeId>],
+    output: &str,
+    input: &str,
+) -> bool
+    requires { AreEdgesOf manifest.now makers.now }
+{
+    match maker_in(manifest, makers, output) {
         Some(edge) => has_records(manifest, edge) && !is_declared(manifest, edge, input),
         None => false,
     }
+}
+
+/// The edge that makes the path.
+fn maker_in(manifest: &Manifest, makers: &[Option<EdgeId>], path: &str) -> Option<EdgeId>
+    requires { AreEdgesOf manifest.now makers.now }
+    ensures { IfSome result (λ edge. edge < length manifest.now.lines) }
+{
+    *makers.get(manifest.number_of(path)?.index())?
 }
 
 /// Whether recorded inputs of the edge count.
