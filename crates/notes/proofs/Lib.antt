@@ -1,2 +1,3 @@
-pub mod Rest
 pub mod Finding
+pub mod Names
+pub mod Rest
