@@ -81,10 +81,10 @@ fn is_later(line: &[u8], than: u64, other: &[u8]) -> bool
 fn told_by(line: &[u8]) -> Option<(u64, &[u8])>
     ensures { IfSome result (λ told. IsOutputIn line.now told.1.now) }
 {
-    let (_, rest) = cut(line, b'\t')?;
-    let (_, rest) = cut(rest, b'\t')?;
-    let (stamp, rest) = cut(rest, b'\t')?;
-    let (output, _) = cut(rest, b'\t')?;
+    let (_, after_start) = cut(line, b'\t')?;
+    let (_, after_stop) = cut(after_start, b'\t')?;
+    let (stamp, after_stamp) = cut(after_stop, b'\t')?;
+    let (output, _) = cut(after_stamp, b'\t')?;
     let stamp = from_utf8(stamp).ok()?.parse::<u64>().ok()?;
     Some((stamp, output))
 }
