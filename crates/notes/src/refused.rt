@@ -70,12 +70,7 @@ fn first_recorded(
 
 /// Whether the edge that makes the output needs the input by a record, where it needs it at all: a command without a dyndep file makes the
 /// output, and no build line names the input.
-fn is_recorded(
-    manifest: &Manifest,
-    makers: &[Option<EdgeId>],
-    output: &str,
-    input: &str,
-) -> bool
+fn is_recorded(manifest: &Manifest, makers: &[Option<EdgeId>], output: &str, input: &str) -> bool
     requires { AreEdgesOf manifest.now makers.now }
 {
     match maker_in(manifest, makers, output) {
