@@ -3,7 +3,7 @@ use Rattle.std.proofs.Common.{◌≡◌, ◌≢◌, ◌∙◌, ℕ, suc, ◌<◌
 use Rattle.std.specs.Char.{is_whitespace}
 use Rattle.std.specs.Str.{NoCharPasses}
 use Rattle.std.specs.Str.Iter.{HasSubslice, NoAsciiPasses}
-use Rattle.std.specs.Str.Pattern.{CutsPrefixes, IsTrimMatches}
+use Rattle.std.specs.Str.Pattern.{CutsPrefixes, IsTrimStartMatches}
 use Rattle.std.proofs.lemmas.Bool.{false≢true}
 use Rattle.std.proofs.lemmas.Str.Pattern.{NoCharPasses-char}
 use Rattle.std.proofs.lemmas.List.{take-append-drop, get_or_default}
@@ -31,10 +31,10 @@ cut_part R text [] rest is = subst (λ (l : List ℕ). HasSubslice text l) (sym 
 cut_part R text (n ∷ ns) rest cut =
     part_of_part text cut.0 rest (cut_part R text ns cut.0 cut.1) (subst (λ (l : List ℕ). HasSubslice cut.0 l) (sym cut.3) (back_part cut.0 n))
 
--- what is left where both ends were trimmed
-pub trimmed_part : (B E : List ℕ → Option ℕ → Type 0) (text rest : List ℕ) → IsTrimMatches B E text rest → HasSubslice text rest
-trimmed_part B E text rest is =
-    part_of_part text is.0 rest (cut_part B text is.1.0.0 is.0 is.1.0.1) (subst (λ (l : List ℕ). HasSubslice is.0 l) (sym is.2) (front_part is.0 (length rest)))
+-- what is left where then the end was cut off
+pub trimmed_part : (R : List ℕ → Option ℕ → Type 0) (text front rest : List ℕ) → IsTrimStartMatches R text front → rest ≡ take (length rest) front → HasSubslice text rest
+trimmed_part R text front rest cut is =
+    part_of_part text front rest (cut_part R text cut.0.0 front cut.0.1) (subst (λ (l : List ℕ). HasSubslice front l) (sym is) (front_part front (length rest)))
 
 pub no_slash : (text : List ℕ) → NoCharPasses (λ d. d == 47) text → Lacks 47 text
 no_slash text none =
@@ -63,3 +63,13 @@ name_in command word name stands none part last some =
       last = last;
       word = no_blanks_at part.0 name part.1 (subst (λ (l : List ℕ). NoAsciiPasses is_whitespace l) part.2 none);
     }
+
+-- where the next word stands, behind a gap
+pub word_at : (command before rest gap word after : List ℕ) → command ≡ before ++ rest → rest ≡ gap ++ (word ++ after) → HasSubslice command word
+word_at command before rest gap word after is next =
+    (before ++ gap, after, is ∙ (ap (λ (l : List ℕ). before ++ l) next ∙ sym (append_assoc before gap (word ++ after))))
+
+-- what is left behind it
+pub read_word : (command before rest gap word after : List ℕ) → command ≡ before ++ rest → rest ≡ gap ++ (word ++ after) → (front : List ℕ) × (command ≡ front ++ after)
+read_word command before rest gap word after is next =
+    (before ++ (gap ++ word), is ∙ (ap (λ (l : List ℕ). before ++ l) (next ∙ sym (append_assoc gap word after)) ∙ sym (append_assoc before (gap ++ word) after)))

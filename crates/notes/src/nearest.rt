@@ -70,10 +70,17 @@ fn most_of(target: &str) -> usize
     if target.len() > LONGEST {
         return 0;
     }
-    let size = target.chars().count();
+    let size = size_of(target);
     (size.saturating_add(2) / 3)
         .min(MOST)
         .min(size.saturating_sub(1))
+}
+
+/// How many characters the text has.
+fn size_of(text: &str) -> usize
+    ensures { result ≡ length (chars text.now) }
+{
+    text.chars().count()
 }
 
 /// How many steps lie between the two, where they are not more than so many. None where no looks are left.
