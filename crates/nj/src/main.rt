@@ -1,9 +1,9 @@
 //! The program: builds what build files describe, with real files and real commands.
 #![tactic(auto)]
 
-use nj_run::run;
+use nj_run::{run, run_noted};
 use std::env::VarError;
-use std::io::{BufWriter, ErrorKind};
+use std::io::{BufWriter, ErrorKind, IsTerminal};
 use std::process::ExitCode;
 use std::{env, io};
 
@@ -20,7 +20,8 @@ fn main(rt: HostRuntime) -> ExitCode {
     }
 }
 
-/// Runs the program on the words of its command line.
+/// Runs the program on the words of its command line, with notes where somebody may read them: a program that reads the standard error, as
+/// an editor does, knows the lines of [`run`].
 fn run_words(rt: &HostRuntime) -> io::Result<u8> {
     let alloc = rt.alloc();
     let words: Vec<String> = env::args(rt)?.skip(1).collect(alloc)?;
@@ -28,7 +29,12 @@ fn run_words(rt: &HostRuntime) -> io::Result<u8> {
     let mut out = BufWriter::new(alloc, rt.stdout())?;
     let mut err = BufWriter::new(alloc, rt.stderr())?;
     let pattern = pattern.as_ref().map(|pattern| pattern.as_str());
-    Ok(run(rt, words.as_slice(), pattern, &mut out, &mut err))
+    let words = words.as_slice();
+    if rt.stderr().is_terminal() {
+        Ok(run_noted(rt, words, pattern, &mut out, &mut err))
+    } else {
+        Ok(run(rt, words, pattern, &mut out, &mut err))
+    }
 }
 
 /// What `NINJA_STATUS` is set to, where that is a text.

@@ -133,6 +133,11 @@ pub record Ends (words : List Text) {W E : Type 0} (on_out : W → Option Text) 
   pub tells : ((status ≡ exit_status ending) × AllTold on_out on_err ending old_out new_out old_err new_err)
       ⊎ (status ≡ 1)
 
+-- A run of these words ends so, and then notes are told on the standard error, of whose texts contracts tell nothing.
+abbrev pub EndsNoted : {W E : Type 0} → List Text → (W → Option Text) → (E → Option Text) → W → W → E → ℕ → Type 0
+EndsNoted {W} {E} words on_out on_err old_out new_out old_err status =
+    (told : E) × Ends words on_out on_err old_out new_out old_err told status
+
 -- help was asked for, or what the words ask for was built, with success
 abbrev pub EndsWell : List Text → Type 0
 EndsWell words =

@@ -4,6 +4,7 @@ ghost use Rattle.std.specs.Prelude.{◌≡◌, false, IfOk, IfErr};
 ghost use Rattle.model.specs.World.{IsIdle};
 ghost use Rattle.nj_run.specs.Alone.{IsBuiltAlone, Passes, WasReadAlone, WasUnreadAlone};
 
+use crate::noted::Noted;
 use builder::{Options, Reading, Report, build_read, read};
 use depfile::has_reading;
 use deps_log::has_format;
@@ -42,12 +43,14 @@ impl<'a, W: Write> Alone for Host<'a, W> {
     }
 }
 
-/// Builds the targets once nobody else is at work in the folder, as [`builder::build`] does: what it reads is what is there by then.
+/// Builds the targets once nobody else is at work in the folder, as [`builder::build`] does: what it reads is what is there by then, and
+/// what may help whoever watches is noted of that.
 pub fn build_alone<S: Alone>(
     alloc: Global,
     site: &mut S,
     options: &Options,
     targets: &[Text],
+    noted: &mut Noted<'_>,
 ) -> Report
     requires { IsIdle (S.world site.old).events }
     ensures { IsBuiltAlone S.tells S.outcome options.now targets.now (S.world site.old) (S.world site.new) result }
@@ -56,7 +59,10 @@ pub fn build_alone<S: Alone>(
     has_reading();
     has_dyndeps();
     match read_alone(alloc, site, options, targets) {
-        Ok(reading) => build_read(alloc, site, reading, options),
+        Ok(reading) => {
+            noted.reads(options.file.as_str(), &reading);
+            build_read(alloc, site, reading, options)
+        }
         Err(report) => report,
     }
 }

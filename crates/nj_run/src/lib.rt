@@ -2,8 +2,10 @@
 #![tactic(auto)]
 
 mod alone;
+mod noted;
 mod program;
 mod told;
 
 pub use alone::{Alone, build_alone};
-pub use program::{build_on, run};
+pub use noted::Noted;
+pub use program::{build_on, run, run_noted};

@@ -7,9 +7,10 @@ ghost use Rattle.command_line.specs.Options.{nj};
 ghost use Rattle.host.specs.World.{any_outcome, fresh};
 ghost use Rattle.nj_run.specs.Alone.{BuildsAlone};
 ghost use Rattle.nj_run.specs.Asked.{AreHandedOn, pattern_text};
-ghost use Rattle.nj_run.specs.Ends.{Comes, Ends, EndsFor, EndsWell};
+ghost use Rattle.nj_run.specs.Ends.{Comes, Ends, EndsFor, EndsNoted, EndsWell};
 
 use crate::alone::{Alone, build_alone};
+use crate::noted::Noted;
 use crate::told;
 use builder::{Options, Report};
 use command_line::{Options as Asked, options};
@@ -37,8 +38,46 @@ pub fn run<S: AsStr, W: Write, E: Write>(
     ensures well { result ≡ 0 → EndsWell (map S.text words.entry.now) }
     ensures ends { Ends (map S.text words.entry.now) W.contents E.contents out.old out.new err.old err.new result }
 {
-    let told = match options(rt.alloc(), words) {
-        Ok(asked) => build_asked(rt, &asked, pattern, out, err),
+    let mut noted = Noted::unwanted(rt);
+    run_words(words, pattern, out, err, &mut noted)
+}
+
+/// The same for somebody who watches: after all that [`run`] tells, on the standard error, one line for each note that may help. They are
+/// found beside the build, which is the same.
+pub fn run_noted<S: AsStr, W: Write, E: Write>(
+    rt: &HostRuntime,
+    words: &[S],
+    pattern: Option<&str>,
+    out: &mut W,
+    err: &mut E,
+) -> u8
+    ensures range { result ≤ 2 }
+    ensures refused { result ≡ 2 → takes nj (map S.text words.entry.now) ≡ false }
+    ensures well { result ≡ 0 → EndsWell (map S.text words.entry.now) }
+    ensures ends { EndsNoted (map S.text words.entry.now) W.contents E.contents out.old out.new err.old result }
+{
+    let mut noted = Noted::wanted(rt);
+    let status = run_words(words, pattern, out, err, &mut noted);
+    // who does not see the notes has seen what was built
+    let _ = noted.tell(err);
+    status
+}
+
+/// Does what the words ask for, tells it, and notes what may help.
+fn run_words<S: AsStr, W: Write, E: Write>(
+    words: &[S],
+    pattern: Option<&str>,
+    out: &mut W,
+    err: &mut E,
+    noted: &mut Noted<'_>,
+) -> u8
+    ensures range { result ≤ 2 }
+    ensures refused { result ≡ 2 → takes nj (map S.text words.entry.now) ≡ false }
+    ensures well { result ≡ 0 → EndsWell (map S.text words.entry.now) }
+    ensures ends { Ends (map S.text words.entry.now) W.contents E.contents out.old out.new err.old err.new result }
+{
+    let told = match options(noted.rt().alloc(), words) {
+        Ok(asked) => build_asked(&asked, pattern, out, err, noted),
         Err(error) => told::words(&error, out, err),
     };
     told.unwrap_or(1)
@@ -46,39 +85,41 @@ pub fn run<S: AsStr, W: Write, E: Write>(
 
 /// Builds what is asked for, and tells how it ended.
 fn build_asked<W: Write, E: Write>(
-    rt: &HostRuntime,
     asked: &Asked<'_>,
     pattern: Option<&str>,
     out: &mut W,
     err: &mut E,
+    noted: &mut Noted<'_>,
 ) -> io::Result<u8>
     ensures range { IfOk result (λ status. status ≤ 1) }
     ensures comes { Comes (EndsFor asked.now) W.contents E.contents out.old out.new err.old err.new result }
 {
     if let Some(folder) = asked.folder {
-        if let Err(reason) = env::set_current_dir(rt, folder) {
+        if let Err(reason) = env::set_current_dir(noted.rt(), folder) {
             return told::folder(folder, &reason, err);
         }
     }
-    let (report, trouble) = build_here(rt, asked, pattern, out);
+    let (report, trouble) = build_here(asked, pattern, out, noted);
     told::report(&report, trouble.as_ref(), out, err)
 }
 
 /// Builds what is asked for in the working folder, and waits until what is written from now on is seen to be later than each start. With a
 /// fault of the site comes what the device refused last.
 fn build_here<W: Write>(
-    rt: &HostRuntime,
     asked: &Asked<'_>,
     pattern: Option<&str>,
     out: &mut W,
+    noted: &mut Noted<'_>,
 ) -> (Report, Option<Trouble>)
     ensures { (later : World) × BuildsAlone false any_outcome asked.now fresh later result.0 }
 {
+    let rt = noted.rt();
     let alloc = rt.alloc();
     let mut host = Host::new(alloc, rt, out);
-    let report = build_on(alloc, &mut host, asked, pattern);
-    // where the clock stands still for seconds there is nothing more to do about it
-    let _ = host.wait_for_clock();
+    let report = build_on(alloc, &mut host, asked, pattern, noted);
+    // where the clock stands still for seconds there is nothing more to do about it but to say so
+    noted.waited(host.wait_for_clock());
+    noted.built(&mut host, asked.file, &report);
     (report, host.into_trouble())
 }
 
@@ -89,12 +130,13 @@ pub fn build_on<S: Alone>(
     site: &mut S,
     asked: &Asked<'_>,
     pattern: Option<&str>,
+    noted: &mut Noted<'_>,
 ) -> Report
     requires idle { IsIdle (S.world site.old).events }
     ensures { BuildsAlone S.tells S.outcome asked.now (S.world site.old) (S.world site.new) result }
 {
     match build_options(alloc, asked, pattern) {
-        Ok((options, targets)) => build_alone(alloc, site, &options, targets.as_slice()),
+        Ok((options, targets)) => build_alone(alloc, site, &options, targets.as_slice(), noted),
         Err(_) => Report::Fault(SiteFault::Memory),
     }
 }

@@ -1,7 +1,7 @@
 use Rattle.std.proofs.Common.{map}
 use Rattle.nj_run.proofs.Ends.{built, done, ends, explained, refused, well}
-use Rattle.nj_run.proofs.program.run.Goals as goal
-use Rattle.nj_run.proofs.program.run.Goals.{in-Ok, in-Err+in-Some-1, in-Err+in-None-1}
+use Rattle.nj_run.proofs.program.run_words.Goals as goal
+use Rattle.nj_run.proofs.program.run_words.Goals.{in-Ok, in-Err+in-Some-1, in-Err+in-None-1}
 
 pub returns-clause-refused : goal.returns-clause-refused
 returns-clause-refused g c two = elim c.match-options.branch [
