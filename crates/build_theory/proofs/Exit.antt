@@ -358,17 +358,16 @@ module _ (tells : Bool) (own : OwnFiles) (task : Task) (steps : List Step) (old 
     | inr may ↦ inr may
   ]
 
-  -- an edge's outputs are as at the entry until its start
-  pub until_start : IsMadeOnce task.graph.edges → FilesAreKept own task.graph.edges old.history now.history → (i stamp : ℕ) (act : Act) (o : List ℕ) (before after : List Moment)
-      → now.history ≡ old.history ++ (before ++ Happened (Start i act stamp) ∷ after) → has (outputs (edge_at task.graph.edges i)) o ≡ true → file_at (old.history ++ before) o ≡ file_at old.history o
-  until_start once files i stamp act o before after grows is_output =
-      file_stays o old.history before
-      (all_elsewhere own task.graph.edges steps files.own_files commands kept.started once i o is_output before
+  -- nothing writes an edge's outputs until its start
+  pub unwritten_until : IsMadeOnce task.graph.edges → FilesAreKept own task.graph.edges old.history now.history → (i stamp : ℕ) (act : Act) (o : List ℕ) (before after : List Moment)
+      → now.history ≡ old.history ++ (before ++ Happened (Start i act stamp) ∷ after) → has (outputs (edge_at task.graph.edges i)) o ≡ true → AllByRecursion (IsElsewhere o) before
+  unwritten_until once files i stamp act o before after grows is_output =
+      all_elsewhere own task.graph.edges steps files.own_files commands kept.started once i o is_output before
       (quiet own task.graph.edges steps i old.events [] before (ap (λ (l : List Event). runs i l) (append-nil old.events) ∙ idle i) none
       (of_run_parts own task.graph.edges steps old.events [] before (Happened (Start i act stamp) ∷ after) (subst (λ (l : List Moment). AreOfRun own task.graph.edges steps old.events [] l) splits told.all)).0
       (all_parts (IsOfBuild own task.graph.edges steps) before (Happened (Start i act stamp) ∷ after) (subst (λ (l : List Moment). AllByRecursion (IsOfBuild own task.graph.edges steps) l) splits all_of_build)).0)
       (all_parts (IsWithinEdge task.graph.edges) before (Happened (Start i act stamp) ∷ after) (files.commands (before ++ Happened (Start i act stamp) ∷ after) grows)).0
-      (all_parts IsNoEdit before (Happened (Start i act stamp) ∷ after) (files.edits (before ++ Happened (Start i act stamp) ∷ after) grows)).0)
+      (all_parts IsNoEdit before (Happened (Start i act stamp) ∷ after) (files.edits (before ++ Happened (Start i act stamp) ∷ after) grows)).0
     where
       splits : told.more ≡ before ++ Happened (Start i act stamp) ∷ after
       splits = same_rest old.history told.more (before ++ Happened (Start i act stamp) ∷ after) (sym told.grows ∙ grows)
@@ -381,6 +380,11 @@ module _ (tells : Bool) (own : OwnFiles) (task : Task) (steps : List Step) (old 
 
       none : has_number (starts_in (events_in before)) i ≡ false
       none = distinct_from task.graph.edges [] steps rest.orderly (starts_in (events_in before)) (starts_in (events_in after)) i starts
+
+  -- an edge's outputs are as at the entry until its start
+  pub until_start : IsMadeOnce task.graph.edges → FilesAreKept own task.graph.edges old.history now.history → (i stamp : ℕ) (act : Act) (o : List ℕ) (before after : List Moment)
+      → now.history ≡ old.history ++ (before ++ Happened (Start i act stamp) ∷ after) → has (outputs (edge_at task.graph.edges i)) o ≡ true → file_at (old.history ++ before) o ≡ file_at old.history o
+  until_start once files i stamp act o before after grows is_output = file_stays o old.history before (unwritten_until once files i stamp act o before after grows is_output)
 
   -- No file changes but those that the build may change, each at its time; and starts are ready, if that was seen to.
   pub frame : (once : IsMadeOnce task.graph.edges) → AreStartsReady own task.graph.edges old.history now.history → IsFrame own task.graph.edges steps old.history now.history

@@ -10,7 +10,7 @@ use Rattle.model.specs.declared.event.Writer.TheVariants.{Program}
 use Rattle.model.specs.declared.graph.Edge.{Edge}
 use Rattle.model.specs.declared.record.Record.{Record}
 use Rattle.model.specs.declared.record.DepsRecord.{DepsRecord}
-use Rattle.model.specs.World.{World, View, file_at, written, content_of, view_of, latest, runs, IsRunning}
+use Rattle.model.specs.World.{World, View, file_at, written, content_of, view_of, next_stamp, runs, IsRunning}
 use Rattle.model.specs.Calls.{AllByOthers, OthersWrote, Adds, IsRestart}
 use Rattle.model.specs.Graph.{has, edge_at, outputs, IsCommand}
 use Rattle.model.specs.Outcome.{Behaviour}
@@ -159,7 +159,7 @@ nothing_keeps B format own edges old new believed events ended edits wrote =
         (none_wrote (IsRunning old.events) wrote.more (λ job runs. false≢true (sym (ended job) ∙ runs)) wrote.all (edits wrote.more wrote.grows)) ∙ append-nil old.history)
 
     no_stamps : StampsGrow old.history new.history
-    no_stamps more grows = subst (λ (l : List Moment). Increases (latest old.history) l) (sym (same_rest old.history more [] (sym grows ∙ (same ∙ sym (append-nil old.history))))) tt
+    no_stamps more grows = subst (λ (l : List Moment). Increases (next_stamp old.history) l) (sym (same_rest old.history more [] (sym grows ∙ (same ∙ sym (append-nil old.history))))) tt
 
 -- ---- what running commands write
 

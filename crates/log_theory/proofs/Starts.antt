@@ -99,7 +99,10 @@ module _ (tells : Bool) (own : OwnFiles) (task : Task) (steps : List Step) (old 
       by = tick.by;
       path = tick.path;
       content = tick.content;
-      after = tick.between ++ Happened (Start i started.act stamp) ∷ moment.later;
+      between = tick.between;
+      job = i;
+      act = started.act;
+      after = moment.later;
       splits = grows ∙ ap (λ (l : List Moment). old.history ++ l) whole;
     }
 

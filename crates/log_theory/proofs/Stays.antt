@@ -4,7 +4,7 @@ use Rattle.std.proofs.lemmas.Bool.{false≢true, false_from_ne_true}
 use Rattle.model.specs.declared.event.Event.{Event}
 use Rattle.model.specs.declared.event.Moment.{Moment}
 use Rattle.model.specs.declared.graph.Edge.{Edge}
-use Rattle.model.specs.World.{World, content_of, view_of, latest, runs, IsIdle}
+use Rattle.model.specs.World.{World, content_of, view_of, next_stamp, runs, IsIdle}
 use Rattle.model.specs.Graph.{has, has_number, edge_at, outputs, IsMadeOnce}
 use Rattle.model.specs.Outcome.{Behaviour, ends_well, given, reports_of, depfile_in, listed, GivesTheSame}
 use Rattle.model.specs.Records.{Told, OwnFiles, LogFormat, Store, Made, store_in, in_force, deps_in_force, recorded_inputs, ListsOnce}
@@ -20,7 +20,7 @@ use Rattle.build_theory.proofs.Orderly.{IsKept, kept_orderly}
 use Rattle.build_theory.proofs.Events.{starts_of_all, no_starts, runs_since, runs_never, runs_now}
 use Rattle.build_theory.proofs.Exit.{end_of, output_stays}
 use Rattle.log_theory.specs.Logged.{KeepsBoth, HasNew, HasNewDeps, IsLogged, AreReadable, StartsAreTicked}
-use Rattle.log_theory.proofs.Stamps.{file_was, latest_later, stamp_lies}
+use Rattle.log_theory.proofs.Stamps.{file_was, next_later, stamp_lies}
 use Rattle.log_theory.proofs.Explained.{some_or_none}
 use Rattle.log_theory.proofs.Starts.{was_stamped}
 use Rattle.log_theory.proofs.Kept as kept
@@ -76,7 +76,7 @@ module _ (tells : Bool) (B : Behaviour) (format : LogFormat) (own : OwnFiles) (a
           holds = λ content is. faith.holds content (ap content_of (sym (kept.path_stays tells own (task_of asked entry) steps old now idle rest tell once premises.files.kept o outside keeps.unstarted)) ∙ is);
           reports = λ deps is same. faith.reports deps (ap (λ (s : Store). deps_in_force s.deps o) (sym found) ∙ (sym keeps.deps ∙ is)) same;
           older = λ p file is early. faith.older p file (file_was old.history now.history told.more told.grows premises.files.stamps p file is (omega (arith, early, faith.clock))) early;
-          clock = omega (arith, faith.clock, latest_later old.history now.history told.more told.grows);
+          clock = omega (arith, faith.clock, next_later old.history now.history told.more told.grows);
         },
         outside,
       )
@@ -116,7 +116,7 @@ module _ (tells : Bool) (B : Behaviour) (format : LogFormat) (own : OwnFiles) (a
     premises.files.kept.own_files.outputs new.edge o new.makes,
   )
     where
-      lies : (latest old.history < new.stamp) × (new.stamp ≤ latest now.history)
+      lies : (next_stamp old.history ≤ new.stamp) × (new.stamp < next_stamp now.history)
       lies = stamp_lies new.stamp old.history now.history (was_stamped tells own (task_of asked entry) steps old now rest tell ticked new.edge new.stamp new.started) premises.files.stamps
 
       lists : (deps : Told) → deps_in_force store.deps o ≡ Some deps → deps.start ≡ new.stamp → ListsOnce deps.paths (reports_of B (edge_at asked.graph.edges new.edge).act (view_of now.history))
@@ -181,17 +181,17 @@ module _ (tells : Bool) (B : Behaviour) (format : LogFormat) (own : OwnFiles) (a
       ]
     ]
 
-    deps_early : (o : List ℕ) (deps : Told) → deps_in_force (store_in format own (view_of now.history)).deps o ≡ Some deps → deps.start ≤ latest now.history
+    deps_early : (o : List ℕ) (deps : Told) → deps_in_force (store_in format own (view_of now.history)).deps o ≡ Some deps → deps.start < next_stamp now.history
     deps_early o deps is = elim (logged.deps o) [
       | inl same ↦
           let early = faithful.deps o deps (ap (λ (s : Store). deps_in_force s.deps o) (sym found) ∙ (sym same ∙ is)) in
-          omega (arith, early, latest_later old.history now.history told.more told.grows)
+          omega (arith, early, next_later old.history now.history told.more told.grows)
       | inr new ↦ by_new new
     ]
       where
-        by_new : HasNewDeps asked.graph.edges (store_in format own (view_of now.history)) old now o → deps.start ≤ latest now.history
+        by_new : HasNewDeps asked.graph.edges (store_in format own (view_of now.history)) old now o → deps.start < next_stamp now.history
         by_new new =
-            subst (λ (d : Told). d.start ≤ latest now.history) (same_some new.deps deps (sym new.is ∙ is))
+            subst (λ (d : Told). d.start < next_stamp now.history) (same_some new.deps deps (sym new.is ∙ is))
             (stamp_lies new.deps.start old.history now.history (was_stamped tells own (task_of asked entry) steps old now rest tell ticked new.edge new.deps.start new.started) premises.files.stamps).1
 
     pub faithful_now : IsFaithfulStore B format own asked.graph.edges now

@@ -2,14 +2,14 @@
 -- entry of a build to its exit; none speaks of what the program writes. All are this project's own.
 -- That a read gives what the file holds, and that different canonical paths are different files, needs no premise here:
 -- a site that tells its files promises the first in its calls, and the history has one file for each path.
-use Rattle.std.specs.Prelude.{◌≡◌, ◌≢◌, ◌⊎◌, ℕ, ◌<◌, true, false, List, [], ◌∷◌, ◌++◌, Some, None}
+use Rattle.std.specs.Prelude.{◌≡◌, ◌≢◌, ◌⊎◌, ℕ, suc, ◌≤◌, max, true, false, List, [], ◌∷◌, ◌++◌, Some, None}
 use Rattle.std.specs.List.{AllByRecursion}
-use Rattle.model.specs.declared.event.Event.TheVariants.{Finish}
+use Rattle.model.specs.declared.event.Event.TheVariants.{Start, Finish}
 use Rattle.model.specs.declared.event.Moment.{Moment}
 use Rattle.model.specs.declared.event.Moment.TheVariants.{Wrote, Happened}
 use Rattle.model.specs.declared.event.Writer.TheVariants.{Program, Command, Someone}
 use Rattle.model.specs.declared.graph.Edge.{Edge}
-use Rattle.model.specs.World.{World, View, view_of, latest, IsIdle}
+use Rattle.model.specs.World.{World, View, view_of, next_stamp, IsIdle}
 use Rattle.model.specs.Calls.{AgreeOn}
 use Rattle.model.specs.Graph.{has, has_number, edge_at, maker, outputs, regular_inputs, inputs, IsCommand}
 use Rattle.model.specs.Outcome.{Behaviour, GivesTheSame, ends_well, given, reports_of, depfile_in, listed}
@@ -64,14 +64,17 @@ LeaveOutcomes B edges steps old new =
 
 -- ---- stamps grow
 
+-- each of these writes is stamped no earlier than `next`; and no earlier than all before it, and later than each start before it
 abbrev pub Increases : ℕ → List Moment → Type 0
-Increases last [] = Unit {0}
-Increases last (Wrote by path content stamp ∷ ms) = (last < stamp) × Increases stamp ms
-Increases last (Happened event ∷ ms) = Increases last ms
+Increases next [] = Unit {0}
+Increases next (Wrote by path content stamp ∷ ms) = (next ≤ stamp) × Increases stamp ms
+Increases next (Happened (Start job act stamp) ∷ ms) = Increases (max next (suc stamp)) ms
+Increases next (Happened (Finish job ok) ∷ ms) = Increases next ms
 
--- every write and every tick is stamped later than all before
+-- Stamps never fall, and what is written behind a start is stamped later than that start. (Two files may have one stamp, and a write
+-- before a start may have that of the start.)
 abbrev pub StampsGrow : List Moment → List Moment → Type 0
-StampsGrow old new = (more : List Moment) → new ≡ old ++ more → Increases (latest old) more
+StampsGrow old new = (more : List Moment) → new ≡ old ++ more → Increases (next_stamp old) more
 
 -- ---- only commands write outputs
 
