@@ -12,7 +12,7 @@ use Rattle.model.specs.Calls.{OthersWrote, Adds, OnlyLooks, Ticks, TicksOrNot, W
 use Rattle.model.specs.Graph.{has_number, edge_at, IsCommand, IsMadeOnce}
 use Rattle.model.specs.Outcome.{Behaviour, depfile_in, is_accepted}
 use Rattle.model.specs.Records.{Store, LogFormat, OwnFiles, store_in, recorded_inputs}
-use Rattle.model.specs.OutOfDate.{IsVerdict}
+use Rattle.model.specs.OutOfDate.{ReadsNoFree, IsVerdict}
 use Rattle.model.specs.Schedule.{Step, Judged, Started, Ended, IsLawfulStep, IsEndOf, NoneMayBeJudged, NoneMayStart, started_in, out_of_date_in, ended_in, well_in, running_in}
 use Rattle.model.specs.Phases.{Phase, NoLoadIsDue}
 use Rattle.model.specs.Premises.{FilesAreKept, RecordedApart, EndedAt, InputsAreKnown, LiesIn}
@@ -279,7 +279,7 @@ module _ (tells : Bool) (B : Behaviour) (format : LogFormat) (own : OwnFiles) (a
 
     -- an edge was judged, rightly by the files of now
     pub carried_judged : (steps : List Step) (hand : Option ℕ) (now : World) (i : ℕ) (out_of_date : Bool) → goes_on ≡ true → IsLawfulStep (task_of asked store) steps (Judged i out_of_date) → NoLoadIsDue (task_of asked store) steps
-        → (IsTrue tells → Kept now → RecordedApart own (recorded_inputs store asked.graph.edges) → IsVerdict asked.graph.edges store (well_in steps) old.history now.history i out_of_date)
+        → (IsTrue tells → (files : Kept now) → RecordedApart own (recorded_inputs store asked.graph.edges) → ReadsNoFree files.free asked.graph.edges store now.history i → IsVerdict asked.graph.edges store (well_in steps) old.history now.history i out_of_date)
         → Carried steps hand now → Carried (steps ++ Judged i out_of_date ∷ []) hand now
     carried_judged steps hand now i b on next none right carried = record {
       run = run_judged tells own (task_of asked store) old steps now i b carried.run (orderly_step (task_of asked store) steps (Judged i b) next);
@@ -619,8 +619,8 @@ module _ (tells : Bool) (B : Behaviour) (format : LogFormat) (own : OwnFiles) (a
     pub run_of : IsMadeOnce asked.graph.edges ⊎ OnlyLooks tells old now → IsRunOf tells B format own asked store steps met old now
     run_of once = record { idle = cut.beside.idle; run = cut.run; made_once = once; logged = cut.beside.logged; ticked = cut.beside.ticked }
 
-    pub judged_of : IsMadeOnce asked.graph.edges → ((file : List ℕ) → NamesOther asked.declared file → ⊥) → IsTrue tells → Kept now → RecordedApart own (recorded_inputs store asked.graph.edges)
-        → InputsAreKnown asked.declared asked.graph.edges (recorded_inputs store asked.graph.edges) → IsJudged B asked store steps met old.history now.history
+    pub judged_of : IsMadeOnce asked.graph.edges → ((file : List ℕ) → NamesOther asked.declared file → ⊥) → IsTrue tells → (files : Kept now) → RecordedApart own (recorded_inputs store asked.graph.edges)
+        → InputsAreKnown asked.declared asked.graph.edges (recorded_inputs store asked.graph.edges) → IsJudged B files.free asked store steps met old.history now.history
     judged_of once others tell files apart known =
         verdicts_with_loads tells B own cut.phased.texts asked store steps met old now tell cut.beside.idle once others cut.phased.build cut.run (cut.phased.before tell) (cut.phased.last tell) files apart known
         (cut.beside.taken_in tell files)

@@ -43,7 +43,7 @@ module _ (tells : Bool) (B : Behaviour) (format : LogFormat) (own : OwnFiles) (a
 
   -- The file was loaded, which was the next one: it held this, which can be read, and fits; and the edges are in order with it.
   pub carried_load : (steps : List Step) → (carried : IsCarried tells B format own asked store phases true steps None old now) → IsNextLoad (task_of asked store) steps file → B.dyndep content ≡ Some additions
-      → IsInOrderAt store (task_of (asked_with asked next) store) → (IsTrue tells → FilesAreKept own asked.graph.edges old.history now.history → view_of now.history file ≡ Some content)
+      → IsInOrderAt store (task_of (asked_with asked next) store) → (IsTrue tells → (files : FilesAreKept own asked.graph.edges old.history now.history) → files.free file ≡ false → view_of now.history file ≡ Some content)
       → IsCarried tells B format own (asked_with asked next) store (phases ++ record { edges = asked.graph.edges; steps = carried.phased.build.last } ∷ []) true steps None old now
   carried_load steps carried is_next read order holds = record {
     run = run_moved tells own (task_of asked store) (task_of (asked_with asked next) store) steps old now more carried.run;

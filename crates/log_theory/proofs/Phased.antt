@@ -8,7 +8,7 @@ use Rattle.model.specs.World.{World, View, view_of, IsIdle}
 use Rattle.model.specs.Graph.{has, has_number, edge_at, maker, inputs, IsCommand, IsMadeOnce, Addition, grown_edge}
 use Rattle.model.specs.Outcome.{Behaviour}
 use Rattle.model.specs.Records.{Store, OwnFiles, recorded_inputs}
-use Rattle.model.specs.OutOfDate.{IsVerdict}
+use Rattle.model.specs.OutOfDate.{ReadsNoFree, IsVerdict}
 use Rattle.model.specs.Schedule.{Task, Step, Judged, Started, Ended, IsLawfulStep, IsLawfulFrom, judged_in, started_in, running_in, well_in, done_in}
 use Rattle.model.specs.Phases.{Phase, IsGrownBy, IsDueLoad, NoLoadIsDue, IsNextLoad, AreUnloadedFrom, IsLawfulPhase, IsLoad, IsInOrderAt, AreTakenIn, ArePhasesFrom, IsLawfulBuild, steps_of, next_edges, task_with}
 use Rattle.model.specs.Premises.{FilesAreKept, RecordedApart}
@@ -167,8 +167,8 @@ module _ (tells : Bool) (B : Behaviour) (own : OwnFiles) (asked : Asked) (store 
 
   -- an edge is judged, rightly by the edges and files of now
   pub over_now : (steps : List Step) (now : World) (i : ℕ) (b : Bool) → IsRunOrRest tells own The steps old now
-      → (IsTrue tells → FilesAreKept own asked.graph.edges old.history now.history → RecordedApart own (recorded_inputs store asked.graph.edges)
-      → IsVerdict asked.graph.edges store (well_in steps) old.history now.history i b)
+      → (IsTrue tells → (files : FilesAreKept own asked.graph.edges old.history now.history) → RecordedApart own (recorded_inputs store asked.graph.edges)
+      → ReadsNoFree files.free asked.graph.edges store now.history i → IsVerdict asked.graph.edges store (well_in steps) old.history now.history i b)
       → (j : ℕ) (c : Bool) → Judged i b ≡ Judged j c → JudgedOver tells own asked store asked.graph.edges steps j c old now
   over_now steps now i b rest right j c is =
       let same : i ≡ j = cc in
@@ -397,8 +397,8 @@ module _ (tells : Bool) (B : Behaviour) (own : OwnFiles) (asked : Asked) (store 
       run = rest_moved tells own (task_of asked store) (task_of More store) was.before old was.mid more_edges was.run;
       more = was.more;
       grows = was.grows;
-      holds = λ files. was.holds (kept_then tells own (task_of asked store) next more_edges was.before old was.mid tell idle was.run
-          (λ i started. loaded i (subst (λ (l : List Step). has_number (started_in l) i ≡ true) (sym was.splits) (in_left started_in started-append was.before was.later i started))) files);
+      holds = λ files bound. was.holds (kept_then tells own (task_of asked store) next more_edges was.before old was.mid tell idle was.run
+          (λ i started. loaded i (subst (λ (l : List Step). has_number (started_in l) i ≡ true) (sym was.splits) (in_left started_in started-append was.before was.later i started))) files) bound;
       input = (was.input.0, more_edges.inputs was.input.0 p was.input.1);
       settled = λ same j makes command. by_maker same j makes command (maker asked.graph.edges p) refl;
     }
@@ -427,7 +427,7 @@ module _ (tells : Bool) (B : Behaviour) (own : OwnFiles) (asked : Asked) (store 
     -- this one
     pub held_here : (steps : List Step) → IsRunOrRest tells own (task_of asked store) steps old now → IsTrue tells → IsIdle old.events → IsMadeOnce next → HasGrown asked.declared asked.graph.edges
         → IsDueLoad (task_of asked store) steps file → ((i : ℕ) (f : List ℕ) → (edge_at asked.graph.edges i).dyndep ≡ Some f → has (inputs (edge_at asked.graph.edges i)) f ≡ true)
-        → ((i : ℕ) → has_number (started_in steps) i ≡ true → (edge_at asked.graph.edges i).dyndep ≡ None) → (FilesAreKept own asked.graph.edges old.history now.history → view_of now.history file ≡ Some content)
+        → ((i : ℕ) → has_number (started_in steps) i ≡ true → (edge_at asked.graph.edges i).dyndep ≡ None) → ((files : FilesAreKept own asked.graph.edges old.history now.history) → files.free file ≡ false → view_of now.history file ≡ Some content)
         → LoadedThen tells own More store file content steps old now
     held_here steps rest tell idle once declared due inputs_named loaded holds = held_before once steps tell idle declared file content (record {
       before = steps;
@@ -455,7 +455,7 @@ module _ (tells : Bool) (B : Behaviour) (own : OwnFiles) (asked : Asked) (store 
 
     abbrev pub phased_load : (steps : List Step) → (phased : IsPhased tells B own asked store phases steps old now) → phased.build.taken_in ≡ [] → IsNextLoad (task_of asked store) steps file → B.dyndep content ≡ Some additions
         → IsInOrderAt store (task_of More store) → IsRunOrRest tells own (task_of asked store) steps old now → IsIdle old.events
-        → (IsTrue tells → FilesAreKept own asked.graph.edges old.history now.history → view_of now.history file ≡ Some content) → IsPhased tells B own More store (phases ++ ended_with phased.build.last ∷ []) steps old now
+        → (IsTrue tells → (files : FilesAreKept own asked.graph.edges old.history now.history) → files.free file ≡ false → view_of now.history file ≡ Some content) → IsPhased tells B own More store (phases ++ ended_with phased.build.last ∷ []) steps old now
     phased_load steps phased on is_next read order rest idle holds = record {
       texts = with_text file content phased.texts;
       build = record {

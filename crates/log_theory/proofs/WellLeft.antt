@@ -24,7 +24,7 @@ use Rattle.model.specs.Records.{Told, Store, OwnFiles, Made, in_force, deps_in_f
 use Rattle.model.specs.Judgement.{OutputFacts, InputFacts, Facts, is_later, start_of, has_other_act, is_same_number, is_empty_text, is_unset, holds, all_reasons, reason_of}
 use Rattle.model.specs.OutOfDate.{deps_start, output_facts, input_facts, facts_of, ListsCounted, IsVerdict}
 use Rattle.model.specs.Schedule.{Step, judged_in, started_in, well_in, done_in, IsSettled}
-use Rattle.model.specs.Premises.{FilesAreKept, RecordedApart, StampsGrow, Increases, EndedAt, IsFromAbove, IsReported, Matters, ReportsComeFromAbove}
+use Rattle.model.specs.Premises.{FilesAreKept, NothingReadIsFree, RecordedApart, StampsGrow, Increases, EndedAt, IsFromAbove, IsReported, Matters, ReportsComeFromAbove}
 use Rattle.model.specs.SingleBuild.{Asked, task_of}
 use Rattle.model.specs.Kept.{StartedUnder, IsRecorded, IsWritten, IsExcepted}
 use Rattle.build_theory.specs.Run.{IsRunOrRest, IsToldBy}
@@ -41,7 +41,7 @@ use Rattle.log_theory.proofs.Stamps.{early_file, next_grows, stamp_lies}
 use Rattle.log_theory.proofs.Explained.{some_or_none, recorded_is}
 use Rattle.log_theory.proofs.Carried.{read_apart}
 use Rattle.log_theory.proofs.Left.{anew_none}
-use Rattle.log_theory.proofs.Ticked.{written_stamp, file_within, increases_rest, stamps_since, settled_early, reads_early}
+use Rattle.log_theory.proofs.Ticked.{written_stamp, file_within, increases_rest, stamps_since, written_from, settled_early, reads_early}
 
 -- ---- tests that hold
 
@@ -159,27 +159,6 @@ of_known act (Some m) (Some deps) start p is known among =
 
 -- ---- what a command writes is later than its start
 
--- where a file was written since then, it is stamped no earlier than that
-written_from : (n : ℕ) (before after : List Moment) (by : Writer) (o : List ℕ) (content : Option (List ℕ)) (stamp : ℕ) (held : Option File) → Increases n (before ++ Wrote by o content stamp ∷ after)
-    → (file : File) → file_from o held (before ++ Wrote by o content stamp ∷ after) ≡ Some file → n ≤ file.stamp
-written_from n before after by o content stamp held grows file is = elim (cases_Bool (nat_lt file.stamp n)) [
-  | inl lt ↦
-      let early : file.stamp < n = ltb-true file.stamp n lt in
-      let was : written content stamp ≡ Some file = early_file o stamp (written content stamp) after rest.1 file there (omega (arith, early, rest.0, next_grows n before)) in
-      let same : file.stamp ≡ stamp = written_stamp content stamp file was in
-      absurd (omega (arith, early, same, rest.0, next_grows n before))
-  | inr other ↦ ltb-false file.stamp n other
-]
-  where
-    rest : Increases (next_from n before) (Wrote by o content stamp ∷ after)
-    rest = increases_rest n before (Wrote by o content stamp ∷ after) grows
-
-    there : file_from o (written content stamp) after ≡ Some file
-    there =
-        sym (file_from-append o held before (Wrote by o content stamp ∷ after)
-        ∙ ap (λ (f : Option File). file_from o f after) (cond-true (bytes_eq o o) (written content stamp) (file_from o held before) (bytes_same o)))
-        ∙ is
-
 -- what is written behind a start, and was not before, is stamped later than the start
 written_behind : (n : ℕ) (first after : List Moment) (i : ℕ) (act : Act) (begun : ℕ) (before later : List Moment) (by : Writer) (o : List ℕ) (content : Option (List ℕ)) (stamp : ℕ) (held : Option File)
     → AllByRecursion (IsElsewhere o) first → first ++ Happened (Start i act begun) ∷ after ≡ before ++ Wrote by o content stamp ∷ later → Increases n (first ++ Happened (Start i act begun) ∷ after)
@@ -208,6 +187,7 @@ module _ (tells : Bool) (B : Behaviour) (own : OwnFiles) (asked : Asked) (entry 
     (files : FilesAreKept own asked.graph.edges old.history now.history) (logged : IsLogged B asked.graph.edges steps None entry exit old now) (ticks : StartsAreTicked old.history now.history)
     (early_deps : (o : List ℕ) (deps : Told) → deps_in_force entry.deps o ≡ Some deps → deps.start < next_stamp old.history)
     (apart : RecordedApart own (recorded_inputs entry asked.graph.edges)) (stamps : StampsGrow old.history now.history)
+    (unread : NothingReadIsFree B files.free asked.graph.edges (recorded_inputs entry asked.graph.edges) steps old.history now.history)
     (above : ReportsComeFromAbove B own asked.graph.edges (recorded_inputs entry asked.graph.edges) steps old.history now.history)
     (loaded : (j : ℕ) → has_number (judged_in steps) j ≡ true → (edge_at asked.graph.edges j).dyndep ≡ None)
     (first_read : AreReadFirst asked.graph.edges (Matters B asked.graph.edges (recorded_inputs entry asked.graph.edges) steps old.history now.history) steps)
@@ -218,6 +198,9 @@ module _ (tells : Bool) (B : Behaviour) (own : OwnFiles) (asked : Asked) (entry 
 
   started_i : has_number (started_in steps) i ≡ true
   started_i = all.ended i (all.well i well)
+
+  judged_i : has_number (judged_in steps) i ≡ true
+  judged_i = all.out_of_date i (all.started i started_i)
 
   ticked : (k stamp : ℕ) → StartedUnder k stamp old now → TickedAfter tells own (task_of asked entry) steps k stamp old now
   ticked k stamp started = ticked_after tells own (task_of asked entry) steps old now rest tell idle ticks k stamp started
@@ -260,12 +243,12 @@ module _ (tells : Bool) (B : Behaviour) (own : OwnFiles) (asked : Asked) (entry 
       by_tick : TickedAfter tells own (task_of asked entry) steps i stamp old now → file.stamp ≤ stamp
       by_tick t =
           settled_early tells own asked entry steps old now tell idle once rest files stamps i stamp t p
-          (read_apart asked.graph.edges (view_of now.history) (λ q. own.set q ≡ false) files.own_files.inputs i p read)
+          (read_apart asked.graph.edges (view_of now.history) (λ q. own.set q ≡ false) files.own_files.inputs i p read) (unread i p judged_i (inl read))
           (λ j made is. reads_early tells own asked entry steps old now tell idle once rest files stamps i stamp t
           (Matters B asked.graph.edges (recorded_inputs entry asked.graph.edges) steps old.history now.history) first_read p j (inl read) made is) file is
 
   told_is_early : (stamp : ℕ) → StartedUnder i stamp old now → (p : List ℕ) → own.set p ≡ false → IsReported B asked.graph.edges steps old.history now.history i p → (file : File) → file_at now.history p ≡ Some file → file.stamp ≤ stamp
-  told_is_early stamp started p outside reported file is = settled_early tells own asked entry steps old now tell idle once rest files stamps i stamp (ticked i stamp started) p outside
+  told_is_early stamp started p outside reported file is = settled_early tells own asked entry steps old now tell idle once rest files stamps i stamp (ticked i stamp started) p outside (unread i p judged_i (inr (inr reported)))
       (λ j made also. reads_early tells own asked entry steps old now tell idle once rest files stamps i stamp (ticked i stamp started)
       (Matters B asked.graph.edges (recorded_inputs entry asked.graph.edges) steps old.history now.history) first_read p j (inr (inr reported)) made also) file is
 

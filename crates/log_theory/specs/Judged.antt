@@ -6,7 +6,7 @@ use Rattle.model.specs.World.{World, View, view_of, IsIdle}
 use Rattle.model.specs.Graph.{has_number, edge_at, IsMadeOnce}
 use Rattle.model.specs.Outcome.{Behaviour, depfile_in, is_accepted}
 use Rattle.model.specs.Records.{Store, OwnFiles, recorded_inputs}
-use Rattle.model.specs.OutOfDate.{IsVerdict}
+use Rattle.model.specs.OutOfDate.{ReadsNoFree, IsVerdict}
 use Rattle.model.specs.Schedule.{Step, Judged, Started, Ended, IsLawful, ended_in, well_in}
 use Rattle.model.specs.Premises.{FilesAreKept, RecordedApart, EndedAt, InputsAreKnown}
 use Rattle.model.specs.SingleBuild.{Asked, NamesOther, task_of, IsJudged}
@@ -19,8 +19,8 @@ pub record JudgedThen (tells : Bool) (own : OwnFiles) (asked : Asked) (store : S
   pub run : IsRunOrRest tells own (task_of asked store) before old mid
   pub more : List Moment
   pub grows : IsTrue tells → now.history ≡ mid.history ++ more
-  pub right : IsTrue tells → FilesAreKept own asked.graph.edges old.history mid.history → RecordedApart own (recorded_inputs store asked.graph.edges)
-      → IsVerdict asked.graph.edges store (well_in before) old.history mid.history i out_of_date
+  pub right : IsTrue tells → (files : FilesAreKept own asked.graph.edges old.history mid.history) → RecordedApart own (recorded_inputs store asked.graph.edges)
+      → ReadsNoFree files.free asked.graph.edges store mid.history i → IsVerdict asked.graph.edges store (well_in before) old.history mid.history i out_of_date
 
 -- so was each edge among the steps
 abbrev pub AreJudgedThen : Bool → OwnFiles → Asked → Store → List Step → World → World → Type 0
@@ -40,9 +40,9 @@ VerdictsAtExit =
     (tells : Bool) (B : Behaviour) (own : OwnFiles) (asked : Asked) (store : Store) (steps : List Step) (met : Option ℕ) (old now : World)
     → IsTrue tells → IsIdle old.events → IsMadeOnce asked.graph.edges → IsLawful (task_of asked store) steps
     → IsRunOrRest tells own (task_of asked store) steps old now → AreJudgedThen tells own asked store steps old now
-    → FilesAreKept own asked.graph.edges old.history now.history → RecordedApart own (recorded_inputs store asked.graph.edges)
+    → (files : FilesAreKept own asked.graph.edges old.history now.history) → RecordedApart own (recorded_inputs store asked.graph.edges)
     → AreTakenIn B asked.graph.edges steps met old.history now.history
-    → IsJudged B asked store steps met old.history now.history
+    → IsJudged B files.free asked store steps met old.history now.history
 
 -- ---- builds that load dyndep files
 
@@ -52,8 +52,8 @@ pub record JudgedOver (tells : Bool) (own : OwnFiles) (asked : Asked) (store : S
   pub run : IsRunOrRest tells own (task_with (task_of asked store) store edges) before old mid
   pub more : List Moment
   pub grows : IsTrue tells → now.history ≡ mid.history ++ more
-  pub right : IsTrue tells → FilesAreKept own edges old.history mid.history → RecordedApart own (recorded_inputs store edges)
-      → IsVerdict edges store (well_in before) old.history mid.history i out_of_date
+  pub right : IsTrue tells → (files : FilesAreKept own edges old.history mid.history) → RecordedApart own (recorded_inputs store edges)
+      → ReadsNoFree files.free edges store mid.history i → IsVerdict edges store (well_in before) old.history mid.history i out_of_date
 
 -- so was each edge that was judged in these steps, after those before them
 abbrev pub AreJudgedOver : Bool → OwnFiles → Asked → Store → List Edge → List Step → List Step → World → World → Type 0
@@ -77,7 +77,7 @@ VerdictsWithLoads =
     → (build : IsLawfulBuild B.dyndep texts asked.declared (task_of asked store) store steps)
     → IsRunOrRest tells own (task_of asked store) steps old now
     → ArePhasesJudged tells own asked store [] build.earlier old now → AreJudgedOver tells own asked store asked.graph.edges (steps_of build.earlier) build.last old now
-    → FilesAreKept own asked.graph.edges old.history now.history → RecordedApart own (recorded_inputs store asked.graph.edges)
+    → (files : FilesAreKept own asked.graph.edges old.history now.history) → RecordedApart own (recorded_inputs store asked.graph.edges)
     → InputsAreKnown asked.declared asked.graph.edges (recorded_inputs store asked.graph.edges)
     → AreTakenIn B asked.graph.edges steps met old.history now.history
-    → IsJudged B asked store steps met old.history now.history
+    → IsJudged B files.free asked store steps met old.history now.history
