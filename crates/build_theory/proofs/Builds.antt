@@ -81,13 +81,13 @@ module _ (tells : Bool) (own : OwnFiles) (asked : Asked) (store : Store) (steps 
   pub clean_at_success : IsTrue tells → IsIdle old.events → IsRunOrRest tells own (task_of asked store) steps old now → IsMadeOnce asked.graph.edges → clean_in steps ≡ []
       → (B : Behaviour) → AreReadFirst asked.graph.edges (Matters B asked.graph.edges (recorded_inputs store asked.graph.edges) steps old.history now.history) steps
       → ((i : ℕ) → InCone asked store i → IsSettled asked.graph.edges (done_in steps) i)
-      → Premises B own asked.declared asked.graph.edges (recorded_inputs store asked.graph.edges) steps old.history now.history
-      → LeaveAsNow B asked.graph.edges steps old.history now.history
-      → IsCleanlyBuilt B asked store (view_of now.history)
-  clean_at_success tell idle rest once none B first settled premises lefts i o within command is_output =
+      → (premises : Premises B own asked.declared asked.graph.edges (recorded_inputs store asked.graph.edges) steps old.history now.history)
+      → LeaveAsNow B premises.files.quiet asked.graph.edges steps old.history now.history
+      → IsCleanlyBuilt B premises.files.quiet asked store (view_of now.history)
+  clean_at_success tell idle rest once none B first settled premises lefts i o is_quiet within command is_output =
       clean_where_explained tells own (task_of asked store) steps old now idle rest tell B asked.declared once premises lefts first
-      (λ j p clean is_out. absurd (false≢true (subst (λ (l : List ℕ). has_number l j ≡ true) none clean)))
-      i o command (settled i within) is_output
+      (λ j p is_quiet clean is_out. absurd (false≢true (subst (λ (l : List ℕ). has_number l j ≡ true) none clean)))
+      i o is_quiet command (settled i within) is_output
 
   pub frame_of_run : IsTrue tells → IsIdle old.events → IsRunOrRest tells own (task_of asked store) steps old now → IsMadeOnce asked.graph.edges
       → AreStartsReady own asked.graph.edges old.history now.history → IsFrame own asked.graph.edges steps old.history now.history

@@ -29,6 +29,7 @@ use Rattle.build_theory.proofs.Events.{starts-append, starts_of_steps, starts_of
 use Rattle.build_theory.proofs.Moments.{until_first, of_build, of_run_parts, quiet, IsMomentOf, moment_of, events_in-append}
 use Rattle.build_theory.proofs.Makers.{maker_is, one_maker}
 use Rattle.build_theory.proofs.Settled.{settled_command}
+use Rattle.build_theory.proofs.Only.{only, only_has, has_only, only_order}
 use Rattle.build_theory.proofs.Rounds.{clean_by_order}
 use Rattle.build_theory.proofs.Files.{IsElsewhere, file_stays, all_elsewhere, stays_or_may_change}
 
@@ -226,9 +227,9 @@ module _ (tells : Bool) (own : OwnFiles) (task : Task) (steps : List Step) (old 
   -- ---- contents
 
   -- each output of a command that ended well is explained
-  pub explained : (B : Behaviour) (declared : List Edge) → IsMadeOnce task.graph.edges → Premises B own declared task.graph.edges task.recorded steps old.history now.history → LeaveAsNow B task.graph.edges steps old.history now.history
-      → (i : ℕ) (o : List ℕ) → has_number (well_in steps) i ≡ true → has (outputs (edge_at task.graph.edges i)) o ≡ true → IsExplained B task.graph.edges (Matters B task.graph.edges task.recorded steps old.history now.history) (view_of now.history) i o
-  explained B declared once premises lefts i o well is_output = by_left left
+  pub explained : (B : Behaviour) (declared : List Edge) → IsMadeOnce task.graph.edges → (premises : Premises B own declared task.graph.edges task.recorded steps old.history now.history) → LeaveAsNow B premises.files.quiet task.graph.edges steps old.history now.history
+      → (i : ℕ) (o : List ℕ) → premises.files.quiet i ≡ true → has_number (well_in steps) i ≡ true → has (outputs (edge_at task.graph.edges i)) o ≡ true → IsExplained B task.graph.edges (Matters B task.graph.edges task.recorded steps old.history now.history) (view_of now.history) i o
+  explained B declared once premises lefts i o is_quiet well is_output = by_left left
     where
       end : EndOf own task.graph.edges steps i old.history now.history
       end = end_of i well
@@ -237,7 +238,7 @@ module _ (tells : Bool) (own : OwnFiles) (task : Task) (steps : List Step) (old 
       ended_at = record { before = end.before; after = end.after; is = refl; splits = end.grows }
 
       left : LeftAsNow B task.graph.edges (view_of now.history) (view_of (old.history ++ end.before)) i
-      left = lefts i (old.history ++ end.before) ended_at well
+      left = lefts i (old.history ++ end.before) is_quiet ended_at well
 
       by_left : LeftAsNow B task.graph.edges (view_of now.history) (view_of (old.history ++ end.before)) i → IsExplained B task.graph.edges (Matters B task.graph.edges task.recorded steps old.history now.history) (view_of now.history) i o
       by_left left = record {
@@ -254,16 +255,17 @@ module _ (tells : Bool) (own : OwnFiles) (task : Task) (steps : List Step) (old 
 
   -- Each output of a command edge that is settled holds what the clean build gives, where those judged clean are explained.
   pub clean_where_explained : (B : Behaviour) (declared : List Edge) → IsMadeOnce task.graph.edges
-      → Premises B own declared task.graph.edges task.recorded steps old.history now.history → LeaveAsNow B task.graph.edges steps old.history now.history
+      → (premises : Premises B own declared task.graph.edges task.recorded steps old.history now.history) → LeaveAsNow B premises.files.quiet task.graph.edges steps old.history now.history
       → AreReadFirst task.graph.edges (Matters B task.graph.edges task.recorded steps old.history now.history) steps
-      → ((i : ℕ) (o : List ℕ) → has_number (clean_in steps) i ≡ true → has (outputs (edge_at task.graph.edges i)) o ≡ true → IsExplained B task.graph.edges (Matters B task.graph.edges task.recorded steps old.history now.history) (view_of now.history) i o)
-      → (i : ℕ) (o : List ℕ) → IsCommand task.graph.edges i → IsSettled task.graph.edges (done_in steps) i → has (outputs (edge_at task.graph.edges i)) o ≡ true
+      → ((i : ℕ) (o : List ℕ) → premises.files.quiet i ≡ true → has_number (clean_in steps) i ≡ true → has (outputs (edge_at task.graph.edges i)) o ≡ true → IsExplained B task.graph.edges (Matters B task.graph.edges task.recorded steps old.history now.history) (view_of now.history) i o)
+      → (i : ℕ) (o : List ℕ) → premises.files.quiet i ≡ true → IsCommand task.graph.edges i → IsSettled task.graph.edges (done_in steps) i → has (outputs (edge_at task.graph.edges i)) o ≡ true
       → view_of now.history o ≡ clean_build B task.graph.edges (view_of now.history) o
-  clean_where_explained B declared once premises lefts first cleans i o command settled is_output =
-      clean_by_order B task.graph.edges (view_of now.history) (Matters B task.graph.edges task.recorded steps old.history now.history) (λ j p read. inl read) (settled_in steps)
-      (reading_order task.graph.edges (Matters B task.graph.edges task.recorded steps old.history now.history) steps rest.orderly first)
-      (λ j h. (premises.one_outcome j (judged_of j h), λ p is_out. explained_of j p is_out h))
-      i o (done_settled steps i (settled_command task.graph.edges (done_in steps) i command settled)) (maker_is task.graph.edges o i once is_output)
+  clean_where_explained B declared once premises lefts first cleans i o is_quiet command settled is_output =
+      clean_by_order B task.graph.edges (view_of now.history) (Matters B task.graph.edges task.recorded steps old.history now.history) (λ j p read. inl read) (only premises.files.quiet (settled_in steps))
+      (only_order task.graph.edges (Matters B task.graph.edges task.recorded steps old.history now.history) premises.files.quiet premises.files.alone.above [] (settled_in steps)
+      (reading_order task.graph.edges (Matters B task.graph.edges task.recorded steps old.history now.history) steps rest.orderly first))
+      (λ j h. (premises.one_outcome j (judged_of j (only_has premises.files.quiet (settled_in steps) j h).1), λ p is_out. explained_of j p is_out (only_has premises.files.quiet (settled_in steps) j h).0 (only_has premises.files.quiet (settled_in steps) j h).1))
+      i o (has_only premises.files.quiet (settled_in steps) i (done_settled steps i (settled_command task.graph.edges (done_in steps) i command settled)) is_quiet) (maker_is task.graph.edges o i once is_output)
     where
       judged_of : (j : ℕ) → has_number (settled_in steps) j ≡ true → has_number (judged_in steps) j ≡ true
       judged_of j h = elim (has_number-cases (clean_in steps) (well_in steps) j (settled_done steps j h)) [
@@ -271,10 +273,11 @@ module _ (tells : Bool) (own : OwnFiles) (task : Task) (steps : List Step) (old 
         | inr well ↦ kept.out_of_date j (kept.started j (kept.ended j (kept.well j well)))
       ]
 
-      explained_of : (j : ℕ) (p : List ℕ) → has (outputs (edge_at task.graph.edges j)) p ≡ true → has_number (settled_in steps) j ≡ true → IsExplained B task.graph.edges (Matters B task.graph.edges task.recorded steps old.history now.history) (view_of now.history) j p
-      explained_of j p is_out h = elim (has_number-cases (clean_in steps) (well_in steps) j (settled_done steps j h)) [
-        | inl clean ↦ cleans j p clean is_out
-        | inr well ↦ explained B declared once premises lefts j p well is_out
+      explained_of : (j : ℕ) (p : List ℕ) → has (outputs (edge_at task.graph.edges j)) p ≡ true → premises.files.quiet j ≡ true → has_number (settled_in steps) j ≡ true
+          → IsExplained B task.graph.edges (Matters B task.graph.edges task.recorded steps old.history now.history) (view_of now.history) j p
+      explained_of j p is_out quiet_j h = elim (has_number-cases (clean_in steps) (well_in steps) j (settled_done steps j h)) [
+        | inl clean ↦ cleans j p quiet_j clean is_out
+        | inr well ↦ explained B declared once premises lefts j p quiet_j well is_out
       ]
 
   -- ---- the frame

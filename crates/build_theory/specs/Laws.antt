@@ -42,9 +42,9 @@ SuccessIsClean =
     → IsMadeOnce asked.graph.edges → clean_in steps ≡ []
     → AreReadFirst asked.graph.edges (Matters B asked.graph.edges (recorded_inputs store asked.graph.edges) steps old.history now.history) steps
     → ((i : ℕ) → InCone asked store i → IsSettled asked.graph.edges (done_in steps) i)
-    → Premises B own asked.declared asked.graph.edges (recorded_inputs store asked.graph.edges) steps old.history now.history
-    → LeaveAsNow B asked.graph.edges steps old.history now.history
-    → IsCleanlyBuilt B asked store (view_of now.history)
+    → (premises : Premises B own asked.declared asked.graph.edges (recorded_inputs store asked.graph.edges) steps old.history now.history)
+    → LeaveAsNow B premises.files.quiet asked.graph.edges steps old.history now.history
+    → IsCleanlyBuilt B premises.files.quiet asked store (view_of now.history)
 
 -- A run changes no file but those that a build may change, each at its time; at its starts there is no old depfile and the
 -- response file is written, if that was seen to.

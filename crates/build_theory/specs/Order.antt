@@ -54,10 +54,10 @@ pub record LeftAsNow (B : Behaviour) (edges : List Edge) (files after : View) (i
   pub contents : AllByRecursion (λ o. after o ≡ given B (edge_at edges i).act seen o) (outputs (edge_at edges i))
   pub depfile : depfile_in B (edge_at edges i).act after ≡ Some (reports_of B (edge_at edges i).act seen)
 
--- so did each command that ended well
-abbrev pub LeaveAsNow : Behaviour → List Edge → List Step → List Moment → List Moment → Type 0
-LeaveAsNow B edges steps old new =
-    (i : ℕ) (at : List Moment) → EndedAt i old new at → has_number (well_in steps) i ≡ true → LeftAsNow B edges (view_of new) (view_of at) i
+-- so did each of these commands that ended well
+abbrev pub LeaveAsNow : Behaviour → (ℕ → Bool) → List Edge → List Step → List Moment → List Moment → Type 0
+LeaveAsNow B quiet edges steps old new =
+    (i : ℕ) (at : List Moment) → quiet i ≡ true → EndedAt i old new at → has_number (well_in steps) i ≡ true → LeftAsNow B edges (view_of new) (view_of at) i
 
 -- what logs tell that are not there
 abbrev pub no_records : Store

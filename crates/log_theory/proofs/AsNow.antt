@@ -33,12 +33,9 @@ module _ (tells : Bool) (B : Behaviour) (own : OwnFiles) (asked : Asked) (store 
   all : IsKept asked.graph.edges steps
   all = kept_orderly asked.graph.edges steps rest.orderly
 
-  module _ (i : ℕ) (at : List Moment) (ended : EndedAt i old.history now.history at) (well : has_number (well_in steps) i ≡ true) where
+  module _ (i : ℕ) (at : List Moment) (is_quiet : premises.files.quiet i ≡ true) (ended : EndedAt i old.history now.history at) (well : has_number (well_in steps) i ≡ true) where
     started : has_number (started_in steps) i ≡ true
     started = all.ended i (all.well i well)
-
-    judged : has_number (judged_in steps) i ≡ true
-    judged = all.out_of_date i (all.started i started)
 
     under : (stamp : ℕ) × StartedUnder i stamp old now
     under = started_under tells own (task_of asked store) steps old now rest i started
@@ -65,7 +62,7 @@ module _ (tells : Bool) (B : Behaviour) (own : OwnFiles) (asked : Asked) (store 
     since p outside reads = (all_parts (IsNotAt p) t.stamped.between (Happened (Start i t.stamped.act under.0) ∷ t.stamped.after)
         (all_parts (IsNotAt p) t.stamped.before (Wrote t.stamped.by t.stamped.path t.stamped.content under.0 ∷ (t.stamped.between ++ Happened (Start i t.stamped.act under.0) ∷ t.stamped.after))
         (settled_unwritten tells own asked store t.done t.later old t.mid now (t.stamped.before ++ Wrote t.stamped.by t.stamped.path t.stamped.content under.0 ∷ (t.stamped.between ++ Happened (Start i t.stamped.act under.0) ∷ t.stamped.after))
-        tell idle once t.run (subst (λ (l : List Step). IsRunOrRest tells own (task_of asked store) l old now) t.splits rest) t.stamped.splits premises.files.kept p outside (premises.files.unread i p judged reads)
+        tell idle once t.run (subst (λ (l : List Step). IsRunOrRest tells own (task_of asked store) l old now) t.splits rest) t.stamped.splits premises.files.kept p outside (premises.files.alone.unread i p is_quiet reads)
         (λ j made is. reads_early tells own asked store steps old now tell idle once rest premises.files.kept premises.files.stamps i under.0 t Reads first_read p j reads made is))).1.1).1.1
 
     as_reported : (p : List ℕ) → has (listed (depfile_in B (edge_at asked.graph.edges i).act (view_of at))) p ≡ true → left.seen p ≡ view_of now.history p
@@ -84,5 +81,5 @@ module _ (tells : Bool) (B : Behaviour) (own : OwnFiles) (asked : Asked) (store 
       depfile = left.depfile;
     }
 
-  pub leave_as_now : LeaveAsNow B asked.graph.edges steps old.history now.history
-  leave_as_now i at ended well = left_as_now i at ended well
+  pub leave_as_now : LeaveAsNow B premises.files.quiet asked.graph.edges steps old.history now.history
+  leave_as_now i at is_quiet ended well = left_as_now i at is_quiet ended well

@@ -93,7 +93,7 @@ module _ (tells : Bool) (B : Behaviour) (format : LogFormat) (own : OwnFiles) (a
   ]
 
   pub clean : IsTrue tells → IsFaithfulStore B format own asked.graph.edges old
-      → Premises B own asked.declared asked.graph.edges (recorded_inputs build.store asked.graph.edges) build.steps old.history new.history → IsSuccess answer → IsCleanlyBuilt B asked build.store (view_of new.history)
+      → (premises : Premises B own asked.declared asked.graph.edges (recorded_inputs build.store asked.graph.edges) build.steps old.history new.history) → IsSuccess answer → IsCleanlyBuilt B premises.files.quiet asked build.store (view_of new.history)
   clean tell faithful premises is =
       let well = success is in
       clean_with_loads tells B format own build.texts asked build.store build.steps build.met old new tell of_run.idle of_run.run build.schedule.lawful (declared well.once) well.once well.named
@@ -148,8 +148,8 @@ module _ (tells : Bool) (B : Behaviour) (format : LogFormat) (own : OwnFiles) (a
   -- ---- nothing is left
 
   pub nothing_left : IsTrue tells → IsSuccess answer → (hand ≡ None) → DepsHaveStarted build.store old.history
-      → FilesAndReports B own asked.declared asked.graph.edges (recorded_inputs build.store asked.graph.edges) build.steps old.history new.history
-      → LeavesNothing asked build.store (store_at format own new) build.steps old.history new.history
+      → (premises : FilesAndReports B own asked.declared asked.graph.edges (recorded_inputs build.store asked.graph.edges) build.steps old.history new.history)
+      → LeavesNothing premises.quiet asked build.store (store_at format own new) build.steps old.history new.history
   nothing_left tell is free early premises =
       let well = success is in
       let in_order = loads_come_first B build.texts asked build.store build.steps old.history new.history build.schedule.lawful (declared well.once) well.once well.named premises.dyndep in

@@ -32,15 +32,15 @@ module _ (tells : Bool) (B : Behaviour) (format : LogFormat) (own : OwnFiles) (a
       subst (λ (s : Store). IsFaithfulRecord B s old.history o made) (sym found)
       (faithful.records o made (subst (λ (s : Store). in_force s.records o ≡ Some made) found force)).0
 
-  unread : (i : ℕ) → has_number (judged_in steps) i ≡ true → ReadsNoFree premises.files.kept.free asked.graph.edges store now.history i
-  unread i judged p (inl read) = premises.files.unread i p judged (inl read)
-  unread i judged p (inr recorded) = premises.files.unread i p judged (inr (inl recorded))
+  unread : (i : ℕ) → premises.files.quiet i ≡ true → ReadsNoFree premises.files.kept.free asked.graph.edges store now.history i
+  unread i is_quiet p (inl read) = premises.files.alone.unread i p is_quiet (inl read)
+  unread i is_quiet p (inr recorded) = premises.files.alone.unread i p is_quiet (inr (inl recorded))
 
-  cleans : IsJudged B premises.files.kept.free asked store steps met old.history now.history → (i : ℕ) (o : List ℕ) → has_number (clean_in steps) i ≡ true → has (outputs (edge_at asked.graph.edges i)) o ≡ true
+  cleans : IsJudged B premises.files.kept.free asked store steps met old.history now.history → (i : ℕ) (o : List ℕ) → premises.files.quiet i ≡ true → has_number (clean_in steps) i ≡ true → has (outputs (edge_at asked.graph.edges i)) o ≡ true
       → IsExplained B asked.graph.edges (Matters B asked.graph.edges (recorded_inputs store asked.graph.edges) steps old.history now.history) (view_of now.history) i o
-  cleans judged i o clean is_output =
+  cleans judged i o is_quiet clean is_output =
       explained.explained_clean B asked.graph.edges store old.history now.history told.more told.grows premises.files.stamps believed
-      (well_in judgement.before) i (all.judged i (all.clean i clean)) (loaded i (all.clean i clean)) (judged.verdicts judgement.before judgement.after i false judgement.splits (unread i (all.clean i clean)))
+      (well_in judgement.before) i (all.judged i (all.clean i clean)) (loaded i (all.clean i clean)) (judged.verdicts judgement.before judgement.after i false judgement.splits (unread i is_quiet))
       (Matters B asked.graph.edges (recorded_inputs store asked.graph.edges) steps old.history now.history) (λ p recorded. inr (inl recorded)) o is_output
       (kept.clean_stays tells own (task_of asked store) steps old now idle rest tell once premises.files.kept i o clean is_output)
     where
@@ -53,11 +53,11 @@ module _ (tells : Bool) (B : Behaviour) (format : LogFormat) (own : OwnFiles) (a
       judgement : kept.IsJudgedClean steps i
       judgement = kept.clean_step steps i clean
 
-  clean_now : IsJudged B premises.files.kept.free asked store steps met old.history now.history → AreReadFirst asked.graph.edges (Matters B asked.graph.edges (recorded_inputs store asked.graph.edges) steps old.history now.history) steps → ((i : ℕ) → InCone asked store i → IsSettled asked.graph.edges (done_in steps) i) → IsCleanlyBuilt B asked store (view_of now.history)
-  clean_now judged first settled i o within command is_output =
+  clean_now : IsJudged B premises.files.kept.free asked store steps met old.history now.history → AreReadFirst asked.graph.edges (Matters B asked.graph.edges (recorded_inputs store asked.graph.edges) steps old.history now.history) steps → ((i : ℕ) → InCone asked store i → IsSettled asked.graph.edges (done_in steps) i) → IsCleanlyBuilt B premises.files.quiet asked store (view_of now.history)
+  clean_now judged first settled i o is_quiet within command is_output =
       clean_where_explained tells own (task_of asked store) steps old now idle rest tell B asked.declared
-      once premises (leave_as_now tells B own asked store steps old now tell idle rest once ticks premises first) first (λ j p clean is_out. cleans judged j p clean is_out)
-      i o command (settled i within) is_output
+      once premises (leave_as_now tells B own asked store steps old now tell idle rest once ticks premises first) first (λ j p quiet_j clean is_out. cleans judged j p quiet_j clean is_out)
+      i o is_quiet command (settled i within) is_output
 
 pub clean_from_faithful : CleanFromFaithful
 clean_from_faithful tells B format own asked store steps met old now tell idle rest once loaded found faithful premises ticks judged first settled =

@@ -24,7 +24,7 @@ use Rattle.model.specs.Records.{Told, Store, OwnFiles, Made, in_force, deps_in_f
 use Rattle.model.specs.Judgement.{OutputFacts, InputFacts, Facts, is_later, start_of, has_other_act, is_same_number, is_empty_text, is_unset, holds, all_reasons, reason_of}
 use Rattle.model.specs.OutOfDate.{deps_start, output_facts, input_facts, facts_of, ListsCounted, IsVerdict}
 use Rattle.model.specs.Schedule.{Step, judged_in, started_in, well_in, done_in, IsSettled}
-use Rattle.model.specs.Premises.{FilesAreKept, NothingReadIsFree, RecordedApart, StampsGrow, Increases, EndedAt, IsFromAbove, IsReported, Matters, ReportsComeFromAbove}
+use Rattle.model.specs.Premises.{FilesAreKept, RecordedApart, StampsGrow, Increases, EndedAt, IsFromAbove, IsReported, Matters, ReportsComeFromAbove}
 use Rattle.model.specs.SingleBuild.{Asked, task_of}
 use Rattle.model.specs.Kept.{StartedUnder, IsRecorded, IsWritten, IsExcepted}
 use Rattle.build_theory.specs.Run.{IsRunOrRest, IsToldBy}
@@ -187,20 +187,17 @@ module _ (tells : Bool) (B : Behaviour) (own : OwnFiles) (asked : Asked) (entry 
     (files : FilesAreKept own asked.graph.edges old.history now.history) (logged : IsLogged B asked.graph.edges steps None entry exit old now) (ticks : StartsAreTicked old.history now.history)
     (early_deps : (o : List ℕ) (deps : Told) → deps_in_force entry.deps o ≡ Some deps → deps.start < next_stamp old.history)
     (apart : RecordedApart own (recorded_inputs entry asked.graph.edges)) (stamps : StampsGrow old.history now.history)
-    (unread : NothingReadIsFree B files.free asked.graph.edges (recorded_inputs entry asked.graph.edges) steps old.history now.history)
     (above : ReportsComeFromAbove B own asked.graph.edges (recorded_inputs entry asked.graph.edges) steps old.history now.history)
     (loaded : (j : ℕ) → has_number (judged_in steps) j ≡ true → (edge_at asked.graph.edges j).dyndep ≡ None)
     (first_read : AreReadFirst asked.graph.edges (Matters B asked.graph.edges (recorded_inputs entry asked.graph.edges) steps old.history now.history) steps)
     (i : ℕ) (command : IsCommand asked.graph.edges i) (well : has_number (well_in steps) i ≡ true)
+    (unread : (p : List ℕ) → Matters B asked.graph.edges (recorded_inputs entry asked.graph.edges) steps old.history now.history i p → files.free p ≡ false)
     (inputs_settled : (q : List ℕ) (j : ℕ) → has (inputs (edge_at asked.graph.edges i)) q ≡ true → maker asked.graph.edges q ≡ Some j → IsSettled asked.graph.edges (done_in steps) j) where
   all : IsKept asked.graph.edges steps
   all = kept_orderly asked.graph.edges steps rest.orderly
 
   started_i : has_number (started_in steps) i ≡ true
   started_i = all.ended i (all.well i well)
-
-  judged_i : has_number (judged_in steps) i ≡ true
-  judged_i = all.out_of_date i (all.started i started_i)
 
   ticked : (k stamp : ℕ) → StartedUnder k stamp old now → TickedAfter tells own (task_of asked entry) steps k stamp old now
   ticked k stamp started = ticked_after tells own (task_of asked entry) steps old now rest tell idle ticks k stamp started
@@ -243,12 +240,12 @@ module _ (tells : Bool) (B : Behaviour) (own : OwnFiles) (asked : Asked) (entry 
       by_tick : TickedAfter tells own (task_of asked entry) steps i stamp old now → file.stamp ≤ stamp
       by_tick t =
           settled_early tells own asked entry steps old now tell idle once rest files stamps i stamp t p
-          (read_apart asked.graph.edges (view_of now.history) (λ q. own.set q ≡ false) files.own_files.inputs i p read) (unread i p judged_i (inl read))
+          (read_apart asked.graph.edges (view_of now.history) (λ q. own.set q ≡ false) files.own_files.inputs i p read) (unread p (inl read))
           (λ j made is. reads_early tells own asked entry steps old now tell idle once rest files stamps i stamp t
           (Matters B asked.graph.edges (recorded_inputs entry asked.graph.edges) steps old.history now.history) first_read p j (inl read) made is) file is
 
   told_is_early : (stamp : ℕ) → StartedUnder i stamp old now → (p : List ℕ) → own.set p ≡ false → IsReported B asked.graph.edges steps old.history now.history i p → (file : File) → file_at now.history p ≡ Some file → file.stamp ≤ stamp
-  told_is_early stamp started p outside reported file is = settled_early tells own asked entry steps old now tell idle once rest files stamps i stamp (ticked i stamp started) p outside (unread i p judged_i (inr (inr reported)))
+  told_is_early stamp started p outside reported file is = settled_early tells own asked entry steps old now tell idle once rest files stamps i stamp (ticked i stamp started) p outside (unread p (inr (inr reported)))
       (λ j made also. reads_early tells own asked entry steps old now tell idle once rest files stamps i stamp (ticked i stamp started)
       (Matters B asked.graph.edges (recorded_inputs entry asked.graph.edges) steps old.history now.history) first_read p j (inr (inr reported)) made also) file is
 

@@ -34,7 +34,7 @@ CleanFromFaithful =
     → IsJudged B premises.files.kept.free asked store steps met old.history now.history
     → AreReadFirst asked.graph.edges (Matters B asked.graph.edges (recorded_inputs store asked.graph.edges) steps old.history now.history) steps
     → ((i : ℕ) → InCone asked store i → IsSettled asked.graph.edges (done_in steps) i)
-    → IsCleanlyBuilt B asked store (view_of now.history)
+    → IsCleanlyBuilt B premises.files.quiet asked store (view_of now.history)
 
 -- The same for each lawful build, dyndep files that it loads included: over the graph of its end.
 abbrev pub CleanWithLoads : Type 0
@@ -47,7 +47,7 @@ CleanWithLoads =
     → (premises : Premises B own asked.declared asked.graph.edges (recorded_inputs store asked.graph.edges) steps old.history now.history) → StartsAreTicked old.history now.history
     → IsJudged B premises.files.kept.free asked store steps met old.history now.history
     → ((i : ℕ) → InCone asked store i → IsSettled asked.graph.edges (done_in steps) i)
-    → IsCleanlyBuilt B asked store (view_of now.history)
+    → IsCleanlyBuilt B premises.files.quiet asked store (view_of now.history)
 
 -- A store that was faithful at the entry of a run is so at each point of it, faults included, while the premises hold up to there.
 abbrev pub FaithfulAtExit : Type 0
@@ -93,4 +93,4 @@ NothingIsLeft =
     → IsJudged B premises.kept.free asked store steps met old.history now.history
     → AreReadFirst asked.graph.edges (Matters B asked.graph.edges (recorded_inputs store asked.graph.edges) steps old.history now.history) steps
     → ((i : ℕ) → InCone asked store i → IsSettled asked.graph.edges (done_in steps) i)
-    → LeavesNothing asked store (store_at format own now) steps old.history now.history
+    → LeavesNothing premises.quiet asked store (store_at format own now) steps old.history now.history

@@ -219,15 +219,17 @@ pub record FilesAreKept (own : OwnFiles) (edges : List Edge) (old new : List Mom
 abbrev pub RecordedApart : OwnFiles → (ℕ → List (List ℕ)) → Type 0
 RecordedApart own recorded = (i : ℕ) (p : List ℕ) → has (recorded i) p ≡ true → own.set p ≡ false
 
--- what an edge reads that was judged is not written by others: what verdicts and contents suppose beside it
-abbrev pub NothingReadIsFree : Behaviour → (List ℕ → Bool) → List Edge → (ℕ → List (List ℕ)) → List Step → List Moment → List Moment → Type 0
-NothingReadIsFree B free edges recorded steps old new =
-    (i : ℕ) (p : List ℕ) → has_number (judged_in steps) i ≡ true → Matters B edges recorded steps old new i p → free p ≡ false
+-- A set of edges that others leave alone: no edge of it reads a free path, and the commands that make what it reads are of the set.
+-- Of these edges alone something is said of what they leave: where a source is edited meanwhile, all edges but those below it may be.
+pub record AreQuiet (B : Behaviour) (quiet : ℕ → Bool) (free : List ℕ → Bool) (edges : List Edge) (recorded : ℕ → List (List ℕ)) (steps : List Step) (old new : List Moment) : Type 0 where
+  pub unread : (i : ℕ) (p : List ℕ) → quiet i ≡ true → Matters B edges recorded steps old new i p → free p ≡ false
+  pub above : (i j : ℕ) (p : List ℕ) → quiet i ≡ true → Matters B edges recorded steps old new i p → maker edges p ≡ Some j → IsCommand edges j → quiet j ≡ true
 
 -- what is supposed of files, stamps and reports
 pub record FilesAndReports (B : Behaviour) (own : OwnFiles) (declared edges : List Edge) (recorded : ℕ → List (List ℕ)) (steps : List Step) (old new : List Moment) : Type 0 where
   pub kept : FilesAreKept own edges old new
-  pub unread : NothingReadIsFree B kept.free edges recorded steps old new
+  pub quiet : ℕ → Bool
+  pub alone : AreQuiet B quiet kept.free edges recorded steps old new
   pub recorded_apart : RecordedApart own recorded
   pub stamps : StampsGrow old new
   pub reports : ReportsComeFromAbove B own edges recorded steps old new

@@ -337,10 +337,10 @@ pub record IsFromNothing (own : OwnFiles) (edges : List Edge) (files : View) : T
   pub build_log : files own.build_log ≡ None
   pub deps_log : files own.deps_log ≡ None
 
--- each output of each command in the cone holds what the clean build of the present sources gives, absence included
-abbrev pub IsCleanlyBuilt : Behaviour → Asked → Store → View → Type 0
-IsCleanlyBuilt B asked store files =
-    (i : ℕ) (o : List ℕ) → InCone asked store i → IsCommand asked.graph.edges i → has (outputs (edge_at asked.graph.edges i)) o ≡ true
+-- each output of each of these commands in the cone holds what the clean build of the present sources gives, absence included
+abbrev pub IsCleanlyBuilt : Behaviour → (ℕ → Bool) → Asked → Store → View → Type 0
+IsCleanlyBuilt B quiet asked store files =
+    (i : ℕ) (o : List ℕ) → quiet i ≡ true → InCone asked store i → IsCommand asked.graph.edges i → has (outputs (edge_at asked.graph.edges i)) o ≡ true
     → files o ≡ clean_build B asked.graph.edges files o
 
 -- ---- the build
@@ -371,5 +371,5 @@ pub record SingleBuild (tells : Bool) (B : Behaviour) (format : LogFormat) (own 
   pub idle : is_fault answer ≡ false → IsIdle new.events
   pub frame : IsTrue tells → IsFrame own asked.graph.edges steps old.history new.history
   pub from_nothing : IsTrue tells → IsSuccess answer → IsFromNothing own asked.graph.edges (view_of old.history)
-      → Premises B own asked.declared asked.graph.edges (recorded_inputs store asked.graph.edges) steps old.history new.history
-      → IsCleanlyBuilt B asked store (view_of new.history)
+      → (premises : Premises B own asked.declared asked.graph.edges (recorded_inputs store asked.graph.edges) steps old.history new.history)
+      → IsCleanlyBuilt B premises.files.quiet asked store (view_of new.history)
