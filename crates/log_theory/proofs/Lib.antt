@@ -25,6 +25,7 @@ pub mod Stated
 pub mod Builds
 pub mod Alone
 mod AsNow
+pub mod AtMoments
 pub mod Phased
 pub mod Ledger
 pub mod Loading

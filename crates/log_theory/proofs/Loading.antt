@@ -47,7 +47,7 @@ module _ (tells : Bool) (B : Behaviour) (format : LogFormat) (own : OwnFiles) (a
       → IsCarried tells B format own (asked_with asked next) store (phases ++ record { edges = asked.graph.edges; steps = carried.phased.build.last } ∷ []) true steps None old now
   carried_load steps carried is_next read order holds = record {
     run = run_moved tells own (task_of asked store) (task_of (asked_with asked next) store) steps old now more carried.run;
-    phased = phased_load tells B own asked store phases old now next file content additions grown steps carried.phased (carried.goes refl) is_next read order rest carried.beside.idle holds;
+    phased = phased_load tells B own asked store phases old now next file content additions grown steps carried.phased (carried.goes refl) is_next read order carried.run carried.beside.idle holds;
     goes = λ on. refl;
     refused = λ off. absurd (true≢false off);
     beside = record {

@@ -26,6 +26,7 @@ use Rattle.build_theory.proofs.Events.{starts_of_all}
 use Rattle.build_theory.proofs.Looks.{kept_before}
 use Rattle.build_theory.proofs.Moments.{of_build}
 use Rattle.build_theory.proofs.Moved.{rest_moved}
+use Rattle.build_theory.proofs.Runs.{rest_begins}
 use Rattle.build_theory.proofs.Orderly.{IsKept, kept_orderly}
 use Rattle.build_theory.proofs.Walked.{IsTurned, AreTurnedFrom, ArePhasesTurned, build_turned, build_reads_first}
 use Rattle.log_theory.specs.Judged.{JudgedOver, AreJudgedOver, ArePhasesJudged, VerdictsWithLoads}
@@ -53,7 +54,7 @@ module _ (own : OwnFiles) (few many : List Edge) (grown : HasGrown few many) whe
         (apart.apart i j (command_later i command_i) (command_later j command_j) other));
   }
 
-  recorded_before : (store : Store) → RecordedApart own (recorded_inputs store many) → RecordedApart own (recorded_inputs store few)
+  pub recorded_before : (store : Store) → RecordedApart own (recorded_inputs store many) → RecordedApart own (recorded_inputs store few)
   recorded_before store apart i p h = by_dyndep (edge_at few i).dyndep refl
     where
       no_path : (t : Bool) → has (cond t [] []) p ≡ true → ⊥
@@ -137,11 +138,11 @@ module _ (tells : Bool) (B : Behaviour) (own : OwnFiles) (texts : View) (asked :
       → IsTurned edges asked.graph.edges store before i b → JudgedOver tells own asked store edges before i b old now → ReadsNoFree files.free asked.graph.edges store now.history i → IsVerdict asked.graph.edges store (well_in before) old.history now.history i b
   final edges grown before after i b splits turn was unread =
       verdict_stands tells own asked store before after i b old was.mid now was.more tell idle once
-      (rest_moved tells own (task_with (task_of asked store) store edges) (task_of asked store) before old was.mid grown was.run)
+      (rest_moved tells own (task_with (task_of asked store) store edges) (task_of asked store) before old was.mid grown (rest_begins tells own (task_with (task_of asked store) store edges) old before was.mid was.run))
       (subst (λ (l : List Step). IsRunOrRest tells own (task_of asked store) l old now) splits rest) (was.grows tell) files apart counted unread
       (turn.verdict old.history was.mid.history (was.right tell files_then (recorded_before own edges asked.graph.edges grown store apart)
       (λ p counts. unread p (counted_on tells own asked store before after i b old was.mid now was.more tell idle once
-      (rest_moved tells own (task_with (task_of asked store) store edges) (task_of asked store) before old was.mid grown was.run)
+      (rest_moved tells own (task_with (task_of asked store) store edges) (task_of asked store) before old was.mid grown (rest_begins tells own (task_with (task_of asked store) store edges) old before was.mid was.run))
       (subst (λ (l : List Step). IsRunOrRest tells own (task_of asked store) l old now) splits rest) (was.grows tell) files apart counted
       p (turn.counted was.mid.history p counts)))))
     where
@@ -152,7 +153,7 @@ module _ (tells : Bool) (B : Behaviour) (own : OwnFiles) (texts : View) (asked :
       files_mid = kept_before own asked.graph.edges old.history was.mid.history now.history was.more (was.grows tell) files
 
       files_then : FilesAreKept own edges old.history was.mid.history
-      files_then = kept_then tells own (task_with (task_of asked store) store edges) asked.graph.edges grown before old was.mid tell idle was.run
+      files_then = kept_then tells own (task_with (task_of asked store) store edges) asked.graph.edges grown before old was.mid tell idle (rest_begins tells own (task_with (task_of asked store) store edges) old before was.mid was.run)
           (λ k started. turn.loaded k (kept.out_of_date k (kept.started k started))) files_mid
 
       counted : IsReadAfter asked.graph.edges (λ k p. Counted asked.graph.edges store now.history k p) (done_in before) i

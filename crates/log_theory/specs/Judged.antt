@@ -1,5 +1,5 @@
 -- What a run carries of its verdicts and of the depfiles that it read: no premise is named here but where a moment needs it.
-use Rattle.std.specs.Prelude.{◌≡◌, ℕ, Bool, true, IsTrue, List, [], ◌∷◌, ◌++◌, Option, Some}
+use Rattle.std.specs.Prelude.{◌≡◌, ℕ, Bool, true, IsTrue, List, [], ◌∷◌, ◌++◌, Option, Some, None}
 use Rattle.model.specs.declared.event.Moment.{Moment}
 use Rattle.model.specs.declared.graph.Edge.{Edge}
 use Rattle.model.specs.World.{World, View, view_of, IsIdle}
@@ -7,11 +7,11 @@ use Rattle.model.specs.Graph.{has_number, edge_at, IsMadeOnce}
 use Rattle.model.specs.Outcome.{Behaviour, depfile_in, is_accepted}
 use Rattle.model.specs.Records.{Store, OwnFiles, recorded_inputs}
 use Rattle.model.specs.OutOfDate.{ReadsNoFree, IsVerdict}
-use Rattle.model.specs.Schedule.{Step, Judged, Started, Ended, IsLawful, ended_in, well_in}
+use Rattle.model.specs.Schedule.{judged_in, Step, Judged, Started, Ended, IsLawful, ended_in, well_in}
 use Rattle.model.specs.Premises.{FilesAreKept, RecordedApart, EndedAt, InputsAreKnown}
-use Rattle.model.specs.SingleBuild.{Asked, NamesOther, task_of, IsJudged}
+use Rattle.model.specs.SingleBuild.{Asked, NamesOther, task_of, IsJudged, AreJudgedAt, ArePhasesJudgedAt}
 use Rattle.model.specs.Phases.{Phase, steps_of, task_with, IsLawfulBuild}
-use Rattle.build_theory.specs.Run.{IsRunOrRest}
+use Rattle.build_theory.specs.Run.{IsRun, IsRunOrRest}
 
 -- edge i was judged when just these steps were done, and rightly by the files of then
 pub record JudgedThen (tells : Bool) (own : OwnFiles) (asked : Asked) (store : Store) (before : List Step) (i : ℕ) (out_of_date : Bool) (old now : World) : Type 0 where
@@ -49,7 +49,8 @@ VerdictsAtExit =
 -- edge i was judged when just these steps were done, rightly by the edges and files of then
 pub record JudgedOver (tells : Bool) (own : OwnFiles) (asked : Asked) (store : Store) (edges : List Edge) (before : List Step) (i : ℕ) (out_of_date : Bool) (old now : World) : Type 0 where
   pub mid : World
-  pub run : IsRunOrRest tells own (task_with (task_of asked store) store edges) before old mid
+  pub run : IsRun tells own (task_with (task_of asked store) store edges) before old mid
+  pub loaded : (k : ℕ) → has_number (judged_in before) k ≡ true → (edge_at edges k).dyndep ≡ None
   pub more : List Moment
   pub grows : IsTrue tells → now.history ≡ mid.history ++ more
   pub right : IsTrue tells → (files : FilesAreKept own edges old.history mid.history) → RecordedApart own (recorded_inputs store edges)
@@ -68,6 +69,16 @@ abbrev pub ArePhasesJudged : Bool → OwnFiles → Asked → Store → List Step
 ArePhasesJudged tells own asked store before [] old now = Unit {0}
 ArePhasesJudged tells own asked store before (phase ∷ phases) old now =
     AreJudgedOver tells own asked store phase.edges before phase.steps old now × ArePhasesJudged tells own asked store (before ++ phase.steps) phases old now
+
+-- Verdicts that were right by the edges and files of then are so at these moments, whatever is known of inputs.
+abbrev pub VerdictsAtMoments : Type 0
+VerdictsAtMoments =
+    (tells : Bool) (B : Behaviour) (own : OwnFiles) (texts : View) (asked : Asked) (store : Store) (steps : List Step) (old now : World)
+    → IsTrue tells → IsIdle old.events → (build : IsLawfulBuild B.dyndep texts asked.declared (task_of asked store) store steps)
+    → ArePhasesJudged tells own asked store [] build.earlier old now → AreJudgedOver tells own asked store asked.graph.edges (steps_of build.earlier) build.last old now
+    → (files : FilesAreKept own asked.graph.edges old.history now.history) → RecordedApart own (recorded_inputs store asked.graph.edges)
+    → ArePhasesJudgedAt files.free store [] build.earlier old.history now.history
+    × AreJudgedAt files.free asked.graph.edges store (steps_of build.earlier) build.last old.history now.history
 
 -- Verdicts that were right by the edges and files of then are right by those of the exit, where inputs are known.
 abbrev pub VerdictsWithLoads : Type 0

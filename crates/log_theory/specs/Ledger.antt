@@ -22,7 +22,7 @@ pub record LoadedThen (tells : Bool) (own : OwnFiles) (asked : Asked) (store : S
   pub later : List Step
   pub splits : steps ≡ before ++ later
   pub mid : World
-  pub run : IsRunOrRest tells own (task_of asked store) before old mid
+  pub run : IsRun tells own (task_of asked store) before old mid
   pub more : List Moment
   pub grows : now.history ≡ mid.history ++ more
   pub holds : (files : FilesAreKept own asked.graph.edges old.history mid.history) → files.free file ≡ false → view_of mid.history file ≡ Some content

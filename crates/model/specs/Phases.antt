@@ -163,6 +163,14 @@ pub record IsPointAfter (before : List Step) (old new at : List Moment) : Type 0
   pub entry : started_in before ≡ [] → at ≡ old
   pub behind : EndsInEvent so_far
 
+-- a moment at which just these steps were done: as many starts and finishes came before it as are among them
+pub record IsMomentAfter (before : List Step) (old new at : List Moment) : Type 0 where
+  pub so_far : List Moment
+  pub later : List Moment
+  pub is : at ≡ old ++ so_far
+  pub grows : new ≡ at ++ later
+  pub happened : happened_in so_far ≡ length (started_in before ++ ended_in before)
+
 -- Where a command was started, the targets and the recorded inputs lie outside the set of the program's own files, depfiles and
 -- response files: the program removes an old depfile, and writes a response file, before a start.
 abbrev pub AreAskedApart : OwnFiles → Task → List Step → Type 0

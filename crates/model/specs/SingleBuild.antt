@@ -20,7 +20,7 @@ use Rattle.model.specs.Reading.{IsInCone, IsCycle, needs}
 use Rattle.model.specs.Records.{Store, LogFormat, OwnFiles, store_in, recorded_inputs}
 use Rattle.model.specs.OutOfDate.{ReadsNoFree, IsVerdict, IsOutOfDate, IsMissingInput, IsFirstMissing}
 use Rattle.model.specs.Schedule.{Task, Step, Judged, Started, IsSettled, AreEventsOf, AreFinishes, NoneMayBeJudged, NoneMayStart, done_in, started_in, ended_in, out_of_date_in, well_in, failed_in, Ended, MayStart}
-use Rattle.model.specs.Phases.{Phase, steps_of, IsLawfulBuild, IsLoad, IsDueLoad, IsNextLoad, NoLoadIsDue, NothingNeededIsFree, IsPointAfter, AreAskedApart, WasNothingMissing, WasNothingMissingIn}
+use Rattle.model.specs.Phases.{Phase, steps_of, IsLawfulBuild, IsLoad, IsDueLoad, IsNextLoad, NoLoadIsDue, NothingNeededIsFree, IsMomentAfter, IsPointAfter, AreAskedApart, WasNothingMissing, WasNothingMissingIn}
 use Rattle.model.specs.Premises.{FilesAreKept, RecordedApart, Premises, EndedAt, InputsAreKnown}
 
 -- ---- what a build was asked, and what it answers
@@ -162,6 +162,35 @@ pub record IsJudged (B : Behaviour) (free : List ℕ → Bool) (asked : Asked) (
       → is_accepted (depfile_in B (edge_at asked.graph.edges i).act (view_of at)) ≡ true
   pub depfiles : (i : ℕ) (at : List Moment) → EndedAt i old new at → has_number (ended_in steps) i ≡ true → (met ≡ Some i → ⊥)
       → has_number (well_in steps) i ≡ is_accepted (depfile_in B (edge_at asked.graph.edges i).act (view_of at))
+
+-- The verdict on edge i is that of the table at a moment when just the steps before it were done, over the edges of then, where others
+-- write nothing that the edge reads.
+pub record JudgedAt (free : List ℕ → Bool) (edges : List Edge) (store : Store) (before : List Step) (i : ℕ) (out_of_date : Bool) (old new : List Moment) : Type 0 where
+  pub at : List Moment
+  pub moment : IsMomentAfter before old new at
+  pub right : ReadsNoFree free edges store at i → IsVerdict edges store (well_in before) old at i out_of_date
+
+-- so is each verdict of these steps, and of these phases
+abbrev pub AreJudgedAt : (List ℕ → Bool) → List Edge → Store → List Step → List Step → List Moment → List Moment → Type 0
+AreJudgedAt free edges store before [] old new = Unit {0}
+AreJudgedAt free edges store before (Judged i out_of_date ∷ steps) old new =
+    JudgedAt free edges store before i out_of_date old new × AreJudgedAt free edges store (before ++ Judged i out_of_date ∷ []) steps old new
+AreJudgedAt free edges store before (Started i ∷ steps) old new = AreJudgedAt free edges store (before ++ Started i ∷ []) steps old new
+AreJudgedAt free edges store before (Ended i well ∷ steps) old new = AreJudgedAt free edges store (before ++ Ended i well ∷ []) steps old new
+
+abbrev pub ArePhasesJudgedAt : (List ℕ → Bool) → Store → List Step → List Phase → List Moment → List Moment → Type 0
+ArePhasesJudgedAt free store before [] old new = Unit {0}
+ArePhasesJudgedAt free store before (phase ∷ phases) old new =
+    AreJudgedAt free phase.edges store before phase.steps old new × ArePhasesJudgedAt free store (before ++ phase.steps) phases old new
+
+-- the file held this at a moment when a beginning of these steps was done
+pub record HeldAt (file content : List ℕ) (steps : List Step) (old new : List Moment) : Type 0 where
+  pub before : List Step
+  pub later : List Step
+  pub splits : steps ≡ before ++ later
+  pub at : List Moment
+  pub moment : IsMomentAfter before old new at
+  pub holds : view_of at file ≡ Some content
 
 -- each command that was started was judged out of date before, and was so, where others write nothing that it reads
 abbrev pub StartsOnlyStale : (List ℕ → Bool) → List Edge → Store → List Step → List Moment → List Moment → Type 0
@@ -364,6 +393,12 @@ pub record SingleBuild (tells : Bool) (B : Behaviour) (format : LogFormat) (own 
   pub judged : IsTrue tells → (files : FilesAreKept own asked.graph.edges old.history new.history) → RecordedApart own (recorded_inputs store asked.graph.edges)
       → InputsAreKnown asked.declared asked.graph.edges (recorded_inputs store asked.graph.edges)
       → IsJudged B files.free asked store steps met old.history new.history
+  -- with dyndep files too: each verdict by the edges and files of then, and each loaded file as it was then
+  pub judged_then : IsTrue tells → (files : FilesAreKept own asked.graph.edges old.history new.history) → RecordedApart own (recorded_inputs store asked.graph.edges)
+      → ArePhasesJudgedAt files.free store [] schedule.lawful.earlier old.history new.history
+      × AreJudgedAt files.free asked.graph.edges store (steps_of schedule.lawful.earlier) schedule.lawful.last old.history new.history
+  pub held_then : IsTrue tells → (files : FilesAreKept own asked.graph.edges old.history new.history) → (file content : List ℕ) → texts file ≡ Some content → files.free file ≡ false
+      → HeldAt file content steps old.history new.history
   pub answers : IsAnswer tells B own texts asked store schedule.lawful.earlier (steps_of schedule.lawful.earlier ++ schedule.lawful.last) steps old new answer
   pub in_order : (steps ≡ []) ⊎ WasInOrder tells own asked store schedule.lawful.earlier schedule.lawful.last old new
   pub faults : PassesNoFault old new answer
