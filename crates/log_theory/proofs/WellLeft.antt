@@ -321,6 +321,13 @@ module _ (tells : Bool) (B : Behaviour) (own : OwnFiles) (asked : Asked) (entry 
           none_before =
               unwritten_until tells own (task_of asked entry) steps old now idle rest tell once files i stamp st_act o first st_after grows makes
 
+  -- an output that the command wrote, and that is there, is stamped later than it was at the entry: so one whose stamp is as it was
+  -- (`restat`) was not written, or is gone
+  pub restat_is_unwritten : (stamp : ℕ) → StartedUnder i stamp old now → (o : List ℕ) → has (outputs (edge_at asked.graph.edges i)) o ≡ true → (file before : File) → file_at now.history o ≡ Some file → file_at old.history o ≡ Some before
+      → before.stamp ≡ file.stamp → IsWritten i o old.history now.history → ⊥
+  restat_is_unwritten stamp started o makes file before is was same wrote =
+      omega (arith, written_later stamp started o makes wrote file is, (lies stamp started).0, file_within old.history o before was, same)
+
   -- ---- what is read, and each reason
 
   reads : ReadsAre asked.graph.edges (view_of now.history) i
