@@ -1,10 +1,10 @@
 -- Some of the edges in an order: where they are closed under what they read, theirs is one too.
-use Rattle.std.proofs.Common.{◌≡◌, inl, inr, ℕ, cond, ◌||◌, ◌==◌, Bool, true, false, List, [], ◌∷◌, ◌++◌, Some, refl, sym, ◌∙◌, ap, subst}
+use Rattle.std.proofs.Common.{◌≡◌, inl, inr, ℕ, cond, ◌==◌, Bool, true, List, [], ◌∷◌, ◌++◌, Some, refl, sym, ◌∙◌, ap, subst}
 use Rattle.std.proofs.lemmas.List.{append-nil}
 use Rattle.std.proofs.lemmas.Bool.{false≢true, cases_Bool, cond-true, cond-false, or_cases, or_left, or_right, eqb-true, false_from_ne_true}
 use Rattle.model.specs.declared.graph.Edge.{Edge}
 use Rattle.model.specs.Graph.{has_number, maker, IsCommand}
-use Rattle.build_theory.specs.Order.{IsReadAfter, IsNextRead, IsReadingOrder}
+use Rattle.build_theory.specs.Order.{IsReadingOrder}
 
 abbrev pub only : (ℕ → Bool) → List ℕ → List ℕ
 only quiet [] = []

@@ -1,17 +1,16 @@
 -- What a command left, in one view of its own, is what it gives in a view that holds what the present files hold on all that it
 -- read: nobody has written that since its start.
-use Rattle.std.proofs.Common.{◌≡◌, inl, inr, ℕ, Bool, true, false, IsTrue, List, [], ◌∷◌, ◌++◌, sym, ◌∙◌, ap, subst, append_assoc}
+use Rattle.std.proofs.Common.{◌≡◌, inl, inr, ℕ, Bool, true, false, IsTrue, List, ◌∷◌, ◌++◌, sym, ◌∙◌, ap, subst, append_assoc}
 use Rattle.std.specs.List.{AllByRecursion}
-use Rattle.model.specs.declared.act.Act.{Act}
 use Rattle.model.specs.declared.event.Event.TheVariants.{Start}
 use Rattle.model.specs.declared.event.Moment.{Moment}
 use Rattle.model.specs.declared.event.Moment.TheVariants.{Wrote, Happened}
 use Rattle.model.specs.World.{World, view_of, IsNotAt, IsIdle}
-use Rattle.model.specs.Graph.{has, has_number, edge_at, maker, IsMadeOnce, IsCommand}
+use Rattle.model.specs.Graph.{has, has_number, edge_at, IsMadeOnce}
 use Rattle.model.specs.Outcome.{Behaviour, reports_of, depfile_in, listed}
 use Rattle.model.specs.Records.{Store, OwnFiles, recorded_inputs}
-use Rattle.model.specs.Schedule.{Step, judged_in, started_in, well_in, done_in}
-use Rattle.model.specs.Premises.{EndedAt, IsFromAbove, IsReported, LeftOutcome, Matters, Premises}
+use Rattle.model.specs.Schedule.{Step, started_in, well_in}
+use Rattle.model.specs.Premises.{EndedAt, IsFromAbove, LeftOutcome, Matters, Premises}
 use Rattle.model.specs.SingleBuild.{Asked, task_of}
 use Rattle.model.specs.Kept.{StartedUnder}
 use Rattle.build_theory.specs.Order.{AreReadFirst, LeftAsNow, LeaveAsNow}

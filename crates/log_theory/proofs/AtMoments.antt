@@ -1,17 +1,17 @@
 -- Verdicts by the edges and files of then, and loaded files as they were then: at moments of the build's history.
-use Rattle.std.proofs.Common.{◌≡◌, ℕ, suc, Bool, true, false, IsTrue, List, [], ◌∷◌, ◌++◌, length, Some, refl, sym, ◌∙◌, ap, subst, append_assoc}
+use Rattle.std.proofs.Common.{◌≡◌, ℕ, suc, Bool, false, IsTrue, List, [], ◌∷◌, ◌++◌, length, refl, ◌∙◌, ap}
 use Rattle.model.specs.declared.event.Event.{Event}
 use Rattle.model.specs.declared.event.Moment.{Moment}
 use Rattle.model.specs.declared.event.Moment.TheVariants.{Wrote, Happened}
 use Rattle.model.specs.declared.graph.Edge.{Edge}
-use Rattle.model.specs.World.{World, View, view_of, IsIdle}
+use Rattle.model.specs.World.{World, View, IsIdle}
 use Rattle.model.specs.Outcome.{Behaviour}
 use Rattle.model.specs.Records.{Store, OwnFiles, recorded_inputs}
 use Rattle.model.specs.Schedule.{Task, Step, Judged, Started, Ended}
-use Rattle.model.specs.Phases.{Phase, happened_in, steps_of, task_with, ArePhasesFrom, IsLawfulBuild, IsMomentAfter}
+use Rattle.model.specs.Phases.{Phase, happened_in, steps_of, task_with, ArePhasesFrom, IsMomentAfter}
 use Rattle.model.specs.Premises.{FilesAreKept, RecordedApart}
 use Rattle.model.specs.SingleBuild.{Asked, task_of, JudgedAt, AreJudgedAt, ArePhasesJudgedAt, HeldAt}
-use Rattle.build_theory.specs.Run.{events_in, IsRun, IsToldBy}
+use Rattle.build_theory.specs.Run.{events_in, IsRun}
 use Rattle.build_theory.proofs.Events.{as_many}
 use Rattle.build_theory.proofs.Growth.{HasGrown, grown_same}
 use Rattle.build_theory.proofs.Looks.{kept_before}

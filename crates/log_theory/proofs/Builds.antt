@@ -3,12 +3,11 @@ use Rattle.std.proofs.Common.{◌≡◌, inl, inr, ℕ, Bool, true, IsTrue, List
 use Rattle.std.proofs.lemmas.List.{append-nil}
 use Rattle.std.proofs.lemmas.Bool.{false≢true}
 use Rattle.model.specs.declared.event.Event.{Event}
-use Rattle.model.specs.declared.event.Moment.{Moment}
 use Rattle.model.specs.World.{content_of, World, View, view_of}
 use Rattle.model.specs.Calls.{OnlyLooks}
 use Rattle.model.specs.Graph.{has_number, IsMadeOnce}
 use Rattle.model.specs.Outcome.{Behaviour}
-use Rattle.model.specs.Records.{Store, OwnFiles, LogFormat, store_in, in_force, deps_in_force, recorded_inputs}
+use Rattle.model.specs.Records.{Store, OwnFiles, LogFormat, in_force, deps_in_force, recorded_inputs}
 use Rattle.model.specs.Schedule.{Step, IsSettled, done_in, started_in}
 use Rattle.model.specs.Phases.{Phase, steps_of}
 use Rattle.model.specs.Premises.{FilesAreKept, FilesAndReports, Premises, KeepsFaith}

@@ -10,15 +10,15 @@ use Rattle.model.specs.declared.event.Writer.TheVariants.{Program}
 use Rattle.model.specs.declared.graph.Edge.{Edge}
 use Rattle.model.specs.declared.record.Record.{Record}
 use Rattle.model.specs.declared.record.DepsRecord.{DepsRecord}
-use Rattle.model.specs.World.{World, View, file_at, written, content_of, view_of, next_stamp, runs, IsRunning}
+use Rattle.model.specs.World.{World, View, file_at, written, content_of, view_of, runs, IsRunning}
 use Rattle.model.specs.Calls.{AllByOthers, OthersWrote, Adds, IsRestart}
 use Rattle.model.specs.Graph.{has, edge_at, outputs, IsCommand}
 use Rattle.model.specs.Outcome.{Behaviour}
 use Rattle.model.specs.Records.{Told, OwnFiles, LogFormat, Made, read_log, store_in, in_force, deps_in_force}
-use Rattle.model.specs.Premises.{OwnFilesApart, StampsGrow, Increases, KeepToOutputs, NothingIsEdited, IsNoEdit, none_free, HaveEnded}
+use Rattle.model.specs.Premises.{OwnFilesApart, StampsGrow, NothingIsEdited, IsNoEdit, none_free, HaveEnded}
 use Rattle.model.specs.Faithful.{IsReadable, IsFaithfulStore}
 use Rattle.model.specs.History.{IsKeptBetween, IsLeftBy, IsEdit, LeavesOutputs}
-use Rattle.build_theory.proofs.Lists.{same_rest, same_bytes, all_parts, some_none}
+use Rattle.build_theory.proofs.Lists.{same_bytes, all_parts, some_none}
 use Rattle.build_theory.proofs.Looks.{none_wrote}
 use Rattle.build_theory.proofs.Files.{file_from-append, file_stays, others_elsewhere}
 use Rattle.log_theory.proofs.Less.{IsLess, nothing_from, NoneRunning, believed_less, store_same, readable_same, less_same}

@@ -1,14 +1,14 @@
 -- What a run carries goes on through the load of a dyndep file, over the edges that it gives.
-use Rattle.std.proofs.Common.{◌≡◌, ◌≢◌, ℕ, Bool, true, false, IsTrue, List, [], ◌∷◌, ◌++◌, Option, Some, None, refl, sym, subst}
+use Rattle.std.proofs.Common.{◌≡◌, ℕ, Bool, true, false, IsTrue, List, [], ◌∷◌, ◌++◌, Option, Some, None, refl, sym, subst}
 use Rattle.std.proofs.lemmas.Bool.{true≢false}
 use Rattle.model.specs.declared.act.Act.{Act}
 use Rattle.model.specs.declared.event.Moment.{Moment}
 use Rattle.model.specs.declared.graph.Edge.{Edge}
-use Rattle.model.specs.World.{World, view_of, IsIdle}
+use Rattle.model.specs.World.{World, view_of}
 use Rattle.model.specs.Graph.{has_number, edge_at, Addition}
 use Rattle.model.specs.Outcome.{Behaviour, depfile_in, is_accepted}
 use Rattle.model.specs.Records.{Store, LogFormat, OwnFiles}
-use Rattle.model.specs.Schedule.{Task, Step, started_in, well_in}
+use Rattle.model.specs.Schedule.{Step, started_in, well_in}
 use Rattle.model.specs.Phases.{Phase, IsGrownBy, IsNextLoad, IsInOrderAt}
 use Rattle.model.specs.Premises.{FilesAreKept, SharesNone}
 use Rattle.model.specs.SingleBuild.{Asked, asked_with, task_of}
@@ -18,7 +18,7 @@ use Rattle.build_theory.proofs.Growth.{HasGrown, grown_by}
 use Rattle.build_theory.proofs.Moved.{run_moved}
 use Rattle.build_theory.proofs.Orderly.{IsKept, kept_orderly}
 use Rattle.build_theory.proofs.Runs.{rest_begins}
-use Rattle.log_theory.specs.Alone.{IsNoFileOf, AreLeftAlone}
+use Rattle.log_theory.specs.Alone.{AreLeftAlone}
 use Rattle.log_theory.specs.Judged.{AreTakenIn}
 use Rattle.log_theory.specs.Ledger.{IsCarried}
 use Rattle.log_theory.proofs.Grown.{logged_moved}

@@ -1,20 +1,19 @@
 -- One command from the entry to the exit, call by call: how the lemmas of a run are put together. Nothing cites it.
-use Rattle.std.proofs.Common.{◌≡◌, ◌≢◌, inl, inr, ℕ, Bool, true, false, IsTrue, List, [], ◌∷◌, ◌++◌, Option, Some, None, refl, sym}
+use Rattle.std.proofs.Common.{◌≡◌, ◌≢◌, inl, inr, ℕ, Bool, true, IsTrue, List, [], ◌∷◌, Option, Some, None, refl}
 use Rattle.model.specs.World.{World, view_of, IsIdle, file_at, content_of}
 use Rattle.model.specs.Calls.{OnlyLooks, Ticks, Writes, Starts, Finishes, Sees}
 use Rattle.model.specs.Graph.{has_number, edge_at, IsMadeOnce}
 use Rattle.model.specs.Outcome.{Behaviour, depfile_in, is_accepted}
 use Rattle.model.specs.Records.{Store, LogFormat, OwnFiles, store_in, recorded_inputs}
 use Rattle.model.specs.OutOfDate.{ReadsNoFree, IsVerdict}
-use Rattle.model.specs.Schedule.{Step, Judged, Started, Ended, IsLawfulStep, NoneMayBeJudged, NoneMayStart, well_in}
+use Rattle.model.specs.Schedule.{Step, Judged, Started, Ended, IsLawfulStep, NoneMayBeJudged, NoneMayStart}
 use Rattle.model.specs.Phases.{NoLoadIsDue}
-use Rattle.model.specs.Premises.{FilesAreKept, RecordedApart, NothingIsEdited}
-use Rattle.model.specs.SingleBuild.{NamesOther, Asked, Answer, SingleBuild, task_of, IsJudged}
-use Rattle.model.specs.History.{IsHeadline}
+use Rattle.model.specs.Premises.{FilesAreKept, RecordedApart}
+use Rattle.model.specs.SingleBuild.{NamesOther, Asked, task_of}
 use Rattle.log_theory.specs.Builds.{IsRunOf}
 use Rattle.log_theory.specs.Logged.{IsLoggedAt}
 use Rattle.log_theory.specs.Writes.{WritesAt}
-use Rattle.log_theory.specs.Ledger.{IsCarried, IsCutOff, IsReadyToStart, HasNoRecord}
+use Rattle.log_theory.specs.Ledger.{IsCarried, IsReadyToStart, HasNoRecord}
 use Rattle.build_theory.proofs.Looks.{looks_nothing, looks_then}
 use Rattle.log_theory.proofs.Ledger as ledger
 use Rattle.log_theory.proofs.Readying as readying

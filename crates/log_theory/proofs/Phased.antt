@@ -5,12 +5,12 @@ use Rattle.std.proofs.lemmas.Bool.{cases_Bool, false≢true, false_from_ne_true}
 use Rattle.model.specs.declared.event.Moment.{Moment}
 use Rattle.model.specs.declared.graph.Edge.{Edge}
 use Rattle.model.specs.World.{World, View, view_of, IsIdle}
-use Rattle.model.specs.Graph.{has, has_number, edge_at, maker, inputs, IsCommand, IsMadeOnce, Addition, grown_edge}
+use Rattle.model.specs.Graph.{has, has_number, edge_at, maker, inputs, IsCommand, IsMadeOnce, Addition}
 use Rattle.model.specs.Outcome.{Behaviour}
 use Rattle.model.specs.Records.{Store, OwnFiles, recorded_inputs}
 use Rattle.model.specs.OutOfDate.{ReadsNoFree, IsVerdict}
-use Rattle.model.specs.Schedule.{Task, Step, Judged, Started, Ended, IsLawfulStep, IsLawfulFrom, judged_in, started_in, running_in, well_in, done_in}
-use Rattle.model.specs.Phases.{Phase, IsGrownBy, IsDueLoad, NoLoadIsDue, IsNextLoad, AreUnloadedFrom, IsLawfulPhase, IsLoad, IsInOrderAt, AreTakenIn, ArePhasesFrom, IsLawfulBuild, steps_of, next_edges, task_with}
+use Rattle.model.specs.Schedule.{Task, Step, Judged, Started, Ended, IsLawfulStep, judged_in, started_in, running_in, well_in, done_in}
+use Rattle.model.specs.Phases.{Phase, IsGrownBy, IsDueLoad, NoLoadIsDue, IsNextLoad, AreUnloadedFrom, IsLawfulPhase, IsLoad, IsInOrderAt, AreTakenIn, ArePhasesFrom, steps_of, next_edges, task_with}
 use Rattle.model.specs.Premises.{FilesAreKept, RecordedApart}
 use Rattle.model.specs.SingleBuild.{Asked, NamesOther, asked_with, task_of}
 use Rattle.build_theory.specs.Run.{IsRun, IsRunOrRest}

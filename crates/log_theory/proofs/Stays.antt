@@ -6,8 +6,8 @@ use Rattle.model.specs.declared.event.Moment.{Moment}
 use Rattle.model.specs.declared.graph.Edge.{Edge}
 use Rattle.model.specs.World.{World, File, file_at, content_of, view_of, next_stamp, runs, IsIdle}
 use Rattle.model.specs.Graph.{has, has_number, edge_at, outputs, IsMadeOnce}
-use Rattle.model.specs.Outcome.{Behaviour, ends_well, given, reports_of, depfile_in, listed, GivesTheSame}
-use Rattle.model.specs.Records.{Told, OwnFiles, LogFormat, Store, Made, store_in, in_force, deps_in_force, recorded_inputs, ListsOnce}
+use Rattle.model.specs.Outcome.{Behaviour, given, reports_of, depfile_in, listed}
+use Rattle.model.specs.Records.{Told, OwnFiles, LogFormat, Store, Made, store_in, in_force, deps_in_force, ListsOnce}
 use Rattle.model.specs.Schedule.{Step, started_in, well_in, running_in}
 use Rattle.model.specs.Premises.{KeepsFaith, EndedAt, LeftOutcome}
 use Rattle.model.specs.SingleBuild.{Asked, task_of}

@@ -84,7 +84,7 @@ pub commands_then : (tells : Bool) (own : OwnFiles) (few : Task) (many : List Ed
     → IsRunOrRest tells own few steps old now → ((i : ℕ) → has_number (started_in steps) i ≡ true → (edge_at few.graph.edges i).dyndep ≡ None)
     → (free : List ℕ → Bool) → KeepToOutputs free many old.history now.history → KeepToOutputs free few.graph.edges old.history now.history
 commands_then tells own few many grown steps old now tell idle rest loaded free commands more is = subst (λ (l : List Moment). AllByRecursion (IsWithinEdge free few.graph.edges) l) (same_rest old.history told.more more (sym told.grows ∙ is))
-      (within_before own few.graph.edges many grown free steps loaded told.more of_build_then (commands told.more told.grows))
+    (within_before own few.graph.edges many grown free steps loaded told.more of_build_then (commands told.more told.grows))
   where
     told : IsToldBy own few.graph.edges steps old.events (rest.first ++ rest.later) old.history now.history
     told = rest.history tell

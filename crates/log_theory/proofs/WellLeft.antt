@@ -3,7 +3,7 @@ use Rattle.std.proofs.Common.{◌≡◌, ◌≢◌, ◌⊎◌, inl, inr, ℕ, su
 use Rattle.std.specs.Prelude.{is_none, find, nat_lt}
 use Rattle.std.specs.List.{list_any, list_all, AllByRecursion}
 use Rattle.std.proofs.Math.Nat.{le-max_right}
-use Rattle.std.proofs.lemmas.Bool.{false≢true, true≢false, cases_Bool, or_cases, or_left, or_right, and_parts, cond-true, eqb-true, eq-eqb, ltb-false, ltb-true, not-true}
+use Rattle.std.proofs.lemmas.Bool.{false≢true, true≢false, cases_Bool, or_cases, or_left, or_right, and_parts, eqb-true, eq-eqb, ltb-true, not-true}
 use Rattle.model.specs.declared.act.Act.{Act}
 use Rattle.model.specs.declared.event.Event.TheVariants.{Start, Finish}
 use Rattle.model.specs.declared.event.Moment.{Moment}
@@ -16,7 +16,7 @@ use Rattle.model.specs.declared.graph.Edge.{Edge}
 use Rattle.model.specs.declared.reason.Reason.{Reason}
 use Rattle.model.specs.declared.reason.Reason.TheVariants.{OutputAbsent, NoRecord, OtherAct, InputAbsent, InputChanged, InputLater, OutputOlder, DepsUnknown}
 use Rattle.model.specs.declared.record.DepsRecord.{DepsRecord}
-use Rattle.model.specs.World.{World, File, written, file_at, file_from, stamp_of, view_of, next_from, next_stamp, IsIdle}
+use Rattle.model.specs.World.{World, File, written, file_at, file_from, stamp_of, view_of, next_stamp, IsIdle}
 use Rattle.model.specs.Graph.{has, has_number, edge_at, maker, outputs, inputs, IsMadeOnce, IsCommand}
 use Rattle.model.specs.Outcome.{Behaviour, depfile_in, listed}
 use Rattle.model.specs.Reading.{IsRead}
@@ -37,11 +37,11 @@ use Rattle.build_theory.proofs.Nothing.{ReadsAre, reads_where_settled}
 use Rattle.build_theory.proofs.Exit.{unwritten_until}
 use Rattle.log_theory.specs.Logged.{KeepsBoth, HasNone, HasNew, HasNewDeps, IsLogged, StartsAreTicked}
 use Rattle.log_theory.proofs.Starts.{TickedAfter, was_stamped, ticked_after}
-use Rattle.log_theory.proofs.Stamps.{early_file, next_grows, stamp_lies}
+use Rattle.log_theory.proofs.Stamps.{stamp_lies}
 use Rattle.log_theory.proofs.Explained.{some_or_none, recorded_is}
 use Rattle.log_theory.proofs.Carried.{read_apart}
 use Rattle.log_theory.proofs.Left.{anew_none}
-use Rattle.log_theory.proofs.Ticked.{written_stamp, file_within, increases_rest, stamps_since, written_from, settled_early, reads_early}
+use Rattle.log_theory.proofs.Ticked.{file_within, written_from, settled_early, reads_early}
 
 -- ---- tests that hold
 

@@ -1,5 +1,5 @@
 -- The rows with an edit.
-use Rattle.std.proofs.Common.{◌≡◌, inl, inr, ℕ, zero, suc, ◌≤◌, ◌==◌, cond, Bool, true, false, List, [], ◌∷◌, ◌++◌, Option, Some, None, refl, sym, ◌∙◌, ap, subst, arith}
+use Rattle.std.proofs.Common.{◌≡◌, inl, inr, ℕ, zero, suc, ◌==◌, Bool, true, false, List, [], ◌∷◌, ◌++◌, Option, Some, None, refl, sym, ◌∙◌, ap, subst, arith}
 use Rattle.std.specs.List.{AllByRecursion}
 use Rattle.std.specs.Prelude.{codes, bytes_eq}
 use Rattle.std.proofs.lemmas.Bool.{false≢true, or_cases, eqb-true, cond-false, false_from_ne_true}
@@ -9,12 +9,11 @@ use Rattle.model.specs.declared.event.Event.TheVariants.{Start, Finish}
 use Rattle.model.specs.declared.event.Moment.{Moment}
 use Rattle.model.specs.declared.event.Moment.TheVariants.{Wrote, Happened}
 use Rattle.model.specs.declared.event.Writer.TheVariants.{Program, Command, Someone}
-use Rattle.model.specs.World.{View, File, IsNotAt, written, content_of, file_from, view_of}
-use Rattle.model.specs.Graph.{has, has_number, edge_at, inputs, outputs, IsCommand}
+use Rattle.model.specs.World.{File, IsNotAt, written, content_of, file_from, view_of}
+use Rattle.model.specs.Graph.{has, has_number, edge_at, inputs, outputs}
 use Rattle.model.specs.Reading.{Itself, Wanted}
-use Rattle.model.specs.Records.{recorded_inputs}
-use Rattle.model.specs.Premises.{AreQuiet, EndedAt, FilesAreKept, FreeApart, Increases, IsNoEdit, IsWithinEdge, KeepsFaith, LeftOutcome, LiesIn, OwnFilesApart}
-use Rattle.worked.specs.Small.{copy, edges, asked, copies, no_records}
+use Rattle.model.specs.Premises.{FilesAreKept, Increases, IsNoEdit, IsWithinEdge, KeepsFaith, LeftOutcome, LiesIn, OwnFilesApart}
+use Rattle.worked.specs.Small.{copy, edges, copies, no_records}
 use Rattle.worked.specs.Refused.{own, ran_well}
 use Rattle.worked.specs.Edited.{entry, behind, build, EditedRows}
 use Rattle.worked.proofs.Lists.{all_has, same_bytes}
