@@ -1,16 +1,17 @@
 -- What a command left, in one view of its own, is what it gives in a view that holds what the present files hold on all that it
 -- read: nobody has written that since its start.
-use Rattle.std.proofs.Common.{◌≡◌, inl, inr, ℕ, Bool, true, false, IsTrue, List, ◌∷◌, ◌++◌, sym, ◌∙◌, ap, subst, append_assoc}
+use Rattle.std.proofs.Common.{◌≡◌, inl, inr, ℕ, Bool, true, false, IsTrue, List, ◌∷◌, ◌++◌, sym, ◌∙◌, ap, subst, append_assoc, refl, Some}
 use Rattle.std.specs.List.{AllByRecursion}
 use Rattle.model.specs.declared.event.Event.TheVariants.{Start}
 use Rattle.model.specs.declared.event.Moment.{Moment}
 use Rattle.model.specs.declared.event.Moment.TheVariants.{Wrote, Happened}
+use Rattle.model.specs.declared.graph.Edge.{Edge}
 use Rattle.model.specs.World.{World, view_of, IsNotAt, IsIdle}
-use Rattle.model.specs.Graph.{has, has_number, edge_at, IsMadeOnce}
-use Rattle.model.specs.Outcome.{Behaviour, reports_of, depfile_in, listed}
+use Rattle.model.specs.Graph.{has, has_number, edge_at, IsMadeOnce, outputs}
+use Rattle.model.specs.Outcome.{Behaviour, reports_of, depfile_in, listed, given}
 use Rattle.model.specs.Records.{Store, OwnFiles, recorded_inputs}
 use Rattle.model.specs.Schedule.{Step, started_in, well_in}
-use Rattle.model.specs.Premises.{EndedAt, IsFromAbove, LeftOutcome, Matters, Premises}
+use Rattle.model.specs.Premises.{HasOneOutcome, EndedAt, IsFromAbove, LeftOutcome, Matters, Premises}
 use Rattle.model.specs.SingleBuild.{Asked, task_of}
 use Rattle.model.specs.Kept.{StartedUnder}
 use Rattle.build_theory.specs.Order.{AreReadFirst, LeftAsNow, LeaveAsNow}
@@ -82,3 +83,18 @@ module _ (tells : Bool) (B : Behaviour) (own : OwnFiles) (asked : Asked) (store 
 
   pub leave_as_now : LeaveAsNow B premises.files.quiet asked.graph.edges steps old.history now.history
   leave_as_now i at is_quiet ended well = left_as_now i at is_quiet ended well
+
+-- Where the command is a function of what it declares and reports, what it left as the present files have it is what it left in a view
+-- of its own: that of the present files. (So the premise on one view follows from the two that stood in its place.)
+pub own_view : (B : Behaviour) (edges : List Edge) (since new at : List Moment) (i : ℕ) → HasOneOutcome B edges (view_of new) i → LeftAsNow B edges (view_of new) (view_of at) i → LeftOutcome B edges since new at i
+own_view B edges since new at i one left =
+    let same = one left.seen (view_of new) left.reading (λ p read. refl) left.well left.reports in
+    record {
+      seen = view_of new;
+      well = same.ends ∙ left.well;
+      unwritten = λ p none. refl;
+      contents = all_from_has (λ o. view_of at o ≡ given B (edge_at edges i).act (view_of new) o) (outputs (edge_at edges i))
+          (λ o h. all_has (λ q. view_of at q ≡ given B (edge_at edges i).act left.seen q) (outputs (edge_at edges i)) o left.contents h
+          ∙ sym (all_has (λ q. given B (edge_at edges i).act (view_of new) q ≡ given B (edge_at edges i).act left.seen q) (outputs (edge_at edges i)) o same.contents h));
+      depfile = left.depfile ∙ ap (λ (ps : List (List ℕ)). Some ps) (sym same.reports);
+    }
