@@ -60,6 +60,23 @@ pub read_apart : (edges : List Edge) (view : View) (outside : List ℕ → Type 
 read_apart edges view outside apart i p (Itself _ _ h counts) = apart i p (has-left (regular_inputs (edge_at edges i)) (edge_at edges i).order_only_inputs p h)
 read_apart edges view outside apart i p (Through _ j q _ h alias below) = read_apart edges view outside apart j p below
 
+-- Where no path that edge i reads in these files is free, none is that it reads in any files: a phony's own path, which may count
+-- there, is an output. (For the set of paths that a judgement looks at.)
+pub read_bound : (edges : List Edge) (free : List ℕ → Bool) → ((k : ℕ) (p : List ℕ) → has (outputs (edge_at edges k)) p ≡ true → free p ≡ false) → (view other : View) (i : ℕ) → ((p : List ℕ) → IsRead edges view i p → free p ≡ false)
+    → (p : List ℕ) → IsRead edges other i p → free p ≡ false
+read_bound edges free made view other i bound p (Itself _ _ h counts) = by_maker (maker edges p) refl
+  where
+    by_phony : (k : ℕ) → maker edges p ≡ Some k → (b : Bool) → (edge_at edges k).phony ≡ b → free p ≡ false
+    by_phony k is true phony = made k p (maker_has edges p k is)
+    by_phony k is false command = bound p (Itself i p h (inl (λ j alias.
+        true≢false (sym alias.phony ∙ subst (λ (n : ℕ). (edge_at edges n).phony ≡ false) (same_some k j (sym is ∙ alias.made)) command))))
+
+    by_maker : (m : Option ℕ) → maker edges p ≡ m → free p ≡ false
+    by_maker None is = bound p (Itself i p h (inl (λ j alias. some_none j (sym (alias.made) ∙ is))))
+    by_maker (Some k) is = by_phony k is (edge_at edges k).phony refl
+read_bound edges free made view other i bound p (Through _ j q _ h alias below) =
+    read_bound edges free made view other j (λ r read. bound r (Through i j q r h alias read)) p below
+
 -- ---- from a point of the run to its exit
 
 module _ (tells : Bool) (own : OwnFiles) (asked : Asked) (store : Store) (before later : List Step) (old mid now : World) (more : List Moment)
