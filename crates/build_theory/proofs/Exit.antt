@@ -264,7 +264,7 @@ module _ (tells : Bool) (own : OwnFiles) (task : Task) (steps : List Step) (old 
       clean_by_order B task.graph.edges (view_of now.history) (Matters B task.graph.edges task.recorded steps old.history now.history) (λ j p read. inl read) (only premises.files.quiet (settled_in steps))
       (only_order task.graph.edges (Matters B task.graph.edges task.recorded steps old.history now.history) premises.files.quiet premises.files.alone.above [] (settled_in steps)
       (reading_order task.graph.edges (Matters B task.graph.edges task.recorded steps old.history now.history) steps rest.orderly first))
-      (λ j h. (premises.one_outcome j (judged_of j (only_has premises.files.quiet (settled_in steps) j h).1), λ p is_out. explained_of j p is_out (only_has premises.files.quiet (settled_in steps) j h).0 (only_has premises.files.quiet (settled_in steps) j h).1))
+      (λ j h. (premises.one_outcome j (only_has premises.files.quiet (settled_in steps) j h).0 (judged_of j (only_has premises.files.quiet (settled_in steps) j h).1), λ p is_out. explained_of j p is_out (only_has premises.files.quiet (settled_in steps) j h).0 (only_has premises.files.quiet (settled_in steps) j h).1))
       i o (has_only premises.files.quiet (settled_in steps) i (done_settled steps i (settled_command task.graph.edges (done_in steps) i command settled)) is_quiet) (maker_is task.graph.edges o i once is_output)
     where
       judged_of : (j : ℕ) → has_number (settled_in steps) j ≡ true → has_number (judged_in steps) j ≡ true

@@ -379,7 +379,7 @@ module _ (reading : List ℕ → Option (List (List ℕ))) (dyndep : List ℕ �
           reports = λ i j p reported made command. is_known_above i j p (told_h steps old more ends i reported.at reported.ended p reported.told) made;
         };
       };
-      one_outcome = λ i h. elim (is_either i (judged i h)) [
+      one_outcome = λ i is_quiet h. elim (is_either i (judged i h)) [
         | inl one ↦ subst (λ (n : ℕ). HasOneOutcome B edges (view_of (old ++ more)) n) (sym one) first
         | inr two ↦ subst (λ (n : ℕ). HasOneOutcome B edges (view_of (old ++ more)) n) (sym two) second
       ];

@@ -37,9 +37,9 @@ HasOneOutcome B edges files i =
     → AgreeOn (reports_of B (edge_at edges i).act u) u v
     → GivesTheSame B (edge_at edges i).act (outputs (edge_at edges i)) u v
 
--- of each edge that was judged, the files being those of the exit
-abbrev pub OneOutcome : Behaviour → List Edge → List Step → View → Type 0
-OneOutcome B edges steps files = (i : ℕ) → has_number (judged_in steps) i ≡ true → HasOneOutcome B edges files i
+-- of each of these edges that was judged, the files being those of the exit
+abbrev pub OneOutcome : Behaviour → (ℕ → Bool) → List Edge → List Step → View → Type 0
+OneOutcome B quiet edges steps files = (i : ℕ) → quiet i ≡ true → has_number (judged_in steps) i ≡ true → HasOneOutcome B edges files i
 
 -- What the command of edge i left, outputs and reports, is what it gives in one view. That holds what the files of the exit hold,
 -- but for what was written since the command's start: of such a file nothing is said. `since` are the moments behind the start,
@@ -235,10 +235,10 @@ pub record FilesAndReports (B : Behaviour) (own : OwnFiles) (declared edges : Li
   pub reports : ReportsComeFromAbove B own edges recorded steps old new
   pub dyndep : DyndepOutputsAreReadBelow B declared edges recorded steps old new
 
--- what the contents of a clean build suppose: that, and that commands are functions of what they declare and report
+-- what the contents of a clean build suppose: that, and that commands of quiet edges are functions of what they declare and report
 pub record Premises (B : Behaviour) (own : OwnFiles) (declared edges : List Edge) (recorded : ℕ → List (List ℕ)) (steps : List Step) (old new : List Moment) : Type 0 where
   pub files : FilesAndReports B own declared edges recorded steps old new
-  pub one_outcome : OneOutcome B edges steps (view_of new)
+  pub one_outcome : OneOutcome B files.quiet edges steps (view_of new)
   pub left_outcomes : LeaveOutcomes B edges steps old new
 
 -- What faithful records suppose, and no more: files are kept, stamps grow, each command left an outcome, and no free path has a
