@@ -1,5 +1,6 @@
 pub mod Lists
 pub mod Refused
+pub mod Edited
 pub mod Written
 pub mod ReadTooEarly
 pub mod ThreeEdges

@@ -1,3 +1,4 @@
 pub mod Small
 pub mod Refused
+pub mod Edited
 pub mod Dyndep

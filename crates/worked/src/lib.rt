@@ -4,6 +4,7 @@
 
 ghost use Rattle.worked.specs.Refused.{RefusedRows};
 ghost use Rattle.worked.specs.Dyndep.{DyndepRows};
+ghost use Rattle.worked.specs.Edited.{EditedRows};
 
 /// The definitions refuse these: records made up or dropped, a fault passed over, moves skipped, restarts that are missing or
 /// needless, answers that no build gave, a deps record of a start to come, one path for a depfile and a response file, a
@@ -18,4 +19,10 @@ pub fn refused_rows()
 /// excludes three graphs in which such an output is read too early.
 pub fn dyndep_rows()
     ensures { DyndepRows }
+{}
+
+/// A build during which a source is edited while its command runs, a write before a tick has the tick's stamp, and two files have
+/// one: it meets the premises of faithful records, and not those of contents.
+pub fn edited_rows()
+    ensures { EditedRows }
 {}
