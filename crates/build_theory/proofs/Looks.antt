@@ -1,5 +1,5 @@
 -- Calls that only look, before the first judgement.
-use Rattle.std.proofs.Common.{◌≡◌, inl, inr, ℕ, Bool, false, bytes_eq, IsTrue, List, [], ◌∷◌, ◌++◌, refl, sym, ◌∙◌, ap, subst, append_assoc}
+use Rattle.std.proofs.Common.{◌≡◌, inl, inr, ℕ, Bool, false, bytes_eq, IsTrue, List, [], ◌∷◌, ◌++◌, Option, refl, sym, ◌∙◌, ap, subst, append_assoc}
 use Rattle.std.specs.List.{AllByRecursion}
 use Rattle.std.proofs.lemmas.List.{append-nil}
 use Rattle.std.proofs.lemmas.Bool.{false≢true, cases_Bool, false_from_ne_true}
@@ -9,7 +9,7 @@ use Rattle.model.specs.declared.event.Event.TheVariants.{Start}
 use Rattle.model.specs.declared.event.Moment.{Moment}
 use Rattle.model.specs.declared.event.Moment.TheVariants.{Wrote, Happened}
 use Rattle.model.specs.declared.event.Writer.TheVariants.{Program, Command, Someone}
-use Rattle.model.specs.World.{World, file_at, IsRunning, IsIdle}
+use Rattle.model.specs.World.{World, file_at, content_of, view_of, runs, IsRunning, IsIdle}
 use Rattle.model.specs.Calls.{IsByOthers, AllByOthers, OthersWrote, OnlyLooks, Sees}
 use Rattle.model.specs.Records.{OwnFiles}
 use Rattle.model.specs.Premises.{FilesAreKept, OnlyFreeIsEdited, NothingIsEdited, none_free, KeepToOutputs, AllSince, IsNoEdit, IsWithinEdge}
@@ -128,6 +128,35 @@ pub looks_keep_file : (tells : Bool) (own : OwnFiles) (edges : List Edge) (old n
 looks_keep_file tells own edges old new idle looks tell free edits p bound =
     let call = looks.history tell in
     ap (λ (h : List Moment). file_at h p) call.grows ∙ file_stays p old.history call.more (untouched tells own edges old new idle looks free p bound call.more call.all (edits call.more call.grows))
+
+-- what was seen of such a file at some moment of a call that only looks is what it held at the entry
+pub looks_saw : (tells : Bool) (own : OwnFiles) (edges : List Edge) (first old new : World) → IsIdle first.events → OnlyLooks tells first old → OnlyLooks tells old new → IsTrue tells
+    → (free : List ℕ → Bool) → OnlyFreeIsEdited free first.history new.history → (p : List ℕ) → free p ≡ false
+    → (content : Option (List ℕ)) → Sees (λ history. content_of (file_at history p)) content old.history new.history → content ≡ view_of first.history p
+looks_saw tells own edges first old new idle one two tell free edits p bound content seen =
+    seen.is
+    ∙ ap content_of (file_stays p old.history seen.earlier elsewhere
+    ∙ looks_keep_file tells own edges first old idle one tell free (edits_before free first.history old.history new.history call.more call.grows edits) p bound)
+  where
+    before : OthersWrote (IsRunning first.events) first.history old.history
+    before = one.history tell
+
+    call : OthersWrote (IsRunning old.events) old.history new.history
+    call = two.history tell
+
+    none_runs : IsIdle old.events
+    none_runs job = subst (λ (es : List Event). runs job es ≡ false) (sym one.events) (idle job)
+
+    of_call : AllByRecursion (IsNoEdit free) call.more
+    of_call = (all_parts (IsNoEdit free) before.more call.more
+        (edits (before.more ++ call.more) (call.grows ∙ (ap (λ (h : List Moment). h ++ call.more) before.grows ∙ append_assoc first.history before.more call.more)))).1
+
+    same : call.more ≡ seen.earlier ++ seen.later
+    same = same_rest old.history call.more (seen.earlier ++ seen.later) (sym call.grows ∙ seen.grows)
+
+    elsewhere : AllByRecursion (IsElsewhere p) seen.earlier
+    elsewhere = (all_parts (IsElsewhere p) seen.earlier seen.later (subst (λ (ms : List Moment). AllByRecursion (IsElsewhere p) ms) same
+        (untouched tells own edges old new none_runs two free p bound call.more call.all of_call))).0
 
 -- an answer that was so at some moment of such a call was so at its beginning
 pub sees_so : {A : Type 0} (so : List Moment → A) (seen : A) (old new : List Moment) → new ≡ old → Sees so seen old new → seen ≡ so old
