@@ -121,7 +121,7 @@ module _ (tells : Bool) (own : OwnFiles) (task : Task) (before : List Step) (old
       elsewhere (Wrote (Command job) path content stamp ∷ ms) none all within edits =
           (false_from_ne_true (bytes_eq path p) (λ here. by_command job path (same_bytes path p here) (running job all.0) within.0), elsewhere ms none all.1 within.1 edits.1)
       elsewhere (Wrote Someone path content stamp ∷ ms) none all within edits =
-          (false_from_ne_true (bytes_eq path p) (λ here. by_free path (same_bytes path p here) edits.0), elsewhere ms none all.1 within.1 edits.1)
+          (false_from_ne_true (bytes_eq path p) (λ here. by_free path (same_bytes path p here) edits.0), elsewhere ms none all within.1 edits.1)
       elsewhere (Happened event ∷ ms) none all within edits = let some : suc (happened_in ms) ≡ 0 = none in absurd (omega (arith, some))
 
       file_at_point : (at : List Moment) → IsPointAfter before old.history now.history at → file_at at p ≡ file_at now.history p
