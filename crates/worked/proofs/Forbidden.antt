@@ -10,13 +10,13 @@ use Rattle.worked.specs.Small.{copy, copies}
 use Rattle.worked.specs.Forbidden.{before, ran, copied_over, patched, put_back, failing, forged, IsBelieved, ForbiddenRows}
 
 -- what the command gives where `a` holds this
-gives : Option (List ℕ) → Option (List ℕ)
+abbrev gives : Option (List ℕ) → Option (List ℕ)
 gives held = given copies copy (λ p. held) (codes "b")
 
-ends : Option (List ℕ) → Bool
+abbrev ends : Option (List ℕ) → Bool
 ends held = ends_well copies copy (λ p. held)
 
-is_x : Option (List ℕ) → Bool
+abbrev is_x : Option (List ℕ) → Bool
 is_x held = elim held [ None ↦ false | Some q ↦ bytes_eq q (codes "x") ]
 
 no_told : (deps : Told) → None ≡ Some deps → ⊥

@@ -1,16 +1,18 @@
 -- The premises in stricter words imply those of today.
-use Rattle.std.proofs.Common.{◌≡◌, ◌⊎◌, inl, inr, ℕ, zero, suc, ◌<◌, ◌≤◌, max, Bool, true, false, List, [], ◌∷◌, ◌++◌, refl, sym, ◌∙◌, subst, arith}
+use Rattle.std.proofs.Common.{◌≡◌, ◌⊎◌, inl, inr, ℕ, zero, suc, ◌<◌, ◌≤◌, max, Bool, true, false, List, [], ◌∷◌, ◌++◌, Some, refl, sym, ◌∙◌, ap, subst, arith}
 use Rattle.std.proofs.Math.Nat.{le-max_left, le-max_right, max-eq_left, max-eq_right}
 use Rattle.std.proofs.lemmas.Bool.{false≢true}
 use Rattle.model.specs.declared.event.Event.TheVariants.{Start, Finish}
 use Rattle.model.specs.declared.event.Moment.{Moment}
 use Rattle.model.specs.declared.event.Moment.TheVariants.{Wrote, Happened}
 use Rattle.model.specs.declared.graph.Edge.{Edge}
-use Rattle.model.specs.World.{latest, latest_from, next_stamp, next_from}
-use Rattle.model.specs.Premises.{Increases, StampsGrow, FilesAreKept, LeaveOutcomes, none_free}
-use Rattle.model.specs.Outcome.{Behaviour}
+use Rattle.model.specs.World.{latest, latest_from, next_stamp, next_from, view_of}
+use Rattle.model.specs.Premises.{Increases, StampsGrow, FilesAreKept, KeepToOutputs, OwnFilesApart, NothingIsEdited, HasOneOutcome, LeftOutcome, LeaveOutcomes, none_free}
+use Rattle.model.specs.Outcome.{Behaviour, given}
 use Rattle.model.specs.Records.{OwnFiles}
-use Rattle.log_theory.proofs.AsNow.{own_view}
+use Rattle.model.specs.Graph.{edge_at, outputs}
+use Rattle.build_theory.specs.Order.{LeftAsNow}
+use Rattle.build_theory.proofs.Lists.{all_has, all_from_has}
 use Rattle.worked.specs.Stricter.{AreLater, AreOfWrites, StricterSuffice}
 
 below_or : (a b : ℕ) → (a < b) ⊎ (b ≤ a)
@@ -65,13 +67,38 @@ stamps_grow old new all later more grows =
     let split = parts 0 old more (subst (λ (l : List Moment). AreOfWrites 0 l) grows all) in
     grow (next_stamp old) (latest old) (latest old) more (next_within 0 0 old (omega arith) split.0) (omega arith) (later more grows) split.1
 
+-- ---- what commands leave
+
+-- what a command left as the files of the exit have it is what it left in a view of its own: that of these files
+own_view : (B : Behaviour) (edges : List Edge) (since new at : List Moment) (i : ℕ) → HasOneOutcome B edges (view_of new) i → LeftAsNow B edges (view_of new) (view_of at) i → LeftOutcome B edges since new at i
+own_view B edges since new at i one left =
+    let same = one left.seen (view_of new) left.reading (λ p read. refl) left.well left.reports in
+    record {
+      seen = view_of new;
+      well = same.ends ∙ left.well;
+      unwritten = λ p none. refl;
+      contents = all_from_has (λ o. view_of at o ≡ given B (edge_at edges i).act (view_of new) o) (outputs (edge_at edges i))
+          (λ o h. all_has (λ q. view_of at q ≡ given B (edge_at edges i).act left.seen q) (outputs (edge_at edges i)) o left.contents h
+          ∙ sym (all_has (λ q. given B (edge_at edges i).act (view_of new) q ≡ given B (edge_at edges i).act left.seen q) (outputs (edge_at edges i)) o same.contents h));
+      depfile = left.depfile ∙ ap (λ (ps : List (List ℕ)). Some ps) (sym same.reports);
+    }
+
 -- ---- together
+
+abbrev kept_by : (own : OwnFiles) (edges : List Edge) (old new : List Moment) → KeepToOutputs none_free edges old new → OwnFilesApart own edges → NothingIsEdited old new → FilesAreKept own edges old new
+kept_by own edges old new commands own_files edits = record {
+  free = none_free;
+  free_apart = record { set = λ p h. refl; outputs = λ i p h. refl };
+  commands = commands;
+  own_files = own_files;
+  edits = edits;
+}
 
 pub stricter_suffice : StricterSuffice
 stricter_suffice B own declared edges recorded store steps old new judged ticked strict = record {
   premises = record {
     files = record {
-      kept = kept;
+      kept = kept_by own edges old new strict.commands strict.own_files strict.edits;
       quiet = λ i. true;
       alone = record { unread = λ i p quiet matters. refl; above = λ i j p quiet matters made command. refl };
       recorded_apart = strict.recorded_apart;
@@ -84,18 +111,9 @@ stricter_suffice B own declared edges recorded store steps old new judged ticked
   };
   none_free = λ p. refl;
   all_quiet = λ i. refl;
-  faith = record { kept = kept; unrecorded = λ p is_free. absurd (false≢true is_free); stamps = stamps; left_outcomes = left };
+  faith = record { kept = kept_by own edges old new strict.commands strict.own_files strict.edits; unrecorded = λ p is_free. absurd (false≢true is_free); stamps = stamps; left_outcomes = left };
 }
   where
-    abbrev kept : FilesAreKept own edges old new
-    kept = record {
-      free = none_free;
-      free_apart = record { set = λ p h. refl; outputs = λ i p h. refl };
-      commands = strict.commands;
-      own_files = strict.own_files;
-      edits = strict.edits;
-    }
-
     stamps : StampsGrow old new
     stamps = stamps_grow old new ticked strict.stamps
 
