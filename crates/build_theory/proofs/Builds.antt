@@ -15,7 +15,7 @@ use Rattle.model.specs.OutOfDate.{IsVerdict}
 use Rattle.model.specs.Schedule.{Task, Step, Judged, Started, Ended, clean_in, ended_in, well_in, running_in, done_in, IsSettled, MayBeJudged, NoneMayBeJudged, NoneMayStart, IsLawful, AreEventsOf, AreFinishes}
 use Rattle.model.specs.Premises.{Matters, Premises, EndedAt}
 use Rattle.model.specs.SingleBuild.{Asked, Answer, is_fault, task_of, InCone, IsScheduled, HasEnded, IsJudged, IsFrame, IsCleanlyBuilt}
-use Rattle.build_theory.specs.Order.{AreReadFirst, no_records}
+use Rattle.build_theory.specs.Order.{LeaveAsNow, AreReadFirst, no_records}
 use Rattle.build_theory.specs.Run.{events_in, IsToldBy, IsRun, IsRunOrRest, AreStartsReady}
 use Rattle.build_theory.proofs.Orderly.{kept_orderly}
 use Rattle.build_theory.proofs.Lists.{same_rest, has-left, has_number-right}
@@ -63,12 +63,13 @@ module _ (tells : Bool) (own : OwnFiles) (asked : Asked) (store : Store) (steps 
   pub clean_at_success : IsTrue tells → IsIdle old.events → IsRunOrRest tells own (task_of asked store) steps old now → IsMadeOnce asked.graph.edges → clean_in steps ≡ []
       → (B : Behaviour) → AreReadFirst asked.graph.edges (Matters B asked.graph.edges (recorded_inputs store asked.graph.edges) steps old.history now.history) steps
       → ((i : ℕ) → InCone asked store i → IsSettled asked.graph.edges (done_in steps) i)
-      → Premises B own asked.declared asked.graph.edges (recorded_inputs store asked.graph.edges) steps old.history now.history
-      → IsCleanlyBuilt B asked store (view_of now.history)
-  clean_at_success tell idle rest once none B first settled premises i o within command is_output =
-      clean_where_explained tells own (task_of asked store) steps old now idle rest tell B asked.declared once premises first
-      (λ j p clean is_out. absurd (false≢true (subst (λ (l : List ℕ). has_number l j ≡ true) none clean)))
-      i o command (settled i within) is_output
+      → (premises : Premises B own asked.declared asked.graph.edges (recorded_inputs store asked.graph.edges) steps old.history now.history)
+      → LeaveAsNow B premises.files.quiet asked.graph.edges steps old.history now.history
+      → IsCleanlyBuilt B premises.files.quiet asked store (view_of now.history)
+  clean_at_success tell idle rest once none B first settled premises lefts i o is_quiet within command is_output =
+      clean_where_explained tells own (task_of asked store) steps old now idle rest tell B asked.declared once premises lefts first
+      (λ j p is_quiet clean is_out. absurd (false≢true (subst (λ (l : List ℕ). has_number l j ≡ true) none clean)))
+      i o is_quiet command (settled i within) is_output
 
   pub frame_of_run : IsTrue tells → IsIdle old.events → IsRunOrRest tells own (task_of asked store) steps old now → IsMadeOnce asked.graph.edges
       → AreStartsReady own asked.graph.edges old.history now.history → IsFrame own asked.graph.edges steps old.history now.history
@@ -205,10 +206,10 @@ module _ (tells : Bool) (own : OwnFiles) (task : Task) (steps : List Step) (old 
 
 module _ (tells : Bool) (own : OwnFiles) (asked : Asked) (steps : List Step) (old now : World) (idle : IsIdle old.events) (rest : IsRunOrRest tells own (task_of asked no_records) steps old now) (lawful : IsLawful (task_of asked no_records) steps) where
   -- where every verdict was out of date, each command has an output, and no act of a command that ended names a depfile
-  pub judged_of_nothing : (B : Behaviour) → IsTrue tells → clean_in steps ≡ [] → ((i : ℕ) → IsCommand asked.graph.edges i → outputs (edge_at asked.graph.edges i) ≢ [])
-      → ((i : ℕ) → has_number (ended_in steps) i ≡ true → (edge_at asked.graph.edges i).act.depfile ≡ []) → IsJudged B asked no_records steps None old.history now.history
-  judged_of_nothing B tell none some no_depfiles = record {
-    verdicts = verdicts_of_nothing own asked steps lawful none some old.history now.history;
+  pub judged_of_nothing : (B : Behaviour) (free : List ℕ → Bool) → IsTrue tells → clean_in steps ≡ [] → ((i : ℕ) → IsCommand asked.graph.edges i → outputs (edge_at asked.graph.edges i) ≢ [])
+      → ((i : ℕ) → has_number (ended_in steps) i ≡ true → (edge_at asked.graph.edges i).act.depfile ≡ []) → IsJudged B free asked no_records steps None old.history now.history
+  judged_of_nothing B free tell none some no_depfiles = record {
+    verdicts = λ before after i b splits unread. verdicts_of_nothing own asked steps lawful none some old.history now.history before after i b splits;
     well = λ i at ended well. accepts_none B (edge_at asked.graph.edges i).act (view_of at) (no_depfiles i ((kept_orderly asked.graph.edges steps rest.orderly).well i well));
     depfiles = λ i at ended has unmet. depfiles_of_none tells own (task_of asked no_records) steps old now idle rest tell B i at (no_depfiles i has) ended has;
   }

@@ -17,10 +17,10 @@ use Rattle.model.specs.Clean.{clean_build}
 use Rattle.model.specs.Graph.{has, has_number, edge_at, outputs, IsMadeOnce, IsCommand}
 use Rattle.model.specs.Records.{OwnFiles}
 use Rattle.model.specs.Schedule.{Task, Step, Judged, Started, Ended, judged_in, clean_in, started_in, ended_in, out_of_date_in, well_in, done_in, IsSettled, AreEventsOf}
-use Rattle.model.specs.Premises.{FilesAreKept, OwnFilesApart, LiesIn, Premises, EndedAt, LeftOutcome, Matters, IsWithinEdge, IsNoEdit}
+use Rattle.model.specs.Premises.{FilesAreKept, OwnFilesApart, LiesIn, Premises, EndedAt, Matters, IsWithinEdge, IsNoEdit}
 use Rattle.model.specs.SingleBuild.{IsOwnWrite, IsOfBuild, MayChange, IsMadeBy, IsFrame}
 use Rattle.model.specs.Phases.{happened_in, EndsInEvent, IsPointAfter}
-use Rattle.build_theory.specs.Order.{settled_in, IsExplained, IsOrderlyFrom, IsOrderly, AreReadFirst}
+use Rattle.build_theory.specs.Order.{settled_in, LeftAsNow, LeaveAsNow, IsExplained, IsOrderlyFrom, IsOrderly, AreReadFirst}
 use Rattle.build_theory.specs.Run.{events_in, starts_in, AreOfRun, IsToldBy, IsRunOrRest, AreStartsReady, EndOf}
 use Rattle.build_theory.proofs.Lists.{same_rest, all_has, all_from_has, all_parts, has_number-cases, has_number-right, has_number-one}
 use Rattle.build_theory.proofs.Steps.{running_parts, started-append, in_right, settled_done, done_settled}
@@ -29,6 +29,7 @@ use Rattle.build_theory.proofs.Events.{starts-append, starts_of_steps, starts_of
 use Rattle.build_theory.proofs.Moments.{until_first, of_build, of_run_parts, quiet, IsMomentOf, moment_of, events_in-append}
 use Rattle.build_theory.proofs.Makers.{maker_is, one_maker}
 use Rattle.build_theory.proofs.Settled.{settled_command}
+use Rattle.build_theory.proofs.Only.{only, only_has, has_only, only_order}
 use Rattle.build_theory.proofs.Rounds.{clean_by_order}
 use Rattle.build_theory.proofs.Files.{IsElsewhere, file_stays, all_elsewhere, stays_or_may_change}
 
@@ -208,24 +209,27 @@ module _ (tells : Bool) (own : OwnFiles) (task : Task) (steps : List Step) (old 
   commands : (i : ℕ) → has_number (out_of_date_in steps) i ≡ true → IsCommand task.graph.edges i
   commands i h = kept.judged i (kept.out_of_date i h)
 
+  -- since a command ended well its outputs were not written
+  pub output_unwritten : (once : IsMadeOnce task.graph.edges) → FilesAreKept own task.graph.edges old.history now.history → (i : ℕ) (o : List ℕ) → has (outputs (edge_at task.graph.edges i)) o ≡ true
+      → (end : EndOf own task.graph.edges steps i old.history now.history) → AllByRecursion (IsElsewhere o) end.after
+  output_unwritten once files i o is_output end =
+      all_elsewhere own task.graph.edges steps files.own_files files.free files.free_apart commands kept.started once i o is_output end.after end.others
+      (all_parts (IsWithinEdge files.free task.graph.edges) end.before (Happened (Finish i true) ∷ end.after) (files.commands (end.before ++ Happened (Finish i true) ∷ end.after) end.grows)).1.1
+      (all_parts (IsNoEdit files.free) end.before (Happened (Finish i true) ∷ end.after) (files.edits (end.before ++ Happened (Finish i true) ∷ end.after) end.grows)).1.1
+
   -- what an edge's outputs were when its command ended well, they still are
   pub output_stays : (once : IsMadeOnce task.graph.edges) → FilesAreKept own task.graph.edges old.history now.history → (i : ℕ) (o : List ℕ) → has (outputs (edge_at task.graph.edges i)) o ≡ true
       → (end : EndOf own task.graph.edges steps i old.history now.history) → file_at now.history o ≡ file_at (old.history ++ end.before) o
   output_stays once files i o is_output end =
       ap (λ (h : List Moment). file_at h o) (end.grows ∙ sym (append_assoc old.history end.before (Happened (Finish i true) ∷ end.after)))
-      ∙ file_stays o (old.history ++ end.before) (Happened (Finish i true) ∷ end.after) (
-        tt,
-        all_elsewhere own task.graph.edges steps files.own_files commands kept.started once i o is_output end.after end.others
-            (all_parts (IsWithinEdge task.graph.edges) end.before (Happened (Finish i true) ∷ end.after) (files.commands (end.before ++ Happened (Finish i true) ∷ end.after) end.grows)).1.1
-            (all_parts IsNoEdit end.before (Happened (Finish i true) ∷ end.after) (files.edits (end.before ++ Happened (Finish i true) ∷ end.after) end.grows)).1.1,
-      )
+      ∙ file_stays o (old.history ++ end.before) (Happened (Finish i true) ∷ end.after) (tt, output_unwritten once files i o is_output end)
 
   -- ---- contents
 
   -- each output of a command that ended well is explained
-  pub explained : (B : Behaviour) (declared : List Edge) → IsMadeOnce task.graph.edges → Premises B own declared task.graph.edges task.recorded steps old.history now.history
-      → (i : ℕ) (o : List ℕ) → has_number (well_in steps) i ≡ true → has (outputs (edge_at task.graph.edges i)) o ≡ true → IsExplained B task.graph.edges (Matters B task.graph.edges task.recorded steps old.history now.history) (view_of now.history) i o
-  explained B declared once premises i o well is_output = by_left left
+  pub explained : (B : Behaviour) (declared : List Edge) → IsMadeOnce task.graph.edges → (premises : Premises B own declared task.graph.edges task.recorded steps old.history now.history) → LeaveAsNow B premises.files.quiet task.graph.edges steps old.history now.history
+      → (i : ℕ) (o : List ℕ) → premises.files.quiet i ≡ true → has_number (well_in steps) i ≡ true → has (outputs (edge_at task.graph.edges i)) o ≡ true → IsExplained B task.graph.edges (Matters B task.graph.edges task.recorded steps old.history now.history) (view_of now.history) i o
+  explained B declared once premises lefts i o is_quiet well is_output = by_left left
     where
       end : EndOf own task.graph.edges steps i old.history now.history
       end = end_of i well
@@ -233,10 +237,10 @@ module _ (tells : Bool) (own : OwnFiles) (task : Task) (steps : List Step) (old 
       ended_at : EndedAt i old.history now.history (old.history ++ end.before)
       ended_at = record { before = end.before; after = end.after; is = refl; splits = end.grows }
 
-      left : LeftOutcome B task.graph.edges (view_of now.history) (view_of (old.history ++ end.before)) i
-      left = premises.left_outcomes i (old.history ++ end.before) ended_at well
+      left : LeftAsNow B task.graph.edges (view_of now.history) (view_of (old.history ++ end.before)) i
+      left = lefts i (old.history ++ end.before) is_quiet ended_at well
 
-      by_left : LeftOutcome B task.graph.edges (view_of now.history) (view_of (old.history ++ end.before)) i → IsExplained B task.graph.edges (Matters B task.graph.edges task.recorded steps old.history now.history) (view_of now.history) i o
+      by_left : LeftAsNow B task.graph.edges (view_of now.history) (view_of (old.history ++ end.before)) i → IsExplained B task.graph.edges (Matters B task.graph.edges task.recorded steps old.history now.history) (view_of now.history) i o
       by_left left = record {
         seen = left.seen;
         well = left.well;
@@ -251,16 +255,17 @@ module _ (tells : Bool) (own : OwnFiles) (task : Task) (steps : List Step) (old 
 
   -- Each output of a command edge that is settled holds what the clean build gives, where those judged clean are explained.
   pub clean_where_explained : (B : Behaviour) (declared : List Edge) → IsMadeOnce task.graph.edges
-      → Premises B own declared task.graph.edges task.recorded steps old.history now.history
+      → (premises : Premises B own declared task.graph.edges task.recorded steps old.history now.history) → LeaveAsNow B premises.files.quiet task.graph.edges steps old.history now.history
       → AreReadFirst task.graph.edges (Matters B task.graph.edges task.recorded steps old.history now.history) steps
-      → ((i : ℕ) (o : List ℕ) → has_number (clean_in steps) i ≡ true → has (outputs (edge_at task.graph.edges i)) o ≡ true → IsExplained B task.graph.edges (Matters B task.graph.edges task.recorded steps old.history now.history) (view_of now.history) i o)
-      → (i : ℕ) (o : List ℕ) → IsCommand task.graph.edges i → IsSettled task.graph.edges (done_in steps) i → has (outputs (edge_at task.graph.edges i)) o ≡ true
+      → ((i : ℕ) (o : List ℕ) → premises.files.quiet i ≡ true → has_number (clean_in steps) i ≡ true → has (outputs (edge_at task.graph.edges i)) o ≡ true → IsExplained B task.graph.edges (Matters B task.graph.edges task.recorded steps old.history now.history) (view_of now.history) i o)
+      → (i : ℕ) (o : List ℕ) → premises.files.quiet i ≡ true → IsCommand task.graph.edges i → IsSettled task.graph.edges (done_in steps) i → has (outputs (edge_at task.graph.edges i)) o ≡ true
       → view_of now.history o ≡ clean_build B task.graph.edges (view_of now.history) o
-  clean_where_explained B declared once premises first cleans i o command settled is_output =
-      clean_by_order B task.graph.edges (view_of now.history) (Matters B task.graph.edges task.recorded steps old.history now.history) (λ j p read. inl read) (settled_in steps)
-      (reading_order task.graph.edges (Matters B task.graph.edges task.recorded steps old.history now.history) steps rest.orderly first)
-      (λ j h. (premises.one_outcome j (judged_of j h), λ p is_out. explained_of j p is_out h))
-      i o (done_settled steps i (settled_command task.graph.edges (done_in steps) i command settled)) (maker_is task.graph.edges o i once is_output)
+  clean_where_explained B declared once premises lefts first cleans i o is_quiet command settled is_output =
+      clean_by_order B task.graph.edges (view_of now.history) (Matters B task.graph.edges task.recorded steps old.history now.history) (λ j p read. inl read) (only premises.files.quiet (settled_in steps))
+      (only_order task.graph.edges (Matters B task.graph.edges task.recorded steps old.history now.history) premises.files.quiet premises.files.alone.above [] (settled_in steps)
+      (reading_order task.graph.edges (Matters B task.graph.edges task.recorded steps old.history now.history) steps rest.orderly first))
+      (λ j h. (premises.one_outcome j (only_has premises.files.quiet (settled_in steps) j h).0 (judged_of j (only_has premises.files.quiet (settled_in steps) j h).1), λ p is_out. explained_of j p is_out (only_has premises.files.quiet (settled_in steps) j h).0 (only_has premises.files.quiet (settled_in steps) j h).1))
+      i o (has_only premises.files.quiet (settled_in steps) i (done_settled steps i (settled_command task.graph.edges (done_in steps) i command settled)) is_quiet) (maker_is task.graph.edges o i once is_output)
     where
       judged_of : (j : ℕ) → has_number (settled_in steps) j ≡ true → has_number (judged_in steps) j ≡ true
       judged_of j h = elim (has_number-cases (clean_in steps) (well_in steps) j (settled_done steps j h)) [
@@ -268,10 +273,11 @@ module _ (tells : Bool) (own : OwnFiles) (task : Task) (steps : List Step) (old 
         | inr well ↦ kept.out_of_date j (kept.started j (kept.ended j (kept.well j well)))
       ]
 
-      explained_of : (j : ℕ) (p : List ℕ) → has (outputs (edge_at task.graph.edges j)) p ≡ true → has_number (settled_in steps) j ≡ true → IsExplained B task.graph.edges (Matters B task.graph.edges task.recorded steps old.history now.history) (view_of now.history) j p
-      explained_of j p is_out h = elim (has_number-cases (clean_in steps) (well_in steps) j (settled_done steps j h)) [
-        | inl clean ↦ cleans j p clean is_out
-        | inr well ↦ explained B declared once premises j p well is_out
+      explained_of : (j : ℕ) (p : List ℕ) → has (outputs (edge_at task.graph.edges j)) p ≡ true → premises.files.quiet j ≡ true → has_number (settled_in steps) j ≡ true
+          → IsExplained B task.graph.edges (Matters B task.graph.edges task.recorded steps old.history now.history) (view_of now.history) j p
+      explained_of j p is_out quiet_j h = elim (has_number-cases (clean_in steps) (well_in steps) j (settled_done steps j h)) [
+        | inl clean ↦ cleans j p quiet_j clean is_out
+        | inr well ↦ explained B declared once premises lefts j p quiet_j well is_out
       ]
 
   -- ---- the frame
@@ -341,34 +347,42 @@ module _ (tells : Bool) (own : OwnFiles) (task : Task) (steps : List Step) (old 
           from_zero n = omega arith
 
       elsewhere : (p : List ℕ) → IsMadeBy (edge_at task.graph.edges i) p → AllByRecursion (IsElsewhere p) so_far
-      elsewhere p made = elim (stays_or_may_change own task.graph.edges before files.own_files (λ j h. kept_by_then.judged j (kept_by_then.out_of_date j h)) kept_by_then.started p so_far of_build_by_then
-          (all_parts (IsWithinEdge task.graph.edges) so_far (drop_events (length cut.before) told.more) (files.commands (so_far ++ drop_events (length cut.before) told.more) whole)).0
-          (all_parts IsNoEdit so_far (drop_events (length cut.before) told.more) (files.edits (so_far ++ drop_events (length cut.before) told.more) whole)).0) [
+      elsewhere p made = elim (stays_or_may_change own task.graph.edges before files.own_files files.free files.free_apart (λ j h. kept_by_then.judged j (kept_by_then.out_of_date j h)) kept_by_then.started p so_far of_build_by_then
+          (all_parts (IsWithinEdge files.free task.graph.edges) so_far (drop_events (length cut.before) told.more) (files.commands (so_far ++ drop_events (length cut.before) told.more) whole)).0
+          (all_parts (IsNoEdit files.free) so_far (drop_events (length cut.before) told.more) (files.edits (so_far ++ drop_events (length cut.before) told.more) whole)).0) [
             | inl stays ↦ stays
-            | inr may ↦ absurd (may_not own task.graph.edges before kept_by_then files.own_files once i turn.0 turn.1 p made may)
+            | inr (inl may) ↦ absurd (may_not own task.graph.edges before kept_by_then files.own_files once i turn.0 turn.1 p made may)
+            | inr (inr is_free) ↦ absurd (false≢true (sym (bound made) ∙ is_free))
           ]
         where
+          bound : IsMadeBy (edge_at task.graph.edges i) p → files.free p ≡ false
+          bound (inl output) = files.free_apart.outputs i p output
+          bound (inr (named, is)) = files.free_apart.set p (ap own.set is ∙ (files.own_files.depfiles i turn.0).0)
+
           whole : now.history ≡ old.history ++ (so_far ++ drop_events (length cut.before) told.more)
           whole = told.grows ∙ ap (λ (l : List Moment). old.history ++ l) (sym (taken_dropped (length cut.before) told.more))
 
   -- a file that changes is one that the build may change
-  pub unchanged : FilesAreKept own task.graph.edges old.history now.history → (p : List ℕ) → (file_at now.history p ≡ file_at old.history p) ⊎ MayChange own task.graph.edges steps p
-  unchanged files p = elim (stays_or_may_change own task.graph.edges steps files.own_files commands kept.started p told.more all_of_build (files.commands told.more told.grows) (files.edits told.more told.grows)) [
+  pub unwritten_or : (files : FilesAreKept own task.graph.edges old.history now.history) → (p : List ℕ) → AllByRecursion (IsElsewhere p) told.more ⊎ MayChange own task.graph.edges steps p ⊎ (files.free p ≡ true)
+  unwritten_or files p =
+      stays_or_may_change own task.graph.edges steps files.own_files files.free files.free_apart commands kept.started p told.more all_of_build (files.commands told.more told.grows) (files.edits told.more told.grows)
+
+  pub unchanged : (files : FilesAreKept own task.graph.edges old.history now.history) → (p : List ℕ) → (file_at now.history p ≡ file_at old.history p) ⊎ MayChange own task.graph.edges steps p ⊎ (files.free p ≡ true)
+  unchanged files p = elim (unwritten_or files p) [
     | inl stays ↦ inl (ap (λ (h : List Moment). file_at h p) told.grows ∙ file_stays p old.history told.more stays)
     | inr may ↦ inr may
   ]
 
-  -- an edge's outputs are as at the entry until its start
-  pub until_start : IsMadeOnce task.graph.edges → FilesAreKept own task.graph.edges old.history now.history → (i stamp : ℕ) (act : Act) (o : List ℕ) (before after : List Moment)
-      → now.history ≡ old.history ++ (before ++ Happened (Start i act stamp) ∷ after) → has (outputs (edge_at task.graph.edges i)) o ≡ true → file_at (old.history ++ before) o ≡ file_at old.history o
-  until_start once files i stamp act o before after grows is_output =
-      file_stays o old.history before
-      (all_elsewhere own task.graph.edges steps files.own_files commands kept.started once i o is_output before
+  -- nothing writes an edge's outputs until its start
+  pub unwritten_until : IsMadeOnce task.graph.edges → FilesAreKept own task.graph.edges old.history now.history → (i stamp : ℕ) (act : Act) (o : List ℕ) (before after : List Moment)
+      → now.history ≡ old.history ++ (before ++ Happened (Start i act stamp) ∷ after) → has (outputs (edge_at task.graph.edges i)) o ≡ true → AllByRecursion (IsElsewhere o) before
+  unwritten_until once files i stamp act o before after grows is_output =
+      all_elsewhere own task.graph.edges steps files.own_files files.free files.free_apart commands kept.started once i o is_output before
       (quiet own task.graph.edges steps i old.events [] before (ap (λ (l : List Event). runs i l) (append-nil old.events) ∙ idle i) none
       (of_run_parts own task.graph.edges steps old.events [] before (Happened (Start i act stamp) ∷ after) (subst (λ (l : List Moment). AreOfRun own task.graph.edges steps old.events [] l) splits told.all)).0
       (all_parts (IsOfBuild own task.graph.edges steps) before (Happened (Start i act stamp) ∷ after) (subst (λ (l : List Moment). AllByRecursion (IsOfBuild own task.graph.edges steps) l) splits all_of_build)).0)
-      (all_parts (IsWithinEdge task.graph.edges) before (Happened (Start i act stamp) ∷ after) (files.commands (before ++ Happened (Start i act stamp) ∷ after) grows)).0
-      (all_parts IsNoEdit before (Happened (Start i act stamp) ∷ after) (files.edits (before ++ Happened (Start i act stamp) ∷ after) grows)).0)
+      (all_parts (IsWithinEdge files.free task.graph.edges) before (Happened (Start i act stamp) ∷ after) (files.commands (before ++ Happened (Start i act stamp) ∷ after) grows)).0
+      (all_parts (IsNoEdit files.free) before (Happened (Start i act stamp) ∷ after) (files.edits (before ++ Happened (Start i act stamp) ∷ after) grows)).0
     where
       splits : told.more ≡ before ++ Happened (Start i act stamp) ∷ after
       splits = same_rest old.history told.more (before ++ Happened (Start i act stamp) ∷ after) (sym told.grows ∙ grows)
@@ -381,6 +395,11 @@ module _ (tells : Bool) (own : OwnFiles) (task : Task) (steps : List Step) (old 
 
       none : has_number (starts_in (events_in before)) i ≡ false
       none = distinct_from task.graph.edges [] steps rest.orderly (starts_in (events_in before)) (starts_in (events_in after)) i starts
+
+  -- an edge's outputs are as at the entry until its start
+  pub until_start : IsMadeOnce task.graph.edges → FilesAreKept own task.graph.edges old.history now.history → (i stamp : ℕ) (act : Act) (o : List ℕ) (before after : List Moment)
+      → now.history ≡ old.history ++ (before ++ Happened (Start i act stamp) ∷ after) → has (outputs (edge_at task.graph.edges i)) o ≡ true → file_at (old.history ++ before) o ≡ file_at old.history o
+  until_start once files i stamp act o before after grows is_output = file_stays o old.history before (unwritten_until once files i stamp act o before after grows is_output)
 
   -- No file changes but those that the build may change, each at its time; and starts are ready, if that was seen to.
   pub frame : (once : IsMadeOnce task.graph.edges) → AreStartsReady own task.graph.edges old.history now.history → IsFrame own task.graph.edges steps old.history now.history

@@ -64,7 +64,7 @@ module _ (now last : List Edge) (store : Store) (i : ℕ) (grown : HasGrown now 
   counted_now files p (inl read) = inl (read_now (view_of files) i p read loaded (λ q h. Input q h))
   counted_now files p (inr recorded) = inr (subst (λ (ps : List (List ℕ)). has ps p ≡ true) recorded_same recorded)
 
-  counted_last : (files : List Moment) (p : List ℕ) → Counted now store files i p → Counted last store files i p
+  pub counted_last : (files : List Moment) (p : List ℕ) → Counted now store files i p → Counted last store files i p
   counted_last files p (inl read) = inl (read_last (view_of files) i p read loaded (λ q h. Input q h))
   counted_last files p (inr recorded) = inr (subst (λ (ps : List (List ℕ)). has ps p ≡ true) (sym recorded_same) recorded)
 

@@ -1,6 +1,7 @@
 pub mod Lists
 pub mod Makers
 pub mod Settled
+mod Only
 pub mod Rounds
 pub mod Steps
 pub mod Orderly

@@ -16,8 +16,8 @@ use Rattle.build_theory.proofs.Lists.{has-left, has-right, has-cases}
 use Rattle.build_theory.proofs.Makers.{maker_has, maker_is}
 use Rattle.build_theory.proofs.Nothing.{recorded_alias}
 use Rattle.build_theory.proofs.Settled.{settled_command}
-use Rattle.model.specs.OutOfDate.{IsVerdict}
-use Rattle.build_theory.proofs.Judged.{verdict_last}
+use Rattle.model.specs.OutOfDate.{Counted, IsVerdict}
+use Rattle.build_theory.proofs.Judged.{counted_last, verdict_last}
 use Rattle.build_theory.proofs.Growth.{HasGrown, grown_further, still_loaded, maker_still}
 
 -- ---- the last link of a chain
@@ -306,6 +306,14 @@ module _ (declared last : List Edge) (store : Store) (task : Task) (done : List 
 
       known_walked : (p : List ℕ) (m : ℕ) → IsWalked last i p ⊎ (has (recorded_inputs store last i) p ≡ true) → maker last p ≡ Some m → maker task.graph.edges p ≡ Some m
       known_walked p m walked made = known_here p m made (premise.inputs i p command_last walked)
+
+      -- what counts over the edges of then counts over those of the end
+      pub counted_here : (files : List Moment) (p : List ℕ) → Counted task.graph.edges store files i p → Counted last store files i p
+      counted_here files p counted = counted_last task.graph.edges last store i now_last once_last loaded_here known_walked
+          (λ p j walked alias.
+          let here = walked_settled p walked j (known_walked p j (inl walked) alias.made) in
+          (declared_good j here.0 here.1).0.loaded)
+          files p counted
 
       -- a verdict over the edges of then is one over the edges of the end
       pub verdict_here : (ran : List ℕ) → ((j : ℕ) → has_number ran j ≡ true → has_number done j ≡ true) → (entry files : List Moment) (b : Bool)

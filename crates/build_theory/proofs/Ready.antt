@@ -10,7 +10,7 @@ use Rattle.model.specs.declared.event.Moment.TheVariants.{Happened}
 use Rattle.model.specs.World.{World}
 use Rattle.model.specs.Graph.{has_number, edge_at}
 use Rattle.model.specs.Records.{Store, OwnFiles}
-use Rattle.model.specs.OutOfDate.{IsVerdict}
+use Rattle.model.specs.OutOfDate.{ReadsNoFree, IsVerdict}
 use Rattle.model.specs.Schedule.{Task, Step, Judged, Started, Ended, out_of_date_in, started_in, well_in, AreEventsOf, AreFinishes}
 use Rattle.model.specs.SingleBuild.{StartsOnlyStale}
 use Rattle.build_theory.specs.Order.{IsOrderly}
@@ -33,10 +33,10 @@ out_of_date_step (Judged j false ∷ steps) i h = step_behind (Judged j false) s
 out_of_date_step (Started j ∷ steps) i h = step_behind (Started j) steps (Judged i true) (out_of_date_step steps i h)
 out_of_date_step (Ended j w ∷ steps) i h = step_behind (Ended j w) steps (Judged i true) (out_of_date_step steps i h)
 
-pub stale_starts : (edges : List Edge) (store : Store) (steps : List Step) (old new : List Moment) → IsOrderly edges steps
-    → ((before after : List Step) (i : ℕ) (out_of_date : Bool) → steps ≡ before ++ Judged i out_of_date ∷ after → IsVerdict edges store (well_in before) old new i out_of_date)
-    → StartsOnlyStale edges store steps old new
-stale_starts edges store steps old new lawful verdicts before after i splits =
+pub stale_starts : (free : List ℕ → Bool) (edges : List Edge) (store : Store) (steps : List Step) (old new : List Moment) → IsOrderly edges steps
+    → ((before after : List Step) (i : ℕ) (out_of_date : Bool) → steps ≡ before ++ Judged i out_of_date ∷ after → ReadsNoFree free edges store new i → IsVerdict edges store (well_in before) old new i out_of_date)
+    → StartsOnlyStale free edges store steps old new
+stale_starts free edges store steps old new lawful verdicts before after i splits =
     (judged.before, judged.after, judged.splits, verdicts judged.before (judged.after ++ Started i ∷ after) i true (splits ∙ whole))
   where
     stale : has_number (out_of_date_in before) i ≡ true

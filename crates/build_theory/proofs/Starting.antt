@@ -13,7 +13,7 @@ use Rattle.model.specs.World.{World, content_of, written, file_at, view_of, IsRu
 use Rattle.model.specs.Calls.{AllByOthers, OthersWrote, Adds, Starts}
 use Rattle.model.specs.Graph.{edge_at, IsCommand}
 use Rattle.model.specs.Records.{OwnFiles}
-use Rattle.model.specs.Premises.{OwnFilesApart, FilesAreKept, AllSince, IsWithinEdge, IsNoEdit}
+use Rattle.model.specs.Premises.{OwnFilesApart, FreeApart, FilesAreKept, AllSince, IsWithinEdge, IsNoEdit}
 use Rattle.model.specs.SingleBuild.{IsReadyFor}
 use Rattle.build_theory.specs.Run.{events_in, starts_in, AreStartsReady}
 use Rattle.build_theory.proofs.Lists.{same_rest, all_parts, place_in}
@@ -119,10 +119,10 @@ abbrev pub OthersRun : List Edge → ℕ → (ℕ → Type 0) → Type 0
 OthersRun edges i running = (job : ℕ) → running job → IsCommand edges job × (job ≡ i → ⊥)
 
 -- other commands do not write it
-pub private_elsewhere : (own : OwnFiles) (edges : List Edge) → OwnFilesApart own edges → (i : ℕ) → IsCommand edges i → (q : List ℕ) → IsPrivate edges i q → (running : ℕ → Type 0) → OthersRun edges i running
-    → (ms : List Moment) → AllByOthers running ms → AllByRecursion (IsWithinEdge edges) ms → AllByRecursion IsNoEdit ms → AllByRecursion (IsElsewhere q) ms
-private_elsewhere own edges apart i command q private running others ms all within edits =
-    others_elsewhere edges running q (λ job is makes. false≢true (sym (apart.outputs job q makes) ∙ in_set private.is)) (λ job is same. other_depfile job is same private.is) ms all within edits
+pub private_elsewhere : (own : OwnFiles) (edges : List Edge) → OwnFilesApart own edges → (free : List ℕ → Bool) → FreeApart free own edges → (i : ℕ) → IsCommand edges i → (q : List ℕ) → IsPrivate edges i q → (running : ℕ → Type 0) → OthersRun edges i running
+    → (ms : List Moment) → AllByOthers running ms → AllByRecursion (IsWithinEdge free edges) ms → AllByRecursion (IsNoEdit free) ms → AllByRecursion (IsElsewhere q) ms
+private_elsewhere own edges apart free free_apart i command q private running others ms all within edits =
+    others_elsewhere free edges running q (free_apart.set q (in_set private.is)) (λ job is makes. false≢true (sym (apart.outputs job q makes) ∙ in_set private.is)) (λ job is same. other_depfile job is same private.is) ms all within edits
   where
     in_set : (q ≡ (edge_at edges i).act.depfile) ⊎ (q ≡ (edge_at edges i).act.response_path) → own.set q ≡ true
     in_set (inl is) = ap own.set is ∙ (apart.depfiles i command).0
@@ -145,8 +145,8 @@ module _ (own : OwnFiles) (edges : List Edge) (old so_far now new : List Moment)
     (running : ℕ → Type 0) (others : OthersRun edges i running) where
   by_others : (ms all : List Moment) → new ≡ now ++ all → (before after : List Moment) → all ≡ before ++ (ms ++ after) → AllByOthers running ms → FilesAreKept own edges old new → AllByRecursion (IsElsewhere q) ms
   by_others ms all grows before after splits theirs files =
-      private_elsewhere own edges files.own_files i command q private running others ms theirs
-      (part (IsWithinEdge edges) files.commands) (part IsNoEdit files.edits)
+      private_elsewhere own edges files.own_files files.free files.free_apart i command q private running others ms theirs
+      (part (IsWithinEdge files.free edges) files.commands) (part (IsNoEdit files.free) files.edits)
     where
       part : (kind : Moment → Type 0) → AllSince kind old new → AllByRecursion kind ms
       part kind kept = (all_parts kind ms after (all_parts kind before (ms ++ after)

@@ -24,8 +24,8 @@ settled_is_clean B edges files others order settling one explained i o within is
     rounds.clean_by_order B edges files (ReadsOr edges files others) (λ j p read. inl read) order settling (λ j h. (one j h, λ p is_output. explained j p h is_output)) i o within is
 
 pub success_is_clean : SuccessIsClean
-success_is_clean tells B own asked store steps old now tell idle rest once none first settled premises =
-    builds.clean_at_success tells own asked store steps old now tell idle rest once none B first settled premises
+success_is_clean tells B own asked store steps old now tell idle rest once none first settled premises lefts =
+    builds.clean_at_success tells own asked store steps old now tell idle rest once none B first settled premises lefts
 
 pub run_keeps_frame : RunKeepsFrame
 run_keeps_frame tells own asked store steps old now tell idle rest once ready = builds.frame_of_run tells own asked store steps old now tell idle rest once ready
@@ -34,14 +34,14 @@ pub nothing_to_make_ready : NothingToMakeReady
 nothing_to_make_ready tells own asked store steps old now tell rest none = ready.ready_of_none tells own (task_of asked store) steps old now rest tell none
 
 pub orderly_starts_are_stale : OrderlyStartsAreStale
-orderly_starts_are_stale B asked store steps met old new lawful judged = ready.stale_starts asked.graph.edges store steps old new lawful judged.verdicts
+orderly_starts_are_stale B free asked store steps met old new lawful judged = ready.stale_starts free asked.graph.edges store steps old new lawful judged.verdicts
 
 pub one_phase_asks_at_entry : OnePhaseAsksAtEntry
 one_phase_asks_at_entry own task store old new nothing unloaded apart at point = subst (λ (l : List Moment). NothingIsMissing task.graph.edges store [] l task.targets) (sym (point.entry refl)) nothing
 
 pub nothing_is_up_to_date : NothingIsUpToDate
-nothing_is_up_to_date tells B own asked steps old now tell idle rest lawful none some no_depfiles =
-    builds.judged_of_nothing tells own asked steps old now idle rest lawful B tell none some no_depfiles
+nothing_is_up_to_date tells B free own asked steps old now tell idle rest lawful none some no_depfiles =
+    builds.judged_of_nothing tells own asked steps old now idle rest lawful B free tell none some no_depfiles
 
 pub end_is_settled : EndIsSettled
 end_is_settled task steps order unjudged unstarted idle fine makers cone i h =

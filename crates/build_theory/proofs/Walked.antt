@@ -16,8 +16,8 @@ use Rattle.build_theory.proofs.Lists.{has_number-right, has_number-cases, has_nu
 use Rattle.build_theory.proofs.Steps.{judged-append, settled-append, in_either, in_left, in_right, settled_done, done_settled}
 use Rattle.build_theory.proofs.Orderly.{IsKept, kept_nothing, kept_push, orderly_step}
 use Rattle.build_theory.proofs.Growth.{HasGrown, grown_same, grown_further, grown_by}
-use Rattle.model.specs.OutOfDate.{IsVerdict}
-use Rattle.build_theory.proofs.Phased.{IsRight, right_more, right_here, read_here, verdict_here}
+use Rattle.model.specs.OutOfDate.{Counted, IsVerdict}
+use Rattle.build_theory.proofs.Phased.{IsRight, right_more, right_here, read_here, counted_here, verdict_here}
 
 -- ---- lists of steps
 
@@ -30,6 +30,7 @@ AreReadFrom edges Reads before (Ended i w ∷ steps) = AreReadFrom edges Reads (
 -- a verdict over the edges of then, on any files, is one over the edges of the end; and what was judged before had its file loaded
 pub record IsTurned (now last : List Edge) (store : Store) (before : List Step) (i : ℕ) (b : Bool) : Type 0 where
   pub verdict : (entry files : List Moment) → IsVerdict now store (well_in before) entry files i b → IsVerdict last store (well_in before) entry files i b
+  pub counted : (files : List Moment) (p : List ℕ) → Counted now store files i p → Counted last store files i p
   pub loaded : (k : ℕ) → has_number (judged_in before) k ≡ true → (edge_at now k).dyndep ≡ None
 
 abbrev pub AreTurnedFrom : List Edge → List Edge → Store → List Step → List Step → Type 0
@@ -199,6 +200,9 @@ module _ (declared last : List Edge) (store : Store) (B : Behaviour) (all : List
                 (λ e file within names settled. unloaded.0 file (record { edge = e; within = within; names = names; settled = settled })) (rights before kept right)
                 i lawful.0.0.within lawful.0.0.command (λ p j need made. lawful.0.0.ready p need j made) B all old new premise
                 (well_in before) (λ j h. has_number-right (clean_in before) (well_in before) j h) entry files b verdict;
+            counted = λ files p counted. counted_here declared last store task (done_in before) before_now now_last once once_now once_last recorded_is inputs_named
+                (λ e file within names settled. unloaded.0 file (record { edge = e; within = within; names = names; settled = settled })) (rights before kept right)
+                i lawful.0.0.within lawful.0.0.command (λ p j need made. lawful.0.0.ready p need j made) B all old new premise files p counted;
             loaded = λ k h. (right k h).loaded;
           }),
           phase_turned (before ++ Judged i b ∷ []) steps (kept_push last before (Judged i b) kept orderly) lawful.1 unloaded.1

@@ -13,7 +13,7 @@ use Rattle.model.specs.OutOfDate.{NothingIsMissing}
 use Rattle.model.specs.Premises.{Premises, HasOneOutcome, Matters, DyndepOutputsAreReadBelow}
 use Rattle.model.specs.SingleBuild.{Asked, NamesOther, task_of, InCone, IsJudged, StartsOnlyStale, IsFrame, IsCleanlyBuilt}
 use Rattle.model.specs.Reading.{IsInCone, IsRead}
-use Rattle.build_theory.specs.Order.{settled_in, IsSettlingOrder, AreMakersFirst, IsExplained, no_records, AreReadFirst, IsReadingOrder, IsOrderly}
+use Rattle.build_theory.specs.Order.{settled_in, IsSettlingOrder, AreMakersFirst, LeaveAsNow, IsExplained, no_records, AreReadFirst, IsReadingOrder, IsOrderly}
 use Rattle.build_theory.specs.Run.{IsRun, IsRunOrRest, AreStartsReady}
 
 -- what an edge reads: its reading set, and these paths
@@ -38,8 +38,9 @@ SuccessIsClean =
     → IsMadeOnce asked.graph.edges → clean_in steps ≡ []
     → AreReadFirst asked.graph.edges (Matters B asked.graph.edges (recorded_inputs store asked.graph.edges) steps old.history now.history) steps
     → ((i : ℕ) → InCone asked store i → IsSettled asked.graph.edges (done_in steps) i)
-    → Premises B own asked.declared asked.graph.edges (recorded_inputs store asked.graph.edges) steps old.history now.history
-    → IsCleanlyBuilt B asked store (view_of now.history)
+    → (premises : Premises B own asked.declared asked.graph.edges (recorded_inputs store asked.graph.edges) steps old.history now.history)
+    → LeaveAsNow B premises.files.quiet asked.graph.edges steps old.history now.history
+    → IsCleanlyBuilt B premises.files.quiet asked store (view_of now.history)
 
 -- A run changes no file but those that a build may change, each at its time; at its starts there is no old depfile and the
 -- response file is written, if that was seen to.
@@ -60,8 +61,8 @@ NothingToMakeReady =
 -- where verdicts are right, orderly steps start only commands out of date
 abbrev pub OrderlyStartsAreStale : Type 0
 OrderlyStartsAreStale =
-    (B : Behaviour) (asked : Asked) (store : Store) (steps : List Step) (met : Option ℕ) (old new : List Moment)
-    → IsOrderly asked.graph.edges steps → IsJudged B asked store steps met old new → StartsOnlyStale asked.graph.edges store steps old new
+    (B : Behaviour) (free : List ℕ → Bool) (asked : Asked) (store : Store) (steps : List Step) (met : Option ℕ) (old new : List Moment)
+    → IsOrderly asked.graph.edges steps → IsJudged B free asked store steps met old new → StartsOnlyStale free asked.graph.edges store steps old new
 
 -- What was missing is asked once where there is one phase: at the entry.
 abbrev pub OnePhaseAsksAtEntry : Type 0
@@ -72,11 +73,11 @@ OnePhaseAsksAtEntry =
 -- Without records each command with an output is out of date, so verdicts that all say so are right.
 abbrev pub NothingIsUpToDate : Type 0
 NothingIsUpToDate =
-    (tells : Bool) (B : Behaviour) (own : OwnFiles) (asked : Asked) (steps : List Step) (old now : World)
+    (tells : Bool) (B : Behaviour) (free : List ℕ → Bool) (own : OwnFiles) (asked : Asked) (steps : List Step) (old now : World)
     → IsTrue tells → IsIdle old.events → IsRunOrRest tells own (task_of asked no_records) steps old now → IsLawful (task_of asked no_records) steps → clean_in steps ≡ []
     → ((i : ℕ) → IsCommand asked.graph.edges i → outputs (edge_at asked.graph.edges i) ≢ [])
     → ((i : ℕ) → has_number (ended_in steps) i ≡ true → (edge_at asked.graph.edges i).act.depfile ≡ [])
-    → IsJudged B asked no_records steps None old.history now.history
+    → IsJudged B free asked no_records steps None old.history now.history
 
 -- Where nothing may be judged or started, no command runs and none has failed, each edge of the cone is settled.
 abbrev pub EndIsSettled : Type 0

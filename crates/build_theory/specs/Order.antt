@@ -2,14 +2,15 @@
 use Rattle.std.specs.Prelude.{◌≡◌, ℕ, Bool, true, false, if◌then◌else◌, List, [], ◌∷◌, ◌++◌, Some}
 use Rattle.std.specs.List.{AllByRecursion}
 use Rattle.model.specs.declared.graph.Edge.{Edge}
-use Rattle.model.specs.World.{View}
+use Rattle.model.specs.declared.event.Moment.{Moment}
+use Rattle.model.specs.World.{View, view_of}
 use Rattle.model.specs.Calls.{AgreeOn}
-use Rattle.model.specs.Graph.{has, has_number, edge_at, maker, IsCommand}
-use Rattle.model.specs.Outcome.{Behaviour, ends_well, given, reports_of}
+use Rattle.model.specs.Graph.{has, has_number, edge_at, maker, outputs, IsCommand}
+use Rattle.model.specs.Outcome.{Behaviour, ends_well, given, reports_of, depfile_in}
 use Rattle.model.specs.Reading.{needs}
 use Rattle.model.specs.Records.{Store}
-use Rattle.model.specs.Premises.{AgreesOnReading}
-use Rattle.model.specs.Schedule.{Step, Judged, Started, Ended, IsSettled, judged_in, out_of_date_in, started_in, running_in, done_in}
+use Rattle.model.specs.Premises.{AgreesOnReading, EndedAt}
+use Rattle.model.specs.Schedule.{Step, Judged, Started, Ended, IsSettled, judged_in, out_of_date_in, started_in, running_in, well_in, done_in}
 
 -- the edges that were judged clean, or whose command ended well, in the order in which they did
 abbrev pub settled_in : List Step → List ℕ
@@ -42,6 +43,21 @@ pub record IsExplained (B : Behaviour) (edges : List Edge) (Reads : ℕ → List
   pub reports : AgreeOn (reports_of B (edge_at edges i).act seen) seen files
   pub told : AllByRecursion (Reads i) (reports_of B (edge_at edges i).act seen)
   pub gives : files o ≡ given B (edge_at edges i).act seen o
+
+-- What the command of edge i left, outputs and reports, is what it gives in a view that holds what the files of the exit hold on its
+-- reading set and on its reports.
+pub record LeftAsNow (B : Behaviour) (edges : List Edge) (files after : View) (i : ℕ) : Type 0 where
+  pub seen : View
+  pub well : ends_well B (edge_at edges i).act seen ≡ true
+  pub reading : AgreesOnReading edges files i seen
+  pub reports : AgreeOn (reports_of B (edge_at edges i).act seen) seen files
+  pub contents : AllByRecursion (λ o. after o ≡ given B (edge_at edges i).act seen o) (outputs (edge_at edges i))
+  pub depfile : depfile_in B (edge_at edges i).act after ≡ Some (reports_of B (edge_at edges i).act seen)
+
+-- so did each of these commands that ended well
+abbrev pub LeaveAsNow : Behaviour → (ℕ → Bool) → List Edge → List Step → List Moment → List Moment → Type 0
+LeaveAsNow B quiet edges steps old new =
+    (i : ℕ) (at : List Moment) → quiet i ≡ true → EndedAt i old new at → has_number (well_in steps) i ≡ true → LeftAsNow B edges (view_of new) (view_of at) i
 
 -- what logs tell that are not there
 abbrev pub no_records : Store

@@ -2,7 +2,7 @@
 use Rattle.std.proofs.Common.{◌≡◌, inl, inr, ℕ, zero, suc, ◌<◌, Bool, true, false, IsTrue, List, [], ◌∷◌, ◌++◌, length, slice_index_or, All, arith, None, bytes_eq, refl, sym, ◌∙◌, ap, subst, append_assoc}
 use Rattle.std.specs.List.{AllByRecursion}
 use Rattle.std.proofs.lemmas.List.{append-nil}
-use Rattle.std.proofs.lemmas.Bool.{false≢true, false_from_ne_true}
+use Rattle.std.proofs.lemmas.Bool.{false≢true, false_from_ne_true, not-true, not_from_false}
 use Rattle.model.specs.declared.event.Moment.{Moment}
 use Rattle.model.specs.declared.graph.BuildGraph.{BuildGraph}
 use Rattle.model.specs.declared.graph.Edge.{Edge}
@@ -10,9 +10,9 @@ use Rattle.model.specs.declared.record.Record.{Record}
 use Rattle.model.specs.declared.record.DepsRecord.{DepsRecord}
 use Rattle.model.specs.World.{World, file_at, IsRunning}
 use Rattle.model.specs.Calls.{OnlyLooks}
-use Rattle.model.specs.Graph.{has, has_number, edge_at, IsCommand}
+use Rattle.model.specs.Graph.{has, has_number, edge_at, inputs, IsCommand}
 use Rattle.model.specs.OutOfDate.{NothingIsMissing}
-use Rattle.model.specs.Phases.{Phase, steps_of, IsPointAfter, AreAskedApart, IsNothingMissing, WasNothingMissing, WasNothingMissingIn}
+use Rattle.model.specs.Phases.{Phase, steps_of, IsPointAfter, AreAskedApart, NothingNeededIsFree, IsNothingMissing, WasNothingMissing, WasNothingMissingIn}
 use Rattle.model.specs.Premises.{FilesAreKept, IsWithinEdge, IsNoEdit}
 use Rattle.model.specs.Records.{OwnFiles, Store, recorded_inputs}
 use Rattle.model.specs.SingleBuild.{asked_with}
@@ -20,8 +20,8 @@ use Rattle.model.specs.Schedule.{Task, Step as Done, judged_in, started_in}
 use Rattle.build_theory.specs.Run.{IsRun}
 use Rattle.build_theory.proofs.Calls.{looks_then}
 use Rattle.build_theory.proofs.Files.{IsElsewhere}
-use Rattle.build_theory.proofs.Lists.{same_rest, same_bytes}
-use Rattle.build_theory.proofs.Looks.{kept_before, none_wrote}
+use Rattle.build_theory.proofs.Lists.{has-left, has-right, same_bytes}
+use Rattle.build_theory.proofs.Looks.{kept_before, edits_before, looks_keep_file}
 use Rattle.build_theory.proofs.Makers.{maker_is}
 use Rattle.build_theory.proofs.Orderly.{IsKept, kept_orderly}
 use Rattle.build_theory.proofs.Runs.{rest_begins}
@@ -49,9 +49,10 @@ use Rattle.runner.specs.declared.state.State.{State}
 use Rattle.runner.specs.After.{ComesAfter}
 use Rattle.runner.specs.Course.{Course, is_quiet}
 use Rattle.runner.proofs.Keeping.{looks_carried, looks_quiet}
-use Rattle.runner.proofs.Quiet.{all_kept, quiet_parts, quiet_from}
-use Rattle.builder.specs.Going.{grown_course, task_over, StandsAt, IsUnstarted, HasAsked, HadAsked}
+use Rattle.runner.proofs.Quiet.{Grew, files_then, all_kept, quiet_parts, quiet_from}
+use Rattle.builder.specs.Going.{grown_course, task_over, is_bound, StandsAt, IsUnstarted, HasAsked, HadAsked}
 use Rattle.builder.proofs.Points.{asked_later, had_asked_later}
+use Rattle.builder.proofs.Unedited.{bound_kept}
 
 module _ (own : OwnFiles) (task : Task) (store : Store) (old now : List Moment) where
   -- whatever steps the last phase has
@@ -85,29 +86,29 @@ module _ (tells : Bool) (course : Course) (edges : List Edge) (phases : List Pha
         whole ∙ (ap (λ (l : List Done). steps_of phases ++ (l ++ phased.build.taken_in)) fresh ∙ (ap (λ (l : List Done). steps_of phases ++ l) none ∙ append-nil (steps_of phases)))
 
     module _ (new : World) (after : ComesAfter tells now new) where
-      files_then : (tell : IsTrue tells) → FilesAreKept course.own edges course.entry.history new.history → FilesAreKept course.own edges course.entry.history now.history
-      files_then tell files = kept_before course.own edges course.entry.history now.history new.history (after.history tell).0 (after.history tell).1 files
+      abbrev files_before : (tell : IsTrue tells) → FilesAreKept course.own edges course.entry.history new.history → FilesAreKept course.own edges course.entry.history now.history
+      files_before tell files = kept_before course.own edges course.entry.history now.history new.history (after.history tell).0 (after.history tell).1 files
 
       pub asked_on : HasAsked tells course edges phases now → HasAsked tells course edges phases new
-      asked_on asked tell files =
+      asked_on asked tell files needed =
           asked_later tells course.own task steps course.entry now run tell (after.history tell).0 new.history (after.history tell).1 phases (phased.build.last ++ phased.build.taken_in) whole task course.store
-          (asked tell (files_then tell files))
+          (asked tell (files_before tell files) needed)
 
       pub had_asked_on : (last : List Done) → HadAsked tells course edges phases last now → HadAsked tells course edges phases last new
-      had_asked_on last asked tell files =
+      had_asked_on last asked tell files needed =
           had_asked_later tells course.own task steps course.entry now run tell (after.history tell).0 new.history (after.history tell).1 phases (phased.build.last ++ phased.build.taken_in) whole task course.store last
-          (asked tell (files_then tell files))
+          (asked tell (files_before tell files) needed)
 
     -- whatever steps the last phase has
     pub asked_in : (last : List Done) (at : World) → HasAsked tells course edges phases at → HadAsked tells course edges phases last at
-    asked_in last at asked tell files = missing_in course.own task course.store course.entry.history at.history [] phases last (asked tell files)
+    asked_in last at asked tell files needed = missing_in course.own task course.store course.entry.history at.history [] phases last (asked tell files needed)
 
     -- where a phase begins, and nothing is missing
     pub asked_also : (at : World) → phased.build.last ≡ [] → phased.build.taken_in ≡ [] → HadAsked tells course edges phases [] at
-        → (IsTrue tells → FilesAreKept course.own edges course.entry.history at.history → IsNothingMissing course.own task course.store steps course.entry.history at.history) → HasAsked tells course edges phases at
-    asked_also at fresh none had nothing tell files =
-        missing_also course.own task course.store course.entry.history at.history [] phases (had tell files)
-        (subst (λ (l : List Done). IsNothingMissing course.own task course.store l course.entry.history at.history) (fresh_steps fresh none) (nothing tell files))
+        → (IsTrue tells → (files : FilesAreKept course.own edges course.entry.history at.history) → NothingNeededIsFree files.free task → IsNothingMissing course.own task course.store steps course.entry.history at.history) → HasAsked tells course edges phases at
+    asked_also at fresh none had nothing tell files needed =
+        missing_also course.own task course.store course.entry.history at.history [] phases (had tell files needed)
+        (subst (λ (l : List Done). IsNothingMissing course.own task course.store l course.entry.history at.history) (fresh_steps fresh none) (nothing tell files needed))
 
 -- ---- what is found where the build stands
 
@@ -137,8 +138,8 @@ module _ (tells : Bool) (tick : List ℕ) (course : Course) (edges : List Edge) 
     kept : IsKept edges steps
     kept = kept_orderly edges steps stands.on.carried.run.orderly
 
-    -- files were kept before, and quiet paths kept theirs
-    quietly : FilesAreKept course.own edges course.entry.history now.history × AreKept (is_quiet course.own edges steps) now.history new.history × ((more : List Moment) × (new.history ≡ now.history ++ more))
+    -- quiet paths kept their files
+    quietly : Grew now new × AreKept (is_quiet files.free course.own edges steps) now.history new.history
     quietly = looks_quiet tells here graph stays None state now new stands.on looks tell files
 
     pub run_new : IsRun tells course.own (task_over course edges) steps course.entry new
@@ -152,9 +153,9 @@ module _ (tells : Bool) (tick : List ℕ) (course : Course) (edges : List Edge) 
         let so_far = stands.on.carried.run.history told in
         all_kept (bytes_eq (edge_at edges i).act.depfile) now.history call.more new.history call.grows (λ p is.
         subst (λ (q : List ℕ). AllByRecursion (IsElsewhere q) call.more) (same_bytes (edge_at edges i).act.depfile p is)
-        (private_elsewhere course.own edges files.own_files i command (edge_at edges i).act.depfile (record { named = named; is = inl refl }) (IsRunning now.events) others call.more call.all
-        (since (IsWithinEdge edges) course.entry.history so_far.more now.history call.more new.history so_far.grows call.grows files.commands)
-        (since IsNoEdit course.entry.history so_far.more now.history call.more new.history so_far.grows call.grows files.edits)))
+        (private_elsewhere course.own edges files.own_files files.free files.free_apart i command (edge_at edges i).act.depfile (record { named = named; is = inl refl }) (IsRunning now.events) others call.more call.all
+        (since (IsWithinEdge files.free edges) course.entry.history so_far.more now.history call.more new.history so_far.grows call.grows files.commands)
+        (since (IsNoEdit files.free) course.entry.history so_far.more now.history call.more new.history so_far.grows call.grows files.edits)))
       where
         others : OthersRun edges i (IsRunning now.events)
         others = others_run tells here.behaviour here.format here.own here.asked here.store here.entry steps now stands.on.carried.beside.idle
@@ -163,20 +164,21 @@ module _ (tells : Bool) (tick : List ℕ) (course : Course) (edges : List Edge) 
 
     -- ---- quiet paths are those that may be looked at
 
-    all_quiet : HasQuiet course.own edges steps (is_quiet course.own edges steps)
-    all_quiet p outside free = quiet_from course.own edges steps p (record {
+    all_quiet : HasQuiet files.free course.own edges steps (is_quiet files.free course.own edges steps)
+    all_quiet p bound outside unmade = quiet_from files.free course.own edges steps p (record {
+      bound = bound;
       foreign = false_from_ne_true (course.own.files p) (λ mine. false≢true (sym outside ∙ files.own_files.within p mine));
       private = λ i command named. elim named [
         | inl is ↦ false≢true (sym outside ∙ (ap course.own.set is ∙ (files.own_files.depfiles i command).0))
         | inr is ↦ false≢true (sym outside ∙ (ap course.own.set is ∙ (files.own_files.responses i command).0))
       ];
-      rests = λ i runs made. free i (maker_is edges p i stands.suits.once made) runs;
+      rests = λ i runs made. unmade i (maker_is edges p i stands.suits.once made) runs;
     })
 
-    spared : (p : List ℕ) → is_quiet course.own edges steps p ≡ true → IsSpared course.own edges steps p
+    spared : (p : List ℕ) → is_quiet files.free course.own edges steps p ≡ true → IsSpared files.free course.own edges steps p
     spared p quiet =
-        let parts = quiet_parts course.own edges steps p quiet in
-        record { foreign = parts.foreign; private = λ j out is. parts.private j (kept.judged j (kept.out_of_date j out)) is; rests = parts.rests }
+        let parts = quiet_parts files.free course.own edges steps p quiet in
+        record { bound = parts.bound; foreign = parts.foreign; private = λ j out is. parts.private j (kept.judged j (kept.out_of_date j out)) is; rests = parts.rests }
 
     -- ---- where nothing was started
 
@@ -184,34 +186,31 @@ module _ (tells : Bool) (tick : List ℕ) (course : Course) (edges : List Edge) 
       untouched : IsUnstarted tells course graph state now
       untouched = stands.unstarted none
 
-      -- the history is that of the entry
-      nothing_since : (at : World) → OnlyLooks tells course.entry at → FilesAreKept course.own edges course.entry.history at.history → at.history ≡ course.entry.history
-      nothing_since at since_entry kept_so =
-          let call = since_entry.history tell in
-          call.grows ∙ (ap (λ (l : List Moment). course.entry.history ++ l) (none_wrote (IsRunning course.entry.events) call.more (λ job runs. false≢true (sym (stands.suits.idle job) ∙ runs)) call.all (kept_so.edits call.more call.grows)) ∙ append-nil course.entry.history)
+      -- paths that are not free keep their files from the entry on
+      bound_still : AreKept (is_bound files.free) now.history new.history
+      bound_still = bound_kept tells course.own course.entry now new stands.suits.idle untouched.looks looks tell files.free files.edits
 
-      now_is : now.history ≡ course.entry.history
-      now_is = nothing_since now untouched.looks quietly.0
+      bound_seen : AreSeenOf (is_bound files.free) graph.manifest.paths now.history state.looks.seen.items
+      bound_seen = let call = looks.history tell in untouched.seen tell files.free (edits_before files.free course.entry.history now.history new.history call.more call.grows files.edits)
 
-      new_is : new.history ≡ course.entry.history
-      new_is = nothing_since new (looks_then tells course.entry now new untouched.looks looks) files
+      bound_same : (p : List ℕ) → files.free p ≡ false → (at : List Moment) → IsPointAfter steps course.entry.history new.history at → file_at at p ≡ file_at new.history p
+      bound_same p bound at point =
+          ap (λ (h : List Moment). file_at h p) (point.entry none)
+          ∙ sym (looks_keep_file tells course.own edges course.entry new stands.suits.idle (looks_then tells course.entry now new untouched.looks looks) tell files.free files.edits p bound)
 
-      all_same : (set : List ℕ → Bool) → AreKept set now.history new.history
-      all_same set p is earlier later splits =
-          let nothing = same_rest now.history (earlier ++ later) [] (sym splits ∙ (new_is ∙ (sym now_is ∙ sym (append-nil now.history)))) in
-          ap (λ (l : List Moment). file_at (now.history ++ l) p) (first_nothing earlier later nothing) ∙ ap (λ (h : List Moment). file_at h p) (append-nil now.history)
-        where
-          first_nothing : (xs ys : List Moment) → xs ++ ys ≡ [] → xs ≡ []
-          first_nothing [] ys is = refl
-          first_nothing (x ∷ xs) ys is = cc
+      bound_paths : NothingNeededIsFree files.free (task_over course edges) → HasPathsFor edges course.store (task_over course edges).targets steps (is_bound files.free)
+      bound_paths needed = record {
+        made = λ i p fresh h. not_from_false (files.free p) (files.free_apart.outputs i p h);
+        named = λ i p h unmade. not_from_false (files.free p) (needed.0 i p (has-left (inputs (edge_at edges i)) (recorded_inputs course.store edges i) p h));
+        recorded = λ i p h unmade. not_from_false (files.free p) (needed.0 i p (has-right (inputs (edge_at edges i)) (recorded_inputs course.store edges i) p h));
+        requested = λ p h source. not_from_false (files.free p) (needed.1 p h);
+      }
 
-      any_path : HasPathsFor edges course.store (task_over course edges).targets steps (λ p. true)
-      any_path = record { made = λ i p fresh h. refl; named = λ i p h free. refl; recorded = λ i p h free. refl; requested = λ p h source. refl }
-
-      same_files : (at : List Moment) → IsPointAfter steps course.entry.history new.history at → AreAlike edges steps (λ p. true) new.history at
-      same_files at point =
-          let same = point.entry none ∙ sym new_is in
-          record { paths = λ p is. ap (λ (h : List Moment). file_at h p) same; depfiles = λ i command fresh named. ap (λ (h : List Moment). file_at h (edge_at edges i).act.depfile) same }
+      bound_alike : (at : List Moment) → IsPointAfter steps course.entry.history new.history at → AreAlike edges steps (is_bound files.free) new.history at
+      bound_alike at point = record {
+        paths = λ p is. bound_same p (not-true (files.free p) is) at point;
+        depfiles = λ i command fresh named. bound_same (edge_at edges i).act.depfile (files.free_apart.set (edge_at edges i).act.depfile (files.own_files.depfiles i command).0) at point;
+      }
 
     -- ---- what was found is so of each point
 
@@ -222,20 +221,20 @@ module _ (tells : Bool) (tick : List ℕ) (course : Course) (edges : List Edge) 
           found (subst (λ (es : List Edge). KeepsDepfiles tells es steps now new) same_edges keeps) tell set kept_so seen (subst (λ (es : List Edge). HasPathsFor es course.store (task_over course edges).targets steps set) same_edges paths) at
           (subst (λ (es : List Edge). AreAlike es steps set new.history at) same_edges alike)
 
-      pub found_at : AreAskedApart course.own (task_over course edges) steps → (at : List Moment) → IsPointAfter steps course.entry.history new.history at → So at
-      found_at (inl none) at point =
-          found_over (λ i command fresh told named. all_same none (bytes_eq (edge_at edges i).act.depfile)) (λ p. true) (all_same none (λ p. true)) (λ p asked is. (untouched none).seen tell (now_is none) p asked) (any_path none) at (same_files none at point)
-      found_at (inr apart) at point =
-          found_over keeps_depfile (is_quiet course.own edges steps) quietly.1 (stands.on.seen tell quietly.0)
-          (paths_for course.own edges course.store (task_over course edges).targets steps kept files.own_files apart.0 stands.suits.once (λ p h source. apart.1 p h) (is_quiet course.own edges steps) all_quiet) at
-          (points_alike tells course.own (task_over course edges) steps course.entry new stands.suits.idle run_new tell files (is_quiet course.own edges steps) spared at point)
+      pub found_at : NothingNeededIsFree files.free (task_over course edges) → AreAskedApart course.own (task_over course edges) steps → (at : List Moment) → IsPointAfter steps course.entry.history new.history at → So at
+      found_at needed (inl none) at point = found_over keeps_depfile (is_bound files.free) (bound_still none) (bound_seen none) (bound_paths none needed) at (bound_alike none at point)
+      found_at needed (inr apart) at point =
+          found_over keeps_depfile (is_quiet files.free course.own edges steps) quietly.1 (stands.on.seen tell (files_then course.own edges course.entry now new quietly.0 files))
+          (paths_for course.own edges course.store (task_over course edges).targets steps kept files.own_files apart.0 stands.suits.once (λ p h source. apart.1 p h) files.free files.free_apart needed.0 needed.1
+          (is_quiet files.free course.own edges steps) all_quiet) at
+          (points_alike tells course.own (task_over course edges) steps course.entry new stands.suits.idle run_new tell files (is_quiet files.free course.own edges steps) spared at point)
 
     -- nothing is missing at each point of these steps, where that was found
     pub nothing_missing_now : IfQuiet tells graph course.store (task_over course edges).targets steps now new state.looks (λ at. NothingIsMissing (declared_by graph).edges course.store steps at (task_over course edges).targets)
-        → IsNothingMissing course.own (task_over course edges) course.store steps course.entry.history new.history
-    nothing_missing_now found loaded apart at point =
+        → NothingNeededIsFree files.free (task_over course edges) → IsNothingMissing course.own (task_over course edges) course.store steps course.entry.history new.history
+    nothing_missing_now found needed loaded apart at point =
         subst (λ (es : List Edge). NothingIsMissing es course.store steps at (task_over course edges).targets) (sym same_edges)
-        (found_at (λ at. NothingIsMissing (declared_by graph).edges course.store steps at (task_over course edges).targets) found apart at point)
+        (found_at (λ at. NothingIsMissing (declared_by graph).edges course.store steps at (task_over course edges).targets) found needed apart at point)
 
 -- ---- the edges of a cone
 

@@ -16,7 +16,7 @@ use Rattle.model.specs.Records.{Store, OwnFiles, LogFormat, store_in, file_in, t
 use Rattle.model.specs.Schedule.{Step as Done}
 use Rattle.model.specs.SingleBuild.{Asked, NamesOther, task_of}
 use Rattle.build_theory.specs.Seen.{Looked}
-use Rattle.build_theory.proofs.Looks.{edits_before, looks_nothing}
+use Rattle.build_theory.proofs.Looks.{looks_nothing}
 use Rattle.depfile.specs.Depfile.{IsReading}
 use Rattle.log_theory.specs.Ledger.{IsCarried}
 use Rattle.log_theory.proofs.Ledger.{carried_entry, carried_found, carried_looks}
@@ -47,6 +47,7 @@ use Rattle.builder.proofs.Builds.{any_own, own_in, none_kept, looked_nothing, id
 use Rattle.builder.proofs.Entry.{AreUnasked, none_asked, all_there}
 use Rattle.builder.proofs.Folders.{logs_apart, tick_is_no_build_log, tick_is_no_deps_log}
 use Rattle.builder.proofs.Formed.{have_outputs}
+use Rattle.builder.proofs.Unedited.{logs_left, left_before}
 
 -- A run of what was asked for may begin now: no command ran at the entry, since which there was only looked; where files are kept, the
 -- records that were read are those of the entry.
@@ -66,7 +67,7 @@ pub record MayBegin (tells : Bool) (graph : Graph) (request : Request) (records 
 module _ (tells : Bool) (graph : Graph) (request : Request) (records : Records) (course : Course) (now : World) (has : HasRead tells graph request records course now) where
   -- what was found is so wherever the build ends
   pub found_later : (exit : World) → (IsTrue tells → (more : List Moment) × (exit.history ≡ now.history ++ more)) → IsFoundAt tells course.format course.own course.store course.entry exit
-  found_later exit grows tell edits = let more = grows tell in has.found tell (edits_before course.entry.history now.history exit.history more.0 more.1 edits)
+  found_later exit grows tell left = let more = grows tell in has.found tell (left_before course.own course.entry.history now.history exit.history more.0 more.1 left)
 
   logging : (later : World) → OnlyLooks tells now later → IsLogging tells course.behaviour course.format course.own (declared_by graph).edges [] None course.store course.entry later records.logs
   logging later looks =
@@ -80,7 +81,7 @@ module _ (tells : Bool) (graph : Graph) (request : Request) (records : Records) 
     owned = has.owned;
     reads = has.reads;
     dyndeps = has.dyndeps;
-    found = λ tell kept. has.found tell kept.edits;
+    found = λ tell kept. has.found tell (logs_left course.own (declared_by graph).edges course.entry.history now.history kept);
     idle = has.idle;
     looked = has.looked;
     in_use = has.in_use;
@@ -216,10 +217,10 @@ module _ (tells : Bool) (graph : Graph) (request : Request) (records : Records) 
         acyclic = listed.acyclic;
         within = listed.within;
         numbers = listed.numbers;
-        unstarted = λ none. record { looks = may.looked.looks; seen = λ tell same p asked. absurd (false≢true (sym (unasked p) ∙ asked)) };
+        unstarted = λ none. record { looks = may.looked.looks; seen = λ tell free edits p asked bound. absurd (false≢true (sym (unasked p) ∙ asked)) };
       };
       fresh = last_of_none carried.phased.build.earlier carried.phased.build.last carried.phased.build.taken_in carried.phased.build.whole;
-      asked = λ tell kept. tt;
+      asked = λ tell kept nothing. tt;
     }
 
 -- so it begins on the course by which was read, and anew from here

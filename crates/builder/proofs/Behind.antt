@@ -119,7 +119,7 @@ module _ (tells : Bool) (tick : List ℕ) (course : Course) (edges : List Edge) 
       finished = finished;
       phased = since.phased;
       up_to = ap (λ (l : List Done). steps_of phases ++ l) since.last_is ∙ up_to;
-      untouched = λ none. (still_unstarted tells course task graph state after done finished.on.steps now new stands.on.carried.run finished.on.carried.run grows looked stands.unstarted (ap started_in none)).looks;
+      untouched = λ none. (still_unstarted tells course task graph state after done finished.on.steps now new stands.on.carried.run finished.on.carried.run grows looked stands.unstarted stands.suits.idle (ap started_in none)).looks;
       there = now;
       run = stands.on.carried.run;
       after = grows;

@@ -4,7 +4,6 @@ use Rattle.std.proofs.Common.{◌≡◌, ◌⊎◌, inl, inr, ℕ, suc, Bool, tr
 use Rattle.std.proofs.lemmas.Bool.{cases_Bool}
 use Rattle.build_theory.proofs.Builds.{idle_at_end}
 use Rattle.build_theory.proofs.Looks.{kept_before}
-use Rattle.build_theory.proofs.Runs.{rest_begins}
 use Rattle.build_theory.proofs.Settled.{settled_command}
 use Rattle.model.specs.declared.event.Moment.{Moment}
 use Rattle.model.specs.declared.fault.SiteFault.{SiteFault}
@@ -12,12 +11,12 @@ use Rattle.model.specs.declared.fault.SiteFault.TheVariants.{Stopped, Memory}
 use Rattle.model.specs.declared.graph.Edge.{Edge}
 use Rattle.model.specs.World.{World, View, view_of, IsIdle}
 use Rattle.model.specs.Graph.{Addition, edge_at, first_output, maker, IsMadeOnce, IsMadeTwice}
-use Rattle.model.specs.Premises.{FilesAreKept}
-use Rattle.model.specs.Records.{Store}
+use Rattle.model.specs.Premises.{FilesAreKept, RecordedApart}
+use Rattle.model.specs.Records.{Store, recorded_inputs}
 use Rattle.model.specs.Schedule.{Task, Step as Done, failed_in, done_in}
-use Rattle.model.specs.Phases.{IsPointAfter, Phase, steps_of, next_edges, IsNextLoad, IsLoad, ArePhasesFrom, IsLawfulBuild, AreAskedApart, WasNothingMissing, WasNothingMissingIn, task_with}
+use Rattle.model.specs.Phases.{IsPointAfter, Phase, steps_of, next_edges, IsNextLoad, IsLoad, ArePhasesFrom, IsLawfulBuild, AreAskedApart, NothingNeededIsFree, WasNothingMissing, WasNothingMissingIn, task_with}
 use Rattle.model.specs.SingleBuild as answer
-use Rattle.model.specs.SingleBuild.{Asked, Answer, IsSuccess, IsAnswer, IsAsked, IsShownCycle, WentOn, WasInOrder, PassesNoFault, NamesOther, asked_with, task_of}
+use Rattle.model.specs.SingleBuild.{HeldAt, AreJudgedAt, ArePhasesJudgedAt, Asked, Answer, IsSuccess, IsAnswer, IsAsked, IsShownCycle, WentOn, WasInOrder, PassesNoFault, NamesOther, asked_with, task_of}
 use Rattle.build_theory.specs.Seen.{IsSeen}
 use Rattle.build_theory.proofs.Lists.{same_bytes, same_some}
 use Rattle.links.specs.declared.cone.Cone.{Cone}
@@ -25,6 +24,7 @@ use Rattle.links.specs.declared.graph.Graph.{Graph}
 use Rattle.records.specs.declared.records.Records.{Records}
 use Rattle.links.specs.Told.{declared_by}
 use Rattle.log_theory.specs.Ledger.{IsCutOff, LoadedThen}
+use Rattle.log_theory.proofs.AtMoments.{held_at}
 use Rattle.log_theory.proofs.Ledger.{cut_off}
 use Rattle.log_theory.proofs.Phased.{HoldsAll, with_text, holds_all, holds_it}
 use Rattle.runner.specs.declared.summary.Summary.{Summary}
@@ -50,7 +50,7 @@ use Rattle.builder.proofs.Builds.{any_own, names_inputs, builds_over}
 use Rattle.builder.proofs.Faults.{idle_left}
 use Rattle.builder.proofs.Opening.{cause_since}
 use Rattle.builder.proofs.Looking.{Built, IsFoundAt, course_of, passes_any, passes_after}
-use Rattle.builder.proofs.Running.{holds_still, held, built_ended, built_cut, built_failed, built_well, was_in_order}
+use Rattle.builder.proofs.Running.{holds_still, held, held_so, right_so, built_ended, built_cut, built_failed, built_well, was_in_order}
 use Rattle.builder.proofs.Slices.{map_suc}
 
 -- ---- other files that are held
@@ -129,10 +129,10 @@ module _ (tells : Bool) (course : Course) (grown : List Edge) (now : World) (fou
       abbrev asked_then : Asked
       asked_then = asked_with course.asked grown
 
-      sources : IsTrue tells → FilesAreKept course.own grown course.entry.history now.history
+      sources : IsTrue tells → (files : FilesAreKept course.own grown course.entry.history now.history) → NothingNeededIsFree files.free (task_of asked_then course.store)
           → WasNothingMissing course.own (task_of asked_then course.store) course.store course.entry.history now.history [] done.ran.cut.phased.build.earlier
-      sources tell kept =
-          subst (λ (ps : List Phase). WasNothingMissing course.own (task_of asked_then course.store) course.store course.entry.history now.history [] ps) (sym {A = List Phase} done.ran.cut.phased.so) (done.asked tell kept)
+      sources tell kept needed =
+          subst (λ (ps : List Phase). WasNothingMissing course.own (task_of asked_then course.store) course.store course.entry.history now.history [] ps) (sym {A = List Phase} done.ran.cut.phased.so) (done.asked tell kept needed)
 
       in_order : WasInOrder tells course.own asked_then course.store done.ran.cut.phased.build.earlier done.ran.cut.phased.build.last course.entry now
       in_order = was_in_order tells course.behaviour course.format course.own asked_then course.store course.entry now found idle done.phases done.ran.steps done.ran.met done.ran.cut done.once others named done.acyclic sources
@@ -198,9 +198,9 @@ module _ (tells : Bool) (course : Course) (grown : List Edge) (now : World) (fou
         dyndep = others;
         named = named;
         no_cycle = cut.acyclic;
-        sources = λ tell kept.
+        sources = λ tell kept needed.
             subst (λ (ps : List Phase). WasNothingMissingIn course.own (task_over course grown) course.store course.entry.history now.history [] ps cut.ran.cut.phased.build.last) (sym {A = List Phase} cut.ran.cut.phased.so)
-            (cut.asked tell kept);
+            (cut.asked tell kept needed);
       }
 
   -- ---- a refusal has ended it
@@ -224,7 +224,7 @@ module _ (tells : Bool) (course : Course) (grown : List Edge) (now : World) (fou
         record { phased = stopped.phased; run = off.run; beside = off.beside }
 
     -- files that are kept were so then
-    kept_then : IsTrue tells → FilesAreKept course.own grown course.entry.history now.history → FilesAreKept course.own grown course.entry.history stopped.there.history
+    abbrev kept_then : IsTrue tells → FilesAreKept course.own grown course.entry.history now.history → FilesAreKept course.own grown course.entry.history stopped.there.history
     kept_then tell kept = let more = stopped.after.history tell in kept_before course.own grown course.entry.history stopped.there.history now.history more.0 more.1 kept
 
     refused_now : (file : List ℕ) (Faulty : Option (List ℕ) → Type 0) → IsRefusedFile tells course.own asked_now course.store stopped.done course.entry stopped.there file Faulty
@@ -233,8 +233,8 @@ module _ (tells : Bool) (course : Course) (grown : List Edge) (now : World) (fou
       next = refused.next;
       held = refused.held;
       faulty = refused.faulty;
-      is = λ tell kept.
-          let was = refused.is tell (kept_then tell kept) in
+      is = λ tell kept bound.
+          let was = refused.is tell (kept_then tell kept) bound in
           record { at = was.at; point = point_later stopped.done course.entry.history stopped.there.history now.history was.at (stopped.after.history tell) was.point; is = was.is };
     }
 
@@ -248,26 +248,43 @@ module _ (tells : Bool) (course : Course) (grown : List Edge) (now : World) (fou
       dyndep = others;
       named = named;
       no_cycle = stopped.acyclic;
-      sources = λ tell kept.
-          subst (λ (ps : List Phase). WasNothingMissingIn course.own task course.store course.entry.history now.history [] ps build.last) (sym {A = List Phase} stopped.phased.so) (stopped.asked tell kept);
+      sources = λ tell kept needed.
+          subst (λ (ps : List Phase). WasNothingMissingIn course.own task course.store course.entry.history now.history [] ps build.last) (sym {A = List Phase} stopped.phased.so) (stopped.asked tell kept needed);
     }
+
+    abbrev Kept : Type 0
+    Kept = FilesAreKept course.own grown course.entry.history now.history
 
     abbrev HoldStill : View → Type 0
     HoldStill texts =
-        IsTrue tells → FilesAreKept course.own grown course.entry.history now.history → (file content : List ℕ) → texts file ≡ Some content → (maker course.asked.declared file ≡ None → maker grown file ≡ None)
+        IsTrue tells → (files : Kept) → (file content : List ℕ) → files.free file ≡ false → texts file ≡ Some content → (maker course.asked.declared file ≡ None → maker grown file ≡ None)
         → view_of now.history file ≡ Some content
+
+    abbrev HeldThen : View → Type 0
+    HeldThen texts = IsTrue tells → (files : Kept) → (file content : List ℕ) → texts file ≡ Some content → files.free file ≡ false → HeldAt file content steps course.entry.history now.history
+
+    abbrev RightThen : List Phase → List Done → Type 0
+    RightThen phases last =
+        IsTrue tells → (files : Kept) → RecordedApart course.own (recorded_inputs course.store grown)
+        → ArePhasesJudgedAt files.free course.store [] phases course.entry.history now.history × AreJudgedAt files.free grown course.store (steps_of phases) last course.entry.history now.history
 
     held_still : HoldStill stopped.phased.texts
     held_still = held tells course.behaviour course.format course.own asked_now course.store course.entry now found idle stopped.phases steps None cut stopped.once others
 
+    held_then : HeldThen stopped.phased.texts
+    held_then = held_so tells course.behaviour course.format course.own asked_now course.store course.entry now found idle stopped.phases steps None cut stopped.once others
+
+    right_then : RightThen build.earlier build.last
+    right_then = right_so tells course.behaviour course.format course.own asked_now course.store course.entry now found idle stopped.phases steps None cut stopped.once others
+
     -- these are what loaded files held, the refused one included where it was read
-    module _ (texts : View) (build : IsLawfulBuild course.behaviour.dyndep texts course.asked.declared task course.store steps) (holds : HoldStill texts)
+    module _ (texts : View) (build : IsLawfulBuild course.behaviour.dyndep texts course.asked.declared task course.store steps) (holds : HoldStill texts) (held_by : HeldThen texts) (right : RightThen build.earlier build.last)
         (ordered : WasInOrder tells course.own asked_now course.store build.earlier build.last course.entry now) where
       stopped_with : (said : Answer) → RefusesFile tells course.own asked_now course.store (steps_of build.earlier ++ build.last) course.entry now (Refused refusal) → (IsSuccess said → ⊥) → (WentOn said → ⊥)
           → IsAnswer tells course.behaviour course.own texts asked_now course.store build.earlier (steps_of build.earlier ++ build.last) steps course.entry now said
           → Built tells course.behaviour course.format course.own asked_now course.entry now said (Refused refusal)
       stopped_with said refused failed ended is =
-          built_ended tells course.behaviour course.format course.own asked_now course.store course.entry now found idle stopped.phases steps None cut stopped.once others texts build holds
+          built_ended tells course.behaviour course.format course.own asked_now course.store course.entry now found idle stopped.phases steps None cut stopped.once others texts build holds held_by right
           refl stopped.finished.on.carried.run stopped.finished.none stopped.finished.on.removed ordered said (Refused refusal) refused (λ on. absurd (ended on)) is (λ success. absurd (failed success))
           (passes_any course.entry now passes said)
 
@@ -275,18 +292,18 @@ module _ (tells : Bool) (course : Course) (grown : List Edge) (now : World) (fou
     stopped_unread : RefusesFile tells course.own asked_now course.store stopped.done course.entry now (Refused refusal) → (file : List ℕ) → IsNextLoad task stopped.done file
         → Built tells course.behaviour course.format course.own asked_now course.entry now answer.Refused (Refused refusal)
     stopped_unread refused file next =
-        stopped_with stopped.phased.texts build held_still ordered answer.Refused
+        stopped_with stopped.phased.texts build held_still held_then right_then ordered answer.Refused
         (subst (λ (l : List Done). RefusesFile tells course.own asked_now course.store l course.entry now (Refused refusal)) (sym done_is) refused) (λ h. h) (λ h. h)
         (stopped.untouched, inr (file, subst (λ (l : List Done). IsNextLoad task l file) (sym done_is) next))
 
     abbrev Lacks : List ℕ → Option (List ℕ) → List Done → Type 0
     Lacks path needed done =
-        IsTrue tells → FilesAreKept course.own grown course.entry.history now.history → AreAskedApart course.own task done → IsMissingAfter course grown done now path needed
+        IsTrue tells → (files : Kept) → NothingNeededIsFree files.free task → AreAskedApart course.own task done → IsMissingAfter course grown done now path needed
 
     -- a source is missing where a phase begins
     stopped_lacking : RefusesFile tells course.own asked_now course.store (steps_of build.earlier ++ build.last) course.entry now (Refused refusal) → (missing : Lacking) → IsLacking tells course grown stopped.phases stopped.done stopped.there missing
         → Built tells course.behaviour course.format course.own asked_now course.entry now (missing_answer missing.path missing.needed_by) (Refused refusal)
-    stopped_lacking refused missing lacks = by_needed missing.needed_by (lacks_now missing.needed_by (λ tell kept apart. lacks.is tell (kept_then tell kept) apart))
+    stopped_lacking refused missing lacks = by_needed missing.needed_by (lacks_now missing.needed_by (λ tell kept needed apart. lacks.is tell (kept_then tell kept) needed apart))
       where
         asked_at : IsAsked task build.earlier (steps_of build.earlier ++ build.last)
         asked_at =
@@ -294,12 +311,12 @@ module _ (tells : Bool) (course : Course) (grown : List Edge) (now : World) (fou
             (subst (λ (ps : List Phase). IsAsked task ps stopped.done) (sym {A = List Phase} stopped.phased.so) lacks.asked)
 
         lacks_now : (needed : Option (List ℕ))
-            → (IsTrue tells → FilesAreKept course.own grown course.entry.history now.history → AreAskedApart course.own task stopped.done → IsMissingAfter course grown stopped.done stopped.there missing.path needed) → Lacks missing.path needed stopped.done
-        lacks_now None is tell kept apart =
-            let was = is tell kept apart in
+            → (IsTrue tells → (files : Kept) → NothingNeededIsFree files.free task → AreAskedApart course.own task stopped.done → IsMissingAfter course grown stopped.done stopped.there missing.path needed) → Lacks missing.path needed stopped.done
+        lacks_now None is tell kept needed apart =
+            let was = is tell kept needed apart in
             (was.0, point_later stopped.done course.entry.history stopped.there.history now.history was.0 (stopped.after.history tell) was.1, was.2)
-        lacks_now (Some output) is tell kept apart =
-            let was = is tell kept apart in
+        lacks_now (Some output) is tell kept needed apart =
+            let was = is tell kept needed apart in
             let at = was.2 in
             (was.0, was.1, (at.0, point_later stopped.done course.entry.history stopped.there.history now.history at.0 (stopped.after.history tell) at.1, at.2))
 
@@ -308,11 +325,11 @@ module _ (tells : Bool) (course : Course) (grown : List Edge) (now : World) (fou
 
         by_needed : (needed : Option (List ℕ)) → Lacks missing.path needed stopped.done → Built tells course.behaviour course.format course.own asked_now course.entry now (missing_answer missing.path needed) (Refused refusal)
         by_needed None is =
-            stopped_with stopped.phased.texts build held_still ordered (answer.MissingTarget missing.path) refused (λ h. h) (λ h. h)
-            (stopped.untouched, named, stopped.acyclic, asked_at, λ tell kept apart. lacks_then None is tell kept apart)
+            stopped_with stopped.phased.texts build held_still held_then right_then ordered (answer.MissingTarget missing.path) refused (λ h. h) (λ h. h)
+            (stopped.untouched, named, stopped.acyclic, asked_at, λ tell kept nothing apart. lacks_then None is tell kept nothing apart)
         by_needed (Some output) is =
-            stopped_with stopped.phased.texts build held_still ordered (answer.MissingInput missing.path output) refused (λ h. h) (λ h. h)
-            (stopped.untouched, named, stopped.acyclic, asked_at, λ tell kept apart. lacks_then (Some output) is tell kept apart)
+            stopped_with stopped.phased.texts build held_still held_then right_then ordered (answer.MissingInput missing.path output) refused (λ h. h) (λ h. h)
+            (stopped.untouched, named, stopped.acyclic, asked_at, λ tell kept nothing apart. lacks_then (Some output) is tell kept nothing apart)
 
     -- a dyndep file was read, and what it adds makes no build
     module _ (next : List Edge) (load : IsHeldLoad tells course grown stopped.done stopped.there next) where
@@ -336,7 +353,7 @@ module _ (tells : Bool) (course : Course) (grown : List Edge) (now : World) (fou
             later = since.0;
             splits = since.1;
             mid = stopped.there;
-            run = rest_begins tells course.own task course.entry stopped.done stopped.there stopped.run;
+            run = stopped.run;
             more = more.0;
             grows = more.1;
             holds = load.holds tell;
@@ -344,14 +361,25 @@ module _ (tells : Bool) (course : Course) (grown : List Edge) (now : World) (fou
             settled = λ same j makes command. settled_command grown (done_in stopped.done) j command (due.settled j makes);
           }
 
-      held_read : HoldStill texts
-      held_read tell kept p content is same = elim (cases_Bool (bytes_eq load.file p)) [
+      loaded_as : (p content : List ℕ) → bytes_eq load.file p ≡ true → Some load.content ≡ Some content → IsTrue tells → LoadedThen tells course.own asked_now course.store p content steps course.entry now
+      loaded_as p content here told tell =
+          subst (λ (q : List ℕ). LoadedThen tells course.own asked_now course.store q content steps course.entry now) (same_bytes load.file p here)
+          (subst (λ (c : List ℕ). LoadedThen tells course.own asked_now course.store load.file c steps course.entry now) (same_some load.content content told) (loaded_then tell))
+
+      read_then : HeldThen texts
+      read_then tell kept p content is bound = elim (cases_Bool (bytes_eq load.file p)) [
         | inl here ↦
             let told : Some load.content ≡ Some content = sym (ap (λ (b : Bool). cond b (Some load.content) (stopped.phased.texts p)) here) ∙ is in
-            holds_still tells course.behaviour course.format course.own asked_now course.store course.entry now found idle stopped.phases steps None cut stopped.once others tell kept p content
-            (subst (λ (q : List ℕ). LoadedThen tells course.own asked_now course.store q content steps course.entry now) (same_bytes load.file p here)
-            (subst (λ (c : List ℕ). LoadedThen tells course.own asked_now course.store load.file c steps course.entry now) (same_some load.content content told) (loaded_then tell))) same
-        | inr other ↦ held_still tell kept p content (sym (ap (λ (b : Bool). cond b (Some load.content) (stopped.phased.texts p)) other) ∙ is) same
+            held_at tells course.own asked_now course.store course.entry now tell idle kept p content steps (loaded_as p content here told tell) bound
+        | inr other ↦ held_then tell kept p content (sym (ap (λ (b : Bool). cond b (Some load.content) (stopped.phased.texts p)) other) ∙ is) bound
+      ]
+
+      held_read : HoldStill texts
+      held_read tell kept p content bound is same = elim (cases_Bool (bytes_eq load.file p)) [
+        | inl here ↦
+            let told : Some load.content ≡ Some content = sym (ap (λ (b : Bool). cond b (Some load.content) (stopped.phased.texts p)) here) ∙ is in
+            holds_still tells course.behaviour course.format course.own asked_now course.store course.entry now found idle stopped.phases steps None cut stopped.once others tell kept p content bound (loaded_as p content here told tell) same
+        | inr other ↦ held_still tell kept p content bound (sym (ap (λ (b : Bool). cond b (Some load.content) (stopped.phased.texts p)) other) ∙ is) same
       ]
 
       is_load : IsLoad course.behaviour.dyndep texts task (steps_of build_read.earlier ++ build_read.last) next
@@ -368,13 +396,13 @@ module _ (tells : Bool) (course : Course) (grown : List Edge) (now : World) (fou
       stopped_twice : RefusesFile tells course.own asked_now course.store (steps_of build.earlier ++ build.last) course.entry now (Refused refusal) → (path : List ℕ) → IsMadeTwice next path
           → Built tells course.behaviour course.format course.own asked_now course.entry now (answer.MadeTwice path) (Refused refusal)
       stopped_twice refused path twice =
-          stopped_with texts build_read held_read ordered (answer.MadeTwice path) refused (λ h. h) (λ h. h)
+          stopped_with texts build_read held_read read_then right_then ordered (answer.MadeTwice path) refused (λ h. h) (λ h. h)
           (stopped.untouched, (asked_with asked_now next, inr (next, refl, is_load), twice))
 
       stopped_round : RefusesFile tells course.own asked_now course.store (steps_of build.earlier ++ build.last) course.entry now (Refused refusal) → (paths : List (List ℕ)) → IsShownCycle (asked_with course.asked next) course.store paths
           → Built tells course.behaviour course.format course.own asked_now course.entry now (answer.Cyclic paths) (Refused refusal)
       stopped_round refused paths cycle =
-          stopped_with texts build_read held_read ordered (answer.Cyclic paths) refused (λ h. h) (λ h. h)
+          stopped_with texts build_read held_read read_then right_then ordered (answer.Cyclic paths) refused (λ h. h) (λ h. h)
           (stopped.untouched, named, (asked_with asked_now next, inr (next, refl, is_load), cycle))
 
   ends_refused : (refusal : Refusal) → HasStopped tells course grown now refusal → PassesNoFault course.entry now answer.Refused → EndsAs (Refused refusal)

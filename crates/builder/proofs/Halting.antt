@@ -6,7 +6,7 @@ use Rattle.model.specs.declared.event.Event.{Event}
 use Rattle.model.specs.declared.event.Moment.{Moment}
 use Rattle.model.specs.declared.graph.BuildGraph.{BuildGraph}
 use Rattle.model.specs.declared.graph.Edge.{Edge}
-use Rattle.model.specs.World.{World, file_at}
+use Rattle.model.specs.World.{World, IsIdle}
 use Rattle.model.specs.Graph.{has_number}
 use Rattle.model.specs.Phases.{Phase}
 use Rattle.model.specs.Schedule.{Task, Step as Done, AreEventsOf, started_in, ended_in}
@@ -14,6 +14,7 @@ use Rattle.build_theory.specs.Run.{IsRun}
 use Rattle.build_theory.proofs.Calls.{looks_then}
 use Rattle.build_theory.proofs.Events.{as_many}
 use Rattle.build_theory.proofs.Lists.{same_rest}
+use Rattle.build_theory.proofs.Looks.{edits_before}
 use Rattle.build_theory.proofs.Orderly.{kept_orderly}
 use Rattle.log_theory.specs.Ledger.{IsPhased, IsCutOff}
 use Rattle.log_theory.proofs.Ledger.{cut_off}
@@ -22,7 +23,6 @@ use Rattle.links.specs.declared.cone.Cone.{Cone}
 use Rattle.links.specs.declared.graph.Graph.{Graph}
 use Rattle.looks.specs.declared.table.Looks.{Looks}
 use Rattle.looks.specs.Looking.{HasLooked}
-use Rattle.looks.specs.Seen.{AreKept}
 use Rattle.plan.specs.declared.plan.Plan.{Plan}
 use Rattle.plan.specs.Planned.{IsPlanned}
 use Rattle.records.specs.Laws.{LogStays}
@@ -37,8 +37,9 @@ use Rattle.runner.specs.Going.{IsAtLoad, IsInHand}
 use Rattle.runner.specs.Ran.{HasRun}
 use Rattle.runner.proofs.After.{after_looks, none_between}
 use Rattle.runner.proofs.Noticed.{with_looks, on_looked}
-use Rattle.builder.specs.Going.{grown_course, task_over, IsUnstarted, StandsAt, HasAsked, HadAsked, IsAtNextLoad, IsCutThere, HasDone, WasCut}
+use Rattle.builder.specs.Going.{grown_course, task_over, is_bound, IsUnstarted, StandsAt, HasAsked, HadAsked, IsAtNextLoad, IsCutThere, HasDone, WasCut}
 use Rattle.builder.proofs.Asking.{asked_on, asked_in}
+use Rattle.builder.proofs.Unedited.{bound_kept}
 
 -- ---- before the first start
 
@@ -67,26 +68,16 @@ none_started edges steps events of_steps none =
     less : (n m : ℕ) → n + m ≡ 0 → n ≡ 0
     less n m is = omega (arith, is)
 
--- a history that is the same keeps each file
-same_kept : (set : List ℕ → Bool) (now new : List Moment) → new ≡ now → AreKept set now new
-same_kept set now new same p is earlier later splits =
-    ap (λ (l : List Moment). file_at (now ++ l) p) (first_nothing earlier later (same_rest now (earlier ++ later) [] (sym splits ∙ (same ∙ sym (append-nil now))))) ∙ ap (λ (h : List Moment). file_at h p) (append-nil now)
-  where
-    first_nothing : (xs ys : List Moment) → xs ++ ys ≡ [] → xs ≡ []
-    first_nothing [] ys none = refl
-    first_nothing (x ∷ xs) ys none = cc
-
 -- What was seen before the first start is still so behind a call that only looks where nothing happens in it.
 module _ (tells : Bool) (course : Course) (task : Task) (graph : Graph) (first second : State) (before after : List Done) (now new : World) (run : IsRun tells course.own task before course.entry now) (later : IsRun tells course.own task after course.entry new)
-    (grows : ComesAfter tells now new) (looked : LooksUnlessMore tells graph now new first.looks second.looks) (was : started_in before ≡ [] → IsUnstarted tells course graph first now) where
+    (grows : ComesAfter tells now new) (looked : LooksUnlessMore tells graph now new first.looks second.looks) (was : started_in before ≡ [] → IsUnstarted tells course graph first now) (idle : IsIdle course.entry.events) where
   pub still_unstarted : started_in after ≡ [] → IsUnstarted tells course graph second new
   still_unstarted none = record {
     looks = looks_then tells course.entry now new untouched.looks call.looks;
-    seen = λ tell same p asked.
-        let told = run.history tell in
+    seen = λ tell free edits.
         let more = grows.history tell in
-        let still = none_between course.entry.history now.history new.history told.more more.0 told.grows more.1 same in
-        call.seen tell (λ q. true) (same_kept (λ q. true) now.history new.history (same ∙ sym still)) (λ q was_asked is. untouched.seen tell still q was_asked) p asked refl;
+        call.seen tell (is_bound free) (bound_kept tells course.own course.entry now new idle untouched.looks call.looks tell free edits)
+        (untouched.seen tell free (edits_before free course.entry.history now.history new.history more.0 more.1 edits));
   }
     where
       new_is : new.events ≡ course.entry.events
@@ -124,7 +115,7 @@ module _ (tells : Bool) (tick : List ℕ) (course : Course) (edges : List Edge) 
     acyclic = stands.acyclic;
     within = stands.within;
     numbers = stands.numbers;
-    unstarted = λ none. still_unstarted tells course (task_over course edges) graph state after stands.on.steps on.steps now new stands.on.carried.run on.carried.run grows looked stands.unstarted none;
+    unstarted = λ none. still_unstarted tells course (task_over course edges) graph state after stands.on.steps on.steps now new stands.on.carried.run on.carried.run grows looked stands.unstarted stands.suits.idle none;
   }
 
   -- ---- before a load

@@ -28,3 +28,4 @@ pub mod StopCases
 pub mod Stopping
 pub mod Stops
 pub mod Telling
+pub mod Unedited

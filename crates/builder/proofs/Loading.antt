@@ -12,9 +12,9 @@ use Rattle.model.specs.declared.record.Record.{Record}
 use Rattle.model.specs.declared.record.DepsRecord.{DepsRecord}
 use Rattle.model.specs.World.{World, file_at, content_of, stamp_of, view_of}
 use Rattle.model.specs.Calls.{OnlyLooks, Sees}
-use Rattle.model.specs.Graph.{has, has_number, edge_at, outputs, Addition, IsCommand, IsMadeOnce}
+use Rattle.model.specs.Graph.{has, has_number, edge_at, outputs, inputs, Addition, IsCommand, IsMadeOnce}
 use Rattle.model.specs.Kept.{StartedUnder}
-use Rattle.model.specs.Phases.{Phase, steps_of, IsGrownBy, IsPointAfter, IsInOrderAt, WasNothingMissing, WasNothingMissingIn}
+use Rattle.model.specs.Phases.{Phase, steps_of, IsGrownBy, IsPointAfter, IsInOrderAt, NothingNeededIsFree, WasNothingMissing, WasNothingMissingIn}
 use Rattle.model.specs.Premises.{FilesAreKept}
 use Rattle.model.specs.Reading.{IsInCone, IsCycle}
 use Rattle.model.specs.Records.{OwnFiles, Store, recorded_of, recorded_inputs}
@@ -23,8 +23,8 @@ use Rattle.model.specs.SingleBuild.{HasNoCycle, asked_with, task_of}
 use Rattle.build_theory.specs.Run.{IsRunOrRest}
 use Rattle.build_theory.proofs.Calls.{looks_then}
 use Rattle.build_theory.proofs.Growth.{HasGrown, grown_by}
-use Rattle.build_theory.proofs.Lists.{same_bytes, bytes_same, same_rest}
-use Rattle.build_theory.proofs.Looks.{kept_before}
+use Rattle.build_theory.proofs.Lists.{has-left, has-right, has-cases, same_bytes, bytes_same, same_rest}
+use Rattle.build_theory.proofs.Looks.{kept_before, edits_before}
 use Rattle.build_theory.proofs.Makers.{maker_is}
 use Rattle.build_theory.proofs.Orderly.{IsKept, kept_orderly}
 use Rattle.build_theory.proofs.Runs.{rest_begins}
@@ -48,7 +48,8 @@ use Rattle.links.specs.Links.{links_of}
 use Rattle.links.specs.Told.{declared_by}
 use Rattle.looks.specs.declared.table.Look.{Look}
 use Rattle.looks.specs.declared.table.Looks.{Looks}
-use Rattle.looks.specs.Seen.{look_at, look_of, is_asked, AreKept, AreSeen}
+use Rattle.looks.specs.Seen.{look_at, look_of, is_asked, AreKept, AreSeenOf}
+use Rattle.looks.proofs.Kept.{seen_kept}
 use Rattle.plan.specs.declared.plan.Plan.{Plan}
 use Rattle.plan.specs.Planned.{IsDeclaredTask, IsTaskOf, IsPlanned, AreTaken}
 use Rattle.records.specs.declared.logs.Logs.{Logs}
@@ -64,26 +65,16 @@ use Rattle.runner.proofs.Quiet.{quiet_from}
 use Rattle.runner.proofs.Settled.{settled_rests}
 use Rattle.builder.specs.declared.report.Refusal.{Refusal}
 use Rattle.builder.specs.declared.report.Refusal.TheVariants.{File as BuildFile, MadeTwice, NoDyndepInput, Occupied, NoDyndep, BadVersion, BadStatement, Unfit, UnknownTarget, Cycle, Missing}
-use Rattle.builder.specs.Going.{grown_course, task_over, IsUnstarted, StandsAt, HasAsked, BeginsAt, IsLoadNext, IsHeldLoad, IsRefusedBy, HasBegun, IsStopped, IsCutThere, files_left}
+use Rattle.builder.specs.Going.{grown_course, task_over, is_bound, IsUnstarted, StandsAt, HasAsked, BeginsAt, IsLoadNext, IsHeldLoad, IsRefusedBy, HasBegun, IsStopped, IsCutThere, files_left}
 use Rattle.builder.specs.Joined.{WasHeld, IsUnread, IsUnfitBy, IsCircleBy, IsUnjoined, MayJoin, HasJoinedFile, GoesOnWith, HasRoomIn, StayKnown, IsAsBefore}
 use Rattle.builder.specs.Loads.{HeldThen, IsRefusedFile, IsSaying, IsUnfitFor}
 use Rattle.builder.proofs.Fewer.{fewer_left}
 use Rattle.builder.proofs.FileJoins.{none_unloaded, text_front, texts_front, same_graph}
 use Rattle.builder.proofs.Points.{point_now, asked_later, asked_load}
 use Rattle.builder.proofs.Telling.{none_of_phony}
+use Rattle.builder.proofs.Unedited.{bound_kept}
 
 -- ---- histories
-
--- what stands between the same two histories is that, too
-between_same : (old now new a b : List Moment) → now ≡ old ++ a → new ≡ now ++ b → new ≡ old → now ≡ old
-between_same old now new a b first second same = first ∙ (ap (λ (l : List Moment). old ++ l) (no_first a b none) ∙ append-nil old)
-  where
-    none : a ++ b ≡ []
-    none = same_rest old (a ++ b) [] (sym (append_assoc old a b) ∙ (ap (λ (l : List Moment). l ++ b) (sym first) ∙ (sym second ∙ (same ∙ sym (append-nil old)))))
-
-    no_first : (xs ys : List Moment) → xs ++ ys ≡ [] → xs ≡ []
-    no_first [] ys is = refl
-    no_first (x ∷ xs) ys is = cc
 
 -- a phase of which no step was taken
 pub fresh_of : (tells : Bool) (course : Course) (steps : List Done) (now : World) (phases : List Phase) (edges : List Edge) (last : List Done)
@@ -163,11 +154,10 @@ module _ (tells : Bool) (tick : List ℕ) (course : Course) (edges : List Edge) 
     pub unstarted_new : started_in steps ≡ [] → IsUnstarted tells course graph state new
     unstarted_new none = record {
       looks = looks_then tells course.entry now new was.looks looks;
-      seen = λ tell same.
-          let one = was.looks.history tell in
-          let two = looks.history tell in
-          let still = between_same course.entry.history now.history new.history one.more two.more one.grows two.grows same in
-          subst (λ (h : List Moment). AreSeen graph.manifest.paths h state.looks.seen.items) (still ∙ sym same) (was.seen tell still);
+      seen = λ tell free edits.
+          let call = looks.history tell in
+          seen_kept (is_bound free) now.history new.history call.more call.grows (bound_kept tells course.own course.entry now new stands.suits.idle was.looks looks tell free edits) graph.manifest.paths state.looks.seen.items
+          (was.seen tell free (edits_before free course.entry.history now.history new.history call.more call.grows edits));
     }
       where
         was : IsUnstarted tells course graph state now
@@ -207,7 +197,7 @@ module _ (tells : Bool) (tick : List ℕ) (course : Course) (edges : List Edge) 
         numbers = stands.numbers;
         unstarted = λ none.
             let was = unstarted_new none in
-            record { looks = was.looks; seen = λ tell is. subst (λ (l : Looks). AreSeen graph.manifest.paths new.history l.seen.items) (sym {A = Looks} same.looks) (was.seen tell is) };
+            record { looks = was.looks; seen = λ tell free edits. subst (λ (l : Looks). AreSeenOf (is_bound free) graph.manifest.paths new.history l.seen.items) (sym {A = Looks} same.looks) (was.seen tell free edits) };
       }
 
       -- the load is refused there
@@ -220,7 +210,7 @@ module _ (tells : Bool) (tick : List ℕ) (course : Course) (edges : List Edge) 
 
     -- ---- what the file held
 
-    module _ (tell : IsTrue tells) (files : FilesAreKept course.own edges course.entry.history new.history) where
+    module _ (tell : IsTrue tells) (files : FilesAreKept course.own edges course.entry.history new.history) (bound : files.free path ≡ false) where
       outside : course.own.set path ≡ false
       outside = files.own_files.inputs next_load.next.due.edge path (stands.on.carried.phased.inputs next_load.next.due.edge path next_load.next.due.names)
 
@@ -235,10 +225,10 @@ module _ (tells : Bool) (tick : List ℕ) (course : Course) (edges : List Edge) 
       rests : (i : ℕ) → has_number (running_in steps) i ≡ true → has (outputs (edge_at edges i)) path ≡ true → ⊥
       rests i runs made = settled_rests edges steps kept i (next_load.next.due.settled i (maker_is edges path i stands.suits.once made)) runs
 
-      quiet : is_quiet course.own edges steps path ≡ true
-      quiet = quiet_from course.own edges steps path (record { foreign = foreign; private = private; rests = rests })
+      quiet : is_quiet files.free course.own edges steps path ≡ true
+      quiet = quiet_from files.free course.own edges steps path (record { bound = bound; foreign = foreign; private = private; rests = rests })
 
-      still : AreKept (is_quiet course.own edges steps) now.history new.history
+      still : AreKept (is_quiet files.free course.own edges steps) now.history new.history
       still = (looks_quiet tells here graph stays None state now new stands.on looks tell files).1
 
       -- it holds that still
@@ -250,9 +240,9 @@ module _ (tells : Bool) (tick : List ℕ) (course : Course) (edges : List Edge) 
           whole : new.history ≡ now.history ++ ((sees.earlier ++ sees.later) ++ [])
           whole = sees.grows ∙ ap (λ (l : List Moment). now.history ++ l) (sym (append-nil (sees.earlier ++ sees.later)))
 
-      spared : (p : List ℕ) → bytes_eq path p ≡ true → IsSpared course.own edges steps p
-      spared p is = subst (λ (q : List ℕ). IsSpared course.own edges steps q) (same_bytes path p is)
-          (record { foreign = foreign; private = λ j stale. private j (kept.judged j (kept.out_of_date j stale)); rests = rests })
+      spared : (p : List ℕ) → bytes_eq path p ≡ true → IsSpared files.free course.own edges steps p
+      spared p is = subst (λ (q : List ℕ). IsSpared files.free course.own edges steps q) (same_bytes path p is)
+          (record { bound = bound; foreign = foreign; private = λ j stale. private j (kept.judged j (kept.out_of_date j stale)); rests = rests })
 
       -- and held it right behind the last start or finish
       pub held_then : (held : Option (List ℕ)) → Sees (λ history. view_of history path) held now.history new.history → HeldThen steps path course.entry.history new.history held
@@ -272,7 +262,7 @@ module _ (tells : Bool) (tick : List ℕ) (course : Course) (edges : List Edge) 
 
     -- the file ends the build by what it held
     refused_file : (Faulty : Option (List ℕ) → Type 0) → (read : WasHeld tells path Faulty now new) → IsRefusedFile tells course.own (asked_with course.asked edges) course.store steps course.entry new path Faulty
-    refused_file Faulty read = record { next = next_load.next; held = read.held; faulty = read.so; is = λ tell files. held_then tell files read.held (read.seen tell) }
+    refused_file Faulty read = record { next = next_load.next; held = read.held; faulty = read.so; is = λ tell files bound. held_then tell files bound read.held (read.seen tell) }
 
     pub unread_cause : (refusal : Refusal) → IsUnread tells path now new refusal → IsRefusedBy tells course edges phases steps new refusal
     unread_cause (BuildFile fault) is = absurd is
@@ -304,8 +294,8 @@ module _ (tells : Bool) (tick : List ℕ) (course : Course) (edges : List Edge) 
           let told = stands.dyndeps content in
           told.2 ∙ ap (λ (o : Result (List Statement) DynFault). option_map (map addition_of) (accepted o)) (one content told.0 (Ok statements) told.1 read.so.2)
 
-      holds : IsTrue tells → FilesAreKept course.own edges course.entry.history new.history → view_of new.history path ≡ Some content
-      holds tell files = holds_still tell files read.held (read.seen tell) ∙ read.so.1
+      holds : IsTrue tells → (files : FilesAreKept course.own edges course.entry.history new.history) → files.free path ≡ false → view_of new.history path ≡ Some content
+      holds tell files bound = holds_still tell files bound read.held (read.seen tell) ∙ read.so.1
 
       held_load : (next : List Edge) → IsGrownBy path additions edges next → IsHeldLoad tells course edges steps new next
       held_load next grown = record { file = path; is_next = next_load.next; content = content; additions = additions; read = reads; grown = grown; holds = holds }
@@ -375,7 +365,7 @@ module _ (tells : Bool) (tick : List ℕ) (course : Course) (edges : List Edge) 
         more = grown_by path additions edges next grown_here
 
         -- files that are kept over the edges of now were kept over those before, before the load
-        before : IsTrue tells → FilesAreKept course.own next course.entry.history new.history → FilesAreKept course.own edges course.entry.history new.history
+        abbrev before : IsTrue tells → FilesAreKept course.own next course.entry.history new.history → FilesAreKept course.own edges course.entry.history new.history
         before tell files = kept_then tells course.own (task_over course edges) next more steps course.entry new tell on_new.carried.beside.idle rest
             (λ i started. stands.on.carried.phased.loaded i (kept.out_of_date i (kept.started i started))) files
 
@@ -414,28 +404,38 @@ module _ (tells : Bool) (tick : List ℕ) (course : Course) (edges : List Edge) 
         split = so_far tells course.behaviour course.own here.asked course.store course.entry phases steps new on_new.carried.phased (on_new.carried.goes stands.goes)
             ∙ ap (λ (l : List Phase). steps_of l ++ last) on_new.carried.phased.so
 
-        -- nothing was missing when the phases began
-        asked_then : HasAsked tells course edges phases now → (tell : IsTrue tells) → FilesAreKept course.own next course.entry.history new.history
-            → WasNothingMissingIn course.own (task_over course next) course.store course.entry.history new.history [] (phases ++ ended ∷ []) []
-        asked_then was tell files =
-            let call = looks.history tell in
-            let so_far = before tell files in
-            asked_load course.own course.asked course.store edges next course.entry.history new.history [] phases last
-            (asked_later tells course.own (task_over course edges) steps course.entry now stands.on.carried.run tell call.more new.history call.grows phases last split (task_over course edges) course.store
-            (was tell (kept_before course.own edges course.entry.history now.history new.history call.more call.grows so_far)))
-
-        -- ---- the run goes on
-
-        carried_then : IsCarried tells later.behaviour later.format later.own later.asked later.store later.phases true steps None later.entry new
-        carried_then = carried_load tells course.behaviour course.format course.own here.asked course.store phases course.entry new next path content additions grown_here steps
-            (record { run = on_new.carried.run; phased = on_new.carried.phased; goes = λ h. on_new.carried.goes stands.goes; refused = λ off. absurd (true≢false off); beside = on_new.carried.beside }) next_load.next reads order holds
-
         recorded_more : (i : ℕ) (p : List ℕ) → has (recorded_inputs course.store edges i) p ≡ true → has (recorded_inputs course.store next i) p ≡ true
         recorded_more i p there = by_dyndep (edge_at edges i).dyndep refl
           where
             by_dyndep : (d : Option (List ℕ)) → (edge_at edges i).dyndep ≡ d → has (recorded_inputs course.store next i) p ≡ true
             by_dyndep None is = ap (λ (x : Edge). has (cond x.phony [] (cond (is_some x.dyndep) [] (recorded_of course.store x))) p) (more.same i is) ∙ there
             by_dyndep (Some f) is = absurd (none_unloaded (edge_at edges i).phony (edge_at edges i).dyndep f (recorded_of course.store (edge_at edges i)) p is there)
+
+        -- what was needed is needed still
+        needed_before : (free : List ℕ → Bool) → NothingNeededIsFree free (task_over course next) → NothingNeededIsFree free (task_over course edges)
+        needed_before free needed = (
+          λ i p h. elim (has-cases (inputs (edge_at edges i)) (recorded_inputs course.store edges i) p h) [
+            | inl input ↦ needed.0 i p (has-left (inputs (edge_at next i)) (recorded_inputs course.store next i) p (more.inputs i p input))
+            | inr recorded ↦ needed.0 i p (has-right (inputs (edge_at next i)) (recorded_inputs course.store next i) p (recorded_more i p recorded))
+          ],
+          needed.1,
+        )
+
+        -- nothing was missing when the phases began
+        asked_then : HasAsked tells course edges phases now → (tell : IsTrue tells) → (files : FilesAreKept course.own next course.entry.history new.history) → NothingNeededIsFree files.free (task_over course next)
+            → WasNothingMissingIn course.own (task_over course next) course.store course.entry.history new.history [] (phases ++ ended ∷ []) []
+        asked_then was tell files needed =
+            let call = looks.history tell in
+            let so_far = before tell files in
+            asked_load course.own course.asked course.store edges next course.entry.history new.history [] phases last
+            (asked_later tells course.own (task_over course edges) steps course.entry now stands.on.carried.run tell call.more new.history call.grows phases last split (task_over course edges) course.store
+            (was tell (kept_before course.own edges course.entry.history now.history new.history call.more call.grows so_far) (needed_before files.free needed)))
+
+        -- ---- the run goes on
+
+        carried_then : IsCarried tells later.behaviour later.format later.own later.asked later.store later.phases true steps None later.entry new
+        carried_then = carried_load tells course.behaviour course.format course.own here.asked course.store phases course.entry new next path content additions grown_here steps
+            (record { run = on_new.carried.run; phased = on_new.carried.phased; goes = λ h. on_new.carried.goes stands.goes; refused = λ off. absurd (true≢false off); beside = on_new.carried.beside }) next_load.next reads order holds
 
         planned_then : IsPlanned (task_of later.asked later.store) grown after.plan steps × AreTaken (task_of later.asked later.store) steps
         planned_then = gone.planned graph (task_over course edges) (task_of later.asked later.store) steps on_new.planned on_new.taken stated
@@ -459,8 +459,8 @@ module _ (tells : Bool) (tick : List ℕ) (course : Course) (edges : List Edge) 
             };
             once = gains.once;
             acyclic = acyclic;
-            asked = λ tell files. subst (λ (l : List Done). WasNothingMissingIn course.own (task_over course next) course.store course.entry.history new.history [] (phases ++ ended ∷ []) l)
-                (sym {A = List Done} (fresh_of tells later steps new phases edges last cut_then.phased split)) (asked_then was tell files);
+            asked = λ tell files needed. subst (λ (l : List Done). WasNothingMissingIn course.own (task_over course next) course.store course.entry.history new.history [] (phases ++ ended ∷ []) l)
+                (sym {A = List Done} (fresh_of tells later steps new phases edges last cut_then.phased split)) (asked_then was tell files needed);
           }
             where
               cut_then : IsCutOff tells later.behaviour later.format later.own later.asked later.store later.phases steps None later.entry new
@@ -477,14 +477,14 @@ module _ (tells : Bool) (tick : List ℕ) (course : Course) (edges : List Edge) 
             on_then = on_loaded tells here tick graph grown path additions gains stands.suits stands.goes state after new on_new has_room stand stand_grown content next_load.next reads order holds grown_cone gone.planned stated is_cone
 
             unstarted_then : started_in steps ≡ [] → IsUnstarted tells course grown after new
-            unstarted_then none = record { looks = so.looks; seen = λ tell is p asked. seen_there p asked (so.seen tell is) }
+            unstarted_then none = record { looks = so.looks; seen = λ tell free edits p asked bound. seen_there free p asked bound (so.seen tell free edits) }
               where
                 so : IsUnstarted tells course graph state new
                 so = unstarted_new none
 
-                seen_there : (p : ℕ) → is_asked (look_at after.looks.seen.items p) ≡ true → AreSeen graph.manifest.paths new.history state.looks.seen.items
+                seen_there : (free : List ℕ → Bool) (p : ℕ) → is_asked (look_at after.looks.seen.items p) ≡ true → is_bound free (text_at grown.manifest.paths p) ≡ true → AreSeenOf (is_bound free) graph.manifest.paths new.history state.looks.seen.items
                     → look_at after.looks.seen.items p ≡ look_of (stamp_of (file_at new.history (text_at grown.manifest.paths p)))
-                seen_there p asked seen = room.looks p ∙ (seen p asked_before ∙ ap (λ (t : List ℕ). look_of (stamp_of (file_at new.history t))) (sym text))
+                seen_there free p asked bound seen = room.looks p ∙ (seen p asked_before (ap (is_bound free) (sym text) ∙ bound) ∙ ap (λ (t : List ℕ). look_of (stamp_of (file_at new.history t))) (sym text))
                   where
                     asked_before : is_asked (look_at state.looks.seen.items p) ≡ true
                     asked_before = ap is_asked (sym (room.looks p)) ∙ asked
@@ -541,11 +541,11 @@ module _ (tells : Bool) (tick : List ℕ) (course : Course) (edges : List Edge) 
       };
       once = stands.suits.once;
       acyclic = stands.acyclic;
-      asked = λ tell files.
+      asked = λ tell files needed.
           let call = looks.history tell in
           let so_far = kept_before course.own edges course.entry.history now.history new.history call.more call.grows files in
           asked_in course.own (task_over course edges) course.store course.entry.history new.history [] phases cut_now.phased.build.last
-          (asked_later tells course.own (task_over course edges) steps course.entry now stands.on.carried.run tell call.more new.history call.grows phases on_new.carried.phased.build.last split_here (task_over course edges) course.store (was tell so_far));
+          (asked_later tells course.own (task_over course edges) steps course.entry now stands.on.carried.run tell call.more new.history call.grows phases on_new.carried.phased.build.last split_here (task_over course edges) course.store (was tell so_far needed));
     })
       where
         cut_now : IsCutOff tells course.behaviour course.format course.own here.asked course.store phases steps None course.entry new

@@ -8,7 +8,6 @@ use Rattle.model.specs.declared.fault.SiteFault.TheVariants.{Device, Stopped, Me
 use Rattle.model.specs.World.{World, View, view_of, IsIdle}
 use Rattle.model.specs.Calls.{OnlyLooks, HasCause, is_stop}
 use Rattle.model.specs.Outcome.{Behaviour}
-use Rattle.model.specs.Premises.{NothingIsEdited}
 use Rattle.model.specs.Records.{OwnFiles, Store, LogFormat, store_in}
 use Rattle.model.specs.History.{IsHeadline}
 use Rattle.model.specs.Kept.{KeepsLogs}
@@ -37,6 +36,8 @@ use Rattle.builder.specs.declared.report.Report.{Report}
 use Rattle.builder.specs.declared.report.Report.TheVariants.{Fault}
 use Rattle.builder.specs.Build.{RemovesFiles, LeavesAlone}
 use Rattle.builder.specs.Loads.{RefusesFile}
+use Rattle.builder.specs.Reports.{LogsAreLeft}
+use Rattle.builder.proofs.Unedited.{logs_left}
 
 none_before : (before after : List Done) (step : Done) → [] ≡ before ++ step ∷ after → ⊥
 none_before [] after step is = cc
@@ -125,9 +126,9 @@ built_by tells B format own asked entry now answer report build refused of_run a
 abbrev pub course_of : Behaviour → LogFormat → OwnFiles → Asked → Store → World → Course
 course_of B format own asked store entry = record { behaviour = B; format = format; own = own; asked = asked; store = store; entry = entry; phases = []; refused = None }
 
--- these records are those of the store at the entry, unless somebody has written since
+-- these records are those of the store at the entry, unless somebody has written a log since
 abbrev pub IsFoundAt : Bool → LogFormat → OwnFiles → Store → World → World → Type 0
-IsFoundAt tells format own store entry now = IsTrue tells → NothingIsEdited entry.history now.history → store ≡ store_in format own (view_of entry.history)
+IsFoundAt tells format own store entry now = IsTrue tells → LogsAreLeft own entry.history now.history → store ≡ store_in format own (view_of entry.history)
 
 -- ---- one that has only looked
 
@@ -162,7 +163,7 @@ module _ (tells : Bool) (B : Behaviour) (format : LogFormat) (own : OwnFiles) (a
     idle = idle;
     run = run_now;
     made_once = inr looks;
-    logged = λ tell kept. subst (λ (s : Store). IsLoggedAt B format own asked.graph.edges [] None s entry now) (sym {A = Store} (found tell kept.edits)) (beside_now.logged tell kept);
+    logged = λ tell kept. subst (λ (s : Store). IsLoggedAt B format own asked.graph.edges [] None s entry now) (sym {A = Store} (found tell (logs_left own asked.graph.edges entry.history now.history kept))) (beside_now.logged tell kept);
     ticked = beside_now.ticked;
   }
 
@@ -183,9 +184,9 @@ module _ (tells : Bool) (B : Behaviour) (format : LogFormat) (own : OwnFiles) (a
     abbrev looking : SingleBuild tells B format own asked entry now said
     looking = record {
       store = store;
-      logs = found;
+      logs = λ tell kept. found tell (logs_left own asked.graph.edges entry.history now.history kept);
       texts = none_loaded;
-      held = λ tell kept file content loaded _. absurd (nothing_held content loaded);
+      held = λ tell kept file content bound loaded _. absurd (nothing_held content loaded);
       steps = [];
       schedule = nothing_scheduled said;
       met = None;
@@ -195,6 +196,8 @@ module _ (tells : Bool) (B : Behaviour) (format : LogFormat) (own : OwnFiles) (a
         well = λ i at ended has. absurd (false≢true has);
         depfiles = λ i at ended has. absurd (false≢true has);
       };
+      judged_then = λ tell kept apart. (tt, tt);
+      held_then = λ tell kept file content loaded bound. absurd (nothing_held content loaded);
       answers = is;
       in_order = inl refl;
       faults = passes;

@@ -1,5 +1,5 @@
 -- What was read of the logs, and what it is known for afterwards.
-use Rattle.std.proofs.Common.{◌≡◌, ◌≢◌, ℕ, Bool, IsTrue, List, [], Option, None, refl, sym, ◌∙◌, ap, subst}
+use Rattle.std.proofs.Common.{◌≡◌, ◌≢◌, ℕ, Bool, false, IsTrue, List, [], Option, None, refl, sym, ◌∙◌, ap, subst}
 use Rattle.model.specs.declared.event.Moment.{Moment}
 use Rattle.model.specs.declared.graph.Edge.{Edge}
 use Rattle.model.specs.declared.record.Record.{Record}
@@ -7,11 +7,10 @@ use Rattle.model.specs.declared.record.DepsRecord.{DepsRecord}
 use Rattle.model.specs.World.{World, view_of, file_at, content_of, IsIdle}
 use Rattle.model.specs.Calls.{OnlyLooks, Sees}
 use Rattle.model.specs.Outcome.{Behaviour}
-use Rattle.model.specs.Premises.{NothingIsEdited}
 use Rattle.model.specs.Records.{LogFormat, OwnFiles, Store, read_log, store_in, IsOwnIn, file_in, build_log_name, deps_log_name}
 use Rattle.build_theory.specs.Seen.{IsSeen, Looked, Unrefused}
 use Rattle.build_theory.proofs.Calls.{seen_since}
-use Rattle.build_theory.proofs.Looks.{looks_then, looks_keep, edits_before, sees_so}
+use Rattle.build_theory.proofs.Looks.{looks_saw}
 use Rattle.build_log.specs.declared.form.Version.{Version}
 use Rattle.build_log.specs.Form.{Form}
 use Rattle.build_log.specs.Laws.{Reads}
@@ -36,10 +35,11 @@ use Rattle.builder.specs.Build.{asked_of}
 use Rattle.builder.specs.Going.{IfFault}
 use Rattle.builder.specs.Loads.{ReadsDyndeps}
 use Rattle.builder.specs.Recorded.{HasJoined}
-use Rattle.builder.specs.Reports.{HasRead}
+use Rattle.builder.specs.Reports.{LogsAreLeft, HasRead}
 use Rattle.builder.proofs.Builds.{looked_more}
 use Rattle.builder.proofs.Looking.{IsFoundAt, course_of}
 use Rattle.builder.proofs.Folders.{logs_apart}
+use Rattle.builder.proofs.Unedited.{logs_left, left_before}
 
 -- a fault has its cause since the entry, as no call was refused before
 pub cause_since : (entry old new : World) (stop : Stop) → old.failures ≡ entry.failures → IfFault stop (IsSeen old new) → IfFault stop (IsSeen entry new)
@@ -48,24 +48,17 @@ cause_since entry old new (stop.Fault fault) same cause = seen_since entry old n
 
 -- ---- what was read is what the logs told at the entry
 
--- in calls that only look a file is seen as it was at the entry, where nobody writes
-module _ (tells : Bool) (entry old read : World) (idle : IsIdle entry.events) (before : OnlyLooks tells entry old) (looks : OnlyLooks tells old read) (tell : IsTrue tells) (edits : NothingIsEdited entry.history read.history) where
-  old_is : old.history ≡ entry.history
-  old_is = let call = looks.history tell in looks_keep tells entry old idle before tell (edits_before entry.history old.history read.history call.more call.grows edits)
-
-  read_is : read.history ≡ entry.history
-  read_is = looks_keep tells entry read idle (looks_then tells entry old read before looks) tell edits
-
-  content_is : (path : List ℕ) (content : Option (List ℕ)) → Sees (λ history. content_of (file_at history path)) content old.history read.history → view_of entry.history path ≡ content
-  content_is path content seen =
-      sym (sees_so (λ history. content_of (file_at history path)) content old.history read.history (read_is ∙ sym old_is) seen ∙ ap (λ (h : List Moment). content_of (file_at h path)) old_is)
+-- in calls that only look a log is seen as it was at the entry, where others leave the logs
+module _ (tells : Bool) (entry old read : World) (idle : IsIdle entry.events) (before : OnlyLooks tells entry old) (looks : OnlyLooks tells old read) (tell : IsTrue tells) (own : OwnFiles) (left : LogsAreLeft own entry.history read.history) where
+  content_is : (path : List ℕ) → left.free path ≡ false → (content : Option (List ℕ)) → Sees (λ history. content_of (file_at history path)) content old.history read.history → view_of entry.history path ≡ content
+  content_is path bound content seen = sym (looks_saw tells own [] entry old read idle before looks tell left.free left.edits path bound content seen)
 
   -- so a log tells then what was read of it
   told_at_entry : {R T : Type 0} (forms : Version → Form R) (Keeps : List R → T → Type 0) (compaction : List R → List R) (rs : List R) (file : Held T) → WasRead forms Keeps compaction tells old read rs file
-      → (reader : List ℕ → Option (List R)) → Reads forms reader → (path : List ℕ) → file.path ≡ path → rs ≡ read_log reader (view_of entry.history path)
-  told_at_entry forms Keeps compaction rs file was reader reads path is =
+      → (reader : List ℕ → Option (List R)) → Reads forms reader → (path : List ℕ) → file.path ≡ path → left.free path ≡ false → rs ≡ read_log reader (view_of entry.history path)
+  told_at_entry forms Keeps compaction rs file was reader reads path is bound =
       sym (
-      ap (read_log reader) (ap (view_of entry.history) (sym {A = List ℕ} is) ∙ content_is file.path was.content (was.seen tell))
+      ap (read_log reader) (ap (view_of entry.history) (sym {A = List ℕ} is) ∙ content_is file.path (ap left.free is ∙ bound) was.content (was.seen tell))
       ∙ records_told forms reader reads was.content rs was.read.records
       )
 
@@ -103,11 +96,11 @@ module _ (law : LogBegins) (tells : Bool) (graph new : Graph) (request : Request
       deps_is = deps_log ∙ sym {A = List ℕ} owned.deps_log
 
       found : IsFoundAt tells format own store_read entry read
-      found tell edits =
+      found tell left =
           ap (λ (l : List Record). record { records = l; deps = ds })
-          (told_at_entry tells entry old read idle looked.looks looks tell edits forms Keeps compaction rs records.logs.build_log were.build_log format.records reads.records own.build_log build_is)
+          (told_at_entry tells entry old read idle looked.looks looks tell own left forms Keeps compaction rs records.logs.build_log were.build_log format.records reads.records own.build_log build_is left.build_log)
           ∙ ap (λ (l : List DepsRecord). record { records = read_log format.records (view_of entry.history own.build_log); deps = l })
-          (told_at_entry tells entry old read idle looked.looks looks tell edits deps_forms KeepsDeps deps_compaction ds records.logs.deps_log were.deps_log format.deps reads.deps own.deps_log deps_is)
+          (told_at_entry tells entry old read idle looked.looks looks tell own left deps_forms KeepsDeps deps_compaction ds records.logs.deps_log were.deps_log format.deps reads.deps own.deps_log deps_is left.deps_log)
 
       apart : own.build_log ≢ own.deps_log
       apart same = logs_apart request.folder (sym {A = List ℕ} owned.build_log ∙ (same ∙ owned.deps_log))
@@ -129,5 +122,5 @@ module _ (law : LogBegins) (tells : Bool) (graph new : Graph) (request : Request
             deps_held = l.deps_held;
             logged = λ tell kept.
                 let call = more.history tell in
-                subst (λ (s : Store). IsLoggedAt B format own edges [] None s entry later) (sym {A = Store} (found tell (edits_before entry.history read.history later.history call.more call.grows kept.edits))) (l.logged tell kept);
+                subst (λ (s : Store). IsLoggedAt B format own edges [] None s entry later) (sym {A = Store} (found tell (left_before own entry.history read.history later.history call.more call.grows (logs_left own edges entry.history later.history kept)))) (l.logged tell kept);
           }

@@ -9,24 +9,25 @@ use Rattle.model.specs.declared.fault.SiteFault.TheVariants.{Device, Stopped, Me
 use Rattle.model.specs.World.{World, View, view_of, content_of, IsIdle}
 use Rattle.model.specs.Graph.{edge_at, first_output, maker, targets_of, IsMadeOnce}
 use Rattle.model.specs.Outcome.{Behaviour}
-use Rattle.model.specs.Phases.{Phase, steps_of, IsLawfulBuild, NoLoadIsDue, WasNothingMissing, WasNothingMissingIn}
-use Rattle.model.specs.Premises.{FilesAreKept}
+use Rattle.model.specs.Phases.{Phase, steps_of, IsLawfulBuild, NoLoadIsDue, NothingNeededIsFree, WasNothingMissing, WasNothingMissingIn}
+use Rattle.model.specs.Premises.{FilesAreKept, RecordedApart}
 use Rattle.model.specs.Records.{OwnFiles, Store, LogFormat, recorded_inputs}
 use Rattle.model.specs.Schedule.{Task, Step as Done, IsSettled, NoneMayBeJudged, NoneMayStart, AreEventsOf, AreFinishes, started_in, well_in, failed_in, running_in, done_in}
 use Rattle.model.specs.SingleBuild as answer
-use Rattle.model.specs.SingleBuild.{Asked, Answer, is_fault, IsSuccess, WentOn, InCone, IsScheduled, IsInOrder, WasInOrder, HasEnded, IsAnswer, MetFault, PassesNoFault, NamesOther, AllNamed, HasNoCycle, SingleBuild, declared_graph, task_of}
+use Rattle.model.specs.SingleBuild.{HeldAt, AreJudgedAt, ArePhasesJudgedAt, Asked, Answer, is_fault, IsSuccess, WentOn, InCone, IsScheduled, IsInOrder, WasInOrder, HasEnded, IsAnswer, MetFault, PassesNoFault, NamesOther, AllNamed, HasNoCycle, SingleBuild, declared_graph, task_of}
 use Rattle.build_theory.specs.Run.{IsRun, IsRunOrRest}
 use Rattle.build_theory.specs.Seen.{IsSeen}
 use Rattle.build_theory.proofs.Builds.{idle_at_end, has_ended}
 use Rattle.build_theory.proofs.Counts.{started_length, ended_length}
 use Rattle.build_theory.proofs.Loads.{declared_once}
 use Rattle.build_theory.proofs.Looks.{kept_before}
+use Rattle.build_theory.proofs.Runs.{rest_begins}
 use Rattle.build_theory.proofs.Turns.{settled_at_end}
 use Rattle.links.specs.declared.cone.Mark.{Mark}
 use Rattle.links.specs.Linked.{IsConeOf}
 use Rattle.log_theory.specs.Ledger.{IsCutOff, LoadedThen}
 use Rattle.log_theory.proofs.Carried.{settled_stays}
-use Rattle.log_theory.proofs.Ledger.{run_of, judged_of, frame_of, met_by_step}
+use Rattle.log_theory.proofs.Ledger.{run_of, judged_of, judged_at_of, held_at_of, frame_of, met_by_step}
 use Rattle.log_theory.proofs.Over.{no_logs_are_faithful}
 use Rattle.log_theory.proofs.Stated.{clean_with_loads}
 use Rattle.runner.specs.Going.{IsInHand}
@@ -35,6 +36,7 @@ use Rattle.builder.specs.declared.report.Report.{Report}
 use Rattle.builder.specs.declared.report.Report.TheVariants.{Success, Failed, Fault}
 use Rattle.builder.specs.Loads.{RefusesFile}
 use Rattle.builder.proofs.Looking.{Built, built_by, IsFoundAt}
+use Rattle.builder.proofs.Unedited.{logs_left}
 use Rattle.builder.proofs.Slices.{suc_has}
 
 -- where nothing was missing when phases began, and the last one, nothing was when they and a last one that has steps began
@@ -53,26 +55,46 @@ module _ (tells : Bool) (B : Behaviour) (format : LogFormat) (own : OwnFiles) (a
   abbrev IsTakenIn : Type 0
   IsTakenIn = now.stopped ≡ false → now.wait_refused ≡ None → IsIdle now.events
 
-  -- what a loaded file held it holds still
+  abbrev Kept : Type 0
+  Kept = FilesAreKept own asked.graph.edges entry.history now.history
+
+  -- what a loaded file held it holds still, if it is not free
   abbrev HoldStill : View → Type 0
   HoldStill texts =
-      IsTrue tells → FilesAreKept own asked.graph.edges entry.history now.history → (file content : List ℕ) → texts file ≡ Some content → (maker asked.declared file ≡ None → maker asked.graph.edges file ≡ None)
+      IsTrue tells → (files : Kept) → (file content : List ℕ) → files.free file ≡ false → texts file ≡ Some content → (maker asked.declared file ≡ None → maker asked.graph.edges file ≡ None)
       → view_of now.history file ≡ Some content
 
-  pub holds_still : IsTrue tells → FilesAreKept own asked.graph.edges entry.history now.history → (file content : List ℕ) → LoadedThen tells own asked store file content steps entry now
+  -- and held it when it was loaded
+  abbrev HeldThen : View → Type 0
+  HeldThen texts = IsTrue tells → (files : Kept) → (file content : List ℕ) → texts file ≡ Some content → files.free file ≡ false → HeldAt file content steps entry.history now.history
+
+  -- each verdict was right at its moment
+  abbrev RightThen : List Phase → List Done → Type 0
+  RightThen phases last =
+      IsTrue tells → (files : Kept) → RecordedApart own (recorded_inputs store asked.graph.edges)
+      → ArePhasesJudgedAt files.free store [] phases entry.history now.history × AreJudgedAt files.free asked.graph.edges store (steps_of phases) last entry.history now.history
+
+  pub holds_still : IsTrue tells → (files : Kept) → (file content : List ℕ) → files.free file ≡ false → LoadedThen tells own asked store file content steps entry now
       → (maker asked.declared file ≡ None → maker asked.graph.edges file ≡ None) → view_of now.history file ≡ Some content
-  holds_still tell kept file content was same =
+  holds_still tell kept file content bound was same =
       ap content_of
-      (settled_stays tells own asked store was.before was.later entry was.mid now was.more tell idle once was.run
-      (subst (λ (l : List Done). IsRunOrRest tells own (task_of asked store) l entry now) was.splits cut.run) was.grows kept file (kept.own_files.inputs was.input.0 file was.input.1) (was.settled same))
-      ∙ was.holds (kept_before own asked.graph.edges entry.history was.mid.history now.history was.more was.grows kept)
+      (settled_stays tells own asked store was.before was.later entry was.mid now was.more tell idle once (rest_begins tells own (task_of asked store) entry was.before was.mid was.run)
+      (subst (λ (l : List Done). IsRunOrRest tells own (task_of asked store) l entry now) was.splits cut.run) was.grows kept file (kept.own_files.inputs was.input.0 file was.input.1) bound (was.settled same))
+      ∙ was.holds (kept_before own asked.graph.edges entry.history was.mid.history now.history was.more was.grows kept) bound
 
   pub held : HoldStill cut.phased.texts
-  held tell kept file content is same = holds_still tell kept file content (cut.phased.held tell file content is) same
+  held tell kept file content bound is same = holds_still tell kept file content bound (cut.phased.held tell file content is) same
+
+  pub held_so : HeldThen cut.phased.texts
+  held_so tell kept file content is bound = held_at_of tells B format own asked store entry phases steps met now cut tell kept file content is bound
+
+  pub right_so : RightThen cut.phased.build.earlier cut.phased.build.last
+  right_so tell kept apart = judged_at_of tells B format own asked store entry phases steps met now cut tell kept apart
 
   -- ---- by these phases, and what the loaded files held
 
-  module _ (texts : View) (build : IsLawfulBuild B.dyndep texts asked.declared (task_of asked store) store steps) (holds : HoldStill texts) where
+  module _ (texts : View) (build : IsLawfulBuild B.dyndep texts asked.declared (task_of asked store) store steps) (holds : HoldStill texts) (held_then : HeldThen texts)
+      (right_then : RightThen build.earlier build.last) where
     -- the steps up to a refusal
     abbrev done : List Done
     done = steps_of build.earlier ++ build.last
@@ -90,7 +112,7 @@ module _ (tells : Bool) (B : Behaviour) (format : LogFormat) (own : OwnFiles) (a
       abbrev running : SingleBuild tells B format own asked entry now said
       running = record {
         store = store;
-        logs = found;
+        logs = λ tell kept. found tell (logs_left own asked.graph.edges entry.history now.history kept);
         texts = texts;
         held = holds;
         steps = steps;
@@ -98,6 +120,8 @@ module _ (tells : Bool) (B : Behaviour) (format : LogFormat) (own : OwnFiles) (a
         met = met;
         met_fault = met_fault;
         judged = λ tell kept apart known. judged_of tells B format own asked store entry phases steps met now cut once others tell kept apart known;
+        judged_then = right_then;
+        held_then = held_then;
         answers = is;
         in_order = ordered;
         faults = passes;
@@ -107,9 +131,9 @@ module _ (tells : Bool) (B : Behaviour) (format : LogFormat) (own : OwnFiles) (a
         from_nothing = λ tell success nothing premises.
             clean_with_loads tells B format own texts asked store steps met entry now tell idle cut.run build
             (declared_once B.dyndep texts asked.declared (task_of asked store) store steps build once) once others
-            (found tell premises.files.kept.edits) (no_logs_are_faithful B format own asked.graph.edges entry nothing.build_log nothing.deps_log)
+            (found tell (logs_left own asked.graph.edges entry.history now.history premises.files.kept)) (no_logs_are_faithful B format own asked.graph.edges entry nothing.build_log nothing.deps_log) premises (cut.beside.ticked tell)
             (judged_of tells B format own asked store entry phases steps met now cut once others tell premises.files.kept premises.files.recorded_apart premises.files.dyndep.inputs)
-            (settled success) premises;
+            (settled success);
       }
 
       pub built_running : (is_fault said ≡ false → AreRemoved tells own asked.graph.edges steps None entry now) → Said said report
@@ -156,9 +180,9 @@ module _ (tells : Bool) (B : Behaviour) (format : LogFormat) (own : OwnFiles) (a
       → (fault : SiteFault) → IsSeen entry now fault → PassesNoFault entry now (answer.Fault fault) → Said (answer.Fault fault) (Fault fault)
   built_cut in_hand ordered taken_in fault seen passes = by_seen fault seen passes
     where
-      of_fault : (fault : SiteFault) → Answers cut.phased.texts cut.phased.build held (answer.Fault fault) → PassesNoFault entry now (answer.Fault fault) → Said (answer.Fault fault) (Fault fault)
+      of_fault : (fault : SiteFault) → Answers cut.phased.texts cut.phased.build held held_so right_so (answer.Fault fault) → PassesNoFault entry now (answer.Fault fault) → Said (answer.Fault fault) (Fault fault)
       of_fault fault is passes =
-          built_running cut.phased.texts cut.phased.build held (answer.Fault fault) (Fault fault) tt (met_so in_hand fault) cut.run.first cut.run.later cut.run.grows cut.run.of_steps cut.run.finishes (λ fine. absurd (false≢true (sym fine)))
+          built_running cut.phased.texts cut.phased.build held held_so right_so (answer.Fault fault) (Fault fault) tt (met_so in_hand fault) cut.run.first cut.run.later cut.run.grows cut.run.of_steps cut.run.finishes (λ fine. absurd (false≢true (sym fine)))
           (λ on. absurd on) is (λ success. absurd success) ordered passes (λ fine. absurd (false≢true (sym fine))) taken_in (λ fine. absurd (false≢true (sym fine)))
 
       by_seen : (fault : SiteFault) → IsSeen entry now fault → PassesNoFault entry now (answer.Fault fault) → Said (answer.Fault fault) (Fault fault)
@@ -169,7 +193,7 @@ module _ (tells : Bool) (B : Behaviour) (format : LogFormat) (own : OwnFiles) (a
   -- ---- it went on until nothing was left to do
 
   module _ (named : AllNamed asked) (acyclic : HasNoCycle asked store)
-      (sources : IsTrue tells → FilesAreKept own asked.graph.edges entry.history now.history → WasNothingMissing own (task_of asked store) store entry.history now.history [] earlier) where
+      (sources : IsTrue tells → (files : Kept) → NothingNeededIsFree files.free (task_of asked store) → WasNothingMissing own (task_of asked store) store entry.history now.history [] earlier) where
     in_order : IsInOrder tells own asked store earlier entry now
     in_order = record { made_once = once; dyndep = others; named = named; no_cycle = acyclic; sources = sources }
 
@@ -180,7 +204,7 @@ module _ (tells : Bool) (B : Behaviour) (format : LogFormat) (own : OwnFiles) (a
       dyndep = others;
       named = named;
       no_cycle = acyclic;
-      sources = λ tell kept. in_phases own (task_of asked store) store entry.history now.history [] earlier last (sources tell kept);
+      sources = λ tell kept nothing. in_phases own (task_of asked store) store entry.history now.history [] earlier last (sources tell kept nothing);
     }
 
     module _ (none : met ≡ None) (run : IsRun tells own (task_of asked store) steps entry now) (unjudged : NoneMayBeJudged (task_of asked store) steps) (unstarted : NoneMayStart (task_of asked store) steps)
@@ -189,9 +213,9 @@ module _ (tells : Bool) (B : Behaviour) (format : LogFormat) (own : OwnFiles) (a
       ended : HasEnded asked store steps now
       ended = has_ended tells own asked store steps entry now idle run over unjudged unstarted unloaded
 
-      of_end : (said : Answer) (report : Report) → RefusesFile tells own asked store (steps_of earlier ++ last) entry now report → Answers cut.phased.texts cut.phased.build held said
+      of_end : (said : Answer) (report : Report) → RefusesFile tells own asked store (steps_of earlier ++ last) entry now report → Answers cut.phased.texts cut.phased.build held held_so right_so said
           → (IsSuccess said → (i : ℕ) → InCone asked store i → IsSettled asked.graph.edges (done_in steps) i) → PassesNoFault entry now said → Said said report
-      of_end said report refused is settled passes = built_ended cut.phased.texts cut.phased.build held none run over removed was_in_order said report refused (λ on. whole) is settled passes
+      of_end said report refused is settled passes = built_ended cut.phased.texts cut.phased.build held held_so right_so none run over removed was_in_order said report refused (λ on. whole) is settled passes
 
       -- some commands failed
       pub built_failed : (outputs : List (List ℕ)) → map (λ i. first_output (edge_at asked.graph.edges i)) (failed_in steps) ≡ outputs → failed_in steps ≢ [] → PassesNoFault entry now (answer.Failed outputs)

@@ -101,7 +101,7 @@ module _ (tells : Bool) (tick : List ℕ) (course : Course) (edges : List Edge) 
     stands = stands;
     next = record { next = next; wanted = wanted; known = known };
     asked = asked_also tells course edges phases stands.on.steps now stands.on.carried.run stands.on.carried.phased now begins.fresh none_taken_in begins.asked
-        (λ tell files loaded apart at point. absurd (loaded (text_at graph.manifest.paths file) next.due (stands.on.planned.stated.makers file known ∙ ap later_number none)));
+        (λ tell files needed loaded apart at point. absurd (loaded (text_at graph.manifest.paths file) next.due (stands.on.planned.stated.makers file known ∙ ap later_number none)));
   }
     where
       next : IsNextLoad task stands.on.steps (text_at graph.manifest.paths file)
@@ -125,8 +125,8 @@ module _ (tells : Bool) (tick : List ℕ) (course : Course) (edges : List Edge) 
     sources_at display due found = record {
       stands = stands_looked tells tick course edges phases graph cone state now stands stays new after looked display due;
       asked = asked_also tells course edges phases stands.on.steps now stands.on.carried.run stands.on.carried.phased new begins.fresh none_taken_in had_now
-          (λ tell files. nothing_missing_now tells tick course edges phases graph cone state now stands stays new looked.looks tell files
-          (found course.store task.targets stands.on.steps (under tells tick course edges phases graph cone state now stands)));
+          (λ tell files needed. nothing_missing_now tells tick course edges phases graph cone state now stands stays new looked.looks tell files
+          (found course.store task.targets stands.on.steps (under tells tick course edges phases graph cone state now stands)) needed);
     }
 
     -- one is missing, or a fault was met
@@ -149,13 +149,13 @@ module _ (tells : Bool) (tick : List ℕ) (course : Course) (edges : List Edge) 
             at_once = fresh_steps tells course edges phases stands.on.steps now stands.on.carried.run stands.on.carried.phased begins.fresh none_taken_in;
             loaded = λ file due source. made task stands.on.steps stands.on.planned stands.on.taken file due source;
           };
-          is = λ tell files apart.
+          is = λ tell files needed apart.
               let last = point_now tells course.own task stands.on.steps course.entry new (run_new tells tick course edges phases graph cone state now stands stays new looked.looks tell files) tell in
               missing_after course edges stands.on.steps new lack.missing.path lack.missing.needed_by last.0 last.1
               (subst (λ (es : List Edge). IsMissingFor es course.store stands.on.steps task.targets last.0 lack.missing.path lack.missing.needed_by) (sym (same_edges tells tick course edges phases graph cone state now stands))
               (found_at tells tick course edges phases graph cone state now stands stays new looked.looks tell files
               (λ at. IsMissingFor (declared_by graph).edges course.store stands.on.steps task.targets at lack.missing.path lack.missing.needed_by)
-              (lack.is course.store task.targets stands.on.steps (under tells tick course edges phases graph cone state now stands)) apart last.0 last.1));
+              (lack.is course.store task.targets stands.on.steps (under tells tick course edges phases graph cone state now stands)) needed apart last.0 last.1));
         }
 
     pub lacking_met : NoSourceIsDue graph state.plan → (stopped : Stop) → LacksSource tells graph state.records cone state.plan now new state.looks stopped → IfFault stopped (λ fault. (of : Course) × (at : Graph) × IsCut tells of at state.plan new)

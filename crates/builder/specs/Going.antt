@@ -1,5 +1,5 @@
 -- How a build stands that loads dyndep files on its way, and how it ends.
-use Rattle.std.specs.Prelude.{◌≡◌, ◌<◌, ◌++◌, ◌∷◌, ℕ, Bool, true, IsTrue, List, [], All, length, Option, Some, None, is_some, if◌then◌else◌, Result, Ok, Err}
+use Rattle.std.specs.Prelude.{◌≡◌, ◌<◌, ◌++◌, ◌∷◌, ℕ, not, Bool, true, false, IsTrue, List, [], All, length, Option, Some, None, is_some, if◌then◌else◌, Result, Ok, Err}
 use Rattle.std.specs.List.{sum_by}
 use Rattle.model.specs.declared.event.Moment.{Moment}
 use Rattle.model.specs.declared.fault.SiteFault.{SiteFault}
@@ -8,8 +8,8 @@ use Rattle.model.specs.World.{World, view_of}
 use Rattle.model.specs.Calls.{OnlyLooks}
 use Rattle.model.specs.Graph.{Addition, first_output, edge_at, has_number, maker, IsMadeOnce, IsMadeTwice}
 use Rattle.model.specs.OutOfDate.{IsFirstMissing, IsMissingInput}
-use Rattle.model.specs.Phases.{Phase, steps_of, IsGrownBy, IsDueLoad, IsNextLoad, IsPointAfter, AreAskedApart, WasNothingMissing, WasNothingMissingIn}
-use Rattle.model.specs.Premises.{FilesAreKept}
+use Rattle.model.specs.Phases.{Phase, steps_of, IsGrownBy, IsDueLoad, IsNextLoad, IsPointAfter, AreAskedApart, NothingNeededIsFree, WasNothingMissing, WasNothingMissingIn}
+use Rattle.model.specs.Premises.{FilesAreKept, OnlyFreeIsEdited}
 use Rattle.model.specs.Records.{recorded_inputs}
 use Rattle.model.specs.Schedule.{Task, Step as Done, started_in}
 use Rattle.model.specs.SingleBuild as answer
@@ -24,7 +24,7 @@ use Rattle.links.specs.Told.{declared_by}
 use Rattle.log_theory.specs.Ledger.{IsPhased}
 use Rattle.plan.specs.declared.plan.Plan.{Plan}
 use Rattle.plan.specs.Planned.{IsPlanned, AreTaken}
-use Rattle.looks.specs.Seen.{AreSeen}
+use Rattle.looks.specs.Seen.{AreSeenOf}
 use Rattle.runner.specs.declared.cut.Cut.{Cut}
 use Rattle.runner.specs.declared.state.State.{State}
 use Rattle.runner.specs.declared.summary.Pause.{Pause}
@@ -76,10 +76,15 @@ ended_course course done = record {
 abbrev pub task_over : Course → List Edge → Task
 task_over course edges = task_of (asked_with course.asked edges) course.store
 
+-- the path is not free: others may not write it
+abbrev pub is_bound : (List ℕ → Bool) → List ℕ → Bool
+is_bound free p = not (free p)
+
 -- it has only looked since the entry, and what it has seen is so
 pub record IsUnstarted (tells : Bool) (course : Course) (graph : Graph) (state : State) (now : World) : Type 0 where
   pub looks : OnlyLooks tells course.entry now
-  pub seen : IsTrue tells → now.history ≡ course.entry.history → AreSeen graph.manifest.paths now.history state.looks.seen.items
+  pub seen : IsTrue tells → (free : List ℕ → Bool) → OnlyFreeIsEdited free course.entry.history now.history
+      → AreSeenOf (is_bound free) graph.manifest.paths now.history state.looks.seen.items
 
 -- A build of the course stands between two steps of its run: these are the edges now, and these phases ended with a load. The graph
 -- has them, and the cone is that of what was asked for. Before the first start it has only looked.
@@ -95,16 +100,17 @@ pub record StandsAt (tells : Bool) (tick : List ℕ) (course : Course) (edges : 
   pub numbers : texts_at graph.manifest.paths cone.targets.items ≡ (task_over course edges).targets
   pub unstarted : started_in on.steps ≡ [] → IsUnstarted tells course graph state now
 
--- nothing was missing when each of these phases, and the present one, began
+-- nothing was missing when each of these phases, and the present one, began, where nothing that is needed is free
 abbrev pub HasAsked : Bool → Course → List Edge → List Phase → World → Type 0
 HasAsked tells course edges phases now =
-    IsTrue tells → FilesAreKept course.own edges course.entry.history now.history
+    IsTrue tells → (files : FilesAreKept course.own edges course.entry.history now.history) → NothingNeededIsFree files.free (task_over course edges)
     → WasNothingMissing course.own (task_over course edges) course.store course.entry.history now.history [] phases
 
--- nothing was missing when each of these phases began, and the present one, if these are its steps and there are any
+-- nothing was missing when each of these phases began, and the present one, if these are its steps and there are any, where nothing that
+-- is needed is free
 abbrev pub HadAsked : Bool → Course → List Edge → List Phase → List Done → World → Type 0
 HadAsked tells course edges phases last now =
-    IsTrue tells → FilesAreKept course.own edges course.entry.history now.history
+    IsTrue tells → (files : FilesAreKept course.own edges course.entry.history now.history) → NothingNeededIsFree files.free (task_over course edges)
     → WasNothingMissingIn course.own (task_over course edges) course.store course.entry.history now.history [] phases last
 
 -- a phase begins
@@ -121,7 +127,7 @@ pub record IsLoadNext (course : Course) (edges : List Edge) (graph : Graph) (sta
 
 -- ---- why it ends
 
--- The next file holds what can be read and fits, where files are kept; these are the edges with what it adds.
+-- The next file holds what can be read and fits, where files are kept and it is not free; these are the edges with what it adds.
 pub record IsHeldLoad (tells : Bool) (course : Course) (edges : List Edge) (done : List Done) (now : World) (next : List Edge) : Type 0 where
   pub file : List ℕ
   pub is_next : IsNextLoad (task_over course edges) done file
@@ -129,7 +135,7 @@ pub record IsHeldLoad (tells : Bool) (course : Course) (edges : List Edge) (done
   pub additions : List Addition
   pub read : course.behaviour.dyndep content ≡ Some additions
   pub grown : IsGrownBy file additions edges next
-  pub holds : IsTrue tells → FilesAreKept course.own edges course.entry.history now.history → view_of now.history file ≡ Some content
+  pub holds : IsTrue tells → (files : FilesAreKept course.own edges course.entry.history now.history) → files.free file ≡ false → view_of now.history file ≡ Some content
 
 -- the path is missing right behind the last start or finish of these steps: it was requested, or is an input of the edge with this first output
 abbrev pub IsMissingAfter : Course → List Edge → List Done → World → List ℕ → Option (List ℕ) → Type 0
@@ -142,7 +148,7 @@ IsMissingAfter course edges done now path (Some output) =
 -- a source is missing where the present phase began
 pub record IsLacking (tells : Bool) (course : Course) (edges : List Edge) (phases : List Phase) (done : List Done) (now : World) (missing : Lacking) : Type 0 where
   pub asked : IsAsked (task_over course edges) phases done
-  pub is : IsTrue tells → FilesAreKept course.own edges course.entry.history now.history → AreAskedApart course.own (task_over course edges) done
+  pub is : IsTrue tells → (files : FilesAreKept course.own edges course.entry.history now.history) → NothingNeededIsFree files.free (task_over course edges) → AreAskedApart course.own (task_over course edges) done
       → IsMissingAfter course edges done now missing.path missing.needed_by
 
 -- Why a build goes no further that has done these steps: its next load is refused, or a source is missing.

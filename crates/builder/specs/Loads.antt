@@ -1,5 +1,5 @@
 -- How dyndep files are read by a build, and why one ends it.
-use Rattle.std.specs.Prelude.{◌≡◌, ℕ, Bool, IsTrue, List, [], map, Option, None, Some, option_map, Result, Ok, Err}
+use Rattle.std.specs.Prelude.{◌≡◌, ℕ, Bool, false, IsTrue, List, [], map, Option, None, Some, option_map, Result, Ok, Err}
 use Rattle.model.specs.declared.event.Moment.{Moment}
 use Rattle.model.specs.declared.graph.Edge.{Edge}
 use Rattle.model.specs.World.{World, view_of}
@@ -30,12 +30,12 @@ pub record HeldThen (done : List Step) (file : List ℕ) (old new : List Moment)
   pub point : IsPointAfter done old new at
   pub is : view_of at file ≡ held
 
--- The file was to be loaded next where just these steps were done, and it held then, where files are kept, what is not taken.
+-- The file was to be loaded next where just these steps were done, and it held then, where files are kept and it is not free, what is not taken.
 pub record IsRefusedFile (tells : Bool) (own : OwnFiles) (asked : Asked) (store : Store) (done : List Step) (old new : World) (file : List ℕ) (Faulty : Option (List ℕ) → Type 0) : Type 0 where
   pub next : IsNextLoad (task_of asked store) done file
   pub held : Option (List ℕ)
   pub faulty : Faulty held
-  pub is : IsTrue tells → FilesAreKept own asked.graph.edges old.history new.history → HeldThen done file old.history new.history held
+  pub is : IsTrue tells → (files : FilesAreKept own asked.graph.edges old.history new.history) → files.free file ≡ false → HeldThen done file old.history new.history held
 
 -- a file that says so
 abbrev pub IsSaying : Result (List Statement) DynFault → Option (List ℕ) → Type 0

@@ -10,8 +10,8 @@ use Rattle.model.specs.Calls.{IsRestart}
 use Rattle.model.specs.Faithful.{IsFaithfulStore}
 use Rattle.model.specs.Outcome.{Behaviour}
 use Rattle.model.specs.Records.{LogFormat, OwnFiles}
-use Rattle.model.specs.Premises.{HaveEnded, StampsGrow, KeepToOutputs, NothingIsEdited}
-use Rattle.model.specs.History.{Visit, Restarted, IsHistory, IsHistoryFrom, Keeps, edges_after, exit_of, last_edges, world_after}
+use Rattle.model.specs.Premises.{HaveEnded, StampsGrow, NothingIsEdited}
+use Rattle.model.specs.History.{Visit, IsKeptBetween, Restarted, IsHistory, IsHistoryFrom, Keeps, edges_after, exit_of, last_edges, world_after}
 use Rattle.model.specs.Driven.{Reader, IsDriven, IsCutNext, StartsAgain, answers_in}
 use Rattle.build_theory.proofs.Lists.{all_append}
 use Rattle.log_theory.specs.Histories.{HasHeadline}
@@ -65,14 +65,14 @@ module _ (tells : Bool) (B : Behaviour) (format : LogFormat) where
   -- behind a restart too
   faithful_again : (own : OwnFiles) → IsTrue tells → (visits : List (Visit tells B format)) (first now mid : World) → IsHistory visits first now → AllByRecursion HasHeadline visits
       → IsFaithfulStore B format own [] first → AllByRecursion (λ v. Keeps own v) visits → IsRestart tells now mid
-      → StampsGrow now.history mid.history → KeepToOutputs (last_edges [] visits) now.history mid.history → NothingIsEdited now.history mid.history
+      → IsKeptBetween format own (last_edges [] visits) now mid
       → IsFaithfulStore B format own (last_edges [] visits) mid
-  faithful_again own tell visits first now mid history headlines faithful keeps restart stamps within edits =
+  faithful_again own tell visits first now mid history headlines faithful keeps restart between =
       subst (λ (es : List Edge). IsFaithfulStore B format own es mid) (last-append [] visits (Restarted (last_edges [] visits) now mid restart))
       (faithful_at own tell (visits ++ Restarted (last_edges [] visits) now mid restart ∷ []) first mid
       (histories_grow tells B format visits first now (Restarted (last_edges [] visits) now mid restart) history refl refl)
       (all_append HasHeadline visits (Restarted (last_edges [] visits) now mid restart ∷ []) headlines (tt, tt)) faithful
-      (all_append (λ v. Keeps own v) visits (Restarted (last_edges [] visits) now mid restart ∷ []) keeps ((stamps, within, edits), tt)))
+      (all_append (λ v. Keeps own v) visits (Restarted (last_edges [] visits) now mid restart ∷ []) keeps (between, tt)))
 
 -- ---- the end
 
@@ -104,11 +104,11 @@ module _ (tells : Bool) (B : Behaviour) (format : LogFormat) (name : List ℕ) (
       ]
 
       faithful_before : (own : OwnFiles) → IsTrue tells → IsFaithfulStore B format own [] first → AllByRecursion (λ v. Keeps own v) gone.visits
-          → StampsGrow now.history mid.history → KeepToOutputs (last_edges [] gone.visits) now.history mid.history → NothingIsEdited now.history mid.history
+          → IsKeptBetween format own (last_edges [] gone.visits) now mid
           → IsFaithfulStore B format own (last_edges [] gone.visits) mid
-      faithful_before own tell faithful keeps stamps within edits = elim starts [
+      faithful_before own tell faithful keeps between = elim starts [
         | inl none ↦ subst (λ (w : World). IsFaithfulStore B format own (last_edges [] gone.visits) w) (sym none.1) (faithful_at tells B format own tell gone.visits first now gone.history gone.headlines faithful keeps)
-        | inr some ↦ faithful_again tells B format own tell gone.visits first now mid gone.history gone.headlines faithful keeps some.1 stamps within edits
+        | inr some ↦ faithful_again tells B format own tell gone.visits first now mid gone.history gone.headlines faithful keeps some.1 between
       ]
 
       pub cut_in_edit : IsCutInEdit tells B format R (moves ++ rest) first new
@@ -127,6 +127,6 @@ module _ (tells : Bool) (B : Behaviour) (format : LogFormat) (name : List ℕ) (
         starts = subst (λ (b : Bool). StartsAgain tells b now mid) (sym gone.asks) starts;
         cut = cut;
         unrefused = unrefused;
-        faithful = λ own tell faithful keeps stamps within edits later others leaves.
-            cut_edit_keeps tells tell B format own (last_edges [] gone.visits) mid new (faithful_before own tell faithful keeps stamps within edits) idle later others rest cut leaves;
+        faithful = λ own tell faithful keeps between later others leaves.
+            cut_edit_keeps tells tell B format own (last_edges [] gone.visits) mid new (faithful_before own tell faithful keeps between) idle later others rest cut leaves;
       }

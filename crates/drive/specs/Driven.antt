@@ -11,10 +11,10 @@ use Rattle.model.specs.declared.outcome.Outcome.{Outcome}
 use Rattle.model.specs.Driven.{Reader, StartsAgain, asks_at_end, IsCutNext, IsDriven, IsCutShort}
 use Rattle.model.specs.Faithful.{IsFaithfulStore}
 use Rattle.model.specs.Graph.{Addition}
-use Rattle.model.specs.History.{Visit, Edited, Built, Unread, Restarted, LeavesOutputs, Keeps, last_edges}
+use Rattle.model.specs.History.{Visit, IsKeptBetween, Edited, Built, Unread, Restarted, LeavesOutputs, Keeps, last_edges}
 use Rattle.model.specs.Outcome.{Behaviour}
 use Rattle.model.specs.Phases.{steps_of}
-use Rattle.model.specs.Premises.{StampsGrow, KeepToOutputs, NothingIsEdited}
+use Rattle.model.specs.Premises.{StampsGrow, NothingIsEdited}
 use Rattle.model.specs.Records.{LogFormat, OwnFiles, IsOwnIn}
 use Rattle.model.specs.SingleBuild as answer
 use Rattle.model.specs.SingleBuild.{Asked, Answer, SingleBuild, asked_with}
@@ -160,8 +160,7 @@ pub record IsCutInEdit (tells : Bool) (B : Behaviour) (format : LogFormat) (R : 
   pub cut : IsCutNext tells short.rest again last
   pub unrefused : IsUnrefused again last
   pub faithful : (own : OwnFiles) → IsTrue tells → IsFaithfulStore B format own [] first → AllByRecursion (λ v. Keeps own v) short.driven.visits
-      → StampsGrow short.before.history again.history → KeepToOutputs (last_edges [] short.driven.visits) short.before.history again.history
-      → NothingIsEdited short.before.history again.history
+      → IsKeptBetween format own (last_edges [] short.driven.visits) short.before again
       → StampsGrow again.history last.history → NothingIsEdited again.history last.history → EditLeavesOutputs format own short.rest again
       → IsFaithfulStore B format own (last_edges [] short.driven.visits) last
 

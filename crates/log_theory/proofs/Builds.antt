@@ -3,15 +3,14 @@ use Rattle.std.proofs.Common.{◌≡◌, inl, inr, ℕ, Bool, true, IsTrue, List
 use Rattle.std.proofs.lemmas.List.{append-nil}
 use Rattle.std.proofs.lemmas.Bool.{false≢true}
 use Rattle.model.specs.declared.event.Event.{Event}
-use Rattle.model.specs.declared.event.Moment.{Moment}
-use Rattle.model.specs.World.{World, View, view_of}
+use Rattle.model.specs.World.{content_of, World, View, view_of}
 use Rattle.model.specs.Calls.{OnlyLooks}
 use Rattle.model.specs.Graph.{has_number, IsMadeOnce}
 use Rattle.model.specs.Outcome.{Behaviour}
-use Rattle.model.specs.Records.{Store, OwnFiles, LogFormat, store_in, in_force, deps_in_force, recorded_inputs}
+use Rattle.model.specs.Records.{Store, OwnFiles, LogFormat, in_force, deps_in_force, recorded_inputs}
 use Rattle.model.specs.Schedule.{Step, IsSettled, done_in, started_in}
 use Rattle.model.specs.Phases.{Phase, steps_of}
-use Rattle.model.specs.Premises.{FilesAreKept, FilesAndReports, Premises, NothingIsEdited}
+use Rattle.model.specs.Premises.{FilesAreKept, FilesAndReports, Premises, KeepsFaith}
 use Rattle.model.specs.SingleBuild.{Asked, Answer, Success, Failed, Unknown, Cyclic, MissingTarget, MissingInput, MadeTwice, NoDyndepInput, Refused, Fault, SingleBuild, NamesOther, InCone, IsCleanlyBuilt, IsSuccess, is_fault, IsAnswer, task_of}
 use Rattle.model.specs.Faithful.{DepsHaveStarted, IsFaithfulStore}
 use Rattle.model.specs.Kept.{KeepsRecords, LeavesNothing, store_at}
@@ -20,7 +19,8 @@ use Rattle.build_theory.specs.Run.{starts_in}
 use Rattle.build_theory.proofs.Events.{starts_of_steps}
 use Rattle.build_theory.proofs.Lists.{same_rest}
 use Rattle.build_theory.proofs.Loads.{build_is_orderly, declared_once}
-use Rattle.build_theory.proofs.Looks.{looks_keep}
+use Rattle.build_theory.proofs.Looks.{looks_keep_file}
+use Rattle.log_theory.proofs.Less.{store_same}
 use Rattle.build_theory.proofs.Orderly.{IsKept, kept_orderly}
 use Rattle.build_theory.proofs.Ready.{stale_starts}
 use Rattle.build_theory.proofs.Stated.{loads_come_first}
@@ -74,21 +74,29 @@ module _ (tells : Bool) (B : Behaviour) (format : LogFormat) (own : OwnFiles) (a
   success is = success_says tells B own build.texts asked build.store build.schedule.lawful.earlier (steps_of build.schedule.lawful.earlier ++ build.schedule.lawful.last) build.steps old new answer is build.answers
 
   pub stays : IsTrue tells → IsFaithfulStore B format own asked.graph.edges old
-      → Premises B own asked.declared asked.graph.edges (recorded_inputs build.store asked.graph.edges) build.steps old.history new.history → IsFaithfulStore B format own asked.graph.edges new
-  stays tell faithful premises = elim of_run.made_once [
+      → KeepsFaith B own asked.graph.edges build.store build.steps old.history new.history → IsFaithfulStore B format own asked.graph.edges new
+  stays tell faithful keeps = elim of_run.made_once [
     | inl once ↦
-        let logged = of_run.logged tell premises.files.kept in
+        let logged = of_run.logged tell keeps.kept in
         faithful_at_exit tells B format own asked build.store build.steps hand old new tell of_run.idle of_run.run once
-        (build.logs tell premises.files.kept.edits) faithful (logged.readable (record { build_log = faithful.build_log; deps_log = faithful.deps_log })) logged.logged (of_run.ticked tell) premises
-    | inr looks ↦ nothing_keeps B format own asked.graph.edges old new faithful looks.events of_run.idle premises.files.kept.edits (looks.history tell)
+        (build.logs tell keeps.kept) faithful (logged.readable (record { build_log = faithful.build_log; deps_log = faithful.deps_log })) logged.logged (of_run.ticked tell) keeps
+    | inr looks ↦ nothing_keeps B format own asked.graph.edges old new faithful looks.events of_run.idle (record {
+      free = keeps.kept.free;
+      free_apart = keeps.kept.free_apart;
+      unrecorded = λ p is. ap (λ (s : Store). in_force s.records p) (sym (build.logs tell keeps.kept)) ∙ keeps.unrecorded p is;
+      logs = (keeps.kept.free_apart.set own.build_log (keeps.kept.own_files.within own.build_log keeps.kept.own_files.build_log), keeps.kept.free_apart.set own.deps_log (keeps.kept.own_files.within own.deps_log keeps.kept.own_files.deps_log));
+      stamps = keeps.stamps;
+      commands = keeps.kept.commands;
+      edits = keeps.kept.edits;
+    }) (looks.history tell)
   ]
 
   pub clean : IsTrue tells → IsFaithfulStore B format own asked.graph.edges old
-      → Premises B own asked.declared asked.graph.edges (recorded_inputs build.store asked.graph.edges) build.steps old.history new.history → IsSuccess answer → IsCleanlyBuilt B asked build.store (view_of new.history)
+      → (premises : Premises B own asked.declared asked.graph.edges (recorded_inputs build.store asked.graph.edges) build.steps old.history new.history) → IsSuccess answer → IsCleanlyBuilt B premises.files.quiet asked build.store (view_of new.history)
   clean tell faithful premises is =
       let well = success is in
       clean_with_loads tells B format own build.texts asked build.store build.steps build.met old new tell of_run.idle of_run.run build.schedule.lawful (declared well.once) well.once well.named
-      (build.logs tell premises.files.kept.edits) faithful (build.judged tell premises.files.kept premises.files.recorded_apart premises.files.dyndep.inputs) well.settled premises
+      (build.logs tell premises.files.kept) faithful premises (of_run.ticked tell) (build.judged tell premises.files.kept premises.files.recorded_apart premises.files.dyndep.inputs) well.settled
 
   -- ---- the records
 
@@ -103,8 +111,8 @@ module _ (tells : Bool) (B : Behaviour) (format : LogFormat) (own : OwnFiles) (a
       nothing_first [] ys is = refl
       nothing_first (x ∷ xs) ys is = cc
 
-  kept_by_looks : OnlyLooks tells old new → IsTrue tells → NothingIsEdited old.history new.history → KeepsRecords B asked build.store (store_at format own new) build.steps hand old new
-  kept_by_looks looks tell edits = record {
+  kept_by_looks : OnlyLooks tells old new → IsTrue tells → FilesAreKept own asked.graph.edges old.history new.history → KeepsRecords B asked build.store (store_at format own new) build.steps hand old new
+  kept_by_looks looks tell files = record {
     well = λ i stamp at o well started ended makes. absurd (unstarted i (all.ended i (all.well i well)));
     others = λ i o started not_well makes. absurd (unstarted i started);
     begun = λ i o met not_started makes. (inl (same_records o), same_deps o);
@@ -118,8 +126,11 @@ module _ (tells : Bool) (B : Behaviour) (format : LogFormat) (own : OwnFiles) (a
       unstarted : (i : ℕ) → has_number (started_in build.steps) i ≡ true → ⊥
       unstarted i started = false≢true (ap (λ (l : List ℕ). has_number l i) (sym (none_started looks)) ∙ started)
 
+      log_same : (log : List ℕ) → own.files log ≡ true → view_of new.history log ≡ view_of old.history log
+      log_same log mine = ap content_of (looks_keep_file tells own asked.graph.edges old new of_run.idle looks tell files.free files.edits log (files.free_apart.set log (files.own_files.within log mine)))
+
       same : store_at format own new ≡ build.store
-      same = ap (λ (h : List Moment). store_in format own (view_of h)) (looks_keep tells old new of_run.idle looks tell edits) ∙ sym (build.logs tell edits)
+      same = store_same format own old.history new.history (log_same own.build_log files.own_files.build_log) (log_same own.deps_log files.own_files.deps_log) ∙ sym (build.logs tell files)
 
       same_records : (o : List ℕ) → in_force (store_at format own new).records o ≡ in_force build.store.records o
       same_records o = ap (λ (s : Store). in_force s.records o) same
@@ -130,26 +141,26 @@ module _ (tells : Bool) (B : Behaviour) (format : LogFormat) (own : OwnFiles) (a
   pub records : IsTrue tells → FilesAreKept own asked.graph.edges old.history new.history → KeepsRecords B asked build.store (store_at format own new) build.steps hand old new
   records tell files = elim of_run.made_once [
     | inl once ↦ records_are_kept tells B format own asked build.store build.steps hand old new tell of_run.idle of_run.run once (of_run.logged tell files).logged
-    | inr looks ↦ kept_by_looks looks tell files.edits
+    | inr looks ↦ kept_by_looks looks tell files
   ]
 
   -- ---- nothing is left
 
   pub nothing_left : IsTrue tells → IsSuccess answer → (hand ≡ None) → DepsHaveStarted build.store old.history
-      → FilesAndReports B own asked.declared asked.graph.edges (recorded_inputs build.store asked.graph.edges) build.steps old.history new.history
-      → LeavesNothing asked build.store (store_at format own new) build.steps old.history new.history
+      → (premises : FilesAndReports B own asked.declared asked.graph.edges (recorded_inputs build.store asked.graph.edges) build.steps old.history new.history)
+      → LeavesNothing premises.quiet asked build.store (store_at format own new) build.steps old.history new.history
   nothing_left tell is free early premises =
       let well = success is in
       let in_order = loads_come_first B build.texts asked build.store build.steps old.history new.history build.schedule.lawful (declared well.once) well.once well.named premises.dyndep in
       nothing_is_left tells B format own asked build.store build.steps build.met old new tell of_run.idle of_run.run well.once in_order.1 early
       (subst (λ (h : Option ℕ). IsLogged B asked.graph.edges build.steps h build.store (store_at format own new) old new) free (of_run.logged tell premises.kept).logged)
-      (of_run.ticked tell) (build.judged tell premises.kept premises.recorded_apart premises.dyndep.inputs) in_order.2 well.settled premises
+      (of_run.ticked tell) premises (build.judged tell premises.kept premises.recorded_apart premises.dyndep.inputs) in_order.2 well.settled
 
 pub headline_of_run : HeadlineOfRun
 headline_of_run tells B format own asked old new answer build hand of_run = record {
-  stays = λ tell faithful premises. stays tells B format own asked old new answer build hand of_run tell faithful premises;
+  stays = λ tell faithful keeps. stays tells B format own asked old new answer build hand of_run tell faithful keeps;
   clean = λ tell faithful premises is. clean tells B format own asked old new answer build hand of_run tell faithful premises is;
-  stale = λ tell files apart known. stale_starts asked.graph.edges build.store build.steps old.history new.history
+  stale = λ tell files apart known. stale_starts files.free asked.graph.edges build.store build.steps old.history new.history
       (orderly tells B format own asked old new answer build hand of_run) (build.judged tell files apart known).verdicts;
 }
 

@@ -17,7 +17,7 @@ use Rattle.model.specs.Graph.{has, has_number, edge_at, outputs, IsCommand}
 use Rattle.model.specs.Outcome.{Behaviour}
 use Rattle.model.specs.Records.{OwnFiles, LogFormat, Store, read_log, store_in, in_force}
 use Rattle.model.specs.Schedule.{Step, Started, well_in}
-use Rattle.model.specs.Premises.{OwnFilesApart, FilesAreKept, IsWithinEdge, IsNoEdit}
+use Rattle.model.specs.Premises.{OwnFilesApart, FreeApart, FilesAreKept, IsWithinEdge, IsNoEdit}
 use Rattle.model.specs.Faithful.{IsReadable}
 use Rattle.build_theory.proofs.Lists.{all_append, all_parts, same_bytes}
 use Rattle.build_theory.proofs.Files.{IsElsewhere, file_stays, others_elsewhere, write_stands}
@@ -29,28 +29,28 @@ use Rattle.log_theory.proofs.Growing as growing
 
 -- ---- a log, while others write
 
-module _ (own : OwnFiles) (edges : List Edge) (apart : OwnFilesApart own edges) (log : List ℕ) (mine : own.files log ≡ true) where
-  pub log_elsewhere : (running : ℕ → Type 0) → ((job : ℕ) → running job → IsCommand edges job) → (ms : List Moment) → AllByOthers running ms → AllByRecursion (IsWithinEdge edges) ms → AllByRecursion IsNoEdit ms → AllByRecursion (IsElsewhere log) ms
+module _ (own : OwnFiles) (edges : List Edge) (apart : OwnFilesApart own edges) (free : List ℕ → Bool) (free_apart : FreeApart free own edges) (log : List ℕ) (mine : own.files log ≡ true) where
+  pub log_elsewhere : (running : ℕ → Type 0) → ((job : ℕ) → running job → IsCommand edges job) → (ms : List Moment) → AllByOthers running ms → AllByRecursion (IsWithinEdge free edges) ms → AllByRecursion (IsNoEdit free) ms → AllByRecursion (IsElsewhere log) ms
   log_elsewhere running commands ms all within edits =
-      others_elsewhere edges running log (λ job is makes. (log_apart own edges log apart mine job (commands job is)).0 makes) (λ job is same. (log_apart own edges log apart mine job (commands job is)).1 same) ms all within edits
+      others_elsewhere free edges running log (free_apart.set log (apart.within log mine)) (λ job is makes. (log_apart own edges log apart mine job (commands job is)).0 makes) (λ job is same. (log_apart own edges log apart mine job (commands job is)).1 same) ms all within edits
 
   -- where one moment between them is elsewhere too, the log stays
   pub log_stays_at : (before after : ℕ → Type 0) → ((job : ℕ) → before job → IsCommand edges job) → ((job : ℕ) → after job → IsCommand edges job) → (m : Moment) (old new : List Moment) → IsElsewhere log m
-      → (adds : Adds before after m old new) → AllByRecursion (IsWithinEdge edges) (adds.earlier ++ m ∷ adds.later) → AllByRecursion IsNoEdit (adds.earlier ++ m ∷ adds.later) → file_at new log ≡ file_at old log
+      → (adds : Adds before after m old new) → AllByRecursion (IsWithinEdge free edges) (adds.earlier ++ m ∷ adds.later) → AllByRecursion (IsNoEdit free) (adds.earlier ++ m ∷ adds.later) → file_at new log ≡ file_at old log
   log_stays_at before after first last m old new other adds within edits =
-      let w = all_parts (IsWithinEdge edges) adds.earlier (m ∷ adds.later) within in
-      let e = all_parts IsNoEdit adds.earlier (m ∷ adds.later) edits in
+      let w = all_parts (IsWithinEdge free edges) adds.earlier (m ∷ adds.later) within in
+      let e = all_parts (IsNoEdit free) adds.earlier (m ∷ adds.later) edits in
       ap (λ (h : List Moment). file_at h log) adds.grows
       ∙ file_stays log old (adds.earlier ++ m ∷ adds.later) (all_append (IsElsewhere log) adds.earlier (m ∷ adds.later)
       (log_elsewhere before first adds.earlier adds.all_earlier w.0 e.0) (other, log_elsewhere after last adds.later adds.all_later w.1.1 e.1.1))
 
   -- where it is a write of the log, the log has that content
   pub log_written_at : (running : ℕ → Type 0) → ((job : ℕ) → running job → IsCommand edges job) → (content : Option (List ℕ)) (stamp : ℕ) (old new : List Moment)
-      → (adds : Adds running running (Wrote Program log content stamp) old new) → AllByRecursion (IsWithinEdge edges) (adds.earlier ++ Wrote Program log content stamp ∷ adds.later) → AllByRecursion IsNoEdit (adds.earlier ++ Wrote Program log content stamp ∷ adds.later)
+      → (adds : Adds running running (Wrote Program log content stamp) old new) → AllByRecursion (IsWithinEdge free edges) (adds.earlier ++ Wrote Program log content stamp ∷ adds.later) → AllByRecursion (IsNoEdit free) (adds.earlier ++ Wrote Program log content stamp ∷ adds.later)
       → file_at new log ≡ written content stamp
   log_written_at running commands content stamp old new adds within edits =
-      let w = all_parts (IsWithinEdge edges) adds.earlier (Wrote Program log content stamp ∷ adds.later) within in
-      let e = all_parts IsNoEdit adds.earlier (Wrote Program log content stamp ∷ adds.later) edits in
+      let w = all_parts (IsWithinEdge free edges) adds.earlier (Wrote Program log content stamp ∷ adds.later) within in
+      let e = all_parts (IsNoEdit free) adds.earlier (Wrote Program log content stamp ∷ adds.later) edits in
       write_stands log Program content stamp old adds.earlier adds.later new adds.grows (log_elsewhere running commands adds.later adds.all_later w.1.1 e.1.1)
 
 -- ---- calls
@@ -61,11 +61,11 @@ entry_logged B format own edges old = record { readable = λ was_so. was_so; log
 
 module _ (B : Behaviour) (format : LogFormat) (own : OwnFiles) (edges : List Edge) (entry : Store) (old now new : World) (so_far : List Moment) (was : now.history ≡ old.history ++ so_far)
     (kept : FilesAreKept own edges old.history new.history) (commands : (job : ℕ) → runs job now.events ≡ true → IsCommand edges job) where
-  pub within : (ms : List Moment) → new.history ≡ now.history ++ ms → AllByRecursion (IsWithinEdge edges) ms
-  within ms grows = since (IsWithinEdge edges) old.history so_far now.history ms new.history was grows kept.commands
+  pub within : (ms : List Moment) → new.history ≡ now.history ++ ms → AllByRecursion (IsWithinEdge kept.free edges) ms
+  within ms grows = since (IsWithinEdge kept.free edges) old.history so_far now.history ms new.history was grows kept.commands
 
-  pub edits : (ms : List Moment) → new.history ≡ now.history ++ ms → AllByRecursion IsNoEdit ms
-  edits ms grows = since IsNoEdit old.history so_far now.history ms new.history was grows kept.edits
+  pub edits : (ms : List Moment) → new.history ≡ now.history ++ ms → AllByRecursion (IsNoEdit kept.free) ms
+  edits ms grows = since (IsNoEdit kept.free) old.history so_far now.history ms new.history was grows kept.edits
 
   -- where both logs are as they were, they tell the same
   pub same_logs : (steps : List Step) (hand : Option ℕ) → view_of new.history own.build_log ≡ view_of now.history own.build_log → view_of new.history own.deps_log ≡ view_of now.history own.deps_log
@@ -82,7 +82,7 @@ module _ (B : Behaviour) (format : LogFormat) (own : OwnFiles) (edges : List Edg
 
     pub looks_stays : (log : List ℕ) → own.files log ≡ true → view_of new.history log ≡ view_of now.history log
     looks_stays log mine = ap content_of (ap (λ (h : List Moment). file_at h log) call.grows
-        ∙ file_stays log now.history call.more (log_elsewhere own edges kept.own_files log mine (IsRunning now.events) commands call.more call.all (within call.more call.grows) (edits call.more call.grows)))
+        ∙ file_stays log now.history call.more (log_elsewhere own edges kept.own_files kept.free kept.free_apart log mine (IsRunning now.events) commands call.more call.all (within call.more call.grows) (edits call.more call.grows)))
 
   pub looks_logged : (steps : List Step) (hand : Option ℕ) (tells : Bool) → IsTrue tells → OnlyLooks tells now new → IsLoggedAt B format own edges steps hand entry old now → IsLoggedAt B format own edges steps hand entry old new
   looks_logged steps hand tells tell looks logged =
@@ -94,11 +94,11 @@ module _ (B : Behaviour) (format : LogFormat) (own : OwnFiles) (edges : List Edg
   module _ (m : Moment) (adds : Adds (IsRunning now.events) (IsRunning new.events) m now.history new.history) (after : (job : ℕ) → runs job new.events ≡ true → IsCommand edges job)
       (no_build_log : IsElsewhere own.build_log m) (no_deps_log : IsElsewhere own.deps_log m) where
     pub build_log_stays : view_of new.history own.build_log ≡ view_of now.history own.build_log
-    build_log_stays = ap content_of (log_stays_at own edges kept.own_files own.build_log kept.own_files.build_log (IsRunning now.events) (IsRunning new.events) commands after m now.history new.history no_build_log adds
+    build_log_stays = ap content_of (log_stays_at own edges kept.own_files kept.free kept.free_apart own.build_log kept.own_files.build_log (IsRunning now.events) (IsRunning new.events) commands after m now.history new.history no_build_log adds
         (within (adds.earlier ++ m ∷ adds.later) adds.grows) (edits (adds.earlier ++ m ∷ adds.later) adds.grows))
 
     pub deps_log_stays : view_of new.history own.deps_log ≡ view_of now.history own.deps_log
-    deps_log_stays = ap content_of (log_stays_at own edges kept.own_files own.deps_log kept.own_files.deps_log (IsRunning now.events) (IsRunning new.events) commands after m now.history new.history no_deps_log adds
+    deps_log_stays = ap content_of (log_stays_at own edges kept.own_files kept.free kept.free_apart own.deps_log kept.own_files.deps_log (IsRunning now.events) (IsRunning new.events) commands after m now.history new.history no_deps_log adds
         (within (adds.earlier ++ m ∷ adds.later) adds.grows) (edits (adds.earlier ++ m ∷ adds.later) adds.grows))
 
     -- a write of another file: a tick, a depfile that is removed, a response file
@@ -163,17 +163,17 @@ module _ (B : Behaviour) (format : LogFormat) (own : OwnFiles) (edges : List Edg
           (on (growing.logged_quiet B edges entry old steps hand (store_in format own (view_of now.history)) now new events (adds.earlier ++ Wrote Program own.build_log (Some content) stamp ∷ adds.later) adds.grows logged.logged));
     }
       where
-        w : AllByRecursion (IsWithinEdge edges) (adds.earlier ++ Wrote Program own.build_log (Some content) stamp ∷ adds.later)
+        w : AllByRecursion (IsWithinEdge kept.free edges) (adds.earlier ++ Wrote Program own.build_log (Some content) stamp ∷ adds.later)
         w = within (adds.earlier ++ Wrote Program own.build_log (Some content) stamp ∷ adds.later) adds.grows
 
-        e : AllByRecursion IsNoEdit (adds.earlier ++ Wrote Program own.build_log (Some content) stamp ∷ adds.later)
+        e : AllByRecursion (IsNoEdit kept.free) (adds.earlier ++ Wrote Program own.build_log (Some content) stamp ∷ adds.later)
         e = edits (adds.earlier ++ Wrote Program own.build_log (Some content) stamp ∷ adds.later) adds.grows
 
         build_log : view_of new.history own.build_log ≡ Some content
-        build_log = ap content_of (log_written_at own edges kept.own_files own.build_log kept.own_files.build_log (IsRunning now.events) commands (Some content) stamp now.history new.history adds w e)
+        build_log = ap content_of (log_written_at own edges kept.own_files kept.free kept.free_apart own.build_log kept.own_files.build_log (IsRunning now.events) commands (Some content) stamp now.history new.history adds w e)
 
         deps_log : view_of new.history own.deps_log ≡ view_of now.history own.deps_log
-        deps_log = ap content_of (log_stays_at own edges kept.own_files own.deps_log kept.own_files.deps_log (IsRunning now.events) (IsRunning now.events) commands commands (Wrote Program own.build_log (Some content) stamp) now.history new.history
+        deps_log = ap content_of (log_stays_at own edges kept.own_files kept.free kept.free_apart own.deps_log kept.own_files.deps_log (IsRunning now.events) (IsRunning now.events) commands commands (Wrote Program own.build_log (Some content) stamp) now.history new.history
             (false_from_ne_true (bytes_eq own.build_log own.deps_log) (λ same. apart (same_bytes own.build_log own.deps_log same))) adds w e)
 
         store_is : store_in format own (view_of new.history) ≡ record { records = records; deps = (store_in format own (view_of now.history)).deps }
@@ -195,17 +195,17 @@ module _ (B : Behaviour) (format : LogFormat) (own : OwnFiles) (edges : List Edg
           (on (growing.logged_quiet B edges entry old steps hand (store_in format own (view_of now.history)) now new events (adds.earlier ++ Wrote Program own.deps_log (Some content) stamp ∷ adds.later) adds.grows logged.logged));
     }
       where
-        w : AllByRecursion (IsWithinEdge edges) (adds.earlier ++ Wrote Program own.deps_log (Some content) stamp ∷ adds.later)
+        w : AllByRecursion (IsWithinEdge kept.free edges) (adds.earlier ++ Wrote Program own.deps_log (Some content) stamp ∷ adds.later)
         w = within (adds.earlier ++ Wrote Program own.deps_log (Some content) stamp ∷ adds.later) adds.grows
 
-        e : AllByRecursion IsNoEdit (adds.earlier ++ Wrote Program own.deps_log (Some content) stamp ∷ adds.later)
+        e : AllByRecursion (IsNoEdit kept.free) (adds.earlier ++ Wrote Program own.deps_log (Some content) stamp ∷ adds.later)
         e = edits (adds.earlier ++ Wrote Program own.deps_log (Some content) stamp ∷ adds.later) adds.grows
 
         deps_log : view_of new.history own.deps_log ≡ Some content
-        deps_log = ap content_of (log_written_at own edges kept.own_files own.deps_log kept.own_files.deps_log (IsRunning now.events) commands (Some content) stamp now.history new.history adds w e)
+        deps_log = ap content_of (log_written_at own edges kept.own_files kept.free kept.free_apart own.deps_log kept.own_files.deps_log (IsRunning now.events) commands (Some content) stamp now.history new.history adds w e)
 
         build_log : view_of new.history own.build_log ≡ view_of now.history own.build_log
-        build_log = ap content_of (log_stays_at own edges kept.own_files own.build_log kept.own_files.build_log (IsRunning now.events) (IsRunning now.events) commands commands (Wrote Program own.deps_log (Some content) stamp) now.history new.history
+        build_log = ap content_of (log_stays_at own edges kept.own_files kept.free kept.free_apart own.build_log kept.own_files.build_log (IsRunning now.events) (IsRunning now.events) commands commands (Wrote Program own.deps_log (Some content) stamp) now.history new.history
             (false_from_ne_true (bytes_eq own.deps_log own.build_log) (λ same. apart (sym (same_bytes own.deps_log own.build_log same)))) adds w e)
 
         store_is : store_in format own (view_of new.history) ≡ record { records = (store_in format own (view_of now.history)).records; deps = records }

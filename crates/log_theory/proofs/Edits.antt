@@ -10,15 +10,15 @@ use Rattle.model.specs.declared.event.Writer.TheVariants.{Program}
 use Rattle.model.specs.declared.graph.Edge.{Edge}
 use Rattle.model.specs.declared.record.Record.{Record}
 use Rattle.model.specs.declared.record.DepsRecord.{DepsRecord}
-use Rattle.model.specs.World.{World, View, file_at, written, content_of, view_of, latest, runs, IsRunning}
+use Rattle.model.specs.World.{World, View, file_at, written, content_of, view_of, runs, IsRunning}
 use Rattle.model.specs.Calls.{AllByOthers, OthersWrote, Adds, IsRestart}
 use Rattle.model.specs.Graph.{has, edge_at, outputs, IsCommand}
 use Rattle.model.specs.Outcome.{Behaviour}
 use Rattle.model.specs.Records.{Told, OwnFiles, LogFormat, Made, read_log, store_in, in_force, deps_in_force}
-use Rattle.model.specs.Premises.{OwnFilesApart, StampsGrow, Increases, KeepToOutputs, NothingIsEdited, IsNoEdit, HaveEnded}
+use Rattle.model.specs.Premises.{OwnFilesApart, StampsGrow, NothingIsEdited, IsNoEdit, none_free, HaveEnded}
 use Rattle.model.specs.Faithful.{IsReadable, IsFaithfulStore}
-use Rattle.model.specs.History.{IsLeftBy, IsEdit, LeavesOutputs}
-use Rattle.build_theory.proofs.Lists.{same_rest, same_bytes, all_parts, some_none}
+use Rattle.model.specs.History.{IsKeptBetween, IsLeftBy, IsEdit, LeavesOutputs}
+use Rattle.build_theory.proofs.Lists.{same_bytes, all_parts, some_none}
 use Rattle.build_theory.proofs.Looks.{none_wrote}
 use Rattle.build_theory.proofs.Files.{file_from-append, file_stays, others_elsewhere}
 use Rattle.log_theory.proofs.Less.{IsLess, nothing_from, NoneRunning, believed_less, store_same, readable_same, less_same}
@@ -114,7 +114,7 @@ module _ (B : Behaviour) (format : LogFormat) (own : OwnFiles) (edges : List Edg
   -- ---- an edit, while no command runs and nobody else edits
 
   module _ (ended : HaveEnded old) (edits : NothingIsEdited old.history new.history) where
-    nothing_more : (ms : List Moment) → AllByOthers (IsRunning old.events) ms → AllByRecursion IsNoEdit ms → ms ≡ []
+    nothing_more : (ms : List Moment) → AllByOthers (IsRunning old.events) ms → AllByRecursion (IsNoEdit none_free) ms → ms ≡ []
     nothing_more ms all none = none_wrote (IsRunning old.events) ms (λ job runs. false≢true (sym (ended job) ∙ runs)) all none
 
     only_looked : OthersWrote (IsRunning old.events) old.history new.history → new.history ≡ old.history
@@ -123,7 +123,7 @@ module _ (B : Behaviour) (format : LogFormat) (own : OwnFiles) (edges : List Edg
     only_wrote : (path : List ℕ) (content : Option (List ℕ)) (stamp : ℕ) → Adds (IsRunning old.events) (IsRunning old.events) (Wrote Program path content stamp) old.history new.history
         → new.history ≡ old.history ++ Wrote Program path content stamp ∷ []
     only_wrote path content stamp adds =
-        let parts = all_parts IsNoEdit adds.earlier (Wrote Program path content stamp ∷ adds.later) (edits (adds.earlier ++ Wrote Program path content stamp ∷ adds.later) adds.grows) in
+        let parts = all_parts (IsNoEdit none_free) adds.earlier (Wrote Program path content stamp ∷ adds.later) (edits (adds.earlier ++ Wrote Program path content stamp ∷ adds.later) adds.grows) in
         adds.grows
         ∙ (ap (λ (l : List Moment). old.history ++ (l ++ Wrote Program path content stamp ∷ adds.later)) (nothing_more adds.earlier adds.all_earlier parts.0)
         ∙ ap (λ (l : List Moment). old.history ++ Wrote Program path content stamp ∷ l) (nothing_more adds.later adds.all_later parts.1.1))
@@ -148,19 +148,6 @@ module _ (B : Behaviour) (format : LogFormat) (own : OwnFiles) (edges : List Edg
         by_refusal (Some c) leaves (inl same) = looked_keeps same
         by_refusal (Some c) leaves (inr (other, done)) = written_by path (Some other) done.0 (only_wrote path (Some other) done.0 done.1) (inr leaves)
 
--- where no command runs and nobody edits, a call that only looks keeps it
-pub nothing_keeps : (B : Behaviour) (format : LogFormat) (own : OwnFiles) (edges : List Edge) (old new : World) → IsFaithfulStore B format own edges old → new.events ≡ old.events → HaveEnded old
-    → NothingIsEdited old.history new.history → OthersWrote (IsRunning old.events) old.history new.history → IsFaithfulStore B format own edges new
-nothing_keeps B format own edges old new believed events ended edits wrote =
-    unwritten B format own edges old new believed no_stamps events same
-  where
-    same : new.history ≡ old.history
-    same = wrote.grows ∙ (ap (λ (l : List Moment). old.history ++ l)
-        (none_wrote (IsRunning old.events) wrote.more (λ job runs. false≢true (sym (ended job) ∙ runs)) wrote.all (edits wrote.more wrote.grows)) ∙ append-nil old.history)
-
-    no_stamps : StampsGrow old.history new.history
-    no_stamps more grows = subst (λ (l : List Moment). Increases (latest old.history) l) (sym (same_rest old.history more [] (sym grows ∙ (same ∙ sym (append-nil old.history))))) tt
-
 -- ---- what running commands write
 
 -- a log is no output and no depfile of a command edge
@@ -175,35 +162,51 @@ log_apart own edges log apart mine job command = (
 pub restarted_idle : (tells : Bool) (old new : World) → IsRestart tells old new → HaveEnded new
 restarted_idle tells old new restart job = ap (λ (l : List Event). runs job l) restart.events
 
--- Commands that end at a restart, as edges with a command whose files are apart, keep the store faithful.
-pub restart_keeps : (tells : Bool) (B : Behaviour) (format : LogFormat) (own : OwnFiles) (edges : List Edge) (old new : World) → ((job : ℕ) → runs job old.events ≡ true → IsCommand edges job × OwnFilesApart own edges)
-    → IsRestart tells old new → IsTrue tells → StampsGrow old.history new.history → KeepToOutputs edges old.history new.history → NothingIsEdited old.history new.history
+-- While others write, as edges with a command whose files are apart, or free paths, the store stays faithful, if no command runs then.
+pub others_keep : (B : Behaviour) (format : LogFormat) (own : OwnFiles) (edges : List Edge) (old new : World) → ((job : ℕ) → runs job old.events ≡ true → IsCommand edges job × OwnFilesApart own edges)
+    → OthersWrote (IsRunning old.events) old.history new.history → HaveEnded new → IsKeptBetween format own edges old new
     → IsFaithfulStore B format own edges old → IsFaithfulStore B format own edges new
-restart_keeps tells B format own edges old new running restart tell stamps within edits believed =
-    believed_less B format own edges edges old new wrote.more wrote.grows stamps
+others_keep B format own edges old new running wrote idle between believed =
+    believed_less B format own edges edges old new wrote.more wrote.grows between.stamps
     (readable_same format own old.history new.history build_log deps_log (record { build_log = believed.build_log; deps_log = believed.deps_log }))
     (less_same (store_in format own (view_of new.history)) (store_in format own (view_of old.history)) (store_same format own old.history new.history build_log deps_log))
-    (λ o made outside force. inl (stays o
+    (λ o made outside force. inl (stays o (bound o made force)
     (λ job is makes. some_none made (sym force ∙ believed.running job o is makes))
     (λ job is same. false≢true (sym outside ∙ (ap own.set same ∙ ((running job is).1.depfiles job (running job is).0).0)))))
-    (λ job o is makes. absurd (false≢true (sym (restarted_idle tells old new restart job) ∙ is))) believed
+    (λ job o is makes. absurd (false≢true (sym (idle job) ∙ is))) believed
   where
-    wrote : OthersWrote (IsRunning old.events) old.history new.history
-    wrote = restart.history tell
+    bound : (o : List ℕ) (made : Made) → in_force (store_in format own (view_of old.history)).records o ≡ Some made → between.free o ≡ false
+    bound o made force = elim (cases_Bool (between.free o)) [
+      | inl is_free ↦ absurd (some_none made (sym force ∙ between.unrecorded o is_free))
+      | inr not ↦ not
+    ]
 
-    stays : (p : List ℕ) → ((job : ℕ) → IsRunning old.events job → has (outputs (edge_at edges job)) p ≡ true → ⊥) → ((job : ℕ) → IsRunning old.events job → p ≡ (edge_at edges job).act.depfile → ⊥)
+    stays : (p : List ℕ) → between.free p ≡ false → ((job : ℕ) → IsRunning old.events job → has (outputs (edge_at edges job)) p ≡ true → ⊥) → ((job : ℕ) → IsRunning old.events job → p ≡ (edge_at edges job).act.depfile → ⊥)
         → view_of new.history p ≡ view_of old.history p
-    stays p outs deps =
+    stays p free outs deps =
         ap content_of (ap (λ (h : List Moment). file_at h p) wrote.grows
-        ∙ file_stays p old.history wrote.more (others_elsewhere edges (IsRunning old.events) p outs deps wrote.more wrote.all (within wrote.more wrote.grows) (edits wrote.more wrote.grows)))
+        ∙ file_stays p old.history wrote.more (others_elsewhere between.free edges (IsRunning old.events) p free outs deps wrote.more wrote.all (between.commands wrote.more wrote.grows) (between.edits wrote.more wrote.grows)))
 
-    log_stays : (log : List ℕ) → ((job : ℕ) → IsRunning old.events job → own.files log ≡ true) → view_of new.history log ≡ view_of old.history log
-    log_stays log mine = stays log
+    log_stays : (log : List ℕ) → between.free log ≡ false → ((job : ℕ) → IsRunning old.events job → own.files log ≡ true) → view_of new.history log ≡ view_of old.history log
+    log_stays log free mine = stays log free
         (λ job is makes. (log_apart own edges log (running job is).1 (mine job is) job (running job is).0).0 makes)
         (λ job is same. (log_apart own edges log (running job is).1 (mine job is) job (running job is).0).1 same)
 
     build_log : view_of new.history own.build_log ≡ view_of old.history own.build_log
-    build_log = log_stays own.build_log (λ job is. (running job is).1.build_log)
+    build_log = log_stays own.build_log between.logs.0 (λ job is. (running job is).1.build_log)
 
     deps_log : view_of new.history own.deps_log ≡ view_of old.history own.deps_log
-    deps_log = log_stays own.deps_log (λ job is. (running job is).1.deps_log)
+    deps_log = log_stays own.deps_log between.logs.1 (λ job is. (running job is).1.deps_log)
+
+-- Commands that end at a restart keep it so.
+pub restart_keeps : (tells : Bool) (B : Behaviour) (format : LogFormat) (own : OwnFiles) (edges : List Edge) (old new : World) → ((job : ℕ) → runs job old.events ≡ true → IsCommand edges job × OwnFilesApart own edges)
+    → IsRestart tells old new → IsTrue tells → IsKeptBetween format own edges old new
+    → IsFaithfulStore B format own edges old → IsFaithfulStore B format own edges new
+restart_keeps tells B format own edges old new running restart tell between believed =
+    others_keep B format own edges old new running (restart.history tell) (restarted_idle tells old new restart) between believed
+
+-- where no command runs, a call that only looks keeps it
+pub nothing_keeps : (B : Behaviour) (format : LogFormat) (own : OwnFiles) (edges : List Edge) (old new : World) → IsFaithfulStore B format own edges old → new.events ≡ old.events → HaveEnded old
+    → IsKeptBetween format own edges old new → OthersWrote (IsRunning old.events) old.history new.history → IsFaithfulStore B format own edges new
+nothing_keeps B format own edges old new believed events ended between wrote =
+    others_keep B format own edges old new (λ job is. absurd (false≢true (sym (ended job) ∙ is))) wrote (λ job. ap (λ (l : List Event). runs job l) events ∙ ended job) between believed

@@ -12,7 +12,7 @@ use Rattle.model.specs.Graph.{has, has_number, edge_at, maker, inputs, regular_i
 use Rattle.model.specs.Outcome.{Behaviour, depfile_in, is_accepted}
 use Rattle.model.specs.Reading.{IsRead, Itself, Through}
 use Rattle.model.specs.Records.{Store, OwnFiles, recorded_inputs}
-use Rattle.model.specs.OutOfDate.{Counted, IsVerdict}
+use Rattle.model.specs.OutOfDate.{Counted, ReadsNoFree, IsVerdict}
 use Rattle.model.specs.Schedule.{Step, Judged, Ended, ended_in, well_in, done_in, IsSettled, Done, Alias, MayBeJudged, IsLawful}
 use Rattle.model.specs.Premises.{FilesAreKept, RecordedApart, EndedAt}
 use Rattle.model.specs.SingleBuild.{Asked, task_of}
@@ -24,7 +24,7 @@ use Rattle.build_theory.proofs.Moments.{events_in-append}
 use Rattle.build_theory.proofs.Settled.{settled_command}
 use Rattle.build_theory.proofs.Steps.{lawful_parts, ended-append, well-append}
 use Rattle.log_theory.specs.Judged.{JudgedThen, AreJudgedThen, AreTakenIn, VerdictsAtExit}
-use Rattle.log_theory.proofs.Carried.{verdict_stands}
+use Rattle.log_theory.proofs.Carried.{counted_on, verdict_stands}
 
 -- ---- what is read is made by what is done
 
@@ -49,11 +49,13 @@ verdicts_at_exit tells B own asked store steps met old now tell idle once lawful
 }
   where
     by_then : (before after : List Step) (i : ℕ) (b : Bool) → steps ≡ before ++ Judged i b ∷ after → JudgedThen tells own asked store before i b old now
-        → IsVerdict asked.graph.edges store (well_in before) old.history now.history i b
-    by_then before after i b splits was =
+        → ReadsNoFree files.free asked.graph.edges store now.history i → IsVerdict asked.graph.edges store (well_in before) old.history now.history i b
+    by_then before after i b splits was unread =
         verdict_stands tells own asked store before after i b old was.mid now was.more tell idle once was.run
-        (subst (λ (l : List Step). IsRunOrRest tells own (task_of asked store) l old now) splits rest) (was.grows tell) files apart counted
-        (was.right tell (kept_before own asked.graph.edges old.history was.mid.history now.history was.more (was.grows tell) files) apart)
+        (subst (λ (l : List Step). IsRunOrRest tells own (task_of asked store) l old now) splits rest) (was.grows tell) files apart counted unread
+        (was.right tell (kept_before own asked.graph.edges old.history was.mid.history now.history was.more (was.grows tell) files) apart
+        (λ p counts. unread p (counted_on tells own asked store before after i b old was.mid now was.more tell idle once was.run
+        (subst (λ (l : List Step). IsRunOrRest tells own (task_of asked store) l old now) splits rest) (was.grows tell) files apart counted p counts)))
       where
         turn : MayBeJudged (task_of asked store) before i
         turn = (lawful_parts (task_of asked store) [] before (Judged i b ∷ after) (subst (λ (l : List Step). IsLawful (task_of asked store) l) splits lawful)).1.0.0
@@ -102,8 +104,8 @@ module _ (tells : Bool) (own : OwnFiles) (asked : Asked) (store : Store) (old : 
 
   -- an edge is judged, rightly by the files of now
   pub judged_now : (steps : List Step) (now : World) (i : ℕ) (b : Bool) → IsRunOrRest tells own (task_of asked store) steps old now
-      → (IsTrue tells → FilesAreKept own asked.graph.edges old.history now.history → RecordedApart own (recorded_inputs store asked.graph.edges)
-      → IsVerdict asked.graph.edges store (well_in steps) old.history now.history i b)
+      → (IsTrue tells → (files : FilesAreKept own asked.graph.edges old.history now.history) → RecordedApart own (recorded_inputs store asked.graph.edges)
+      → ReadsNoFree files.free asked.graph.edges store now.history i → IsVerdict asked.graph.edges store (well_in steps) old.history now.history i b)
       → AreJudgedThen tells own asked store steps old now → AreJudgedThen tells own asked store (steps ++ Judged i b ∷ []) old now
   judged_now steps now i b run right judged before after j c splits = elim (place_in steps (Judged i b ∷ []) before after (Judged j c) splits) [
     | inl (rest, first) ↦ judged before rest j c first

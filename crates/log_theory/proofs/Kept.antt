@@ -10,7 +10,11 @@ use Rattle.model.specs.SingleBuild.{MayChange}
 use Rattle.build_theory.specs.Run.{IsRunOrRest}
 use Rattle.build_theory.proofs.Orderly.{IsKept, kept_orderly}
 use Rattle.build_theory.proofs.Makers.{one_maker}
-use Rattle.build_theory.proofs.Exit.{unchanged}
+use Rattle.build_theory.proofs.Exit.{told, unwritten_or, unchanged}
+use Rattle.build_theory.proofs.Files.{IsElsewhere, file_stays}
+use Rattle.build_theory.proofs.Lists.{same_rest}
+use Rattle.std.specs.List.{AllByRecursion}
+use Rattle.model.specs.declared.event.Moment.{Moment}
 
 -- the judgement of an edge that was judged clean
 pub record IsJudgedClean (steps : List Step) (i : ℕ) : Type 0 where
@@ -40,10 +44,12 @@ module _ (tells : Bool) (own : OwnFiles) (task : Task) (steps : List Step) (old 
   commands i h = kept.judged i (kept.out_of_date i h)
 
   -- a path outside the set that no started command makes is as it was
-  pub path_stays : (o : List ℕ) → own.set o ≡ false → ((i : ℕ) → has_number (started_in steps) i ≡ true → has (outputs (edge_at task.graph.edges i)) o ≡ true → ⊥) → file_at now.history o ≡ file_at old.history o
-  path_stays o outside unstarted = elim (unchanged tells own task steps old now idle rest tell files o) [
-    | inl same ↦ same
-    | inr may ↦ absurd (no_change may)
+  pub path_unwritten : (o : List ℕ) → own.set o ≡ false → files.free o ≡ false → ((i : ℕ) → has_number (started_in steps) i ≡ true → has (outputs (edge_at task.graph.edges i)) o ≡ true → ⊥)
+      → (more : List Moment) → now.history ≡ old.history ++ more → AllByRecursion (IsElsewhere o) more
+  path_unwritten o outside bound unstarted more grows = elim (unwritten_or tells own task steps old now idle rest tell files o) [
+    | inl same ↦ subst (λ (l : List Moment). AllByRecursion (IsElsewhere o) l) (same_rest old.history (told tells own task steps old now idle rest tell).more more (sym (told tells own task steps old now idle rest tell).grows ∙ grows)) same
+    | inr (inl may) ↦ absurd (no_change may)
+    | inr (inr is_free) ↦ absurd (false≢true (sym bound ∙ is_free))
   ]
     where
       in_set : (q : List ℕ) → LiesIn own q → o ≡ q → ⊥
@@ -55,9 +61,14 @@ module _ (tells : Bool) (own : OwnFiles) (task : Task) (steps : List Step) (old 
       no_change (inr (inr (inl (i, out, is)))) = in_set (edge_at task.graph.edges i).act.depfile (files.own_files.depfiles i (commands i out)) is
       no_change (inr (inr (inr (i, out, is)))) = in_set (edge_at task.graph.edges i).act.response_path (files.own_files.responses i (commands i out)) is
 
+  pub path_stays : (o : List ℕ) → own.set o ≡ false → files.free o ≡ false → ((i : ℕ) → has_number (started_in steps) i ≡ true → has (outputs (edge_at task.graph.edges i)) o ≡ true → ⊥) → file_at now.history o ≡ file_at old.history o
+  path_stays o outside bound unstarted =
+      let all = told tells own task steps old now idle rest tell in
+      ap (λ (h : List Moment). file_at h o) all.grows ∙ file_stays o old.history all.more (path_unwritten o outside bound unstarted all.more all.grows)
+
   -- the outputs of an edge that was judged clean are as they were
   pub clean_stays : (i : ℕ) (o : List ℕ) → has_number (clean_in steps) i ≡ true → has (outputs (edge_at task.graph.edges i)) o ≡ true → file_at now.history o ≡ file_at old.history o
-  clean_stays i o clean is_output = path_stays o (files.own_files.outputs i o is_output)
+  clean_stays i o clean is_output = path_stays o (files.own_files.outputs i o is_output) (files.free_apart.outputs i o is_output)
       (λ j started makes. kept.apart i clean
       (subst (λ (k : ℕ). has_number (out_of_date_in steps) k ≡ true) (one_maker task.graph.edges o j i once makes is_output) (kept.started j started)))
 
@@ -66,7 +77,8 @@ module _ (tells : Bool) (own : OwnFiles) (task : Task) (steps : List Step) (old 
       → file_at now.history (edge_at task.graph.edges i).act.depfile ≡ file_at old.history (edge_at task.graph.edges i).act.depfile
   depfile_stays i command some not_out = elim (unchanged tells own task steps old now idle rest tell files (edge_at task.graph.edges i).act.depfile) [
     | inl same ↦ same
-    | inr may ↦ absurd (no_change may)
+    | inr (inl may) ↦ absurd (no_change may)
+    | inr (inr is_free) ↦ absurd (false≢true (sym (files.free_apart.set (edge_at task.graph.edges i).act.depfile (files.own_files.depfiles i command).0) ∙ is_free))
   ]
     where
       other : (k : ℕ) → has_number (out_of_date_in steps) k ≡ true → i ≡ k → ⊥

@@ -12,11 +12,11 @@ use Rattle.model.specs.Calls.{OthersWrote, Adds, OnlyLooks, Ticks, TicksOrNot, W
 use Rattle.model.specs.Graph.{has_number, edge_at, IsCommand, IsMadeOnce}
 use Rattle.model.specs.Outcome.{Behaviour, depfile_in, is_accepted}
 use Rattle.model.specs.Records.{Store, LogFormat, OwnFiles, store_in, recorded_inputs}
-use Rattle.model.specs.OutOfDate.{IsVerdict}
+use Rattle.model.specs.OutOfDate.{ReadsNoFree, IsVerdict}
 use Rattle.model.specs.Schedule.{Step, Judged, Started, Ended, IsLawfulStep, IsEndOf, NoneMayBeJudged, NoneMayStart, started_in, out_of_date_in, ended_in, well_in, running_in}
-use Rattle.model.specs.Phases.{Phase, NoLoadIsDue}
+use Rattle.model.specs.Phases.{steps_of, Phase, NoLoadIsDue}
 use Rattle.model.specs.Premises.{FilesAreKept, RecordedApart, EndedAt, InputsAreKnown, LiesIn}
-use Rattle.model.specs.SingleBuild.{WasTakenIn, NamesOther, Asked, task_of, IsJudged, IsFrame}
+use Rattle.model.specs.SingleBuild.{HeldAt, AreJudgedAt, ArePhasesJudgedAt, WasTakenIn, NamesOther, Asked, task_of, IsJudged, IsFrame}
 use Rattle.model.specs.Kept.{StartedUnder, KeepsRecords, store_at}
 use Rattle.build_theory.specs.Run.{events_in, starts_in, IsRun, IsRunOrRest}
 use Rattle.build_theory.proofs.Steps.{running_parts}
@@ -33,6 +33,7 @@ use Rattle.log_theory.specs.Builds.{IsRunOf}
 use Rattle.log_theory.specs.Writes.{GrewAt, WritesAt}
 use Rattle.log_theory.specs.Alone.{IsNoFileOf, AreLeftAlone}
 use Rattle.log_theory.specs.Ledger.{IsPhased, IsRefused, IsBeside, IsCarried, IsCutOff, IsReadyToStart}
+use Rattle.log_theory.proofs.AtMoments.{held_at, verdicts_at_moments}
 use Rattle.log_theory.proofs.Alone.{runs_idle, alone_nothing, alone_looks, alone_adds, alone_at, own_apart, response_apart, depfile_apart}
 use Rattle.log_theory.proofs.Calls.{entry_logged, looks_logged, start_logged, rest_logged}
 use Rattle.log_theory.proofs.Growing.{logged_hand, logged_judged, logged_as_failed, logged_as_well}
@@ -279,12 +280,12 @@ module _ (tells : Bool) (B : Behaviour) (format : LogFormat) (own : OwnFiles) (a
 
     -- an edge was judged, rightly by the files of now
     pub carried_judged : (steps : List Step) (hand : Option ℕ) (now : World) (i : ℕ) (out_of_date : Bool) → goes_on ≡ true → IsLawfulStep (task_of asked store) steps (Judged i out_of_date) → NoLoadIsDue (task_of asked store) steps
-        → (IsTrue tells → Kept now → RecordedApart own (recorded_inputs store asked.graph.edges) → IsVerdict asked.graph.edges store (well_in steps) old.history now.history i out_of_date)
+        → (IsTrue tells → (files : Kept now) → RecordedApart own (recorded_inputs store asked.graph.edges) → ReadsNoFree files.free asked.graph.edges store now.history i → IsVerdict asked.graph.edges store (well_in steps) old.history now.history i out_of_date)
         → Carried steps hand now → Carried (steps ++ Judged i out_of_date ∷ []) hand now
     carried_judged steps hand now i b on next none right carried = record {
       run = run_judged tells own (task_of asked store) old steps now i b carried.run (orderly_step (task_of asked store) steps (Judged i b) next);
       phased = phased_step tells B own asked store old phases steps now carried.phased (Judged i b) (carried.goes on) next none
-          (λ tell. over_now tells B own asked store old steps now i b (rest_of steps hand now carried) right);
+          (λ tell. over_now tells B own asked store old steps now i b carried.run carried.phased.loaded right);
       goes = λ h. refl;
       refused = λ off. absurd (true≢false (sym on ∙ off));
       beside = record {
@@ -619,11 +620,21 @@ module _ (tells : Bool) (B : Behaviour) (format : LogFormat) (own : OwnFiles) (a
     pub run_of : IsMadeOnce asked.graph.edges ⊎ OnlyLooks tells old now → IsRunOf tells B format own asked store steps met old now
     run_of once = record { idle = cut.beside.idle; run = cut.run; made_once = once; logged = cut.beside.logged; ticked = cut.beside.ticked }
 
-    pub judged_of : IsMadeOnce asked.graph.edges → ((file : List ℕ) → NamesOther asked.declared file → ⊥) → IsTrue tells → Kept now → RecordedApart own (recorded_inputs store asked.graph.edges)
-        → InputsAreKnown asked.declared asked.graph.edges (recorded_inputs store asked.graph.edges) → IsJudged B asked store steps met old.history now.history
+    pub judged_of : IsMadeOnce asked.graph.edges → ((file : List ℕ) → NamesOther asked.declared file → ⊥) → IsTrue tells → (files : Kept now) → RecordedApart own (recorded_inputs store asked.graph.edges)
+        → InputsAreKnown asked.declared asked.graph.edges (recorded_inputs store asked.graph.edges) → IsJudged B files.free asked store steps met old.history now.history
     judged_of once others tell files apart known =
         verdicts_with_loads tells B own cut.phased.texts asked store steps met old now tell cut.beside.idle once others cut.phased.build cut.run (cut.phased.before tell) (cut.phased.last tell) files apart known
         (cut.beside.taken_in tell files)
+
+    -- each verdict at its moment, and each loaded file as it was when it was loaded
+    pub judged_at_of : IsTrue tells → (files : Kept now) → RecordedApart own (recorded_inputs store asked.graph.edges)
+        → ArePhasesJudgedAt files.free store [] cut.phased.build.earlier old.history now.history
+        × AreJudgedAt files.free asked.graph.edges store (steps_of cut.phased.build.earlier) cut.phased.build.last old.history now.history
+    judged_at_of tell files apart =
+        verdicts_at_moments tells B own cut.phased.texts asked store steps old now tell cut.beside.idle cut.phased.build (cut.phased.before tell) (cut.phased.last tell) files apart
+
+    pub held_at_of : IsTrue tells → (files : Kept now) → (file content : List ℕ) → cut.phased.texts file ≡ Some content → files.free file ≡ false → HeldAt file content steps old.history now.history
+    held_at_of tell files file content is bound = held_at tells own asked store old now tell cut.beside.idle files file content steps (cut.phased.held tell file content is) bound
 
     pub frame_of : IsMadeOnce asked.graph.edges → IsTrue tells → IsFrame own asked.graph.edges steps old.history now.history
     frame_of once tell = frame tells own (task_of asked store) steps old now cut.beside.idle cut.run tell once (cut.beside.ready tell)

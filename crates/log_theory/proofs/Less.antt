@@ -10,7 +10,7 @@ use Rattle.model.specs.Premises.{StampsGrow}
 use Rattle.model.specs.Faithful.{IsFaithfulRecord, IsFaithfulStore}
 use Rattle.build_theory.proofs.Lists.{some_none}
 use Rattle.log_theory.specs.Logged.{AreReadable}
-use Rattle.log_theory.proofs.Stamps.{file_was, latest_later}
+use Rattle.log_theory.proofs.Stamps.{file_was, next_later}
 
 -- what is in force in the one store is so in the other
 pub record IsLess (few many : Store) : Type 0 where
@@ -37,7 +37,7 @@ believed_less B format own edges others old new more grows stamps readable less 
   records = λ o made force. by_faith o made (less.records o made force) (believed.records o made (less.records o made force));
   deps = λ o deps is.
       let early = believed.deps o deps (less.deps o deps is) in
-      omega (arith, early, latest_later old.history new.history more grows);
+      omega (arith, early, next_later old.history new.history more grows);
   running = running;
 }
   where
@@ -53,7 +53,7 @@ believed_less B format own edges others old new more grows stamps readable less 
         ];
         reports = λ deps is same. faith.reports deps (less.deps o deps is) same;
         older = λ p file is early. faith.older p file (file_was old.history new.history more grows stamps p file is (omega (arith, early, faith.clock))) early;
-        clock = omega (arith, faith.clock, latest_later old.history new.history more grows);
+        clock = omega (arith, faith.clock, next_later old.history new.history more grows);
       },
       outside,
     )

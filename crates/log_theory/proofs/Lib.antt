@@ -24,6 +24,8 @@ pub mod Over
 pub mod Stated
 pub mod Builds
 pub mod Alone
+mod AsNow
+pub mod AtMoments
 pub mod Phased
 pub mod Ledger
 pub mod Loading

@@ -1,5 +1,5 @@
 -- What a run carries goes on through the load of a dyndep file, over the edges that it gives.
-use Rattle.std.proofs.Common.{◌≡◌, ℕ, Bool, true, IsTrue, List, [], ◌∷◌, ◌++◌, Option, Some, None, refl, sym, subst}
+use Rattle.std.proofs.Common.{◌≡◌, ℕ, Bool, true, false, IsTrue, List, [], ◌∷◌, ◌++◌, Option, Some, None, refl, sym, subst}
 use Rattle.std.proofs.lemmas.Bool.{true≢false}
 use Rattle.model.specs.declared.act.Act.{Act}
 use Rattle.model.specs.declared.event.Moment.{Moment}
@@ -43,11 +43,11 @@ module _ (tells : Bool) (B : Behaviour) (format : LogFormat) (own : OwnFiles) (a
 
   -- The file was loaded, which was the next one: it held this, which can be read, and fits; and the edges are in order with it.
   pub carried_load : (steps : List Step) → (carried : IsCarried tells B format own asked store phases true steps None old now) → IsNextLoad (task_of asked store) steps file → B.dyndep content ≡ Some additions
-      → IsInOrderAt store (task_of (asked_with asked next) store) → (IsTrue tells → FilesAreKept own asked.graph.edges old.history now.history → view_of now.history file ≡ Some content)
+      → IsInOrderAt store (task_of (asked_with asked next) store) → (IsTrue tells → (files : FilesAreKept own asked.graph.edges old.history now.history) → files.free file ≡ false → view_of now.history file ≡ Some content)
       → IsCarried tells B format own (asked_with asked next) store (phases ++ record { edges = asked.graph.edges; steps = carried.phased.build.last } ∷ []) true steps None old now
   carried_load steps carried is_next read order holds = record {
     run = run_moved tells own (task_of asked store) (task_of (asked_with asked next) store) steps old now more carried.run;
-    phased = phased_load tells B own asked store phases old now next file content additions grown steps carried.phased (carried.goes refl) is_next read order rest carried.beside.idle holds;
+    phased = phased_load tells B own asked store phases old now next file content additions grown steps carried.phased (carried.goes refl) is_next read order carried.run carried.beside.idle holds;
     goes = λ on. refl;
     refused = λ off. absurd (true≢false off);
     beside = record {

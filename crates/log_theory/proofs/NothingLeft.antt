@@ -13,13 +13,16 @@ use Rattle.log_theory.proofs.Left.{clean_left}
 use Rattle.log_theory.proofs.WellLeft.{well_left}
 
 pub nothing_is_left : NothingIsLeft
-nothing_is_left tells B format own asked store steps met old now tell idle rest once loaded early logged ticked judged first settled premises i within command =
+nothing_is_left tells B format own asked store steps met old now tell idle rest once loaded early logged ticked premises judged first settled i is_quiet within command =
     elim (has_number-cases (clean_in steps) (well_in steps) i (settled_command asked.graph.edges (done_in steps) i command (settled i within))) [
       | inl clean ↦
           let judgement = clean_step steps i clean in
           inr (clean_left tells B format own asked store (store_at format own now) steps old now tell idle rest once premises.kept logged i (well_in judgement.before) clean
-          (judged.verdicts judgement.before judgement.after i false judgement.splits))
+          (judged.verdicts judgement.before judgement.after i false judgement.splits (λ p counts. elim counts [
+            | inl read ↦ premises.alone.unread i p is_quiet (inl read)
+            | inr recorded ↦ premises.alone.unread i p is_quiet (inr (inl recorded))
+          ])))
       | inr well ↦ well_left tells B own asked store (store_at format own now) steps old now tell idle rest once premises.kept logged ticked
-          early premises.recorded_apart premises.stamps premises.reports loaded first i command well
+          early premises.recorded_apart premises.stamps premises.reports loaded first i command well (λ p reads. premises.alone.unread i p is_quiet reads)
           (λ q j h made. settled j (Needed j i q within (has-left (inputs (edge_at asked.graph.edges i)) (recorded_inputs store asked.graph.edges i) q h) made))
     ]

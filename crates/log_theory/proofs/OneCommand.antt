@@ -5,10 +5,10 @@ use Rattle.model.specs.Calls.{OnlyLooks, Ticks, Writes, Starts, Finishes, Sees}
 use Rattle.model.specs.Graph.{has_number, edge_at, IsMadeOnce}
 use Rattle.model.specs.Outcome.{Behaviour, depfile_in, is_accepted}
 use Rattle.model.specs.Records.{Store, LogFormat, OwnFiles, store_in, recorded_inputs}
-use Rattle.model.specs.OutOfDate.{IsVerdict}
+use Rattle.model.specs.OutOfDate.{ReadsNoFree, IsVerdict}
 use Rattle.model.specs.Schedule.{Step, Judged, Started, Ended, IsLawfulStep, NoneMayBeJudged, NoneMayStart}
 use Rattle.model.specs.Phases.{NoLoadIsDue}
-use Rattle.model.specs.Premises.{FilesAreKept, RecordedApart, NothingIsEdited}
+use Rattle.model.specs.Premises.{FilesAreKept, RecordedApart}
 use Rattle.model.specs.SingleBuild.{NamesOther, Asked, task_of}
 use Rattle.log_theory.specs.Builds.{IsRunOf}
 use Rattle.log_theory.specs.Logged.{IsLoggedAt}
@@ -22,9 +22,9 @@ use Rattle.log_theory.proofs.Writing as writing
 
 one : (tells : Bool) (B : Behaviour) (format : LogFormat) (own : OwnFiles) (asked : Asked) (store : Store) (old a b c d e f g h j k l m : World) (i stamp : ℕ) (tick : List ℕ) (seen : Option (List ℕ))
     → IsIdle old.events → IsMadeOnce asked.graph.edges → asked.graph.edges ≡ asked.declared → ((file : List ℕ) → NamesOther asked.graph.edges file → ⊥) → ((before : List Step) → NoLoadIsDue (task_of asked store) before)
-    → OnlyLooks tells old a → (IsTrue tells → NothingIsEdited old.history a.history → store ≡ store_in format own (view_of old.history))
+    → OnlyLooks tells old a → (IsTrue tells → FilesAreKept own asked.graph.edges old.history a.history → store ≡ store_in format own (view_of old.history))
     → IsLawfulStep (task_of asked store) [] (Judged i true)
-    → (IsTrue tells → FilesAreKept own asked.graph.edges old.history a.history → RecordedApart own (recorded_inputs store asked.graph.edges) → IsVerdict asked.graph.edges store [] old.history a.history i true)
+    → (IsTrue tells → (files : FilesAreKept own asked.graph.edges old.history a.history) → RecordedApart own (recorded_inputs store asked.graph.edges) → ReadsNoFree files.free asked.graph.edges store a.history i → IsVerdict asked.graph.edges store [] old.history a.history i true)
     → own.files tick ≡ true → tick ≢ own.build_log → tick ≢ own.deps_log → own.files own.build_log ≡ true
     → (edge_at asked.graph.edges i).act.depfile ≢ [] → (edge_at asked.graph.edges i).act.response_path ≢ []
     → Ticks tells tick stamp a b
@@ -61,7 +61,7 @@ one tells B format own asked store old a b c d e f g h j k l m i stamp tick seen
     at_a0 = ledger.carried_looks tells B format own asked (store_in format own (view_of old.history)) old [] true [] None old a looks (ledger.carried_entry tells B format own asked (store_in format own (view_of old.history)) old unloaded others refl idle)
 
     at_a : IsCarried tells B format own asked store [] true [] None old a
-    at_a = ledger.carried_found tells B format own asked (store_in format own (view_of old.history)) old unloaded others store None a (λ tell files. found tell files.edits) at_a0
+    at_a = ledger.carried_found tells B format own asked (store_in format own (view_of old.history)) old unloaded others store None a (λ tell files. found tell files) at_a0
 
     judged : IsCarried tells B format own asked store [] true (Judged i true ∷ []) (Some i) old a
     judged = ledger.carried_hand tells B format own asked store old [] true (Judged i true ∷ []) a i (ledger.carried_judged tells B format own asked store old [] true [] None a i true refl judge (no_load []) verdict at_a)

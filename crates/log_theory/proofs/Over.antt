@@ -54,15 +54,16 @@ module _ (tells : Bool) (B : Behaviour) (format : LogFormat) (own : OwnFiles) (t
       (edit_keeps B format own edges old new kept.0 stamps edit.events ended edits tells tell path content edit leaves, λ job is. kept.1 job (same_world_events old new edit.events job is))
   step edges (Built asked old new answer build) ends kept (ended, (fits, premises)) claimed = (
     (claimed own fits).stays tell (for_others edges asked.graph.edges old ended kept.0) premises,
-    λ job is. (command_runs asked old new answer (build own fits) ended job is, premises.files.kept.own_files),
+    λ job is. (command_runs asked old new answer (build own fits) ended job is, premises.kept.own_files),
   )
-  step edges (Unread old new answer cause) ends kept (ended, edits) claimed = (
-    nothing_keeps B format own edges old new kept.0 cause.looks.events ended edits (cause.looks.history tell),
+  step edges (Unread old new answer cause) ends kept (ended, between) claimed = (
+    for_others [] edges new (λ job. ap (λ (l : List Event). runs job l) cause.looks.events ∙ ended job)
+        (nothing_keeps B format own [] old new (for_others edges [] old ended kept.0) cause.looks.events ended between (cause.looks.history tell)),
     λ job is. kept.1 job (same_world_events old new cause.looks.events job is),
   )
-  step edges (Restarted others old new restart) same kept (stamps, within, edits) claimed = (
+  step edges (Restarted others old new restart) same kept between claimed = (
     for_others others edges new (restarted_idle tells old new restart)
-        (restart_keeps tells B format own others old new (λ job is. subst (λ (es : List Edge). IsCommand es job × OwnFilesApart own es) (sym same) (kept.1 job is)) restart tell stamps within edits
+        (restart_keeps tells B format own others old new (λ job is. subst (λ (es : List Edge). IsCommand es job × OwnFilesApart own es) (sym same) (kept.1 job is)) restart tell between
         (subst (λ (es : List Edge). IsFaithfulStore B format own es old) (sym same) kept.0)),
     λ job is. absurd (false≢true (sym (restarted_idle tells old new restart job) ∙ is)),
   )

@@ -8,18 +8,19 @@ use Rattle.model.specs.World.{World, View, view_of, IsIdle}
 use Rattle.model.specs.Graph.{has, has_number, edge_at, maker, inputs, IsCommand, IsMadeOnce, Addition}
 use Rattle.model.specs.Outcome.{Behaviour}
 use Rattle.model.specs.Records.{Store, OwnFiles, recorded_inputs}
-use Rattle.model.specs.OutOfDate.{IsVerdict}
+use Rattle.model.specs.OutOfDate.{ReadsNoFree, IsVerdict}
 use Rattle.model.specs.Schedule.{Task, Step, Judged, Started, Ended, IsLawfulStep, judged_in, started_in, running_in, well_in, done_in}
 use Rattle.model.specs.Phases.{Phase, IsGrownBy, IsDueLoad, NoLoadIsDue, IsNextLoad, AreUnloadedFrom, IsLawfulPhase, IsLoad, IsInOrderAt, AreTakenIn, ArePhasesFrom, steps_of, next_edges, task_with}
 use Rattle.model.specs.Premises.{FilesAreKept, RecordedApart}
 use Rattle.model.specs.SingleBuild.{Asked, NamesOther, asked_with, task_of}
-use Rattle.build_theory.specs.Run.{IsRunOrRest}
+use Rattle.build_theory.specs.Run.{IsRun, IsRunOrRest}
 use Rattle.build_theory.proofs.Lists.{same_bytes, bytes_same, same_some, has-left, has_number-is}
 use Rattle.build_theory.proofs.Settled.{settled_command}
 use Rattle.build_theory.proofs.Growth.{HasGrown, cases_named, grown_same, grown_by, still_loaded, maker_still, once_back}
 use Rattle.build_theory.proofs.Loads.{rest_has_grown}
 use Rattle.build_theory.proofs.Orderly.{kept_orderly}
-use Rattle.build_theory.proofs.Moved.{rest_moved}
+use Rattle.build_theory.proofs.Moved.{run_moved}
+use Rattle.build_theory.proofs.Runs.{rest_begins}
 use Rattle.build_theory.proofs.Steps.{lawful_push_from, in_either, in_left, judged-append, started-append}
 use Rattle.log_theory.specs.Judged.{JudgedOver, AreJudgedOver, ArePhasesJudged}
 use Rattle.log_theory.specs.Ledger.{LoadedThen, IsPhased}
@@ -91,6 +92,7 @@ module _ (tells : Bool) (B : Behaviour) (own : OwnFiles) (asked : Asked) (store 
       run = was.run;
       more = was.more ++ ms;
       grows = λ tell. grows tell ∙ (ap (λ (l : List Moment). l ++ ms) (was.grows tell) ∙ append_assoc was.mid.history was.more ms);
+      loaded = was.loaded;
       right = was.right;
     }
 
@@ -166,17 +168,18 @@ module _ (tells : Bool) (B : Behaviour) (own : OwnFiles) (asked : Asked) (store 
       (λ i b is. subst (λ (l : List Step). JudgedOver tells own asked store edges l i b old now) (sym (append_assoc before (Ended j w ∷ []) steps)) (right i b is)) judged
 
   -- an edge is judged, rightly by the edges and files of now
-  pub over_now : (steps : List Step) (now : World) (i : ℕ) (b : Bool) → IsRunOrRest tells own The steps old now
-      → (IsTrue tells → FilesAreKept own asked.graph.edges old.history now.history → RecordedApart own (recorded_inputs store asked.graph.edges)
-      → IsVerdict asked.graph.edges store (well_in steps) old.history now.history i b)
+  pub over_now : (steps : List Step) (now : World) (i : ℕ) (b : Bool) → IsRun tells own The steps old now → ((k : ℕ) → has_number (judged_in steps) k ≡ true → (edge_at asked.graph.edges k).dyndep ≡ None)
+      → (IsTrue tells → (files : FilesAreKept own asked.graph.edges old.history now.history) → RecordedApart own (recorded_inputs store asked.graph.edges)
+      → ReadsNoFree files.free asked.graph.edges store now.history i → IsVerdict asked.graph.edges store (well_in steps) old.history now.history i b)
       → (j : ℕ) (c : Bool) → Judged i b ≡ Judged j c → JudgedOver tells own asked store asked.graph.edges steps j c old now
-  over_now steps now i b rest right j c is =
+  over_now steps now i b run loaded right j c is =
       let same : i ≡ j = cc in
       let also : b ≡ c = cc in
       subst (λ (n : ℕ). JudgedOver tells own asked store asked.graph.edges steps n c old now) same (subst (λ (x : Bool). JudgedOver tells own asked store asked.graph.edges steps i x old now) also
       (record {
         mid = now;
-        run = rest_moved tells own The (task_with The store asked.graph.edges) steps old now (grown_same asked.graph.edges) rest;
+        run = run_moved tells own The (task_with The store asked.graph.edges) steps old now (grown_same asked.graph.edges) run;
+        loaded = loaded;
         more = [];
         grows = λ tell. sym (append-nil now.history);
         right = right;
@@ -336,7 +339,7 @@ module _ (tells : Bool) (B : Behaviour) (own : OwnFiles) (asked : Asked) (store 
 
   -- verdicts stay, over the edges of then
   one_more : (edges : List Edge) (before : List Step) (i : ℕ) (b : Bool) → JudgedOver tells own asked store edges before i b old now → JudgedOver tells own More store edges before i b old now
-  one_more edges before i b was = record { mid = was.mid; run = was.run; more = was.more; grows = was.grows; right = was.right }
+  one_more edges before i b was = record { mid = was.mid; run = was.run; more = was.more; grows = was.grows; loaded = was.loaded; right = was.right }
 
   over_more : (edges : List Edge) (before steps : List Step) → AreJudgedOver tells own asked store edges before steps old now → AreJudgedOver tells own More store edges before steps old now
   over_more edges before [] judged = tt
@@ -394,11 +397,11 @@ module _ (tells : Bool) (B : Behaviour) (own : OwnFiles) (asked : Asked) (store 
       later = was.later;
       splits = was.splits;
       mid = was.mid;
-      run = rest_moved tells own (task_of asked store) (task_of More store) was.before old was.mid more_edges was.run;
+      run = run_moved tells own (task_of asked store) (task_of More store) was.before old was.mid more_edges was.run;
       more = was.more;
       grows = was.grows;
-      holds = λ files. was.holds (kept_then tells own (task_of asked store) next more_edges was.before old was.mid tell idle was.run
-          (λ i started. loaded i (subst (λ (l : List Step). has_number (started_in l) i ≡ true) (sym was.splits) (in_left started_in started-append was.before was.later i started))) files);
+      holds = λ files bound. was.holds (kept_then tells own (task_of asked store) next more_edges was.before old was.mid tell idle (rest_begins tells own (task_of asked store) old was.before was.mid was.run)
+          (λ i started. loaded i (subst (λ (l : List Step). has_number (started_in l) i ≡ true) (sym was.splits) (in_left started_in started-append was.before was.later i started))) files) bound;
       input = (was.input.0, more_edges.inputs was.input.0 p was.input.1);
       settled = λ same j makes command. by_maker same j makes command (maker asked.graph.edges p) refl;
     }
@@ -425,9 +428,9 @@ module _ (tells : Bool) (B : Behaviour) (own : OwnFiles) (asked : Asked) (store 
             lacks undeclared = same undeclared
 
     -- this one
-    pub held_here : (steps : List Step) → IsRunOrRest tells own (task_of asked store) steps old now → IsTrue tells → IsIdle old.events → IsMadeOnce next → HasGrown asked.declared asked.graph.edges
+    pub held_here : (steps : List Step) → IsRun tells own (task_of asked store) steps old now → IsTrue tells → IsIdle old.events → IsMadeOnce next → HasGrown asked.declared asked.graph.edges
         → IsDueLoad (task_of asked store) steps file → ((i : ℕ) (f : List ℕ) → (edge_at asked.graph.edges i).dyndep ≡ Some f → has (inputs (edge_at asked.graph.edges i)) f ≡ true)
-        → ((i : ℕ) → has_number (started_in steps) i ≡ true → (edge_at asked.graph.edges i).dyndep ≡ None) → (FilesAreKept own asked.graph.edges old.history now.history → view_of now.history file ≡ Some content)
+        → ((i : ℕ) → has_number (started_in steps) i ≡ true → (edge_at asked.graph.edges i).dyndep ≡ None) → ((files : FilesAreKept own asked.graph.edges old.history now.history) → files.free file ≡ false → view_of now.history file ≡ Some content)
         → LoadedThen tells own More store file content steps old now
     held_here steps rest tell idle once declared due inputs_named loaded holds = held_before once steps tell idle declared file content (record {
       before = steps;
@@ -454,8 +457,8 @@ module _ (tells : Bool) (B : Behaviour) (own : OwnFiles) (asked : Asked) (store 
         phased.loaded i (kept.out_of_date i (kept.started i started))
 
     abbrev pub phased_load : (steps : List Step) → (phased : IsPhased tells B own asked store phases steps old now) → phased.build.taken_in ≡ [] → IsNextLoad (task_of asked store) steps file → B.dyndep content ≡ Some additions
-        → IsInOrderAt store (task_of More store) → IsRunOrRest tells own (task_of asked store) steps old now → IsIdle old.events
-        → (IsTrue tells → FilesAreKept own asked.graph.edges old.history now.history → view_of now.history file ≡ Some content) → IsPhased tells B own More store (phases ++ ended_with phased.build.last ∷ []) steps old now
+        → IsInOrderAt store (task_of More store) → IsRun tells own (task_of asked store) steps old now → IsIdle old.events
+        → (IsTrue tells → (files : FilesAreKept own asked.graph.edges old.history now.history) → files.free file ≡ false → view_of now.history file ≡ Some content) → IsPhased tells B own More store (phases ++ ended_with phased.build.last ∷ []) steps old now
     phased_load steps phased on is_next read order rest idle holds = record {
       texts = with_text file content phased.texts;
       build = record {
@@ -481,9 +484,9 @@ module _ (tells : Bool) (B : Behaviour) (own : OwnFiles) (asked : Asked) (store 
       held = λ tell p held is. elim (cases_Bool (bytes_eq file p)) [
         | inl same ↦ subst (λ (q : List ℕ). LoadedThen tells own More store q held steps old now) (same_bytes file p same)
             (subst (λ (c : List ℕ). LoadedThen tells own More store file c steps old now) (same_some content held (sym (ap (λ (b : Bool). cond b (Some content) (phased.texts p)) same) ∙ is))
-            (held_here steps rest tell idle order.once (has_grown steps phased) is_next.due phased.inputs (loaded_of steps phased rest) (holds tell)))
+            (held_here steps rest tell idle order.once (has_grown steps phased) is_next.due phased.inputs (loaded_of steps phased (rest_begins tells own (task_of asked store) old steps now rest)) (holds tell)))
         | inr other ↦ held_before order.once steps tell idle (has_grown steps phased) p held
-            (phased.held tell p held (sym (ap (λ (b : Bool). cond b (Some content) (phased.texts p)) other) ∙ is)) (loaded_of steps phased rest)
+            (phased.held tell p held (sym (ap (λ (b : Bool). cond b (Some content) (phased.texts p)) other) ∙ is)) (loaded_of steps phased (rest_begins tells own (task_of asked store) old steps now rest))
       ];
       before = λ tell. judged_push [] phased.build.earlier phased.build.last (phased.before tell) (phased.last tell);
       last = λ tell. tt;

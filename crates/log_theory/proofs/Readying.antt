@@ -102,8 +102,8 @@ module _ (tells : Bool) (B : Behaviour) (format : LogFormat) (own : OwnFiles) (a
           let told = carried.run.history tell in
           let call = grew tell in
           ap content_of (ap (λ (h : List Moment). file_at h q) call.grows
-          ∙ file_stays q now.history call.more (at_elsewhere asked.graph.edges (IsRunning now.events) path q (apart files)
-          (λ ms all w e. private_elsewhere own asked.graph.edges files.own_files i command q private (IsRunning now.events) others ms all w e) call.more call.all
+          ∙ file_stays q now.history call.more (at_elsewhere files.free asked.graph.edges (IsRunning now.events) path q (apart files)
+          (λ ms all w e. private_elsewhere own asked.graph.edges files.own_files files.free files.free_apart i command q private (IsRunning now.events) others ms all w e) call.more call.all
           (within B format own asked.graph.edges store old now new told.more told.grows files commands call.more call.grows) (edits B format own asked.graph.edges store old now new told.more told.grows files commands call.more call.grows)))
           ∙ holds tell (kept_before own asked.graph.edges old.history now.history new.history call.more call.grows files)
 

@@ -2,7 +2,7 @@
 use Rattle.std.proofs.Common.{◌≡◌, inl, inr, ℕ, ◌+◌, ◌==◌, ◌||◌, Bool, true, IsTrue, List, [], ◌∷◌, ◌++◌, length, Option, refl, sym, ◌∙◌, ap, subst, append_assoc}
 use Rattle.std.proofs.lemmas.List.{append-nil}
 use native.Mathlib.Omega.{arith}
-use Rattle.std.proofs.lemmas.Bool.{false≢true, cases_Bool, eqb-true, eq-eqb, or_left}
+use Rattle.std.proofs.lemmas.Bool.{false≢true, or_cases, cases_Bool, eqb-true, eq-eqb, or_left}
 use Rattle.model.specs.declared.act.Act.{Act}
 use Rattle.model.specs.declared.event.Event.{Event}
 use Rattle.model.specs.declared.event.Event.TheVariants.{Start, Finish}
@@ -35,6 +35,13 @@ pub record StampedStart (i stamp : ℕ) (old new : List Moment) : Type 0 where
   pub after : List Moment
   pub splits : new ≡ old ++ (before ++ Wrote by path content stamp ∷ (between ++ Happened (Start i act stamp) ∷ after))
 
+-- the command of edge i was started under this stamp
+pub record StartsAt (i stamp : ℕ) (old new : List Moment) : Type 0 where
+  pub before : List Moment
+  pub act : Act
+  pub after : List Moment
+  pub splits : new ≡ old ++ (before ++ Happened (Start i act stamp) ∷ after)
+
 -- The command of edge i was started under a stamp that was given after the edge was judged out of date: `mid` is the site, and
 -- `done` are the steps, at some point between.
 pub record TickedAfter (tells : Bool) (own : OwnFiles) (task : Task) (steps : List Step) (i stamp : ℕ) (old now : World) : Type 0 where
@@ -55,7 +62,32 @@ start_step (Started j ∷ steps) i h = elim (cases_Bool (j == i)) [
 ]
 start_step (Ended j w ∷ steps) i h = step_behind (Ended j w) steps (Started i) (start_step steps i h)
 
+record IsStartIn (i : ℕ) (es : List Event) : Type 0 where
+  before : List Event
+  act : Act
+  stamp : ℕ
+  after : List Event
+  splits : es ≡ before ++ Start i act stamp ∷ after
+
+start_in : (es : List Event) (i : ℕ) → has_number (starts_in es) i ≡ true → IsStartIn i es
+start_in [] i h = absurd (false≢true h)
+start_in (Start j act stamp ∷ es) i h = elim (or_cases (j == i) (has_number (starts_in es) i) h) [
+  | inl same ↦ record { before = []; act = act; stamp = stamp; after = es; splits = ap (λ (n : ℕ). Start n act stamp ∷ es) (eqb-true j i same) }
+  | inr later ↦
+      let rest = start_in es i later in
+      record { before = Start j act stamp ∷ rest.before; act = rest.act; stamp = rest.stamp; after = rest.after; splits = ap (λ (l : List Event). Start j act stamp ∷ l) rest.splits }
+]
+start_in (Finish j ok ∷ es) i h =
+    let rest = start_in es i h in
+    record { before = Finish j ok ∷ rest.before; act = rest.act; stamp = rest.stamp; after = rest.after; splits = ap (λ (l : List Event). Finish j ok ∷ l) rest.splits }
+
 module _ (tells : Bool) (own : OwnFiles) (task : Task) (steps : List Step) (old now : World) (rest : IsRunOrRest tells own task steps old now) where
+  -- a step that starts a command is a start of the site
+  pub started_under : (i : ℕ) → has_number (started_in steps) i ≡ true → (stamp : ℕ) × StartedUnder i stamp old now
+  started_under i h =
+      let start = start_in (rest.first ++ rest.later) i (ap (λ (l : List ℕ). has_number l i) (starts_of_all task.graph.edges steps rest.first (old.events ++ rest.first) rest.later rest.of_steps rest.finishes) ∙ h) in
+      (start.stamp, record { act = start.act; before = start.before; after = start.after; splits = rest.grows ∙ ap (λ (l : List Event). old.events ++ l) start.splits })
+
   -- what was started is among the steps
   pub was_started : (i stamp : ℕ) → StartedUnder i stamp old now → has_number (started_in steps) i ≡ true
   was_started i stamp started =
@@ -78,6 +110,11 @@ module _ (tells : Bool) (own : OwnFiles) (task : Task) (steps : List Step) (old 
   start_moment i stamp started = moment_of started.before (Start i started.act stamp) started.after told.more
       (told.happened ∙ same_rest old.events (rest.first ++ rest.later) (started.before ++ Start i started.act stamp ∷ started.after) (sym rest.grows ∙ started.splits))
 
+  pub start_at : (i stamp : ℕ) → (started : StartedUnder i stamp old now) → StartsAt i stamp old.history now.history
+  start_at i stamp started =
+      let moment = start_moment i stamp started in
+      record { before = moment.earlier; act = started.act; after = moment.later; splits = told.grows ∙ ap (λ (l : List Moment). old.history ++ l) moment.splits }
+
   module _ (ticks : StartsAreTicked old.history now.history) (i stamp : ℕ) (started : StartedUnder i stamp old now) where
     moment : IsMomentOf started.before (Start i started.act stamp) started.after told.more
     moment = start_moment i stamp started
@@ -99,7 +136,10 @@ module _ (tells : Bool) (own : OwnFiles) (task : Task) (steps : List Step) (old 
       by = tick.by;
       path = tick.path;
       content = tick.content;
-      after = tick.between ++ Happened (Start i started.act stamp) ∷ moment.later;
+      between = tick.between;
+      job = i;
+      act = started.act;
+      after = moment.later;
       splits = grows ∙ ap (λ (l : List Moment). old.history ++ l) whole;
     }
 

@@ -1,28 +1,31 @@
 -- A store that was faithful at the entry of a run is faithful at each point of it.
 use Rattle.std.proofs.Common.{◌≡◌, ◌⊎◌, inl, inr, ℕ, ◌≤◌, ◌<◌, Bool, true, false, IsTrue, List, [], ◌++◌, Option, Some, None, refl, sym, ◌∙◌, ap, subst, arith, append_assoc}
-use Rattle.std.proofs.lemmas.Bool.{false≢true, false_from_ne_true}
+use Rattle.std.proofs.lemmas.Bool.{false≢true, cases_Bool, false_from_ne_true}
 use Rattle.model.specs.declared.event.Event.{Event}
 use Rattle.model.specs.declared.event.Moment.{Moment}
 use Rattle.model.specs.declared.graph.Edge.{Edge}
-use Rattle.model.specs.World.{World, content_of, view_of, latest, runs, IsIdle}
+use Rattle.model.specs.World.{World, File, file_at, content_of, view_of, next_stamp, runs, IsIdle}
 use Rattle.model.specs.Graph.{has, has_number, edge_at, outputs, IsMadeOnce}
-use Rattle.model.specs.Outcome.{Behaviour, ends_well, given, reports_of, depfile_in, listed, GivesTheSame}
-use Rattle.model.specs.Records.{Told, OwnFiles, LogFormat, Store, Made, store_in, in_force, deps_in_force, recorded_inputs, ListsOnce}
+use Rattle.model.specs.Outcome.{Behaviour, given, reports_of, depfile_in, listed}
+use Rattle.model.specs.Records.{Told, OwnFiles, LogFormat, Store, Made, store_in, in_force, deps_in_force, ListsOnce}
 use Rattle.model.specs.Schedule.{Step, started_in, well_in, running_in}
-use Rattle.model.specs.Premises.{Premises, EndedAt, LeftOutcome}
+use Rattle.model.specs.Premises.{KeepsFaith, EndedAt, LeftOutcome}
 use Rattle.model.specs.SingleBuild.{Asked, task_of}
 use Rattle.model.specs.Faithful.{IsFaithfulRecord, IsFaithfulStore}
 use Rattle.build_theory.specs.Run.{starts_in, IsRunOrRest, IsToldBy, EndOf}
-use Rattle.build_theory.proofs.Lists.{all_has, same_some}
+use Rattle.build_theory.proofs.Lists.{all_has, same_some, some_none}
 use Rattle.build_theory.proofs.Makers.{one_maker}
 use Rattle.build_theory.proofs.Steps.{running_parts}
 use Rattle.build_theory.proofs.Orderly.{IsKept, kept_orderly}
 use Rattle.build_theory.proofs.Events.{starts_of_all, no_starts, runs_since, runs_never, runs_now}
 use Rattle.build_theory.proofs.Exit.{end_of, output_stays}
 use Rattle.log_theory.specs.Logged.{KeepsBoth, HasNew, HasNewDeps, IsLogged, AreReadable, StartsAreTicked}
-use Rattle.log_theory.proofs.Stamps.{file_was, latest_later, stamp_lies}
+use Rattle.log_theory.proofs.Stamps.{file_was, next_later, stamp_lies}
 use Rattle.log_theory.proofs.Explained.{some_or_none}
-use Rattle.log_theory.proofs.Starts.{was_stamped}
+use Rattle.log_theory.proofs.Starts.{StartsAt, start_at, was_stamped}
+use Rattle.log_theory.proofs.Once.{one_end}
+use Rattle.log_theory.proofs.Ticked.{unwritten_since}
+use Rattle.model.specs.Kept.{StartedUnder}
 use Rattle.log_theory.proofs.Kept as kept
 
 module _ (tells : Bool) (B : Behaviour) (format : LogFormat) (own : OwnFiles) (asked : Asked) (entry : Store) (steps : List Step) (hand : Option ℕ) (old now : World)
@@ -30,7 +33,7 @@ module _ (tells : Bool) (B : Behaviour) (format : LogFormat) (own : OwnFiles) (a
     (once : IsMadeOnce asked.graph.edges)
     (found : entry ≡ store_in format own (view_of old.history)) (faithful : IsFaithfulStore B format own asked.graph.edges old)
     (ticked : StartsAreTicked old.history now.history)
-    (premises : Premises B own asked.declared asked.graph.edges (recorded_inputs entry asked.graph.edges) steps old.history now.history) where
+    (keeps : KeepsFaith B own asked.graph.edges entry steps old.history now.history) where
   abbrev edges : List Edge
   edges = asked.graph.edges
 
@@ -61,65 +64,72 @@ module _ (tells : Bool) (B : Behaviour) (format : LogFormat) (own : OwnFiles) (a
 
   -- ---- a record of the entry
 
+  -- no record is of a free path
+  bound : (o : List ℕ) (made : Made) → in_force (store_in format own (view_of old.history)).records o ≡ Some made → keeps.kept.free o ≡ false
+  bound o made force = elim (cases_Bool (keeps.kept.free o)) [
+    | inl is_free ↦ absurd (some_none made (sym force ∙ (ap (λ (s : Store). in_force s.records o) (sym found) ∙ keeps.unrecorded o is_free)))
+    | inr not ↦ not
+  ]
+
   kept_record : (store : Store) (o : List ℕ) (made : Made) → KeepsBoth asked.graph.edges steps entry store o → in_force store.records o ≡ Some made
       → IsFaithfulRecord B store now.history o made × (own.set o ≡ false)
-  kept_record store o made keeps force = by_faith (faithful.records o made was)
+  kept_record store o made same_both force = by_faith (faithful.records o made was)
     where
       was : in_force (store_in format own (view_of old.history)).records o ≡ Some made
-      was = subst (λ (s : Store). in_force s.records o ≡ Some made) found (sym keeps.records ∙ force)
+      was = subst (λ (s : Store). in_force s.records o ≡ Some made) found (sym same_both.records ∙ force)
 
       by_faith : IsFaithfulRecord B (store_in format own (view_of old.history)) old.history o made × (own.set o ≡ false) → IsFaithfulRecord B store now.history o made × (own.set o ≡ false)
       by_faith (faith, outside) = (
         record {
           seen = faith.seen;
           well = faith.well;
-          holds = λ content is. faith.holds content (ap content_of (sym (kept.path_stays tells own (task_of asked entry) steps old now idle rest tell once premises.files.kept o outside keeps.unstarted)) ∙ is);
-          reports = λ deps is same. faith.reports deps (ap (λ (s : Store). deps_in_force s.deps o) (sym found) ∙ (sym keeps.deps ∙ is)) same;
-          older = λ p file is early. faith.older p file (file_was old.history now.history told.more told.grows premises.files.stamps p file is (omega (arith, early, faith.clock))) early;
-          clock = omega (arith, faith.clock, latest_later old.history now.history told.more told.grows);
+          holds = λ content is. faith.holds content (ap content_of (sym (kept.path_stays tells own (task_of asked entry) steps old now idle rest tell once keeps.kept o outside (bound o made was) same_both.unstarted)) ∙ is);
+          reports = λ deps is same. faith.reports deps (ap (λ (s : Store). deps_in_force s.deps o) (sym found) ∙ (sym same_both.deps ∙ is)) same;
+          older = λ p file is early. faith.older p file (file_was old.history now.history told.more told.grows keeps.stamps p file is (omega (arith, early, faith.clock))) early;
+          clock = omega (arith, faith.clock, next_later old.history now.history told.more told.grows);
         },
         outside,
       )
 
   -- ---- a record of this run
 
-  -- what the command of an edge left is what it gives in the present files
-  same_now : (i : ℕ) (at : List Moment) → EndedAt i old.history now.history at → has_number (well_in steps) i ≡ true → (left : LeftOutcome B asked.graph.edges (view_of now.history) (view_of at) i)
-      → GivesTheSame B (edge_at asked.graph.edges i).act (outputs (edge_at asked.graph.edges i)) left.seen (view_of now.history)
-  same_now i at ended well left =
-      premises.one_outcome i (all.out_of_date i (all.started i (all.ended i (all.well i well)))) left.seen (view_of now.history) left.reading (λ p read. refl) left.well left.reports
+  -- what its command left, which ended well and was started under this stamp
+  module _ (i stamp : ℕ) (at : List Moment) (started : StartedUnder i stamp old now) (ended : EndedAt i old.history now.history at) (well : has_number (well_in steps) i ≡ true) where
+    start : StartsAt i stamp old.history now.history
+    start = start_at tells own (task_of asked entry) steps old now rest tell i stamp started
 
-  holds_now : (i : ℕ) (o : List ℕ) → has_number (well_in steps) i ≡ true → has (outputs (edge_at asked.graph.edges i)) o ≡ true
-      → (view_of now.history o ≡ given B (edge_at asked.graph.edges i).act (view_of now.history) o) × (ends_well B (edge_at asked.graph.edges i).act (view_of now.history) ≡ true)
-  holds_now i o well is_output = by_left (premises.left_outcomes i (old.history ++ end.before) ended well)
-    where
-      end : EndOf own asked.graph.edges steps i old.history now.history
-      end = end_of tells own (task_of asked entry) steps old now idle rest tell i well
+    left : LeftOutcome B asked.graph.edges start.after now.history at i
+    left = keeps.left_outcomes i at ended well start.before start.after start.act stamp start.splits
 
-      ended : EndedAt i old.history now.history (old.history ++ end.before)
-      ended = record { before = end.before; after = end.after; is = refl; splits = end.grows }
+    end : EndOf own asked.graph.edges steps i old.history now.history
+    end = end_of tells own (task_of asked entry) steps old now idle rest tell i well
 
-      by_left : LeftOutcome B asked.graph.edges (view_of now.history) (view_of (old.history ++ end.before)) i
-          → (view_of now.history o ≡ given B (edge_at asked.graph.edges i).act (view_of now.history) o) × (ends_well B (edge_at asked.graph.edges i).act (view_of now.history) ≡ true)
-      by_left left =
-          let same = same_now i (old.history ++ end.before) ended well left in (
-            ap content_of (output_stays tells own (task_of asked entry) steps old now idle rest tell once premises.files.kept i o is_output end)
-                ∙ (all_has (λ p. view_of (old.history ++ end.before) p ≡ given B (edge_at asked.graph.edges i).act left.seen p) (outputs (edge_at asked.graph.edges i)) o left.contents is_output
-                ∙ sym (all_has (λ p. given B (edge_at asked.graph.edges i).act (view_of now.history) p ≡ given B (edge_at asked.graph.edges i).act left.seen p) (outputs (edge_at asked.graph.edges i)) o same.contents is_output)),
-            same.ends ∙ left.well,
-          )
+    same_end : old.history ++ end.before ≡ at
+    same_end = one_end tells own (task_of asked entry) steps old now idle rest tell i (old.history ++ end.before) at (record { before = end.before; after = end.after; is = refl; splits = end.grows }) ended
+
+    holds_now : (o : List ℕ) → has (outputs (edge_at asked.graph.edges i)) o ≡ true → view_of now.history o ≡ given B (edge_at asked.graph.edges i).act left.seen o
+    holds_now o is_output =
+        ap content_of (output_stays tells own (task_of asked entry) steps old now idle rest tell once keeps.kept i o is_output end)
+        ∙ (ap (λ (h : List Moment). view_of h o) same_end
+        ∙ all_has (λ p. view_of at p ≡ given B (edge_at asked.graph.edges i).act left.seen p) (outputs (edge_at asked.graph.edges i)) o left.contents is_output)
+
+    older_now : (p : List ℕ) (file : File) → file_at now.history p ≡ Some file → file.stamp ≤ stamp → left.seen p ≡ Some file.content
+    older_now p file is early = left.unwritten p (unwritten_since old.history now.history start.before start.after i start.act stamp start.splits keeps.stamps p file is early) ∙ ap content_of is
 
   new_record : (store : Store) (o : List ℕ) (made : Made) → IsLogged B asked.graph.edges steps hand entry store old now
       → HasNew B asked.graph.edges steps store old now o → in_force store.records o ≡ Some made → IsFaithfulRecord B store now.history o made × (own.set o ≡ false)
   new_record store o made logged new force = (
     subst (λ (m : Made). IsFaithfulRecord B store now.history o m) (same_some (record { act = (edge_at asked.graph.edges new.edge).act; start = new.stamp }) made (sym new.recorded.done ∙ force)) faith,
-    premises.files.kept.own_files.outputs new.edge o new.makes,
+    keeps.kept.own_files.outputs new.edge o new.makes,
   )
     where
-      lies : (latest old.history < new.stamp) × (new.stamp ≤ latest now.history)
-      lies = stamp_lies new.stamp old.history now.history (was_stamped tells own (task_of asked entry) steps old now rest tell ticked new.edge new.stamp new.started) premises.files.stamps
+      lies : (next_stamp old.history ≤ new.stamp) × (new.stamp < next_stamp now.history)
+      lies = stamp_lies new.stamp old.history now.history (was_stamped tells own (task_of asked entry) steps old now rest tell ticked new.edge new.stamp new.started) keeps.stamps
 
-      lists : (deps : Told) → deps_in_force store.deps o ≡ Some deps → deps.start ≡ new.stamp → ListsOnce deps.paths (reports_of B (edge_at asked.graph.edges new.edge).act (view_of now.history))
+      this : LeftOutcome B asked.graph.edges (start new.edge new.stamp new.at new.started new.ended new.well).after now.history new.at new.edge
+      this = left new.edge new.stamp new.at new.started new.ended new.well
+
+      lists : (deps : Told) → deps_in_force store.deps o ≡ Some deps → deps.start ≡ new.stamp → ListsOnce deps.paths (reports_of B (edge_at asked.graph.edges new.edge).act this.seen)
       lists deps is start = some_or_none (edge_at asked.graph.edges new.edge).act.depfile
           (λ none. absurd (by_deps none (logged.deps o)))
           (λ some. by_record (new.recorded.deps some))
@@ -131,24 +141,22 @@ module _ (tells : Bool) (B : Behaviour) (format : LogFormat) (own : OwnFiles) (a
           by_deps none (inr other) =
               other.depfile (ap (λ (k : ℕ). (edge_at asked.graph.edges k).act.depfile) (one_maker asked.graph.edges o other.edge new.edge once other.makes new.makes) ∙ none)
 
-          reports_are : listed (depfile_in B (edge_at asked.graph.edges new.edge).act (view_of new.at)) ≡ reports_of B (edge_at asked.graph.edges new.edge).act (view_of now.history)
-          reports_are =
-              let left = premises.left_outcomes new.edge new.at new.ended new.well in
-              ap listed left.depfile ∙ sym (same_now new.edge new.at new.ended new.well left).reports
+          reports_are : listed (depfile_in B (edge_at asked.graph.edges new.edge).act (view_of new.at)) ≡ reports_of B (edge_at asked.graph.edges new.edge).act this.seen
+          reports_are = ap listed this.depfile
 
           by_record : (found : Told) × (deps_in_force store.deps o ≡ Some found) × (found.start ≡ new.stamp) × ListsOnce found.paths (listed (depfile_in B (edge_at asked.graph.edges new.edge).act (view_of new.at)))
-              → ListsOnce deps.paths (reports_of B (edge_at asked.graph.edges new.edge).act (view_of now.history))
+              → ListsOnce deps.paths (reports_of B (edge_at asked.graph.edges new.edge).act this.seen)
           by_record (found, there, of, once_each) =
-              subst (λ (d : Told). ListsOnce d.paths (reports_of B (edge_at asked.graph.edges new.edge).act (view_of now.history))) (same_some found deps (sym there ∙ is))
+              subst (λ (d : Told). ListsOnce d.paths (reports_of B (edge_at asked.graph.edges new.edge).act this.seen)) (same_some found deps (sym there ∙ is))
               (subst (λ (ps : List (List ℕ)). ListsOnce found.paths ps) reports_are once_each)
 
       faith : IsFaithfulRecord B store now.history o (record { act = (edge_at asked.graph.edges new.edge).act; start = new.stamp })
       faith = record {
-        seen = view_of now.history;
-        well = (holds_now new.edge o new.well new.makes).1;
-        holds = λ content is. sym (holds_now new.edge o new.well new.makes).0 ∙ is;
+        seen = this.seen;
+        well = this.well;
+        holds = λ content is. sym (holds_now new.edge new.stamp new.at new.started new.ended new.well o new.makes) ∙ is;
         reports = lists;
-        older = λ p file is early. ap content_of is;
+        older = older_now new.edge new.stamp new.at new.started new.ended new.well;
         clock = lies.1;
       }
 
@@ -158,7 +166,7 @@ module _ (tells : Bool) (B : Behaviour) (format : LogFormat) (own : OwnFiles) (a
     each_record : (o : List ℕ) (made : Made) → in_force (store_in format own (view_of now.history)).records o ≡ Some made
         → IsFaithfulRecord B (store_in format own (view_of now.history)) now.history o made × (own.set o ≡ false)
     each_record o made force = elim (logged.records o) [
-      | inl keeps ↦ kept_record (store_in format own (view_of now.history)) o made keeps force
+      | inl same_both ↦ kept_record (store_in format own (view_of now.history)) o made same_both force
       | inr other ↦ elim other [
         | inl none ↦ absurd (no_record none.none)
         | inr new ↦ new_record (store_in format own (view_of now.history)) o made logged new force
@@ -173,7 +181,7 @@ module _ (tells : Bool) (B : Behaviour) (format : LogFormat) (own : OwnFiles) (a
 
     none_running : (job : ℕ) (o : List ℕ) → runs job now.events ≡ true → has (outputs (edge_at asked.graph.edges job)) o ≡ true → in_force (store_in format own (view_of now.history)).records o ≡ None
     none_running job o running makes = elim (logged.records o) [
-      | inl keeps ↦ absurd (keeps.unstarted job (started_now job running) makes)
+      | inl same_both ↦ absurd (same_both.unstarted job (started_now job running) makes)
       | inr other ↦ elim other [
         | inl none ↦ none.none
         | inr new ↦ absurd (false≢true (sym (well_idle new.edge new.well)
@@ -181,18 +189,18 @@ module _ (tells : Bool) (B : Behaviour) (format : LogFormat) (own : OwnFiles) (a
       ]
     ]
 
-    deps_early : (o : List ℕ) (deps : Told) → deps_in_force (store_in format own (view_of now.history)).deps o ≡ Some deps → deps.start ≤ latest now.history
+    deps_early : (o : List ℕ) (deps : Told) → deps_in_force (store_in format own (view_of now.history)).deps o ≡ Some deps → deps.start < next_stamp now.history
     deps_early o deps is = elim (logged.deps o) [
       | inl same ↦
           let early = faithful.deps o deps (ap (λ (s : Store). deps_in_force s.deps o) (sym found) ∙ (sym same ∙ is)) in
-          omega (arith, early, latest_later old.history now.history told.more told.grows)
+          omega (arith, early, next_later old.history now.history told.more told.grows)
       | inr new ↦ by_new new
     ]
       where
-        by_new : HasNewDeps asked.graph.edges (store_in format own (view_of now.history)) old now o → deps.start ≤ latest now.history
+        by_new : HasNewDeps asked.graph.edges (store_in format own (view_of now.history)) old now o → deps.start < next_stamp now.history
         by_new new =
-            subst (λ (d : Told). d.start ≤ latest now.history) (same_some new.deps deps (sym new.is ∙ is))
-            (stamp_lies new.deps.start old.history now.history (was_stamped tells own (task_of asked entry) steps old now rest tell ticked new.edge new.deps.start new.started) premises.files.stamps).1
+            subst (λ (d : Told). d.start < next_stamp now.history) (same_some new.deps deps (sym new.is ∙ is))
+            (stamp_lies new.deps.start old.history now.history (was_stamped tells own (task_of asked entry) steps old now rest tell ticked new.edge new.deps.start new.started) keeps.stamps).1
 
     pub faithful_now : IsFaithfulStore B format own asked.graph.edges now
     faithful_now = record {

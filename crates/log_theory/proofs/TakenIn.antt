@@ -126,9 +126,9 @@ module _ (tells : Bool) (B : Behaviour) (format : LogFormat) (own : OwnFiles) (a
     part kind all = (all_parts kind (so_far tell ++ (adds tell).earlier) (Happened (Finish i ok) ∷ ((adds tell).later ++ (wrote tell).more)) (all ((so_far tell ++ (adds tell).earlier) ++ Happened (Finish i ok) ∷ ((adds tell).later ++ (wrote tell).more)) (new_splits tell))).1.1
 
     elsewhere : AllByRecursion (IsElsewhere depfile) ((adds tell).later ++ (wrote tell).more)
-    elsewhere = private_elsewhere own asked.graph.edges files.own_files i (command_of tells B format own asked store old steps now idle rest i finish.ran) depfile (record { named = named; is = inl refl })
+    elsewhere = private_elsewhere own asked.graph.edges files.own_files files.free files.free_apart i (command_of tells B format own asked store old steps now idle rest i finish.ran) depfile (record { named = named; is = inl refl })
         (IsRunning mid.events) others ((adds tell).later ++ (wrote tell).more) (all_append (IsByOthers (IsRunning mid.events)) (adds tell).later (wrote tell).more (adds tell).all_later (wrote tell).all)
-        (part (IsWithinEdge asked.graph.edges) files.commands) (part IsNoEdit files.edits)
+        (part (IsWithinEdge files.free asked.graph.edges) files.commands) (part (IsNoEdit files.free) files.edits)
 
     -- since the end it holds what it held then
     pub depfile_since : (before after at : List Moment) → new.history ≡ mid.history ++ (before ++ after) → EndedAt i old.history new.history at → view_of (mid.history ++ before) (edge_at asked.graph.edges i).act.depfile ≡ view_of at (edge_at asked.graph.edges i).act.depfile

@@ -12,10 +12,10 @@ use Rattle.model.specs.World.{World, View, IsIdle}
 use Rattle.model.specs.Graph.{has, has_number, edge_at, inputs, outputs, IsMadeOnce, IsCommand}
 use Rattle.model.specs.Outcome.{Behaviour}
 use Rattle.model.specs.Records.{Store, OwnFiles, recorded_of, recorded_inputs}
-use Rattle.model.specs.OutOfDate.{Counted, IsVerdict}
+use Rattle.model.specs.OutOfDate.{Counted, ReadsNoFree, IsVerdict}
 use Rattle.model.specs.Schedule.{Task, Step, Judged, Started, Ended, started_in, well_in, done_in}
 use Rattle.model.specs.Phases.{Phase, steps_of, task_with, ArePhasesFrom, AreTakenIn, IsLawfulBuild}
-use Rattle.model.specs.Premises.{InputsAreKnown, FilesAreKept, RecordedApart, OwnFilesApart, SharesNone, IsWithinEdge, Matters, DyndepOutputsAreReadBelow}
+use Rattle.model.specs.Premises.{InputsAreKnown, FilesAreKept, RecordedApart, OwnFilesApart, SharesNone, KeepToOutputs, IsWithinEdge, Matters, DyndepOutputsAreReadBelow}
 use Rattle.model.specs.SingleBuild.{Asked, NamesOther, IsOfBuild, task_of}
 use Rattle.build_theory.specs.Order.{AreReadFirst, IsReadAfter}
 use Rattle.build_theory.specs.Run.{starts_in, IsToldBy, IsRunOrRest}
@@ -26,10 +26,11 @@ use Rattle.build_theory.proofs.Events.{starts_of_all}
 use Rattle.build_theory.proofs.Looks.{kept_before}
 use Rattle.build_theory.proofs.Moments.{of_build}
 use Rattle.build_theory.proofs.Moved.{rest_moved}
+use Rattle.build_theory.proofs.Runs.{rest_begins}
 use Rattle.build_theory.proofs.Orderly.{IsKept, kept_orderly}
 use Rattle.build_theory.proofs.Walked.{IsTurned, AreTurnedFrom, ArePhasesTurned, build_turned, build_reads_first}
 use Rattle.log_theory.specs.Judged.{JudgedOver, AreJudgedOver, ArePhasesJudged, VerdictsWithLoads}
-use Rattle.log_theory.proofs.Carried.{verdict_stands}
+use Rattle.log_theory.proofs.Carried.{counted_on, verdict_stands}
 
 -- ---- what is kept over the edges of the end is kept over those of then
 
@@ -37,7 +38,7 @@ module _ (own : OwnFiles) (few many : List Edge) (grown : HasGrown few many) whe
   command_later : (i : ℕ) → IsCommand few i → IsCommand many i
   command_later i command = grown.phony i ∙ command
 
-  apart_before : OwnFilesApart own many → OwnFilesApart own few
+  pub apart_before : OwnFilesApart own many → OwnFilesApart own few
   apart_before apart = record {
     within = apart.within;
     build_log = apart.build_log;
@@ -53,7 +54,7 @@ module _ (own : OwnFiles) (few many : List Edge) (grown : HasGrown few many) whe
         (apart.apart i j (command_later i command_i) (command_later j command_j) other));
   }
 
-  recorded_before : (store : Store) → RecordedApart own (recorded_inputs store many) → RecordedApart own (recorded_inputs store few)
+  pub recorded_before : (store : Store) → RecordedApart own (recorded_inputs store many) → RecordedApart own (recorded_inputs store few)
   recorded_before store apart i p h = by_dyndep (edge_at few i).dyndep refl
     where
       no_path : (t : Bool) → has (cond t [] []) p ≡ true → ⊥
@@ -66,28 +67,24 @@ module _ (own : OwnFiles) (few many : List Edge) (grown : HasGrown few many) whe
           (subst (λ (d : Option (List ℕ)). has (cond (edge_at few i).phony [] (cond (is_some d) [] (recorded_of store (edge_at few i)))) p ≡ true) is h))
 
   -- what a started command, whose dyndep file is loaded, writes within its edge
-  within_before : (steps : List Step) → ((i : ℕ) → has_number (started_in steps) i ≡ true → (edge_at few i).dyndep ≡ None) → (ms : List Moment) → AllByRecursion (IsOfBuild own few steps) ms
-      → AllByRecursion (IsWithinEdge many) ms → AllByRecursion (IsWithinEdge few) ms
-  within_before steps loaded [] build within = tt
-  within_before steps loaded (Wrote Program path content stamp ∷ ms) build within = (tt, within_before steps loaded ms build.1 within.1)
-  within_before steps loaded (Wrote (Command job) path content stamp ∷ ms) build within = (
-    subst (λ (e : Edge). (has (outputs e) path ≡ true) ⊎ (path ≡ e.act.depfile)) (grown.same job (loaded job build.0)) within.0,
-    within_before steps loaded ms build.1 within.1,
+  within_before : (free : List ℕ → Bool) (steps : List Step) → ((i : ℕ) → has_number (started_in steps) i ≡ true → (edge_at few i).dyndep ≡ None) → (ms : List Moment) → AllByRecursion (IsOfBuild own few steps) ms
+      → AllByRecursion (IsWithinEdge free many) ms → AllByRecursion (IsWithinEdge free few) ms
+  within_before free steps loaded [] build within = tt
+  within_before free steps loaded (Wrote Program path content stamp ∷ ms) build within = (tt, within_before free steps loaded ms build.1 within.1)
+  within_before free steps loaded (Wrote (Command job) path content stamp ∷ ms) build within = (
+    subst (λ (e : Edge). (has (outputs e) path ≡ true) ⊎ (path ≡ e.act.depfile) ⊎ (free path ≡ true)) (grown.same job (loaded job build.0)) within.0,
+    within_before free steps loaded ms build.1 within.1,
   )
-  within_before steps loaded (Wrote Someone path content stamp ∷ ms) build within = (tt, within_before steps loaded ms build.1 within.1)
-  within_before steps loaded (Happened event ∷ ms) build within = (tt, within_before steps loaded ms build.1 within.1)
+  within_before free steps loaded (Wrote Someone path content stamp ∷ ms) build within = (tt, within_before free steps loaded ms build.1 within.1)
+  within_before free steps loaded (Happened event ∷ ms) build within = (tt, within_before free steps loaded ms build.1 within.1)
 
 -- files that are kept over the edges of the end are kept over those of a run so far, where each command that it started has its dyndep
 -- file loaded
-pub kept_then : (tells : Bool) (own : OwnFiles) (few : Task) (many : List Edge) → HasGrown few.graph.edges many → (steps : List Step) (old now : World) → IsTrue tells → IsIdle old.events
+pub commands_then : (tells : Bool) (own : OwnFiles) (few : Task) (many : List Edge) → HasGrown few.graph.edges many → (steps : List Step) (old now : World) → IsTrue tells → IsIdle old.events
     → IsRunOrRest tells own few steps old now → ((i : ℕ) → has_number (started_in steps) i ≡ true → (edge_at few.graph.edges i).dyndep ≡ None)
-    → FilesAreKept own many old.history now.history → FilesAreKept own few.graph.edges old.history now.history
-kept_then tells own few many grown steps old now tell idle rest loaded files = record {
-  commands = λ more is. subst (λ (l : List Moment). AllByRecursion (IsWithinEdge few.graph.edges) l) (same_rest old.history told.more more (sym told.grows ∙ is))
-      (within_before own few.graph.edges many grown steps loaded told.more of_build_then (files.commands told.more told.grows));
-  own_files = apart_before own few.graph.edges many grown files.own_files;
-  edits = files.edits;
-}
+    → (free : List ℕ → Bool) → KeepToOutputs free many old.history now.history → KeepToOutputs free few.graph.edges old.history now.history
+commands_then tells own few many grown steps old now tell idle rest loaded free commands more is = subst (λ (l : List Moment). AllByRecursion (IsWithinEdge free few.graph.edges) l) (same_rest old.history told.more more (sym told.grows ∙ is))
+    (within_before own few.graph.edges many grown free steps loaded told.more of_build_then (commands told.more told.grows))
   where
     told : IsToldBy own few.graph.edges steps old.events (rest.first ++ rest.later) old.history now.history
     told = rest.history tell
@@ -98,6 +95,17 @@ kept_then tells own few many grown steps old now tell idle rest loaded files = r
     of_build_then : AllByRecursion (IsOfBuild own few.graph.edges steps) told.more
     of_build_then = of_build own few.graph.edges steps old.events [] told.more idle told.all
         (λ j h. subst (λ (l : List ℕ). has_number l j ≡ true) (ap starts_in told.happened ∙ starts_are) h)
+
+abbrev pub kept_then : (tells : Bool) (own : OwnFiles) (few : Task) (many : List Edge) → HasGrown few.graph.edges many → (steps : List Step) (old now : World) → IsTrue tells → IsIdle old.events
+    → IsRunOrRest tells own few steps old now → ((i : ℕ) → has_number (started_in steps) i ≡ true → (edge_at few.graph.edges i).dyndep ≡ None)
+    → FilesAreKept own many old.history now.history → FilesAreKept own few.graph.edges old.history now.history
+kept_then tells own few many grown steps old now tell idle rest loaded files = record {
+  free = files.free;
+  free_apart = record { set = files.free_apart.set; outputs = λ i p h. files.free_apart.outputs i p (grown.outputs i p h) };
+  commands = commands_then tells own few many grown steps old now tell idle rest loaded files.free files.commands;
+  own_files = apart_before own few.graph.edges many grown files.own_files;
+  edits = files.edits;
+}
 
 -- ---- from a phase to the exit
 
@@ -127,12 +135,16 @@ module _ (tells : Bool) (B : Behaviour) (own : OwnFiles) (texts : View) (asked :
 
   -- one verdict
   final : (edges : List Edge) → HasGrown edges asked.graph.edges → (before after : List Step) (i : ℕ) (b : Bool) → steps ≡ before ++ Judged i b ∷ after
-      → IsTurned edges asked.graph.edges store before i b → JudgedOver tells own asked store edges before i b old now → IsVerdict asked.graph.edges store (well_in before) old.history now.history i b
-  final edges grown before after i b splits turn was =
+      → IsTurned edges asked.graph.edges store before i b → JudgedOver tells own asked store edges before i b old now → ReadsNoFree files.free asked.graph.edges store now.history i → IsVerdict asked.graph.edges store (well_in before) old.history now.history i b
+  final edges grown before after i b splits turn was unread =
       verdict_stands tells own asked store before after i b old was.mid now was.more tell idle once
-      (rest_moved tells own (task_with (task_of asked store) store edges) (task_of asked store) before old was.mid grown was.run)
+      (rest_moved tells own (task_with (task_of asked store) store edges) (task_of asked store) before old was.mid grown (rest_begins tells own (task_with (task_of asked store) store edges) old before was.mid was.run))
+      (subst (λ (l : List Step). IsRunOrRest tells own (task_of asked store) l old now) splits rest) (was.grows tell) files apart counted unread
+      (turn.verdict old.history was.mid.history (was.right tell files_then (recorded_before own edges asked.graph.edges grown store apart)
+      (λ p counts. unread p (counted_on tells own asked store before after i b old was.mid now was.more tell idle once
+      (rest_moved tells own (task_with (task_of asked store) store edges) (task_of asked store) before old was.mid grown (rest_begins tells own (task_with (task_of asked store) store edges) old before was.mid was.run))
       (subst (λ (l : List Step). IsRunOrRest tells own (task_of asked store) l old now) splits rest) (was.grows tell) files apart counted
-      (turn.verdict old.history was.mid.history (was.right tell files_then (recorded_before own edges asked.graph.edges grown store apart)))
+      p (turn.counted was.mid.history p counts)))))
     where
       kept : IsKept edges before
       kept = kept_orderly edges before was.run.orderly
@@ -141,17 +153,21 @@ module _ (tells : Bool) (B : Behaviour) (own : OwnFiles) (texts : View) (asked :
       files_mid = kept_before own asked.graph.edges old.history was.mid.history now.history was.more (was.grows tell) files
 
       files_then : FilesAreKept own edges old.history was.mid.history
-      files_then = kept_then tells own (task_with (task_of asked store) store edges) asked.graph.edges grown before old was.mid tell idle was.run
+      files_then = kept_then tells own (task_with (task_of asked store) store edges) asked.graph.edges grown before old was.mid tell idle (rest_begins tells own (task_with (task_of asked store) store edges) old before was.mid was.run)
           (λ k started. turn.loaded k (kept.out_of_date k (kept.started k started))) files_mid
 
       counted : IsReadAfter asked.graph.edges (λ k p. Counted asked.graph.edges store now.history k p) (done_in before) i
       counted p j (inl read) made command = first before after i b splits p j (inl read) made command
       counted p j (inr recorded) made command = first before after i b splits p j (inr (inl recorded)) made command
 
+  -- a verdict is right at the exit
+  abbrev IsFinal : List Step → ℕ → Bool → Type 0
+  IsFinal before i b = ReadsNoFree files.free asked.graph.edges store now.history i → IsVerdict asked.graph.edges store (well_in before) old.history now.history i b
+
   -- all verdicts of these steps
   abbrev AreFinal : List Step → List Step → Type 0
   AreFinal before [] = Unit {0}
-  AreFinal before (Judged i b ∷ after) = IsVerdict asked.graph.edges store (well_in before) old.history now.history i b × AreFinal (before ++ Judged i b ∷ []) after
+  AreFinal before (Judged i b ∷ after) = IsFinal before i b × AreFinal (before ++ Judged i b ∷ []) after
   AreFinal before (Started i ∷ after) = AreFinal (before ++ Started i ∷ []) after
   AreFinal before (Ended i w ∷ after) = AreFinal (before ++ Ended i w ∷ []) after
 
@@ -197,29 +213,29 @@ module _ (tells : Bool) (B : Behaviour) (own : OwnFiles) (texts : View) (asked :
         (over_steps asked.graph.edges (grown_same asked.graph.edges) (steps_of build.earlier) build.last build.taken_in build.whole turned.1 last_judged)
         (taken_in_final (steps_of build.earlier ++ build.last) build.taken_in build.rest))
 
-    final_at : (before some xs ys : List Step) (i : ℕ) (b : Bool) → AreFinal before some → some ≡ xs ++ Judged i b ∷ ys → IsVerdict asked.graph.edges store (well_in (before ++ xs)) old.history now.history i b
+    final_at : (before some xs ys : List Step) (i : ℕ) (b : Bool) → AreFinal before some → some ≡ xs ++ Judged i b ∷ ys → IsFinal (before ++ xs) i b
     final_at before [] [] ys i b a is = cc
     final_at before [] (x ∷ xs) ys i b a is = cc
     final_at before (Judged j c ∷ some) [] ys i b a is =
         let same : j ≡ i = cc in
         let also : c ≡ b = cc in
-        subst (λ (l : List Step). IsVerdict asked.graph.edges store (well_in l) old.history now.history i b) (sym (append-nil before))
-        (subst (λ (n : ℕ). IsVerdict asked.graph.edges store (well_in before) old.history now.history n b) same
-        (subst (λ (d : Bool). IsVerdict asked.graph.edges store (well_in before) old.history now.history j d) also a.0))
+        subst (λ (l : List Step). IsFinal l i b) (sym (append-nil before))
+        (subst (λ (n : ℕ). IsFinal before n b) same
+        (subst (λ (d : Bool). IsFinal before j d) also a.0))
     final_at before (Started j ∷ some) [] ys i b a is = cc
     final_at before (Ended j w ∷ some) [] ys i b a is = cc
     final_at before (s ∷ some) (x ∷ xs) ys i b a is =
         let head : s ≡ x = cc in
         let tail : some ≡ xs ++ Judged i b ∷ ys = cc in
-        subst (λ (y : Step). IsVerdict asked.graph.edges store (well_in (before ++ y ∷ xs)) old.history now.history i b) head
-        (subst (λ (l : List Step). IsVerdict asked.graph.edges store (well_in l) old.history now.history i b) (append_assoc before (s ∷ []) xs) (final_at (before ++ s ∷ []) some xs ys i b (on s a) tail))
+        subst (λ (y : Step). IsFinal (before ++ y ∷ xs) i b) head
+        (subst (λ (l : List Step). IsFinal l i b) (append_assoc before (s ∷ []) xs) (final_at (before ++ s ∷ []) some xs ys i b (on s a) tail))
       where
         on : (t : Step) → AreFinal before (t ∷ some) → AreFinal (before ++ t ∷ []) some
         on (Judged j c) a = a.1
         on (Started j) a = a
         on (Ended j w) a = a
 
-    pub verdict_now : (before after : List Step) (i : ℕ) (b : Bool) → steps ≡ before ++ Judged i b ∷ after → IsVerdict asked.graph.edges store (well_in before) old.history now.history i b
+    pub verdict_now : (before after : List Step) (i : ℕ) (b : Bool) → steps ≡ before ++ Judged i b ∷ after → IsFinal before i b
     verdict_now before after i b splits = final_at [] (steps_of build.earlier ++ (build.last ++ build.taken_in)) before after i b all_final (sym build.whole ∙ splits)
 
 pub verdicts_with_loads : VerdictsWithLoads

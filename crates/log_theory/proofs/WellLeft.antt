@@ -1,12 +1,14 @@
 -- What a success leaves to do: of an edge whose command ended well nothing but the named exceptions.
-use Rattle.std.proofs.Common.{◌≡◌, ◌≢◌, ◌⊎◌, inl, inr, ℕ, ◌<◌, ◌≤◌, ◌==◌, ◌&&◌, ◌||◌, not, cond, Bool, true, false, IsTrue, List, [], ◌∷◌, ◌++◌, map, Option, Some, None, is_some, bytes_eq, refl, sym, ◌∙◌, ap, subst, arith, append_assoc}
+use Rattle.std.proofs.Common.{◌≡◌, ◌≢◌, ◌⊎◌, inl, inr, ℕ, suc, ◌<◌, ◌≤◌, max, ◌==◌, ◌&&◌, ◌||◌, not, cond, Bool, true, false, IsTrue, List, [], ◌∷◌, ◌++◌, map, Option, Some, None, is_some, bytes_eq, refl, sym, ◌∙◌, ap, subst, arith, append_assoc}
 use Rattle.std.specs.Prelude.{is_none, find, nat_lt}
 use Rattle.std.specs.List.{list_any, list_all, AllByRecursion}
-use Rattle.std.proofs.lemmas.Bool.{false≢true, true≢false, cases_Bool, or_cases, or_left, or_right, and_parts, cond-true, eqb-true, eq-eqb, ltb-false, ltb-true, not-true}
+use Rattle.std.proofs.Math.Nat.{le-max_right}
+use Rattle.std.proofs.lemmas.Bool.{false≢true, true≢false, cases_Bool, or_cases, or_left, or_right, and_parts, eqb-true, eq-eqb, ltb-true, not-true}
 use Rattle.model.specs.declared.act.Act.{Act}
-use Rattle.model.specs.declared.event.Event.TheVariants.{Start}
+use Rattle.model.specs.declared.event.Event.TheVariants.{Start, Finish}
 use Rattle.model.specs.declared.event.Moment.{Moment}
 use Rattle.model.specs.declared.event.Moment.TheVariants.{Wrote, Happened}
+use Rattle.model.specs.declared.event.Writer.{Writer}
 use Rattle.model.specs.declared.event.Writer.TheVariants.{Command}
 use Rattle.model.specs.declared.graph.Deps.{Deps}
 use Rattle.model.specs.declared.graph.Deps.TheVariants.{Unset, Gcc}
@@ -14,7 +16,7 @@ use Rattle.model.specs.declared.graph.Edge.{Edge}
 use Rattle.model.specs.declared.reason.Reason.{Reason}
 use Rattle.model.specs.declared.reason.Reason.TheVariants.{OutputAbsent, NoRecord, OtherAct, InputAbsent, InputChanged, InputLater, OutputOlder, DepsUnknown}
 use Rattle.model.specs.declared.record.DepsRecord.{DepsRecord}
-use Rattle.model.specs.World.{World, File, written, file_at, file_from, stamp_of, view_of, latest_from, latest, IsIdle}
+use Rattle.model.specs.World.{World, File, written, file_at, file_from, stamp_of, view_of, next_stamp, IsIdle}
 use Rattle.model.specs.Graph.{has, has_number, edge_at, maker, outputs, inputs, IsMadeOnce, IsCommand}
 use Rattle.model.specs.Outcome.{Behaviour, depfile_in, listed}
 use Rattle.model.specs.Reading.{IsRead}
@@ -26,20 +28,20 @@ use Rattle.model.specs.Premises.{FilesAreKept, RecordedApart, StampsGrow, Increa
 use Rattle.model.specs.SingleBuild.{Asked, task_of}
 use Rattle.model.specs.Kept.{StartedUnder, IsRecorded, IsWritten, IsExcepted}
 use Rattle.build_theory.specs.Run.{IsRunOrRest, IsToldBy}
-use Rattle.build_theory.proofs.Lists.{all_has, bytes_same, has-left, has-right, has-cases, same_some}
+use Rattle.build_theory.proofs.Lists.{same_rest, all_has, bytes_same, has-left, has-right, has-cases, same_some}
 use Rattle.build_theory.proofs.Makers.{one_maker}
-use Rattle.build_theory.proofs.Files.{file_from-append}
+use Rattle.build_theory.proofs.Files.{IsElsewhere, file_from-append}
 use Rattle.build_theory.proofs.Orderly.{IsKept, kept_orderly}
 use Rattle.build_theory.specs.Order.{AreReadFirst}
 use Rattle.build_theory.proofs.Nothing.{ReadsAre, reads_where_settled}
-use Rattle.build_theory.proofs.Exit.{until_start}
+use Rattle.build_theory.proofs.Exit.{unwritten_until}
 use Rattle.log_theory.specs.Logged.{KeepsBoth, HasNone, HasNew, HasNewDeps, IsLogged, StartsAreTicked}
 use Rattle.log_theory.proofs.Starts.{TickedAfter, was_stamped, ticked_after}
-use Rattle.log_theory.proofs.Stamps.{early_file, file_was, latest_grows, latest_from-append, stamp_within, stamp_lies}
+use Rattle.log_theory.proofs.Stamps.{stamp_lies}
 use Rattle.log_theory.proofs.Explained.{some_or_none, recorded_is}
 use Rattle.log_theory.proofs.Carried.{read_apart}
 use Rattle.log_theory.proofs.Left.{anew_none}
-use Rattle.log_theory.proofs.Ticked.{written_stamp, file_within, increases_rest, stamps_since, settled_early, reads_early}
+use Rattle.log_theory.proofs.Ticked.{file_within, written_from, settled_early, reads_early}
 
 -- ---- tests that hold
 
@@ -155,42 +157,41 @@ of_known act (Some m) (Some deps) start p is known among =
     let same : m ≡ record { act = act; start = start } = cc in
     (deps, refl, eqb-true deps.start m.start (and_parts (is_same_act m.act act) (deps.start == m.start) known).1 ∙ ap (λ (x : Made). x.start) same, among)
 
--- ---- a write in the build is later than the entry
+-- ---- what a command writes is later than its start
 
-written_beyond : (old new before after : List Moment) (i : ℕ) (o : List ℕ) (content : Option (List ℕ)) (stamp : ℕ) → StampsGrow old new → new ≡ old ++ (before ++ Wrote (Command i) o content stamp ∷ after)
-    → (file : File) → file_at new o ≡ Some file → latest old < file.stamp
-written_beyond old new before after i o content stamp stamps splits file is = elim (cases_Bool (nat_lt (latest old) file.stamp)) [
-  | inl lt ↦ ltb-true (latest old) file.stamp lt
-  | inr other ↦
-      let early : file.stamp ≤ latest old = ltb-false (latest old) file.stamp other in
-      let held : written content stamp ≡ Some file = early_file o (latest old) stamp (omega (arith, beyond)) (written content stamp) after grows.1 file there early in
-      let same : file.stamp ≡ stamp = written_stamp content stamp file held in
-      absurd (omega (arith, early, same, beyond))
-]
-  where
-    grows : Increases (latest_from (latest old) before) (Wrote (Command i) o content stamp ∷ after)
-    grows = increases_rest (latest old) before (Wrote (Command i) o content stamp ∷ after) (stamps (before ++ Wrote (Command i) o content stamp ∷ after) splits)
-
-    beyond : latest old < stamp
-    beyond = omega (arith, grows.0, latest_grows (latest old) before)
-
-    there : file_from o (written content stamp) after ≡ Some file
-    there =
-        sym (ap (λ (h : List Moment). file_at h o) splits
-        ∙ (file_from-append o None old (before ++ Wrote (Command i) o content stamp ∷ after)
-        ∙ (file_from-append o (file_at old o) before (Wrote (Command i) o content stamp ∷ after)
-        ∙ ap (λ (f : Option File). file_from o f after) (cond-true (bytes_eq o o) (written content stamp) (file_from o (file_at old o) before) (bytes_same o)))))
-        ∙ is
+-- what is written behind a start, and was not before, is stamped later than the start
+written_behind : (n : ℕ) (first after : List Moment) (i : ℕ) (act : Act) (begun : ℕ) (before later : List Moment) (by : Writer) (o : List ℕ) (content : Option (List ℕ)) (stamp : ℕ) (held : Option File)
+    → AllByRecursion (IsElsewhere o) first → first ++ Happened (Start i act begun) ∷ after ≡ before ++ Wrote by o content stamp ∷ later → Increases n (first ++ Happened (Start i act begun) ∷ after)
+    → (file : File) → file_from o held (first ++ Happened (Start i act begun) ∷ after) ≡ Some file → begun < file.stamp
+written_behind n [] after i act begun [] later by o content stamp held none same grows file is = cc
+written_behind n [] after i act begun (w ∷ before) later by o content stamp held none same grows file is =
+    let rest : after ≡ before ++ Wrote by o content stamp ∷ later = cc in
+    let from = written_from (max n (suc begun)) before later by o content stamp held (subst (λ (l : List Moment). Increases (max n (suc begun)) l) rest grows) file
+    (ap (λ (l : List Moment). file_from o held l) (sym rest) ∙ is) in
+    omega (arith, from, le-max_right n (suc begun))
+written_behind n (x ∷ first) after i act begun [] later by o content stamp held none same grows file is =
+    let head : x ≡ Wrote by o content stamp = cc in
+    absurd (false≢true (sym (subst (λ (m : Moment). IsElsewhere o m) head none.0) ∙ bytes_same o))
+written_behind n (Wrote b p c s ∷ first) after i act begun (w ∷ before) later by o content stamp held none same grows file is =
+    let rest : first ++ Happened (Start i act begun) ∷ after ≡ before ++ Wrote by o content stamp ∷ later = cc in
+    written_behind s first after i act begun before later by o content stamp (cond (bytes_eq p o) (written c s) held) none.1 rest grows.1 file is
+written_behind n (Happened (Start j a s) ∷ first) after i act begun (w ∷ before) later by o content stamp held none same grows file is =
+    let rest : first ++ Happened (Start i act begun) ∷ after ≡ before ++ Wrote by o content stamp ∷ later = cc in
+    written_behind (max n (suc s)) first after i act begun before later by o content stamp held none.1 rest grows file is
+written_behind n (Happened (Finish j ok) ∷ first) after i act begun (w ∷ before) later by o content stamp held none same grows file is =
+    let rest : first ++ Happened (Start i act begun) ∷ after ≡ before ++ Wrote by o content stamp ∷ later = cc in
+    written_behind n first after i act begun before later by o content stamp held none.1 rest grows file is
 
 module _ (tells : Bool) (B : Behaviour) (own : OwnFiles) (asked : Asked) (entry exit : Store) (steps : List Step) (old now : World)
     (tell : IsTrue tells) (idle : IsIdle old.events) (rest : IsRunOrRest tells own (task_of asked entry) steps old now) (once : IsMadeOnce asked.graph.edges)
     (files : FilesAreKept own asked.graph.edges old.history now.history) (logged : IsLogged B asked.graph.edges steps None entry exit old now) (ticks : StartsAreTicked old.history now.history)
-    (early_deps : (o : List ℕ) (deps : Told) → deps_in_force entry.deps o ≡ Some deps → deps.start ≤ latest old.history)
+    (early_deps : (o : List ℕ) (deps : Told) → deps_in_force entry.deps o ≡ Some deps → deps.start < next_stamp old.history)
     (apart : RecordedApart own (recorded_inputs entry asked.graph.edges)) (stamps : StampsGrow old.history now.history)
     (above : ReportsComeFromAbove B own asked.graph.edges (recorded_inputs entry asked.graph.edges) steps old.history now.history)
     (loaded : (j : ℕ) → has_number (judged_in steps) j ≡ true → (edge_at asked.graph.edges j).dyndep ≡ None)
     (first_read : AreReadFirst asked.graph.edges (Matters B asked.graph.edges (recorded_inputs entry asked.graph.edges) steps old.history now.history) steps)
     (i : ℕ) (command : IsCommand asked.graph.edges i) (well : has_number (well_in steps) i ≡ true)
+    (unread : (p : List ℕ) → Matters B asked.graph.edges (recorded_inputs entry asked.graph.edges) steps old.history now.history i p → files.free p ≡ false)
     (inputs_settled : (q : List ℕ) (j : ℕ) → has (inputs (edge_at asked.graph.edges i)) q ≡ true → maker asked.graph.edges q ≡ Some j → IsSettled asked.graph.edges (done_in steps) j) where
   all : IsKept asked.graph.edges steps
   all = kept_orderly asked.graph.edges steps rest.orderly
@@ -228,34 +229,34 @@ module _ (tells : Bool) (B : Behaviour) (own : OwnFiles) (asked : Asked) (entry 
             recorded = subst (λ (k : ℕ). IsRecorded B asked.graph.edges exit k new.stamp new.at o) same new.recorded;
           }
 
-  lies : (stamp : ℕ) → StartedUnder i stamp old now → (latest old.history < stamp) × (stamp ≤ latest now.history)
+  lies : (stamp : ℕ) → StartedUnder i stamp old now → (next_stamp old.history ≤ stamp) × (stamp < next_stamp now.history)
   lies stamp started = stamp_lies stamp old.history now.history (was_stamped tells own (task_of asked entry) steps old now rest tell ticks i stamp started) stamps
 
   -- ---- what is read is earlier
 
-  read_early : (stamp : ℕ) → StartedUnder i stamp old now → (p : List ℕ) → IsRead asked.graph.edges (view_of now.history) i p → (file : File) → file_at now.history p ≡ Some file → file.stamp < stamp
+  read_early : (stamp : ℕ) → StartedUnder i stamp old now → (p : List ℕ) → IsRead asked.graph.edges (view_of now.history) i p → (file : File) → file_at now.history p ≡ Some file → file.stamp ≤ stamp
   read_early stamp started p read file is = by_tick (ticked i stamp started)
     where
-      by_tick : TickedAfter tells own (task_of asked entry) steps i stamp old now → file.stamp < stamp
+      by_tick : TickedAfter tells own (task_of asked entry) steps i stamp old now → file.stamp ≤ stamp
       by_tick t =
           settled_early tells own asked entry steps old now tell idle once rest files stamps i stamp t p
-          (read_apart asked.graph.edges (view_of now.history) (λ q. own.set q ≡ false) files.own_files.inputs i p read)
+          (read_apart asked.graph.edges (view_of now.history) (λ q. own.set q ≡ false) files.own_files.inputs i p read) (unread p (inl read))
           (λ j made is. reads_early tells own asked entry steps old now tell idle once rest files stamps i stamp t
           (Matters B asked.graph.edges (recorded_inputs entry asked.graph.edges) steps old.history now.history) first_read p j (inl read) made is) file is
 
-  told_is_early : (stamp : ℕ) → StartedUnder i stamp old now → (p : List ℕ) → own.set p ≡ false → IsReported B asked.graph.edges steps old.history now.history i p → (file : File) → file_at now.history p ≡ Some file → file.stamp < stamp
-  told_is_early stamp started p outside reported file is = settled_early tells own asked entry steps old now tell idle once rest files stamps i stamp (ticked i stamp started) p outside
+  told_is_early : (stamp : ℕ) → StartedUnder i stamp old now → (p : List ℕ) → own.set p ≡ false → IsReported B asked.graph.edges steps old.history now.history i p → (file : File) → file_at now.history p ≡ Some file → file.stamp ≤ stamp
+  told_is_early stamp started p outside reported file is = settled_early tells own asked entry steps old now tell idle once rest files stamps i stamp (ticked i stamp started) p outside (unread p (inr (inr reported)))
       (λ j made also. reads_early tells own asked entry steps old now tell idle once rest files stamps i stamp (ticked i stamp started)
       (Matters B asked.graph.edges (recorded_inputs entry asked.graph.edges) steps old.history now.history) first_read p j (inr (inr reported)) made also) file is
 
-  recorded_early : (stamp : ℕ) → StartedUnder i stamp old now → (p : List ℕ) → has (recorded_inputs exit asked.graph.edges i) p ≡ true → (file : File) → file_at now.history p ≡ Some file → file.stamp < stamp
+  recorded_early : (stamp : ℕ) → StartedUnder i stamp old now → (p : List ℕ) → has (recorded_inputs exit asked.graph.edges i) p ≡ true → (file : File) → file_at now.history p ≡ Some file → file.stamp ≤ stamp
   recorded_early stamp started p recorded file is = by_output (in_paths exit.deps (outputs (edge_at asked.graph.edges i)) p parts.1)
     where
       parts : (list_all (λ o. is_known (edge_at asked.graph.edges i).act (in_force exit.records o) (deps_in_force exit.deps o)) (outputs (edge_at asked.graph.edges i)) ≡ true) × (has (all_paths_in exit.deps (outputs (edge_at asked.graph.edges i))) p ≡ true)
       parts = in_recorded exit (edge_at asked.graph.edges i) p
           (sym (ap (λ (ps : List (List ℕ)). has ps p) (recorded_is exit asked.graph.edges i command (loaded i (all.out_of_date i (all.started i started_i))))) ∙ recorded)
 
-      by_output : IsFound (λ o. has (paths_in (deps_in_force exit.deps o)) p ≡ true) (outputs (edge_at asked.graph.edges i)) → file.stamp < stamp
+      by_output : IsFound (λ o. has (paths_in (deps_in_force exit.deps o)) p ≡ true) (outputs (edge_at asked.graph.edges i)) → file.stamp ≤ stamp
       by_output out = by_deps (of_known (edge_at asked.graph.edges i).act (in_force exit.records out.path) (deps_in_force exit.deps out.path) mine.stamp p mine.recorded.done
           (all_has (λ o. is_known (edge_at asked.graph.edges i).act (in_force exit.records o) (deps_in_force exit.deps o) ≡ true) (outputs (edge_at asked.graph.edges i)) out.path
           (all_true (λ o. is_known (edge_at asked.graph.edges i).act (in_force exit.records o) (deps_in_force exit.deps o)) (outputs (edge_at asked.graph.edges i)) parts.0) out.among) out.is)
@@ -263,7 +264,7 @@ module _ (tells : Bool) (B : Behaviour) (own : OwnFiles) (asked : Asked) (entry 
           mine : HasOwn out.path
           mine = own_record out.path out.among
 
-          by_deps : (deps : Told) × (deps_in_force exit.deps out.path ≡ Some deps) × (deps.start ≡ mine.stamp) × (has deps.paths p ≡ true) → file.stamp < stamp
+          by_deps : (deps : Told) × (deps_in_force exit.deps out.path ≡ Some deps) × (deps.start ≡ mine.stamp) × (has deps.paths p ≡ true) → file.stamp ≤ stamp
           by_deps (deps, there, start, among) = some_or_none (edge_at asked.graph.edges i).act.depfile (λ none. absurd (no_deps none (logged.deps out.path))) (λ some. by_list some (mine.recorded.deps some))
             where
               no_deps : (edge_at asked.graph.edges i).act.depfile ≡ [] → (deps_in_force exit.deps out.path ≡ deps_in_force entry.deps out.path) ⊎ HasNewDeps asked.graph.edges exit old now out.path → ⊥
@@ -272,7 +273,7 @@ module _ (tells : Bool) (B : Behaviour) (own : OwnFiles) (asked : Asked) (entry 
                   other.depfile (ap (λ (k : ℕ). (edge_at asked.graph.edges k).act.depfile) (one_maker asked.graph.edges out.path other.edge i once other.makes out.among) ∙ none)
 
               by_list : (edge_at asked.graph.edges i).act.depfile ≢ [] → (found : Told) × (deps_in_force exit.deps out.path ≡ Some found) × (found.start ≡ mine.stamp) × ListsOnce found.paths (listed (depfile_in B (edge_at asked.graph.edges i).act (view_of mine.at)))
-                  → file.stamp < stamp
+                  → file.stamp ≤ stamp
               by_list some (found, found_there, found_start, lists) =
                   let told : has (listed (depfile_in B (edge_at asked.graph.edges i).act (view_of mine.at))) p ≡ true =
                   sym (lists.same p) ∙ (ap (λ (d : Told). has d.paths p) (same_some found deps (sym found_there ∙ there)) ∙ among) in
@@ -287,16 +288,11 @@ module _ (tells : Bool) (B : Behaviour) (own : OwnFiles) (asked : Asked) (entry 
   written_later stamp started o makes written_so file is = by_tick (ticked i stamp started)
     where
       by_tick : TickedAfter tells own (task_of asked entry) steps i stamp old now → stamp < file.stamp
-      by_tick t = elim (cases_Bool (nat_lt stamp file.stamp)) [
-        | inl lt ↦ ltb-true stamp file.stamp lt
-        | inr other ↦
-            let low : file.stamp ≤ stamp = ltb-false stamp file.stamp other in
-            let there : file_at (old.history ++ first) o ≡ Some file = file_was (old.history ++ first) now.history (Happened (Start i st_act stamp) ∷ st_after) at_start
-            (stamps_since old.history first (old.history ++ first) now.history refl stamps) o file is (omega (arith, low, high)) in
-            let early = file_within old.history o file (sym unstarted ∙ there) in
-            let beyond = written_beyond old.history now.history written_so.before written_so.after i o written_so.content written_so.stamp stamps written_so.splits file is in
-            absurd (omega (arith, early, beyond))
-      ]
+      by_tick t =
+          written_behind (next_stamp old.history) first st_after i st_act stamp written_so.before written_so.after (Command i) o written_so.content written_so.stamp (file_at old.history o) none_before
+          (same_rest old.history (first ++ Happened (Start i st_act stamp) ∷ st_after) (written_so.before ++ Wrote (Command i) o written_so.content written_so.stamp ∷ written_so.after) (sym grows ∙ written_so.splits))
+          (stamps (first ++ Happened (Start i st_act stamp) ∷ st_after) grows) file
+          (sym (file_from-append o None old.history (first ++ Happened (Start i st_act stamp) ∷ st_after)) ∙ (ap (λ (h : List Moment). file_at h o) (sym grows) ∙ is))
         where
           mid : IsToldBy own asked.graph.edges t.done old.events (t.run.first ++ t.run.later) old.history t.mid.history
           mid = t.run.history tell
@@ -321,16 +317,16 @@ module _ (tells : Bool) (B : Behaviour) (own : OwnFiles) (asked : Asked) (entry 
               ∙ (append_assoc old.history mid.more (tick ++ Happened (Start i t.stamped.act stamp) ∷ t.stamped.after)
               ∙ ap (λ (l : List Moment). old.history ++ l) (sym (append_assoc mid.more tick (Happened (Start i t.stamped.act stamp) ∷ t.stamped.after))))))
 
-          at_start : now.history ≡ (old.history ++ first) ++ Happened (Start i st_act stamp) ∷ st_after
-          at_start = grows ∙ sym (append_assoc old.history first (Happened (Start i st_act stamp) ∷ st_after))
+          none_before : AllByRecursion (IsElsewhere o) first
+          none_before =
+              unwritten_until tells own (task_of asked entry) steps old now idle rest tell once files i stamp st_act o first st_after grows makes
 
-          high : stamp ≤ latest (old.history ++ first)
-          high = subst (λ (n : ℕ). stamp ≤ n) (sym (latest_from-append 0 old.history first ∙ latest_from-append (latest old.history) mid.more tick))
-              (stamp_within (latest_from (latest old.history) mid.more) t.stamped.before t.stamped.by t.stamped.path t.stamped.content stamp t.stamped.between)
-
-          unstarted : file_at (old.history ++ first) o ≡ file_at old.history o
-          unstarted =
-              until_start tells own (task_of asked entry) steps old now idle rest tell once files i stamp st_act o first st_after grows makes
+  -- an output that the command wrote, and that is there, is stamped later than it was at the entry: so one whose stamp is as it was
+  -- (`restat`) was not written, or is gone
+  pub restat_is_unwritten : (stamp : ℕ) → StartedUnder i stamp old now → (o : List ℕ) → has (outputs (edge_at asked.graph.edges i)) o ≡ true → (file before : File) → file_at now.history o ≡ Some file → file_at old.history o ≡ Some before
+      → before.stamp ≡ file.stamp → IsWritten i o old.history now.history → ⊥
+  restat_is_unwritten stamp started o makes file before is was same wrote =
+      omega (arith, written_later stamp started o makes wrote file is, (lies stamp started).0, file_within old.history o before was, same)
 
   -- ---- what is read, and each reason
 
@@ -352,7 +348,7 @@ module _ (tells : Bool) (B : Behaviour) (own : OwnFiles) (asked : Asked) (entry 
     ]),
   )
 
-  counted_early : (stamp : ℕ) → StartedUnder i stamp old now → (p : List ℕ) → has (reads.paths ++ recorded_inputs exit asked.graph.edges i) p ≡ true → (file : File) → file_at now.history p ≡ Some file → file.stamp < stamp
+  counted_early : (stamp : ℕ) → StartedUnder i stamp old now → (p : List ℕ) → has (reads.paths ++ recorded_inputs exit asked.graph.edges i) p ≡ true → (file : File) → file_at now.history p ≡ Some file → file.stamp ≤ stamp
   counted_early stamp started p h file is = elim (has-cases reads.paths (recorded_inputs exit asked.graph.edges i) p h) [
     | inl here ↦ read_early stamp started p (reads.has_read p here) file is
     | inr there ↦ recorded_early stamp started p there file is

@@ -171,22 +171,23 @@ module _ (tells : Bool) (own : OwnFiles) (task : Task) (path : List ℕ) where
 -- ---- another file stays
 
 -- where what others write is elsewhere
-pub at_elsewhere : (edges : List Edge) (running : ℕ → Type 0) (path p : List ℕ) → path ≢ p → ((ms : List Moment) → AllByOthers running ms → AllByRecursion (IsWithinEdge edges) ms → AllByRecursion IsNoEdit ms → AllByRecursion (IsElsewhere p) ms)
-    → (ms : List Moment) → AllByRecursion (IsAtOrByOthers path running) ms → AllByRecursion (IsWithinEdge edges) ms → AllByRecursion IsNoEdit ms → AllByRecursion (IsElsewhere p) ms
-at_elsewhere edges running path p other theirs [] all within edits = tt
-at_elsewhere edges running path p other theirs (Wrote Program at content stamp ∷ ms) all within edits =
-    (false_from_ne_true (bytes_eq at p) (λ same. other (sym all.0 ∙ same_bytes at p same)), at_elsewhere edges running path p other theirs ms all.1 within.1 edits.1)
-at_elsewhere edges running path p other theirs (Wrote (Command job) at content stamp ∷ ms) all within edits =
-    ((theirs (Wrote (Command job) at content stamp ∷ []) (all.0, tt) (within.0, tt) (edits.0, tt)).0, at_elsewhere edges running path p other theirs ms all.1 within.1 edits.1)
-at_elsewhere edges running path p other theirs (Wrote Someone at content stamp ∷ ms) all within edits = absurd edits.0
-at_elsewhere edges running path p other theirs (Happened event ∷ ms) all within edits = absurd all.0
+pub at_elsewhere : (free : List ℕ → Bool) (edges : List Edge) (running : ℕ → Type 0) (path p : List ℕ) → path ≢ p → ((ms : List Moment) → AllByOthers running ms → AllByRecursion (IsWithinEdge free edges) ms → AllByRecursion (IsNoEdit free) ms → AllByRecursion (IsElsewhere p) ms)
+    → (ms : List Moment) → AllByRecursion (IsAtOrByOthers path running) ms → AllByRecursion (IsWithinEdge free edges) ms → AllByRecursion (IsNoEdit free) ms → AllByRecursion (IsElsewhere p) ms
+at_elsewhere free edges running path p other theirs [] all within edits = tt
+at_elsewhere free edges running path p other theirs (Wrote Program at content stamp ∷ ms) all within edits =
+    (false_from_ne_true (bytes_eq at p) (λ same. other (sym all.0 ∙ same_bytes at p same)), at_elsewhere free edges running path p other theirs ms all.1 within.1 edits.1)
+at_elsewhere free edges running path p other theirs (Wrote (Command job) at content stamp ∷ ms) all within edits =
+    ((theirs (Wrote (Command job) at content stamp ∷ []) (all.0, tt) (within.0, tt) (edits.0, tt)).0, at_elsewhere free edges running path p other theirs ms all.1 within.1 edits.1)
+at_elsewhere free edges running path p other theirs (Wrote Someone at content stamp ∷ ms) all within edits =
+    ((theirs (Wrote Someone at content stamp ∷ []) (tt, tt) (tt, tt) (edits.0, tt)).0, at_elsewhere free edges running path p other theirs ms all.1 within.1 edits.1)
+at_elsewhere free edges running path p other theirs (Happened event ∷ ms) all within edits = absurd all.0
 
 module _ (B : Behaviour) (format : LogFormat) (own : OwnFiles) (edges : List Edge) (entry : Store) (old now new : World) (so_far : List Moment) (was : now.history ≡ old.history ++ so_far)
     (kept : FilesAreKept own edges old.history new.history) (commands : (job : ℕ) → runs job now.events ≡ true → IsCommand edges job)
     (path : List ℕ) (no_build_log : path ≢ own.build_log) (no_deps_log : path ≢ own.deps_log) (grew : GrewAt path (IsRunning now.events) now.history new.history) where
   log_stays : (log : List ℕ) → own.files log ≡ true → path ≢ log → view_of new.history log ≡ view_of now.history log
   log_stays log mine other = ap content_of (ap (λ (h : List Moment). file_at h log) grew.grows
-      ∙ file_stays log now.history grew.more (at_elsewhere edges (IsRunning now.events) path log other (λ ms all w e. log_elsewhere own edges kept.own_files log mine (IsRunning now.events) commands ms all w e)
+      ∙ file_stays log now.history grew.more (at_elsewhere kept.free edges (IsRunning now.events) path log other (λ ms all w e. log_elsewhere own edges kept.own_files kept.free kept.free_apart log mine (IsRunning now.events) commands ms all w e)
       grew.more grew.all (within B format own edges entry old now new so_far was kept commands grew.more grew.grows) (edits B format own edges entry old now new so_far was kept commands grew.more grew.grows)))
 
   pub build_log_stays : view_of new.history own.build_log ≡ view_of now.history own.build_log

@@ -6,10 +6,10 @@ use Rattle.model.specs.World.{World, View, view_of, IsIdle}
 use Rattle.model.specs.Graph.{has_number, edge_at, IsMadeOnce}
 use Rattle.model.specs.Outcome.{Behaviour}
 use Rattle.model.specs.Records.{OwnFiles, LogFormat, Store, store_in, recorded_inputs}
-use Rattle.model.specs.OutOfDate.{Counted, IsVerdict}
+use Rattle.model.specs.OutOfDate.{Counted, ReadsNoFree, IsVerdict}
 use Rattle.model.specs.Schedule.{Step, Judged, IsSettled, judged_in, done_in, well_in}
 use Rattle.model.specs.Phases.{IsLawfulBuild}
-use Rattle.model.specs.Premises.{Matters, Premises, FilesAndReports, FilesAreKept, RecordedApart}
+use Rattle.model.specs.Premises.{Matters, Premises, KeepsFaith, FilesAndReports, FilesAreKept, RecordedApart}
 use Rattle.model.specs.SingleBuild.{NamesOther, Asked, task_of, InCone, IsJudged, IsCleanlyBuilt}
 use Rattle.model.specs.Faithful.{DepsHaveStarted, IsFaithfulStore}
 use Rattle.model.specs.Kept.{KeepsRecords, LeavesNothing, store_at}
@@ -30,11 +30,11 @@ CleanFromFaithful =
     → IsTrue tells → IsIdle old.events → IsRunOrRest tells own (task_of asked store) steps old now
     → IsMadeOnce asked.graph.edges → AreLoaded asked.graph.edges steps
     → store ≡ store_in format own (view_of old.history) → IsFaithfulStore B format own asked.graph.edges old
-    → IsJudged B asked store steps met old.history now.history
+    → (premises : Premises B own asked.declared asked.graph.edges (recorded_inputs store asked.graph.edges) steps old.history now.history) → StartsAreTicked old.history now.history
+    → IsJudged B premises.files.kept.free asked store steps met old.history now.history
     → AreReadFirst asked.graph.edges (Matters B asked.graph.edges (recorded_inputs store asked.graph.edges) steps old.history now.history) steps
     → ((i : ℕ) → InCone asked store i → IsSettled asked.graph.edges (done_in steps) i)
-    → Premises B own asked.declared asked.graph.edges (recorded_inputs store asked.graph.edges) steps old.history now.history
-    → IsCleanlyBuilt B asked store (view_of now.history)
+    → IsCleanlyBuilt B premises.files.quiet asked store (view_of now.history)
 
 -- The same for each lawful build, dyndep files that it loads included: over the graph of its end.
 abbrev pub CleanWithLoads : Type 0
@@ -44,10 +44,10 @@ CleanWithLoads =
     → IsLawfulBuild B.dyndep texts asked.declared (task_of asked store) store steps
     → IsMadeOnce asked.declared → IsMadeOnce asked.graph.edges → ((file : List ℕ) → NamesOther asked.declared file → ⊥)
     → store ≡ store_in format own (view_of old.history) → IsFaithfulStore B format own asked.graph.edges old
-    → IsJudged B asked store steps met old.history now.history
+    → (premises : Premises B own asked.declared asked.graph.edges (recorded_inputs store asked.graph.edges) steps old.history now.history) → StartsAreTicked old.history now.history
+    → IsJudged B premises.files.kept.free asked store steps met old.history now.history
     → ((i : ℕ) → InCone asked store i → IsSettled asked.graph.edges (done_in steps) i)
-    → Premises B own asked.declared asked.graph.edges (recorded_inputs store asked.graph.edges) steps old.history now.history
-    → IsCleanlyBuilt B asked store (view_of now.history)
+    → IsCleanlyBuilt B premises.files.quiet asked store (view_of now.history)
 
 -- A store that was faithful at the entry of a run is so at each point of it, faults included, while the premises hold up to there.
 abbrev pub FaithfulAtExit : Type 0
@@ -57,7 +57,7 @@ FaithfulAtExit =
     → IsMadeOnce asked.graph.edges
     → store ≡ store_in format own (view_of old.history) → IsFaithfulStore B format own asked.graph.edges old
     → AreReadable format own now.history → IsLogged B asked.graph.edges steps hand store (store_at format own now) old now → StartsAreTicked old.history now.history
-    → Premises B own asked.declared asked.graph.edges (recorded_inputs store asked.graph.edges) steps old.history now.history
+    → KeepsFaith B own asked.graph.edges store steps old.history now.history
     → IsFaithfulStore B format own asked.graph.edges now
 
 -- What the logs tell of a run is what is claimed of the records of a build: where an edge is in hand at the exit, a fault met it.
@@ -75,8 +75,9 @@ VerdictStands =
     (tells : Bool) (own : OwnFiles) (asked : Asked) (store : Store) (before after : List Step) (i : ℕ) (out_of_date : Bool) (old mid now : World) (more : List Moment)
     → IsTrue tells → IsIdle old.events → IsMadeOnce asked.graph.edges
     → IsRunOrRest tells own (task_of asked store) before old mid → IsRunOrRest tells own (task_of asked store) (before ++ Judged i out_of_date ∷ after) old now → now.history ≡ mid.history ++ more
-    → FilesAreKept own asked.graph.edges old.history now.history → RecordedApart own (recorded_inputs store asked.graph.edges)
+    → (files : FilesAreKept own asked.graph.edges old.history now.history) → RecordedApart own (recorded_inputs store asked.graph.edges)
     → IsReadAfter asked.graph.edges (λ k p. Counted asked.graph.edges store now.history k p) (done_in before) i
+    → ReadsNoFree files.free asked.graph.edges store now.history i
     → IsVerdict asked.graph.edges store (well_in before) old.history mid.history i out_of_date
     → IsVerdict asked.graph.edges store (well_in before) old.history now.history i out_of_date
 
@@ -88,8 +89,8 @@ NothingIsLeft =
     → IsMadeOnce asked.graph.edges → AreLoaded asked.graph.edges steps
     → DepsHaveStarted store old.history
     → IsLogged B asked.graph.edges steps None store (store_at format own now) old now → StartsAreTicked old.history now.history
-    → IsJudged B asked store steps met old.history now.history
+    → (premises : FilesAndReports B own asked.declared asked.graph.edges (recorded_inputs store asked.graph.edges) steps old.history now.history)
+    → IsJudged B premises.kept.free asked store steps met old.history now.history
     → AreReadFirst asked.graph.edges (Matters B asked.graph.edges (recorded_inputs store asked.graph.edges) steps old.history now.history) steps
     → ((i : ℕ) → InCone asked store i → IsSettled asked.graph.edges (done_in steps) i)
-    → FilesAndReports B own asked.declared asked.graph.edges (recorded_inputs store asked.graph.edges) steps old.history now.history
-    → LeavesNothing asked store (store_at format own now) steps old.history now.history
+    → LeavesNothing premises.quiet asked store (store_at format own now) steps old.history now.history

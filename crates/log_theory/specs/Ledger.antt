@@ -22,10 +22,10 @@ pub record LoadedThen (tells : Bool) (own : OwnFiles) (asked : Asked) (store : S
   pub later : List Step
   pub splits : steps ≡ before ++ later
   pub mid : World
-  pub run : IsRunOrRest tells own (task_of asked store) before old mid
+  pub run : IsRun tells own (task_of asked store) before old mid
   pub more : List Moment
   pub grows : now.history ≡ mid.history ++ more
-  pub holds : FilesAreKept own asked.graph.edges old.history mid.history → view_of mid.history file ≡ Some content
+  pub holds : (files : FilesAreKept own asked.graph.edges old.history mid.history) → files.free file ≡ false → view_of mid.history file ≡ Some content
   pub input : (i : ℕ) × (has (inputs (edge_at asked.graph.edges i)) file ≡ true)
   pub settled : (maker asked.declared file ≡ None → maker asked.graph.edges file ≡ None)
       → (j : ℕ) → maker asked.graph.edges file ≡ Some j → IsCommand asked.graph.edges j → has_number (done_in before) j ≡ true

@@ -17,14 +17,17 @@ use Rattle.model.specs.Faithful.{IsReadable}
 use Rattle.model.specs.Kept.{StartedUnder, IsRecorded}
 use Rattle.build_theory.specs.Run.{events_in}
 
--- a write since then has this stamp
+-- since then a write was given this stamp, and then a command was started under it
 pub record WasStamped (stamp : ℕ) (old new : List Moment) : Type 0 where
   pub before : List Moment
   pub by : Writer
   pub path : List ℕ
   pub content : Option (List ℕ)
+  pub between : List Moment
+  pub job : ℕ
+  pub act : Act
   pub after : List Moment
-  pub splits : new ≡ old ++ (before ++ Wrote by path content stamp ∷ after)
+  pub splits : new ≡ old ++ (before ++ Wrote by path content stamp ∷ (between ++ Happened (Start job act stamp) ∷ after))
 
 -- no command that this build started makes the path, and it has the records that it had at the entry
 pub record KeepsBoth (edges : List Edge) (steps : List Step) (entry store : Store) (o : List ℕ) : Type 0 where
@@ -91,8 +94,8 @@ pub record IsTickedAt (stamp : ℕ) (before : List Moment) : Type 0 where
   pub splits : before ≡ earlier ++ Wrote by path content stamp ∷ between
   pub quiet : events_in between ≡ []
 
--- Each command was started under a stamp that was given after the last start or end of another: so it is later than all that was
--- there when the command was judged. Kept by each call beside the run.
+-- Each command was started under a stamp that was given after the last start or end of another: so nothing that was there when the
+-- command was judged is later than it. Kept by each call beside the run.
 abbrev pub StartsAreTicked : List Moment → List Moment → Type 0
 StartsAreTicked old new =
     (before after : List Moment) (i stamp : ℕ) (act : Act) → new ≡ old ++ (before ++ Happened (Start i act stamp) ∷ after) → IsTickedAt stamp before

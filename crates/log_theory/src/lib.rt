@@ -3,7 +3,7 @@
 #![tactic(auto)]
 
 ghost use Rattle.log_theory.specs.Laws.{CleanFromFaithful, CleanWithLoads, FaithfulAtExit, RecordsAreKept, VerdictStands, NothingIsLeft};
-ghost use Rattle.log_theory.specs.Judged.{VerdictsAtExit, VerdictsWithLoads};
+ghost use Rattle.log_theory.specs.Judged.{VerdictsAtExit, VerdictsAtMoments, VerdictsWithLoads};
 ghost use Rattle.log_theory.specs.Builds.{HeadlineOfRun, LogsOfRun};
 ghost use Rattle.log_theory.specs.Histories.{HistoriesAreAsClaimed, HistoriesGrow, NoLogsAreFaithful};
 
@@ -40,6 +40,11 @@ pub fn verdicts_at_exit()
 /// With dyndep files, verdicts over the edges of their phase are right over those of the end.
 pub fn verdicts_with_loads()
     ensures { VerdictsWithLoads }
+{}
+
+/// With dyndep files, verdicts are right at their moments over the edges of their phase, whatever is known of inputs.
+pub fn verdicts_at_moments()
+    ensures { VerdictsAtMoments }
 {}
 
 /// A success leaves nothing to do, but for the named exceptions.

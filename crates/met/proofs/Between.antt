@@ -6,7 +6,7 @@ use Rattle.model.specs.Graph.{Addition}
 use Rattle.model.specs.Outcome.{Behaviour}
 use Rattle.model.specs.Records.{Store, LogFormat, OwnFiles, IsOwnIn, store_in, recorded_inputs}
 use Rattle.model.specs.Schedule.{Step, Judged, Started, Ended}
-use Rattle.model.specs.Premises.{Premises}
+use Rattle.model.specs.Premises.{Premises, KeepsFaith}
 use Rattle.build_log.specs.declared.form.Version.TheVariants.{Two}
 use Rattle.build_log.specs.Form.{HaveLines}
 use Rattle.build_log.specs.Record.{forms as record_forms}
@@ -112,9 +112,9 @@ module _ (reading : List ℕ → Option (List (List ℕ))) (dyndep : List ℕ �
   again_ends = (tt, (tt, (tt, (tt, ((refl, refl), (tt, (tt, (tt, (tt, (tt, (tt, (tt, ((refl, reads.h), (tt, (tt, (tt, tt))))))))))))))))
 
   failing_copy : LeavesAt reading dyndep no_store [] refl refl tt named.history failed.history 1 (take 5 failing)
-  failing_copy = left_copy reading dyndep (view_of failed.history) (view_of (named.history ++ take 5 failing)) (codes "x") refl refl
+  failing_copy = λ since. left_copy reading dyndep since failed.history (named.history ++ take 5 failing) (codes "x") refl refl
 
-  pub failing_keeps : Premises B own edges edges (recorded_inputs no_store edges) failing_steps named.history failed.history
+  pub failing_keeps : Premises B own edges edges (recorded_inputs no_store edges) failing_steps named.history failed.history × KeepsFaith B own edges no_store failing_steps named.history failed.history
   failing_keeps =
       premises_of reading dyndep no_store [] refl refl tt failing_steps named.history failing (λ i h. h)
       (one_copied reading dyndep (view_of failed.history)) (one_scanned reading dyndep (codes "k") k_is_name reads.k (view_of failed.history) refl)
@@ -124,40 +124,40 @@ module _ (reading : List ℕ → Option (List (List ℕ))) (dyndep : List ℕ �
       failing_ends
       (tt, (tt, (tt, (tt, (tt, (failing_copy, (tt, (tt, (tt, (tt, (tt, (tt, tt))))))))))))
 
-  pub stopping_keeps : Premises B own edges edges (recorded_inputs failed_store edges) stopping_steps edited.history stopped.history
+  pub stopping_keeps : Premises B own edges edges (recorded_inputs failed_store edges) stopping_steps edited.history stopped.history × KeepsFaith B own edges failed_store stopping_steps edited.history stopped.history
   stopping_keeps =
       premises_of reading dyndep failed_store [] refl refl tt stopping_steps edited.history stopping (λ i h. h)
       (one_copied reading dyndep (view_of stopped.history)) (one_scanned reading dyndep (codes "h") h_is_name reads.h (view_of stopped.history) refl)
-      (tt, (tt, (tt, (tt, (inl refl, (inr refl, tt))))))
+      (tt, (tt, (tt, (tt, (inl refl, (inr (inl refl), tt))))))
       (tt, (tt, (tt, (tt, (tt, (tt, tt))))))
       (omega arith, (omega arith, (omega arith, (omega arith, (omega arith, tt)))))
       stopping_ends
       (tt, (tt, (tt, (tt, (tt, (tt, tt))))))
 
   succeeding_scan : LeavesAt reading dyndep stopped_store [] refl refl tt restarted_world.history built.history 2 (take 6 succeeding)
-  succeeding_scan = left_scan reading dyndep (codes "h") h_is_name reads.h (view_of built.history) (view_of (restarted_world.history ++ take 6 succeeding)) (codes "x") refl refl refl refl
+  succeeding_scan = λ since. left_scan reading dyndep (codes "h") h_is_name reads.h since built.history (restarted_world.history ++ take 6 succeeding) (codes "x") refl refl refl refl
 
-  pub succeeding_keeps : Premises B own edges edges (recorded_inputs stopped_store edges) good_steps restarted_world.history built.history
+  pub succeeding_keeps : Premises B own edges edges (recorded_inputs stopped_store edges) good_steps restarted_world.history built.history × KeepsFaith B own edges stopped_store good_steps restarted_world.history built.history
   succeeding_keeps =
       premises_of reading dyndep stopped_store [] refl refl tt good_steps restarted_world.history succeeding (λ i h. h)
       (one_copied reading dyndep (view_of built.history)) (one_scanned reading dyndep (codes "h") h_is_name reads.h (view_of built.history) refl)
-      (tt, (tt, (tt, (tt, (inl refl, (inr refl, (tt, (tt, (tt, (tt, (tt, tt)))))))))))
+      (tt, (tt, (tt, (tt, (inl refl, (inr (inl refl), (tt, (tt, (tt, (tt, (tt, tt)))))))))))
       (tt, (tt, (tt, (tt, (tt, (tt, (tt, (tt, (tt, (tt, (tt, tt)))))))))))
       (omega arith, (omega arith, (omega arith, (omega arith, (omega arith, (omega arith, (omega arith, (omega arith, (omega arith, tt)))))))))
       succeeding_ends
       (tt, (tt, (tt, (tt, (tt, (tt, (succeeding_scan, (tt, (tt, (tt, (tt, tt)))))))))))
 
   again_copy : LeavesAt reading dyndep built_store (codes "h" ∷ []) refl refl (refl, tt) edited_again.history last.history 1 (take 4 again)
-  again_copy = left_copy reading dyndep (view_of last.history) (view_of (edited_again.history ++ take 4 again)) (codes "y") refl refl
+  again_copy = λ since. left_copy reading dyndep since last.history (edited_again.history ++ take 4 again) (codes "y") refl refl
 
   again_scan : LeavesAt reading dyndep built_store (codes "h" ∷ []) refl refl (refl, tt) edited_again.history last.history 2 (take 12 again)
-  again_scan = left_scan reading dyndep (codes "h") h_is_name reads.h (view_of last.history) (view_of (edited_again.history ++ take 12 again)) (codes "y") refl refl refl refl
+  again_scan = λ since. left_scan reading dyndep (codes "h") h_is_name reads.h since last.history (edited_again.history ++ take 12 again) (codes "y") refl refl refl refl
 
-  pub again_keeps : Premises B own edges edges (recorded_inputs built_store edges) all_steps edited_again.history last.history
+  pub again_keeps : Premises B own edges edges (recorded_inputs built_store edges) all_steps edited_again.history last.history × KeepsFaith B own edges built_store all_steps edited_again.history last.history
   again_keeps =
       premises_of reading dyndep built_store (codes "h" ∷ []) refl refl (refl, tt) all_steps edited_again.history again (λ i h. h)
       (one_copied reading dyndep (view_of last.history)) (one_scanned reading dyndep (codes "h") h_is_name reads.h (view_of last.history) refl)
-      (tt, (tt, (tt, (inl refl, (tt, (tt, (tt, (tt, (tt, (tt, (inl refl, (inr refl, (tt, (tt, (tt, (tt, tt))))))))))))))))
+      (tt, (tt, (tt, (inl refl, (tt, (tt, (tt, (tt, (tt, (tt, (inl refl, (inr (inl refl), (tt, (tt, (tt, (tt, tt))))))))))))))))
       (tt, (tt, (tt, (tt, (tt, (tt, (tt, (tt, (tt, (tt, (tt, (tt, (tt, (tt, (tt, (tt, tt))))))))))))))))
       (omega arith, (omega arith, (omega arith, (omega arith, (omega arith, (omega arith, (omega arith, (omega arith, (omega arith, (omega arith, (omega arith, (omega arith, tt))))))))))))
       again_ends

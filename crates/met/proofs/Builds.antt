@@ -124,7 +124,8 @@ module _ (reading : List ℕ → Option (List (List ℕ))) (dyndep : List ℕ �
     store = no_store;
     logs = λ tells unedited. at_named format reads_logs all fits;
     texts = λ p. None;
-    held = λ tells kept file content is _. absurd (none_some content is);
+    held = λ tells kept file content bound is _. absurd (none_some content is);
+    held_then = λ tells kept file content is bound. absurd (none_some content is);
     steps = failing_steps;
     schedule = record {
       lawful = in_one_phase reading dyndep no_store [] refl refl tt (λ p. None) failing_steps (
@@ -150,7 +151,8 @@ module _ (reading : List ℕ → Option (List (List ℕ))) (dyndep : List ℕ �
     };
     met = None;
     met_fault = λ i is. absurd (none_some i is);
-    judged = λ tells kept apart known. judged_of reading dyndep no_store [] refl refl tt failing_steps named.history failing (h_absent, (tt, (tt, (b_absent, (tt, (tt, tt)))))) (failing_ends reading dyndep reads);
+    judged_then = λ tells kept apart. (tt, ((record { at = named.history ++ take 0 failing; moment = record { so_far = take 0 failing; later = drop 0 failing; is = refl; grows = refl; happened = refl }; right = λ unread. record { read = codes "g" ∷ []; counted = counts_g no_store [] refl refl tt (named.history ++ take 0 failing); verdict = refl } }), ((record { at = named.history ++ take 6 failing; moment = record { so_far = take 6 failing; later = drop 6 failing; is = refl; grows = refl; happened = refl }; right = λ unread. record { read = codes "a" ∷ []; counted = counts_all no_store [] refl refl tt (named.history ++ take 6 failing); verdict = refl } }), tt)));
+    judged = λ tells kept apart known. judged_of reading dyndep no_store [] refl refl tt kept.free failing_steps named.history failing (h_absent, (tt, (tt, (b_absent, (tt, (tt, tt)))))) (failing_ends reading dyndep reads);
     answers = (
       in_order reading dyndep no_store [] refl refl tt all named failed (λ none. some_none _ none) (λ none. some_none _ none),
       record {
@@ -201,7 +203,8 @@ module _ (reading : List ℕ → Option (List (List ℕ))) (dyndep : List ℕ �
     store = failed_store;
     logs = λ tells unedited. at_edited format reads_logs all fits;
     texts = λ p. None;
-    held = λ tells kept file content is _. absurd (none_some content is);
+    held = λ tells kept file content bound is _. absurd (none_some content is);
+    held_then = λ tells kept file content is bound. absurd (none_some content is);
     steps = stopping_steps;
     schedule = record {
       lawful = in_one_phase reading dyndep failed_store [] refl refl tt (λ p. None) stopping_steps
@@ -216,7 +219,8 @@ module _ (reading : List ℕ → Option (List (List ℕ))) (dyndep : List ℕ �
     };
     met = None;
     met_fault = λ i is. absurd (none_some i is);
-    judged = λ tells kept apart known. judged_of reading dyndep failed_store [] refl refl tt stopping_steps edited.history stopping (h_clean, (b_absent_still, (tt, tt))) (stopping_ends reading dyndep reads);
+    judged_then = λ tells kept apart. (tt, ((record { at = edited.history ++ take 0 stopping; moment = record { so_far = take 0 stopping; later = drop 0 stopping; is = refl; grows = refl; happened = refl }; right = λ unread. record { read = codes "g" ∷ []; counted = counts_g failed_store [] refl refl tt (edited.history ++ take 0 stopping); verdict = refl } }), ((record { at = edited.history ++ take 0 stopping; moment = record { so_far = take 0 stopping; later = drop 0 stopping; is = refl; grows = refl; happened = refl }; right = λ unread. record { read = codes "a" ∷ []; counted = counts_all failed_store [] refl refl tt (edited.history ++ take 0 stopping); verdict = refl } }), tt)));
+    judged = λ tells kept apart known. judged_of reading dyndep failed_store [] refl refl tt kept.free stopping_steps edited.history stopping (h_clean, (b_absent_still, (tt, tt))) (stopping_ends reading dyndep reads);
     answers = refl;
     in_order = inr (was_in_order reading dyndep failed_store [] refl refl tt all edited stopped (λ none. some_none _ none) (λ none. some_none _ none) stopping_steps);
     faults = record { refused = λ none. refl; starts = inl refl; stopped = λ stop. refl; earlier = refl };
@@ -234,7 +238,8 @@ module _ (reading : List ℕ → Option (List (List ℕ))) (dyndep : List ℕ �
     store = stopped_store;
     logs = λ tells unedited. at_stopped format reads_logs all fits;
     texts = λ p. None;
-    held = λ tells kept file content is _. absurd (none_some content is);
+    held = λ tells kept file content bound is _. absurd (none_some content is);
+    held_then = λ tells kept file content is bound. absurd (none_some content is);
     steps = good_steps;
     schedule = record {
       lawful = in_one_phase reading dyndep stopped_store [] refl refl tt (λ p. None) good_steps (
@@ -254,7 +259,8 @@ module _ (reading : List ℕ → Option (List (List ℕ))) (dyndep : List ℕ �
     };
     met = None;
     met_fault = λ i is. absurd (none_some i is);
-    judged = λ tells kept apart known. judged_of reading dyndep stopped_store [] refl refl tt good_steps restarted_world.history succeeding (h_clean_still, (b_unknown, (tt, (tt, tt)))) (succeeding_ends reading dyndep reads);
+    judged_then = λ tells kept apart. (tt, ((record { at = restarted_world.history ++ take 0 succeeding; moment = record { so_far = take 0 succeeding; later = drop 0 succeeding; is = refl; grows = refl; happened = refl }; right = λ unread. record { read = codes "g" ∷ []; counted = counts_g stopped_store [] refl refl tt (restarted_world.history ++ take 0 succeeding); verdict = refl } }), ((record { at = restarted_world.history ++ take 0 succeeding; moment = record { so_far = take 0 succeeding; later = drop 0 succeeding; is = refl; grows = refl; happened = refl }; right = λ unread. record { read = codes "a" ∷ []; counted = counts_all stopped_store [] refl refl tt (restarted_world.history ++ take 0 succeeding); verdict = refl } }), tt)));
+    judged = λ tells kept apart known. judged_of reading dyndep stopped_store [] refl refl tt kept.free good_steps restarted_world.history succeeding (h_clean_still, (b_unknown, (tt, (tt, tt)))) (succeeding_ends reading dyndep reads);
     answers = (
       in_order reading dyndep stopped_store [] refl refl tt all restarted_world built (λ none. some_none _ none) (λ none. some_none _ none),
       record {
@@ -284,7 +290,8 @@ module _ (reading : List ℕ → Option (List (List ℕ))) (dyndep : List ℕ �
     store = built_store;
     logs = λ tells unedited. at_edited_again format reads_logs all fits;
     texts = λ p. None;
-    held = λ tells kept file content is _. absurd (none_some content is);
+    held = λ tells kept file content bound is _. absurd (none_some content is);
+    held_then = λ tells kept file content is bound. absurd (none_some content is);
     steps = all_steps;
     schedule = record {
       lawful = in_one_phase reading dyndep built_store (codes "h" ∷ []) refl refl (refl, tt) (λ p. None) all_steps (
@@ -313,7 +320,8 @@ module _ (reading : List ℕ → Option (List (List ℕ))) (dyndep : List ℕ �
     };
     met = None;
     met_fault = λ i is. absurd (none_some i is);
-    judged = λ tells kept apart known. judged_of reading dyndep built_store (codes "h" ∷ []) refl refl (refl, tt) all_steps edited_again.history again (h_later, (tt, (tt, (b_changed, (tt, (tt, tt)))))) (again_ends reading dyndep reads);
+    judged_then = λ tells kept apart. (tt, ((record { at = edited_again.history ++ take 0 again; moment = record { so_far = take 0 again; later = drop 0 again; is = refl; grows = refl; happened = refl }; right = λ unread. record { read = codes "g" ∷ []; counted = counts_g built_store (codes "h" ∷ []) refl refl (refl, tt) (edited_again.history ++ take 0 again); verdict = refl } }), ((record { at = edited_again.history ++ take 5 again; moment = record { so_far = take 5 again; later = drop 5 again; is = refl; grows = refl; happened = refl }; right = λ unread. record { read = codes "a" ∷ codes "h" ∷ []; counted = counts_all built_store (codes "h" ∷ []) refl refl (refl, tt) (edited_again.history ++ take 5 again); verdict = refl } }), tt)));
+    judged = λ tells kept apart known. judged_of reading dyndep built_store (codes "h" ∷ []) refl refl (refl, tt) kept.free all_steps edited_again.history again (h_later, (tt, (tt, (b_changed, (tt, (tt, tt)))))) (again_ends reading dyndep reads);
     answers = (
       in_order reading dyndep built_store (codes "h" ∷ []) refl refl (refl, tt) all edited_again last (λ none. some_none _ none) (λ none. some_none _ none),
       record {

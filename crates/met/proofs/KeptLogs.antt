@@ -98,11 +98,11 @@ clean_last =
     (record { read = codes "g" ∷ []; counted = counts_g last_store (codes "h" ∷ []) refl refl (refl, tt) last.history; verdict = refl })
     (record { read = codes "a" ∷ codes "h" ∷ []; counted = counts_all last_store (codes "h" ∷ []) refl refl (refl, tt) last.history; verdict = refl })
 
-pub nothing_left : LeavesNothing asked stopped_store built_store good_steps restarted_world.history built.history
-nothing_left i within command = inr (clean_built i (one_or_two i command))
+pub nothing_left : (quiet : ℕ → Bool) → LeavesNothing quiet asked stopped_store built_store good_steps restarted_world.history built.history
+nothing_left quiet i is_quiet within command = inr (clean_built i (one_or_two i command))
 
-pub nothing_left_again : LeavesNothing asked built_store last_store all_steps edited_again.history last.history
-nothing_left_again i within command = inr (clean_last i (one_or_two i command))
+pub nothing_left_again : (quiet : ℕ → Bool) → LeavesNothing quiet asked built_store last_store all_steps edited_again.history last.history
+nothing_left_again quiet i is_quiet within command = inr (clean_last i (one_or_two i command))
 
 -- ---- the builds
 

@@ -4,7 +4,8 @@ use Rattle.std.proofs.lemmas.Bool.{false≢true}
 use Rattle.std.specs.Prelude.{codes}
 use Rattle.model.specs.declared.act.Act.{Act}
 use Rattle.model.specs.declared.outcome.Outcome.{Outcome}
-use Rattle.model.specs.World.{View}
+use Rattle.model.specs.declared.event.Moment.{Moment}
+use Rattle.model.specs.World.{View, view_of}
 use Rattle.model.specs.Calls.{AgreeOn}
 use Rattle.model.specs.Graph.{Addition}
 use Rattle.model.specs.Outcome.{Behaviour, left, depfile_in, is_accepted, listed, ends_well, reports_of, given, GivesTheSame}
@@ -46,12 +47,11 @@ module _ (reading : List ℕ → Option (List (List ℕ))) (dyndep : List ℕ �
       same_if cat (codes "h") u v (ap copying_of (at_u (codes "g") (Itself 1 (codes "g") refl (inl (λ j alias. no_alias (codes "g") j alias)))
       ∙ sym (at_v (codes "g") (Itself 1 (codes "g") refl (inl (λ j alias. no_alias (codes "g") j alias))))))
 
-  pub left_copy : (files after : View) (content : List ℕ) → files (codes "g") ≡ Some content → after (codes "h") ≡ Some (content ++ []) → LeftOutcome B edges files after 1
-  left_copy files after content g_is h_is = record {
-    seen = files;
+  pub left_copy : (since new at : List Moment) (content : List ℕ) → view_of new (codes "g") ≡ Some content → view_of at (codes "h") ≡ Some (content ++ []) → LeftOutcome B edges since new at 1
+  left_copy since new at content g_is h_is = record {
+    seen = view_of new;
     well = ap (λ (held : Option (List ℕ)). ends cat (copying_of held)) g_is;
-    reading = λ p read. refl;
-    reports = agree_self (reports_of B cat files) files;
+    unwritten = λ p none. refl;
     contents = (h_is ∙ sym (ap (λ (held : Option (List ℕ)). gives cat (copying_of held) (codes "h")) g_is), tt);
     depfile = refl;
   }
@@ -91,15 +91,14 @@ module _ (reading : List ℕ → Option (List (List ℕ))) (dyndep : List ℕ �
         held_same a_is None none = absurd (false≢true (sym (ap (ends scan) (outcome_is name is_name u a_is ∙ ap (giving name) none)) ∙ well))
         held_same a_is (Some content) some = (subst (λ (told : List (List ℕ)). AgreeOn told u v) (reports_view u content a_is some) reports).0
 
-    pub left_scan : (files after : View) (content : List ℕ) → files (codes "a") ≡ Some (naming name) → files name ≡ Some content
-        → after (codes "b") ≡ Some (content ++ []) → after (codes "b.d") ≡ Some (depfile (codes "b") (name ∷ [])) → LeftOutcome B edges files after 2
-    left_scan files after content a_is held_is b_is told_is = record {
-      seen = files;
-      well = well_view files content a_is held_is;
-      reading = λ p read. refl;
-      reports = agree_self (reports_of B scan files) files;
-      contents = (b_is ∙ sym (given_view files content a_is held_is), tt);
-      depfile = told_after after told_is ∙ sym (ap Some (reports_view files content a_is held_is));
+    pub left_scan : (since new at : List Moment) (content : List ℕ) → view_of new (codes "a") ≡ Some (naming name) → view_of new name ≡ Some content
+        → view_of at (codes "b") ≡ Some (content ++ []) → view_of at (codes "b.d") ≡ Some (depfile (codes "b") (name ∷ [])) → LeftOutcome B edges since new at 2
+    left_scan since new at content a_is held_is b_is told_is = record {
+      seen = view_of new;
+      well = well_view (view_of new) content a_is held_is;
+      unwritten = λ p none. refl;
+      contents = (b_is ∙ sym (given_view (view_of new) content a_is held_is), tt);
+      depfile = told_after (view_of at) told_is ∙ sym (ap Some (reports_view (view_of new) content a_is held_is));
     }
       where
         told_after : (after : View) → after (codes "b.d") ≡ Some (depfile (codes "b") (name ∷ [])) → depfile_in B scan after ≡ Some (name ∷ [])

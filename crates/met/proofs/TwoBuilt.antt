@@ -7,15 +7,15 @@ use Rattle.std.specs.List.{AllByRecursion}
 use Rattle.model.specs.declared.event.Event.TheVariants.{Start, Finish}
 use Rattle.model.specs.declared.event.Moment.{Moment}
 use Rattle.model.specs.declared.event.Moment.TheVariants.{Wrote, Happened}
-use Rattle.model.specs.World.{World, File, View, file_after, file_from, file_at, view_of, latest}
+use Rattle.model.specs.World.{World, File, View, file_after, file_from, file_at, view_of, next_stamp}
 use Rattle.model.specs.Graph.{Addition, has, has_number, edge_at, maker, inputs, outputs}
 use Rattle.model.specs.Outcome.{Behaviour, depfile_in, is_accepted, listed}
 use Rattle.model.specs.Reading.{IsAbove, Direct, needs}
 use Rattle.model.specs.Records.{Store, OwnFiles, IsOwnIn, output_name, recorded_inputs}
 use Rattle.model.specs.OutOfDate.{IsVerdict, IsMissing}
 use Rattle.model.specs.Schedule.{Step, Judged, Started, Ended, judged_in, started_in, ended_in, well_in, IsLawfulFrom}
-use Rattle.model.specs.Phases.{IsLawfulBuild, AreUnloadedFrom, IsPointAfter, WasNothingMissingIn, EndsInEvent, happened_in}
-use Rattle.model.specs.Premises.{HasOneOutcome, LeftOutcome, EndedAt, Increases, IsWithinEdge, IsNoEdit, OwnFilesApart, LiesIn, SharesNone, FilesAreKept, IsKnownAbove, ByOne, Premises}
+use Rattle.model.specs.Phases.{IsLawfulBuild, AreUnloadedFrom, IsPointAfter, WasNothingMissingIn, EndsInEvent, happened_in, NothingNeededIsFree}
+use Rattle.model.specs.Premises.{HasOneOutcome, LeftOutcome, EndedAt, Increases, IsWithinEdge, IsNoEdit, OwnFilesApart, LiesIn, SharesNone, FilesAreKept, IsKnownAbove, ByOne, Premises, none_free, KeepsFaith, StampsGrow, LeaveOutcomes}
 use Rattle.model.specs.SingleBuild.{IsJudged, IsInOrder, WasInOrder, IsOfBuild, MayChange, IsReadyFor, IsMadeBy, IsFrame, task_of}
 use Rattle.met.specs.Scanning.{cat, scan, edges, asked, toys, own, own_paths, begins_with}
 use Rattle.met.proofs.Lists.{all_has, all_from_has, none_some}
@@ -125,7 +125,7 @@ frame_of all steps old more writes changes starts judged = record {
   grows = refl;
   writes = writes;
   unchanged = λ kept p. elim (cases_Bool (has (written_in more) p)) [
-    | inl here ↦ inr (all_has (MayChange all edges steps) (written_in more) p changes here)
+    | inl here ↦ inr (inl (all_has (MayChange all edges steps) (written_in more) p changes here))
     | inr other ↦ inl (from_append p None old more ∙ unwritten p (file_at old p) more other)
   ];
   until_start = λ kept i stamp act o before after is h. (at_each (StartsReady old) [] more (Happened (Start i act stamp)) before after starts is).0 o h;
@@ -218,7 +218,7 @@ of_outputs (suc zero) p h = all_has (λ q. own.set q ≡ false) (codes "h" ∷ [
 of_outputs (suc (suc zero)) p h = all_has (λ q. own.set q ≡ false) (codes "b" ∷ []) p (refl, tt) h
 of_outputs (suc (suc (suc i))) p h = absurd (false≢true h)
 
-own_files : OwnFilesApart own edges
+pub own_files : OwnFilesApart own edges
 own_files = record {
   within = within_set;
   build_log = refl;
@@ -236,11 +236,13 @@ own_files = record {
 pub own_fits : IsOwnIn own []
 own_fits = record { build_log = refl; deps_log = refl; is_log = refl; is_deps = refl; tick = refl; new_log = refl; new_deps = refl; outputs = λ digits are. refl }
 
-pub kept_of : (old more : List Moment) → AllByRecursion (IsWithinEdge edges) more → AllByRecursion IsNoEdit more → FilesAreKept own edges old (old ++ more)
+abbrev pub kept_of : (old more : List Moment) → AllByRecursion (IsWithinEdge none_free edges) more → AllByRecursion (IsNoEdit none_free) more → FilesAreKept own edges old (old ++ more)
 kept_of old more within edits = record {
-  commands = λ added is. subst (AllByRecursion (IsWithinEdge edges)) (append_cancel_left old more added is) within;
+  free = none_free;
+  free_apart = record { set = λ p is. refl; outputs = λ i p is. refl };
+  commands = λ added is. subst (AllByRecursion (IsWithinEdge none_free edges)) (append_cancel_left old more added is) within;
   own_files = own_files;
-  edits = λ added is. subst (AllByRecursion IsNoEdit) (append_cancel_left old more added is) edits;
+  edits = λ added is. subst (AllByRecursion (IsNoEdit none_free)) (append_cancel_left old more added is) edits;
 }
 
 -- ---- what is told
@@ -272,10 +274,10 @@ module _ (reading : List ℕ → Option (List (List ℕ))) (dyndep : List ℕ �
   pub told_at : (steps : List Step) (old more : List Moment) → AtEach (EndsIn (EndsTelling old steps)) [] more → (i : ℕ) (at : List Moment) → EndedAt i old (old ++ more) at → Tells at i
   told_at steps old more ends i at ended = subst (λ (files : List Moment). Tells files i) (sym ended.is) (ended_in_build (EndsTelling old steps) old more ends i at ended).1
 
-  pub judged_of : (steps : List Step) (old more : List Moment) → AtEach (VerdictAt store old (old ++ more)) [] steps → AtEach (EndsIn (EndsTelling old steps)) [] more
-      → IsJudged B asked store steps None old (old ++ more)
-  judged_of steps old more verdicts ends = record {
-    verdicts = λ before after i b is. at_each (VerdictAt store old (old ++ more)) [] steps (Judged i b) before after verdicts is;
+  pub judged_of : (free : List ℕ → Bool) (steps : List Step) (old more : List Moment) → AtEach (VerdictAt store old (old ++ more)) [] steps → AtEach (EndsIn (EndsTelling old steps)) [] more
+      → IsJudged B free asked store steps None old (old ++ more)
+  judged_of free steps old more verdicts ends = record {
+    verdicts = λ before after i b is unread. at_each (VerdictAt store old (old ++ more)) [] steps (Judged i b) before after verdicts is;
     well = λ i at ended h. ap is_accepted (told_at steps old more ends i at ended);
     depfiles = λ i at ended h unmet. (ended_in_build (EndsTelling old steps) old more ends i at ended).0 ∙ sym (ap is_accepted (told_at steps old more ends i at ended));
   }
@@ -300,16 +302,16 @@ module _ (reading : List ℕ → Option (List (List ℕ))) (dyndep : List ℕ �
     dyndep = names_no_other;
     named = tt;
     no_cycle = no_cycle store extra first_none recorded_is all_h;
-    sources = λ told kept loads apart at point.
+    sources = λ told kept needed loads apart at point.
         let still : (p : List ℕ) → (file_at old.history p ≡ None → ⊥) → file_at at p ≡ None → ⊥ = λ p there. subst (λ (l : List Moment). file_at l p ≡ None → ⊥) (sym (point.entry refl)) there in
         record { of_targets = (λ missing. some_none 2 missing.source, tt); of_edges = λ i due. none_missing at i (still (codes "g") g_there) (still (codes "a") a_there) };
   }
 
   none_missing_in : (all : OwnFiles) (old new : World) → (file_at old.history (codes "g") ≡ None → ⊥) → (file_at old.history (codes "a") ≡ None → ⊥)
-      → IsTrue true → FilesAreKept all edges old.history new.history
+      → IsTrue true → (kept : FilesAreKept all edges old.history new.history) → NothingNeededIsFree kept.free (task_of asked store)
       → (steps : List Step) → WasNothingMissingIn all (task_of asked store) store old.history new.history [] [] steps
-  none_missing_in all old new g_there a_there tells kept [] = tt
-  none_missing_in all old new g_there a_there tells kept (step ∷ steps) = (in_order all old new g_there a_there).sources tells kept
+  none_missing_in all old new g_there a_there tells kept needed [] = tt
+  none_missing_in all old new g_there a_there tells kept needed (step ∷ steps) = (in_order all old new g_there a_there).sources tells kept needed
 
   pub was_in_order : (all : OwnFiles) (old new : World) → (file_at old.history (codes "g") ≡ None → ⊥) → (file_at old.history (codes "a") ≡ None → ⊥)
       → (steps : List Step) → WasInOrder true all asked store [] steps old new
@@ -318,13 +320,13 @@ module _ (reading : List ℕ → Option (List (List ℕ))) (dyndep : List ℕ �
     dyndep = names_no_other;
     named = tt;
     no_cycle = no_cycle store extra first_none recorded_is all_h;
-    sources = λ tells kept. none_missing_in all old new g_there a_there tells kept steps;
+    sources = λ tells kept needed. none_missing_in all old new g_there a_there tells kept needed steps;
   }
 
   -- ---- the premises
 
   abbrev pub LeavesAt : List Moment → List Moment → ℕ → List Moment → Type 0
-  LeavesAt old new i front = LeftOutcome B edges (view_of new) (view_of (old ++ front)) i
+  LeavesAt old new i front = (since : List Moment) → LeftOutcome B edges since new (old ++ front) i
 
   told_h : (steps : List Step) (old more : List Moment) → AtEach (EndsIn (EndsTelling old steps)) [] more → (i : ℕ) (at : List Moment) → EndedAt i old (old ++ more) at
       → (p : List ℕ) → has (listed (depfile_in B (edge_at edges i).act (view_of at))) p ≡ true → (i ≡ 2) × (p ≡ codes "h")
@@ -347,29 +349,40 @@ module _ (reading : List ℕ → Option (List (List ℕ))) (dyndep : List ℕ �
 
   pub premises_of : (steps : List Step) (old more : List Moment) → ((i : ℕ) → has_number (judged_in steps) i ≡ true → has_number (1 ∷ 2 ∷ []) i ≡ true)
       → HasOneOutcome B edges (view_of (old ++ more)) 1 → HasOneOutcome B edges (view_of (old ++ more)) 2
-      → AllByRecursion (IsWithinEdge edges) more → AllByRecursion IsNoEdit more → Increases (latest old) more
+      → AllByRecursion (IsWithinEdge none_free edges) more → AllByRecursion (IsNoEdit none_free) more → Increases (next_stamp old) more
       → AtEach (EndsIn (EndsTelling old steps)) [] more → AtEach (EndsIn (LeavesAt old (old ++ more))) [] more
-      → Premises B own edges edges (recorded_inputs store edges) steps old (old ++ more)
-  premises_of steps old more judged first second within edits stamps ends leaves = record {
-    files = record {
-      kept = kept_of old more within edits;
-      recorded_apart = λ i p h. subst (λ (q : List ℕ). own.set q ≡ false) (sym (recorded_h store extra first_none recorded_is all_h i p h).1) h_apart;
-      stamps = λ added is. subst (Increases (latest old)) (append_cancel_left old more added is) stamps;
-      reports = λ i at ended well. all_from_has _ (listed (depfile_in B (edge_at edges i).act (view_of at))) (λ p h.
-          let both = told_h steps old more ends i at ended p h in
-          record {
-            apart = subst (λ (q : List ℕ). own.set q ≡ false) (sym both.1) h_apart;
-            above = λ j made command. is_above i j p both made;
-          });
-      dyndep = record {
-        inputs = λ i p command read j file made source named. absurd (none_some j (sym source ∙ made));
-        reports = λ i j p reported made command. is_known_above i j p (told_h steps old more ends i reported.at reported.ended p reported.told) made;
+      → Premises B own edges edges (recorded_inputs store edges) steps old (old ++ more) × KeepsFaith B own edges store steps old (old ++ more)
+  premises_of steps old more judged first second within edits stamps ends leaves = (
+    record {
+      files = record {
+        kept = kept_of old more within edits;
+        quiet = λ i. true;
+        alone = record { unread = λ i p is_quiet matters. refl; above = λ i j p is_quiet matters made command. refl };
+        recorded_apart = λ i p h. subst (λ (q : List ℕ). own.set q ≡ false) (sym (recorded_h store extra first_none recorded_is all_h i p h).1) h_apart;
+        stamps = grow;
+        reports = λ i at ended well. all_from_has _ (listed (depfile_in B (edge_at edges i).act (view_of at))) (λ p h.
+            let both = told_h steps old more ends i at ended p h in
+            record {
+              apart = subst (λ (q : List ℕ). own.set q ≡ false) (sym both.1) h_apart;
+              above = λ j made command. is_above i j p both made;
+            });
+        dyndep = record {
+          inputs = λ i p command read j file made source named. absurd (none_some j (sym source ∙ made));
+          reports = λ i j p reported made command. is_known_above i j p (told_h steps old more ends i reported.at reported.ended p reported.told) made;
+        };
       };
-    };
-    one_outcome = λ i h. elim (is_either i (judged i h)) [
-      | inl one ↦ subst (λ (n : ℕ). HasOneOutcome B edges (view_of (old ++ more)) n) (sym one) first
-      | inr two ↦ subst (λ (n : ℕ). HasOneOutcome B edges (view_of (old ++ more)) n) (sym two) second
-    ];
-    left_outcomes = λ i at ended well.
-        subst (λ (l : List Moment). LeftOutcome B edges (view_of (old ++ more)) (view_of l) i) (sym ended.is) (ended_in_build (LeavesAt old (old ++ more)) old more leaves i at ended);
-  }
+      one_outcome = λ i is_quiet h. elim (is_either i (judged i h)) [
+        | inl one ↦ subst (λ (n : ℕ). HasOneOutcome B edges (view_of (old ++ more)) n) (sym one) first
+        | inr two ↦ subst (λ (n : ℕ). HasOneOutcome B edges (view_of (old ++ more)) n) (sym two) second
+      ];
+      left_outcomes = left;
+    },
+    record { kept = kept_of old more within edits; unrecorded = λ p is. absurd (false≢true is); stamps = grow; left_outcomes = left },
+  )
+    where
+      grow : StampsGrow old (old ++ more)
+      grow added is = subst (Increases (next_stamp old)) (append_cancel_left old more added is) stamps
+
+      left : LeaveOutcomes B edges steps old (old ++ more)
+      left i at ended well before since act stamp is =
+          subst (λ (l : List Moment). LeftOutcome B edges since (old ++ more) l i) (sym ended.is) (ended_in_build (LeavesAt old (old ++ more)) old more leaves i at ended since)

@@ -8,12 +8,12 @@ use Rattle.model.specs.declared.event.Moment.{Moment}
 use Rattle.model.specs.declared.fault.SiteFault.TheVariants.{Stopped}
 use Rattle.model.specs.declared.moves.Move.{Move}
 use Rattle.model.specs.declared.moves.Move.TheVariants.{Write, Build}
-use Rattle.model.specs.World.{World, view_of, latest}
+use Rattle.model.specs.World.{World, view_of, next_stamp}
 use Rattle.model.specs.Graph.{Addition}
 use Rattle.model.specs.Outcome.{Behaviour}
 use Rattle.model.specs.Records.{Store, LogFormat, file_in, build_log_name, store_in, in_force, recorded_inputs}
 use Rattle.model.specs.Kept.{KeepsRecords, LeavesNothing}
-use Rattle.model.specs.Premises.{Increases, StampsGrow, IsNoEdit, NothingIsEdited, IsWithinEdge, KeepToOutputs}
+use Rattle.model.specs.Premises.{Increases, StampsGrow, IsNoEdit, NothingIsEdited, IsWithinEdge, KeepToOutputs, none_free}
 use Rattle.model.specs.SingleBuild.{Success, Failed, Fault}
 use Rattle.model.specs.Faithful.{IsFaithfulStore}
 use Rattle.model.specs.History.{Visit, Edited, Built, Unread, Restarted, IsEdit, LeavesOutputs, Keeps}
@@ -47,14 +47,14 @@ edits path content old new stamp events earlier grows = record {
 none_left : (move : Move) (rest : List Move) → move ∷ rest ≡ [] → ⊥
 none_left move rest e = cc
 
-stamps : (old more : List Moment) → Increases (latest old) more → StampsGrow old (old ++ more)
-stamps old more grow added is = subst (Increases (latest old)) (append_cancel_left old more added is) grow
+stamps : (old more : List Moment) → Increases (next_stamp old) more → StampsGrow old (old ++ more)
+stamps old more grow added is = subst (Increases (next_stamp old)) (append_cancel_left old more added is) grow
 
-unedited : (old more : List Moment) → AllByRecursion IsNoEdit more → NothingIsEdited old (old ++ more)
-unedited old more edits added is = subst (AllByRecursion IsNoEdit) (append_cancel_left old more added is) edits
+unedited : (old more : List Moment) → AllByRecursion (IsNoEdit none_free) more → NothingIsEdited old (old ++ more)
+unedited old more edits added is = subst (AllByRecursion (IsNoEdit none_free)) (append_cancel_left old more added is) edits
 
-to_outputs : (old more : List Moment) → AllByRecursion (IsWithinEdge edges) more → KeepToOutputs edges old (old ++ more)
-to_outputs old more within added is = subst (AllByRecursion (IsWithinEdge edges)) (append_cancel_left old more added is) within
+to_outputs : (old more : List Moment) → AllByRecursion (IsWithinEdge none_free edges) more → KeepToOutputs none_free edges old (old ++ more)
+to_outputs old more within added is = subst (AllByRecursion (IsWithinEdge none_free edges)) (append_cancel_left old more added is) within
 
 differ : (p q : List ℕ) → bytes_eq p q ≡ false → p ≡ q → ⊥
 differ p q differs same = false≢true (sym differs ∙ subst (λ (r : List ℕ). bytes_eq p r ≡ true) same (bytes_same p))
@@ -179,7 +179,7 @@ module _ (reading : List ℕ → Option (List (List ℕ))) (dyndep : List ℕ �
           is_left format (codes "a") (naming (codes "k")) sourced refl refl refl,
         ),
         (
-          (λ job. refl, (own_fits, failing_keeps reading dyndep reads)),
+          (λ job. refl, (own_fits, (failing_keeps reading dyndep reads).1)),
           (
             (
               both_ended 6 11 false,
@@ -188,11 +188,19 @@ module _ (reading : List ℕ → Option (List (List ℕ))) (dyndep : List ℕ �
               is_left format (codes "a") (naming (codes "h")) failed (none_in_force failed_store failed (codes "a") (at_failed format reads_logs own own_fits) refl) refl refl,
             ),
             (
-              (both_ended 6 11 false, (own_fits, stopping_keeps reading dyndep reads)),
+              (both_ended 6 11 false, (own_fits, (stopping_keeps reading dyndep reads).1)),
               (
-                (stamps stopped.history [] tt, to_outputs stopped.history [] tt, unedited stopped.history [] tt),
+                (record {
+                  free = none_free;
+                  free_apart = record { set = λ p is. refl; outputs = λ i p is. refl };
+                  unrecorded = λ p is. absurd (false≢true is);
+                  logs = (refl, refl);
+                  stamps = stamps stopped.history [] tt;
+                  commands = to_outputs stopped.history [] tt;
+                  edits = unedited stopped.history [] tt;
+                }),
                 (
-                  (λ job. refl, (own_fits, succeeding_keeps reading dyndep reads)),
+                  (λ job. refl, (own_fits, (succeeding_keeps reading dyndep reads).1)),
                   (
                     (
                       ended 2 20 true,
@@ -200,7 +208,7 @@ module _ (reading : List ℕ → Option (List (List ℕ))) (dyndep : List ℕ �
                       unedited built.history (put (codes "g") (codes "y") 27 ∷ []) (tt, tt),
                       is_left format (codes "g") (codes "y") built (none_in_force built_store built (codes "g") (at_built format reads_logs own own_fits) refl) refl refl,
                     ),
-                    ((ended 2 20 true, (own_fits, again_keeps reading dyndep reads)), tt),
+                    ((ended 2 20 true, (own_fits, (again_keeps reading dyndep reads).1)), tt),
                   ),
                 ),
               ),
@@ -236,7 +244,7 @@ module _ (reading : List ℕ → Option (List (List ℕ))) (dyndep : List ℕ �
                   λ all fits. record {
                     records = λ tells kept. subst (λ (s : Store). KeepsRecords B asked stopped_store s good_steps None restarted_world built) (at_built format reads_logs all fits) (succeeding_logs reading dyndep reads);
                     settled = λ tells success start files.
-                        subst (λ (s : Store). LeavesNothing asked stopped_store s good_steps restarted_world.history built.history) (at_built format reads_logs all fits) nothing_left;
+                        subst (λ (s : Store). LeavesNothing files.quiet asked stopped_store s good_steps restarted_world.history built.history) (at_built format reads_logs all fits) (nothing_left files.quiet);
                   },
                   (
                     tt,
@@ -244,7 +252,7 @@ module _ (reading : List ℕ → Option (List (List ℕ))) (dyndep : List ℕ �
                       λ all fits. record {
                         records = λ tells kept. subst (λ (s : Store). KeepsRecords B asked built_store s all_steps None edited_again last) (at_last format reads_logs all fits) (again_logs reading dyndep reads);
                         settled = λ tells success start files.
-                            subst (λ (s : Store). LeavesNothing asked built_store s all_steps edited_again.history last.history) (at_last format reads_logs all fits) nothing_left_again;
+                            subst (λ (s : Store). LeavesNothing files.quiet asked built_store s all_steps edited_again.history last.history) (at_last format reads_logs all fits) (nothing_left_again files.quiet);
                       },
                       tt,
                     ),

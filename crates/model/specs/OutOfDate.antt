@@ -49,6 +49,10 @@ facts_of edges store ran old new i read = record {
 abbrev pub Counted : List Edge → Store → List Moment → ℕ → List ℕ → Type 0
 Counted edges store files i p = IsRead edges (view_of files) i p ⊎ (has (recorded_inputs store edges i) p ≡ true)
 
+-- no path that counts for edge i is one that others may write meanwhile
+abbrev pub ReadsNoFree : (List ℕ → Bool) → List Edge → Store → List Moment → ℕ → Type 0
+ReadsNoFree free edges store files i = (p : List ℕ) → Counted edges store files i p → free p ≡ false
+
 -- the list has just the paths that count for edge i
 abbrev pub ListsCounted : List Edge → Store → List Moment → ℕ → List (List ℕ) → Type 0
 ListsCounted edges store files i read = (p : List ℕ) → (has read p ≡ true) ↔ Counted edges store files i p

@@ -1,5 +1,5 @@
 -- Dyndep files: what they add to the edges, and builds that load them. Where an edge's dyndep file is loaded, it names none any more.
-use Rattle.std.specs.Prelude.{◌≡◌, ◌≢◌, ◌⊎◌, ℕ, suc, ◌<◌, true, false, List, [], ◌∷◌, ◌++◌, length, Option, Some, None}
+use Rattle.std.specs.Prelude.{◌≡◌, ◌≢◌, ◌⊎◌, ℕ, suc, ◌<◌, Bool, true, false, List, [], ◌∷◌, ◌++◌, length, Option, Some, None}
 use Rattle.std.specs.List.{AllByRecursion}
 use Rattle.model.specs.declared.graph.Edge.{Edge}
 use Rattle.model.specs.Graph.{has, has_number, edge_at, maker, outputs, IsMadeOnce, Addition, grown_edge}
@@ -7,7 +7,7 @@ use Rattle.model.specs.declared.event.Moment.{Moment}
 use Rattle.model.specs.declared.event.Moment.TheVariants.{Wrote, Happened}
 use Rattle.model.specs.World.{View}
 use Rattle.model.specs.OutOfDate.{NothingIsMissing}
-use Rattle.model.specs.Reading.{IsInCone, IsCycle}
+use Rattle.model.specs.Reading.{needs, IsInCone, IsCycle}
 use Rattle.model.specs.Records.{Store, OwnFiles, recorded_inputs}
 use Rattle.model.specs.Premises.{RecordedApart}
 use Rattle.model.specs.Schedule.{Task, Step, Judged, Started, Ended, started_in, ended_in, running_in, IsLawfulFrom, IsSettledPath}
@@ -163,11 +163,24 @@ pub record IsPointAfter (before : List Step) (old new at : List Moment) : Type 0
   pub entry : started_in before ≡ [] → at ≡ old
   pub behind : EndsInEvent so_far
 
+-- a moment at which just these steps were done: as many starts and finishes came before it as are among them
+pub record IsMomentAfter (before : List Step) (old new at : List Moment) : Type 0 where
+  pub so_far : List Moment
+  pub later : List Moment
+  pub is : at ≡ old ++ so_far
+  pub grows : new ≡ at ++ later
+  pub happened : happened_in so_far ≡ length (started_in before ++ ended_in before)
+
 -- Where a command was started, the targets and the recorded inputs lie outside the set of the program's own files, depfiles and
 -- response files: the program removes an old depfile, and writes a response file, before a start.
 abbrev pub AreAskedApart : OwnFiles → Task → List Step → Type 0
 AreAskedApart own task before =
     (started_in before ≡ []) ⊎ (RecordedApart own task.recorded × ((p : List ℕ) → has task.targets p ≡ true → own.set p ≡ false))
+
+-- no path that an edge needs, and no target, is one that others may write meanwhile
+abbrev pub NothingNeededIsFree : (List ℕ → Bool) → Task → Type 0
+NothingNeededIsFree free task =
+    ((i : ℕ) (p : List ℕ) → has (needs task.graph.edges task.recorded i) p ≡ true → free p ≡ false) × ((p : List ℕ) → has task.targets p ≡ true → free p ≡ false)
 
 -- nothing is missing at this point, where all files that no edge makes are loaded
 abbrev pub IsNothingMissing : OwnFiles → Task → Store → List Step → List Moment → List Moment → Type 0

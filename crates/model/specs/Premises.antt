@@ -2,19 +2,20 @@
 -- entry of a build to its exit; none speaks of what the program writes. All are this project's own.
 -- That a read gives what the file holds, and that different canonical paths are different files, needs no premise here:
 -- a site that tells its files promises the first in its calls, and the history has one file for each path.
-use Rattle.std.specs.Prelude.{◌≡◌, ◌≢◌, ◌⊎◌, ℕ, ◌<◌, true, false, List, [], ◌∷◌, ◌++◌, Some, None}
+use Rattle.std.specs.Prelude.{◌≡◌, ◌≢◌, ◌⊎◌, ℕ, suc, ◌≤◌, max, Bool, true, false, List, [], ◌∷◌, ◌++◌, Some, None}
 use Rattle.std.specs.List.{AllByRecursion}
-use Rattle.model.specs.declared.event.Event.TheVariants.{Finish}
+use Rattle.model.specs.declared.act.Act.{Act}
+use Rattle.model.specs.declared.event.Event.TheVariants.{Start, Finish}
 use Rattle.model.specs.declared.event.Moment.{Moment}
 use Rattle.model.specs.declared.event.Moment.TheVariants.{Wrote, Happened}
 use Rattle.model.specs.declared.event.Writer.TheVariants.{Program, Command, Someone}
 use Rattle.model.specs.declared.graph.Edge.{Edge}
-use Rattle.model.specs.World.{World, View, view_of, latest, IsIdle}
+use Rattle.model.specs.World.{World, View, view_of, next_stamp, IsNotAt, IsIdle}
 use Rattle.model.specs.Calls.{AgreeOn}
 use Rattle.model.specs.Graph.{has, has_number, edge_at, maker, outputs, regular_inputs, inputs, IsCommand}
 use Rattle.model.specs.Outcome.{Behaviour, GivesTheSame, ends_well, given, reports_of, depfile_in, listed}
 use Rattle.model.specs.Reading.{IsRead, IsAlias, IsAbove, needs}
-use Rattle.model.specs.Records.{OwnFiles}
+use Rattle.model.specs.Records.{Store, OwnFiles, in_force}
 use Rattle.model.specs.Schedule.{Step, judged_in, well_in}
 
 -- each moment since the first history is of this kind
@@ -36,19 +37,19 @@ HasOneOutcome B edges files i =
     → AgreeOn (reports_of B (edge_at edges i).act u) u v
     → GivesTheSame B (edge_at edges i).act (outputs (edge_at edges i)) u v
 
--- of each edge that was judged, the files being those of the exit
-abbrev pub OneOutcome : Behaviour → List Edge → List Step → View → Type 0
-OneOutcome B edges steps files = (i : ℕ) → has_number (judged_in steps) i ≡ true → HasOneOutcome B edges files i
+-- of each of these edges that was judged, the files being those of the exit
+abbrev pub OneOutcome : Behaviour → (ℕ → Bool) → List Edge → List Step → View → Type 0
+OneOutcome B quiet edges steps files = (i : ℕ) → quiet i ≡ true → has_number (judged_in steps) i ≡ true → HasOneOutcome B edges files i
 
--- What the command of edge i left, outputs and reports, is what it gives in a view that holds what the files hold on its
--- reading set and on its reports.
-pub record LeftOutcome (B : Behaviour) (edges : List Edge) (files after : View) (i : ℕ) : Type 0 where
+-- What the command of edge i left, outputs and reports, is what it gives in one view. That holds what the files of the exit hold,
+-- but for what was written since the command's start: of such a file nothing is said. `since` are the moments behind the start,
+-- `at` the history at which the command ended.
+pub record LeftOutcome (B : Behaviour) (edges : List Edge) (since new at : List Moment) (i : ℕ) : Type 0 where
   pub seen : View
   pub well : ends_well B (edge_at edges i).act seen ≡ true
-  pub reading : AgreesOnReading edges files i seen
-  pub reports : AgreeOn (reports_of B (edge_at edges i).act seen) seen files
-  pub contents : AllByRecursion (λ o. after o ≡ given B (edge_at edges i).act seen o) (outputs (edge_at edges i))
-  pub depfile : depfile_in B (edge_at edges i).act after ≡ Some (reports_of B (edge_at edges i).act seen)
+  pub unwritten : (p : List ℕ) → AllByRecursion (IsNotAt p) since → seen p ≡ view_of new p
+  pub contents : AllByRecursion (λ o. view_of at o ≡ given B (edge_at edges i).act seen o) (outputs (edge_at edges i))
+  pub depfile : depfile_in B (edge_at edges i).act (view_of at) ≡ Some (reports_of B (edge_at edges i).act seen)
 
 -- the history at which the command of edge i ended well by itself
 pub record EndedAt (i : ℕ) (old new at : List Moment) : Type 0 where
@@ -60,30 +61,37 @@ pub record EndedAt (i : ℕ) (old new at : List Moment) : Type 0 where
 -- each command that ended well left an outcome
 abbrev pub LeaveOutcomes : Behaviour → List Edge → List Step → List Moment → List Moment → Type 0
 LeaveOutcomes B edges steps old new =
-    (i : ℕ) (at : List Moment) → EndedAt i old new at → has_number (well_in steps) i ≡ true → LeftOutcome B edges (view_of new) (view_of at) i
+    (i : ℕ) (at : List Moment) → EndedAt i old new at → has_number (well_in steps) i ≡ true
+    → (before since : List Moment) (act : Act) (stamp : ℕ) → new ≡ old ++ (before ++ Happened (Start i act stamp) ∷ since)
+    → LeftOutcome B edges since new at i
 
 -- ---- stamps grow
 
+-- each of these writes is stamped no earlier than `next`; and no earlier than all before it, and later than each start before it
 abbrev pub Increases : ℕ → List Moment → Type 0
-Increases last [] = Unit {0}
-Increases last (Wrote by path content stamp ∷ ms) = (last < stamp) × Increases stamp ms
-Increases last (Happened event ∷ ms) = Increases last ms
+Increases next [] = Unit {0}
+Increases next (Wrote by path content stamp ∷ ms) = (next ≤ stamp) × Increases stamp ms
+Increases next (Happened (Start job act stamp) ∷ ms) = Increases (max next (suc stamp)) ms
+Increases next (Happened (Finish job ok) ∷ ms) = Increases next ms
 
--- every write and every tick is stamped later than all before
+-- Stamps never fall, and what is written behind a start is stamped later than that start. (Two files may have one stamp, and a write
+-- before a start may have that of the start.)
 abbrev pub StampsGrow : List Moment → List Moment → Type 0
-StampsGrow old new = (more : List Moment) → new ≡ old ++ more → Increases (latest old) more
+StampsGrow old new = (more : List Moment) → new ≡ old ++ more → Increases (next_stamp old) more
 
 -- ---- only commands write outputs
 
--- a command writes and deletes only the outputs and the depfile of its edge
-abbrev pub IsWithinEdge : List Edge → Moment → Type 0
-IsWithinEdge edges (Wrote Program path content stamp) = Unit {0}
-IsWithinEdge edges (Wrote (Command job) path content stamp) = (has (outputs (edge_at edges job)) path ≡ true) ⊎ (path ≡ (edge_at edges job).act.depfile)
-IsWithinEdge edges (Wrote Someone path content stamp) = Unit {0}
-IsWithinEdge edges (Happened event) = Unit {0}
+-- A command writes and deletes only the outputs and the depfile of its edge; and free paths, which anybody may write at any time:
+-- scratch files, and sources that are edited meanwhile.
+abbrev pub IsWithinEdge : (List ℕ → Bool) → List Edge → Moment → Type 0
+IsWithinEdge free edges (Wrote Program path content stamp) = Unit {0}
+IsWithinEdge free edges (Wrote (Command job) path content stamp) =
+    (has (outputs (edge_at edges job)) path ≡ true) ⊎ (path ≡ (edge_at edges job).act.depfile) ⊎ (free path ≡ true)
+IsWithinEdge free edges (Wrote Someone path content stamp) = Unit {0}
+IsWithinEdge free edges (Happened event) = Unit {0}
 
-abbrev pub KeepToOutputs : List Edge → List Moment → List Moment → Type 0
-KeepToOutputs edges old new = AllSince (IsWithinEdge edges) old new
+abbrev pub KeepToOutputs : (List ℕ → Bool) → List Edge → List Moment → List Moment → Type 0
+KeepToOutputs free edges old new = AllSince (IsWithinEdge free edges) old new
 
 -- the path is in the set, and none of the program's own files; so is the empty text, which an act has that names none
 abbrev pub LiesIn : OwnFiles → List ℕ → Type 0
@@ -109,16 +117,28 @@ pub record OwnFilesApart (own : OwnFiles) (edges : List Edge) : Type 0 where
       × SharesNone (edge_at edges i).act.response_path (edge_at edges j).act.response_path
       × SharesNone (edge_at edges i).act.depfile (edge_at edges j).act.response_path
 
--- ---- nothing is edited during a build
+-- ---- what is edited during a build
 
-abbrev pub IsNoEdit : Moment → Type 0
-IsNoEdit (Wrote Program path content stamp) = Unit {0}
-IsNoEdit (Wrote (Command job) path content stamp) = Unit {0}
-IsNoEdit (Wrote Someone path content stamp) = ⊥
-IsNoEdit (Happened event) = Unit {0}
+-- somebody else writes free paths alone
+abbrev pub IsNoEdit : (List ℕ → Bool) → Moment → Type 0
+IsNoEdit free (Wrote Program path content stamp) = Unit {0}
+IsNoEdit free (Wrote (Command job) path content stamp) = Unit {0}
+IsNoEdit free (Wrote Someone path content stamp) = free path ≡ true
+IsNoEdit free (Happened event) = Unit {0}
+
+abbrev pub OnlyFreeIsEdited : (List ℕ → Bool) → List Moment → List Moment → Type 0
+OnlyFreeIsEdited free old new = AllSince (IsNoEdit free) old new
+
+abbrev pub none_free : List ℕ → Bool
+none_free p = false
 
 abbrev pub NothingIsEdited : List Moment → List Moment → Type 0
-NothingIsEdited old new = AllSince IsNoEdit old new
+NothingIsEdited old new = OnlyFreeIsEdited none_free old new
+
+-- a free path is none of the program's own files, no depfile, no response file, and no output
+pub record FreeApart (free : List ℕ → Bool) (own : OwnFiles) (edges : List Edge) : Type 0 where
+  pub set : (p : List ℕ) → own.set p ≡ true → free p ≡ false
+  pub outputs : (i : ℕ) (p : List ℕ) → has (outputs (edge_at edges i)) p ≡ true → free p ≡ false
 
 -- ---- reports come from above
 
@@ -185,28 +205,46 @@ HaveEnded world = IsIdle world.events
 
 -- ---- together
 
--- what the verdicts, the refusals and the frame suppose: only commands write outputs, the program's own files are apart from
--- what the graph names, and nothing is edited
+-- What the frame and the records suppose: only commands write outputs, the program's own files are apart from what the graph
+-- names, and others write nothing but free paths, which are whatever these are.
 pub record FilesAreKept (own : OwnFiles) (edges : List Edge) (old new : List Moment) : Type 0 where
-  pub commands : KeepToOutputs edges old new
+  pub free : List ℕ → Bool
+  pub free_apart : FreeApart free own edges
+  pub commands : KeepToOutputs free edges old new
   pub own_files : OwnFilesApart own edges
-  pub edits : NothingIsEdited old new
+  pub edits : OnlyFreeIsEdited free old new
 
 -- The set that holds the program's own files, depfiles and response files holds no recorded input in use: what an earlier
 -- build recorded was a report.
 abbrev pub RecordedApart : OwnFiles → (ℕ → List (List ℕ)) → Type 0
 RecordedApart own recorded = (i : ℕ) (p : List ℕ) → has (recorded i) p ≡ true → own.set p ≡ false
 
+-- A set of edges that others leave alone: no edge of it reads a free path, and the commands that make what it reads are of the set.
+-- Of these edges alone something is said of what they leave: where a source is edited meanwhile, all edges but those below it may be.
+pub record AreQuiet (B : Behaviour) (quiet : ℕ → Bool) (free : List ℕ → Bool) (edges : List Edge) (recorded : ℕ → List (List ℕ)) (steps : List Step) (old new : List Moment) : Type 0 where
+  pub unread : (i : ℕ) (p : List ℕ) → quiet i ≡ true → Matters B edges recorded steps old new i p → free p ≡ false
+  pub above : (i j : ℕ) (p : List ℕ) → quiet i ≡ true → Matters B edges recorded steps old new i p → maker edges p ≡ Some j → IsCommand edges j → quiet j ≡ true
+
 -- what is supposed of files, stamps and reports
 pub record FilesAndReports (B : Behaviour) (own : OwnFiles) (declared edges : List Edge) (recorded : ℕ → List (List ℕ)) (steps : List Step) (old new : List Moment) : Type 0 where
   pub kept : FilesAreKept own edges old new
+  pub quiet : ℕ → Bool
+  pub alone : AreQuiet B quiet kept.free edges recorded steps old new
   pub recorded_apart : RecordedApart own recorded
   pub stamps : StampsGrow old new
   pub reports : ReportsComeFromAbove B own edges recorded steps old new
   pub dyndep : DyndepOutputsAreReadBelow B declared edges recorded steps old new
 
--- what the contents of a clean build suppose: that, and that commands are functions of what they declare and report
+-- what the contents of a clean build suppose: that, and that commands of quiet edges are functions of what they declare and report
 pub record Premises (B : Behaviour) (own : OwnFiles) (declared edges : List Edge) (recorded : ℕ → List (List ℕ)) (steps : List Step) (old new : List Moment) : Type 0 where
   pub files : FilesAndReports B own declared edges recorded steps old new
-  pub one_outcome : OneOutcome B edges steps (view_of new)
+  pub one_outcome : OneOutcome B files.quiet edges steps (view_of new)
+  pub left_outcomes : LeaveOutcomes B edges steps old new
+
+-- What faithful records suppose, and no more: files are kept, stamps grow, each command left an outcome, and no free path has a
+-- record in force at the entry.
+pub record KeepsFaith (B : Behaviour) (own : OwnFiles) (edges : List Edge) (store : Store) (steps : List Step) (old new : List Moment) : Type 0 where
+  pub kept : FilesAreKept own edges old new
+  pub unrecorded : (p : List ℕ) → kept.free p ≡ true → in_force store.records p ≡ None
+  pub stamps : StampsGrow old new
   pub left_outcomes : LeaveOutcomes B edges steps old new

@@ -18,10 +18,10 @@ use Rattle.model.specs.Outcome.{Behaviour, depfile_in, is_accepted}
 use Rattle.model.specs.Clean.{clean_build}
 use Rattle.model.specs.Reading.{IsInCone, IsCycle, needs}
 use Rattle.model.specs.Records.{Store, LogFormat, OwnFiles, store_in, recorded_inputs}
-use Rattle.model.specs.OutOfDate.{IsVerdict, IsOutOfDate, IsMissingInput, IsFirstMissing}
+use Rattle.model.specs.OutOfDate.{ReadsNoFree, IsVerdict, IsOutOfDate, IsMissingInput, IsFirstMissing}
 use Rattle.model.specs.Schedule.{Task, Step, Judged, Started, IsSettled, AreEventsOf, AreFinishes, NoneMayBeJudged, NoneMayStart, done_in, started_in, ended_in, out_of_date_in, well_in, failed_in, Ended, MayStart}
-use Rattle.model.specs.Phases.{Phase, steps_of, IsLawfulBuild, IsLoad, IsDueLoad, IsNextLoad, NoLoadIsDue, IsPointAfter, AreAskedApart, WasNothingMissing, WasNothingMissingIn}
-use Rattle.model.specs.Premises.{FilesAreKept, RecordedApart, Premises, NothingIsEdited, EndedAt, InputsAreKnown}
+use Rattle.model.specs.Phases.{Phase, steps_of, IsLawfulBuild, IsLoad, IsDueLoad, IsNextLoad, NoLoadIsDue, NothingNeededIsFree, IsMomentAfter, IsPointAfter, AreAskedApart, WasNothingMissing, WasNothingMissingIn}
+use Rattle.model.specs.Premises.{FilesAreKept, RecordedApart, Premises, EndedAt, InputsAreKnown}
 
 -- ---- what a build was asked, and what it answers
 
@@ -153,21 +153,50 @@ pub record MetFault (task : Task) (steps : List Step) (old new : World) (answer 
   pub stale : has_number (out_of_date_in steps) i ≡ true
   pub taken_in : WasTakenIn i old new → has_number (ended_in steps) i ≡ true
 
--- Each verdict is that of the table. A command that ended well by itself and whose depfile is not refused ended well, and no other
+-- Each verdict is that of the table, where others write nothing that the edge reads. A command that ended well by itself and whose depfile is not refused ended well, and no other
 -- did; of the one whose taking in met the fault, whose depfile may not have been read, the second is said alone.
-pub record IsJudged (B : Behaviour) (asked : Asked) (store : Store) (steps : List Step) (met : Option ℕ) (old new : List Moment) : Type 0 where
+pub record IsJudged (B : Behaviour) (free : List ℕ → Bool) (asked : Asked) (store : Store) (steps : List Step) (met : Option ℕ) (old new : List Moment) : Type 0 where
   pub verdicts : (before after : List Step) (i : ℕ) (out_of_date : Bool) → steps ≡ before ++ Judged i out_of_date ∷ after
-      → IsVerdict asked.graph.edges store (well_in before) old new i out_of_date
+      → ReadsNoFree free asked.graph.edges store new i → IsVerdict asked.graph.edges store (well_in before) old new i out_of_date
   pub well : (i : ℕ) (at : List Moment) → EndedAt i old new at → has_number (well_in steps) i ≡ true
       → is_accepted (depfile_in B (edge_at asked.graph.edges i).act (view_of at)) ≡ true
   pub depfiles : (i : ℕ) (at : List Moment) → EndedAt i old new at → has_number (ended_in steps) i ≡ true → (met ≡ Some i → ⊥)
       → has_number (well_in steps) i ≡ is_accepted (depfile_in B (edge_at asked.graph.edges i).act (view_of at))
 
--- each command that was started was judged out of date before, and was so
-abbrev pub StartsOnlyStale : List Edge → Store → List Step → List Moment → List Moment → Type 0
-StartsOnlyStale edges store steps old new =
+-- The verdict on edge i is that of the table at a moment when just the steps before it were done, over the edges of then, where others
+-- write nothing that the edge reads.
+pub record JudgedAt (free : List ℕ → Bool) (edges : List Edge) (store : Store) (before : List Step) (i : ℕ) (out_of_date : Bool) (old new : List Moment) : Type 0 where
+  pub at : List Moment
+  pub moment : IsMomentAfter before old new at
+  pub right : ReadsNoFree free edges store at i → IsVerdict edges store (well_in before) old at i out_of_date
+
+-- so is each verdict of these steps, and of these phases
+abbrev pub AreJudgedAt : (List ℕ → Bool) → List Edge → Store → List Step → List Step → List Moment → List Moment → Type 0
+AreJudgedAt free edges store before [] old new = Unit {0}
+AreJudgedAt free edges store before (Judged i out_of_date ∷ steps) old new =
+    JudgedAt free edges store before i out_of_date old new × AreJudgedAt free edges store (before ++ Judged i out_of_date ∷ []) steps old new
+AreJudgedAt free edges store before (Started i ∷ steps) old new = AreJudgedAt free edges store (before ++ Started i ∷ []) steps old new
+AreJudgedAt free edges store before (Ended i well ∷ steps) old new = AreJudgedAt free edges store (before ++ Ended i well ∷ []) steps old new
+
+abbrev pub ArePhasesJudgedAt : (List ℕ → Bool) → Store → List Step → List Phase → List Moment → List Moment → Type 0
+ArePhasesJudgedAt free store before [] old new = Unit {0}
+ArePhasesJudgedAt free store before (phase ∷ phases) old new =
+    AreJudgedAt free phase.edges store before phase.steps old new × ArePhasesJudgedAt free store (before ++ phase.steps) phases old new
+
+-- the file held this at a moment when a beginning of these steps was done
+pub record HeldAt (file content : List ℕ) (steps : List Step) (old new : List Moment) : Type 0 where
+  pub before : List Step
+  pub later : List Step
+  pub splits : steps ≡ before ++ later
+  pub at : List Moment
+  pub moment : IsMomentAfter before old new at
+  pub holds : view_of at file ≡ Some content
+
+-- each command that was started was judged out of date before, and was so, where others write nothing that it reads
+abbrev pub StartsOnlyStale : (List ℕ → Bool) → List Edge → Store → List Step → List Moment → List Moment → Type 0
+StartsOnlyStale free edges store steps old new =
     (before after : List Step) (i : ℕ) → steps ≡ before ++ Started i ∷ after
-    → (earlier later : List Step) × (before ≡ earlier ++ Judged i true ∷ later) × IsOutOfDate edges store (well_in earlier) old new i
+    → (earlier later : List Step) × (before ≡ earlier ++ Judged i true ∷ later) × (ReadsNoFree free edges store new i → IsOutOfDate edges store (well_in earlier) old new i)
 
 -- ---- 2. the answer
 
@@ -212,7 +241,7 @@ pub record IsInOrder (tells : Bool) (own : OwnFiles) (asked : Asked) (store : St
   pub dyndep : (file : List ℕ) → NamesOther asked.declared file → ⊥
   pub named : AllNamed asked
   pub no_cycle : HasNoCycle asked store
-  pub sources : IsTrue tells → FilesAreKept own asked.graph.edges old.history new.history
+  pub sources : IsTrue tells → (files : FilesAreKept own asked.graph.edges old.history new.history) → NothingNeededIsFree files.free (task_of asked store)
       → WasNothingMissing own (task_of asked store) store old.history new.history [] phases
 
 -- Where a step was taken, all that is refused before it was in order, whatever the answer came to be.
@@ -221,7 +250,7 @@ pub record WasInOrder (tells : Bool) (own : OwnFiles) (asked : Asked) (store : S
   pub dyndep : (file : List ℕ) → NamesOther asked.declared file → ⊥
   pub named : AllNamed asked
   pub no_cycle : HasNoCycle asked store
-  pub sources : IsTrue tells → FilesAreKept own asked.graph.edges old.history new.history
+  pub sources : IsTrue tells → (files : FilesAreKept own asked.graph.edges old.history new.history) → NothingNeededIsFree files.free (task_of asked store)
       → WasNothingMissingIn own (task_of asked store) store old.history new.history [] phases last
 
 -- a refusal before the first step has written nothing
@@ -259,11 +288,11 @@ IsAnswer tells B own texts asked store phases done steps old new (Cyclic paths) 
     IsUntouched tells steps old new × AllNamed asked × ((wanted : Asked) × IsWanted B texts asked store done wanted × IsShownCycle wanted store paths)
 IsAnswer tells B own texts asked store phases done steps old new (MissingTarget path) =
     IsUntouched tells steps old new × AllNamed asked × HasNoCycle asked store × IsAsked (task_of asked store) phases done
-    × (IsTrue tells → FilesAreKept own asked.graph.edges old.history new.history → AreAskedApart own (task_of asked store) done
+    × (IsTrue tells → (files : FilesAreKept own asked.graph.edges old.history new.history) → NothingNeededIsFree files.free (task_of asked store) → AreAskedApart own (task_of asked store) done
     → (at : List Moment) × IsPointAfter done old.history new.history at × IsFirstMissing asked.graph.edges at (targets_of (declared_graph asked) asked.targets) path)
 IsAnswer tells B own texts asked store phases done steps old new (MissingInput path output) =
     IsUntouched tells steps old new × AllNamed asked × HasNoCycle asked store × IsAsked (task_of asked store) phases done
-    × (IsTrue tells → FilesAreKept own asked.graph.edges old.history new.history → AreAskedApart own (task_of asked store) done
+    × (IsTrue tells → (files : FilesAreKept own asked.graph.edges old.history new.history) → NothingNeededIsFree files.free (task_of asked store) → AreAskedApart own (task_of asked store) done
     → (i : ℕ) × (output ≡ first_output (edge_at asked.graph.edges i))
     × ((at : List Moment) × IsPointAfter done old.history new.history at × IsMissingInput asked.graph.edges store done at (targets_of (declared_graph asked) asked.targets) i path))
 IsAnswer tells B own texts asked store phases done steps old new (MadeTwice path) =
@@ -317,14 +346,14 @@ pub record IsReadyFor (act : Act) (files : View) : Type 0 where
 abbrev pub IsMadeBy : Edge → List ℕ → Type 0
 IsMadeBy e p = (has (outputs e) p ≡ true) ⊎ ((p ≢ []) × (p ≡ e.act.depfile))
 
--- No file changes but outputs of started commands, depfiles and response files of edges judged out of date, and the
--- program's own files; up to its judgement an edge's outputs and its depfile are as at the entry, up to its start its outputs;
+-- No file changes but outputs of started commands, depfiles and response files of edges judged out of date, the
+-- program's own files, and free paths; up to its judgement an edge's outputs and its depfile are as at the entry, up to its start its outputs;
 -- and at its start there is no old depfile, and the response file is written.
 pub record IsFrame (own : OwnFiles) (edges : List Edge) (steps : List Step) (old new : List Moment) : Type 0 where
   pub more : List Moment
   pub grows : new ≡ old ++ more
   pub writes : AllByRecursion (IsOfBuild own edges steps) more
-  pub unchanged : FilesAreKept own edges old new → (p : List ℕ) → (file_at new p ≡ file_at old p) ⊎ MayChange own edges steps p
+  pub unchanged : (files : FilesAreKept own edges old new) → (p : List ℕ) → (file_at new p ≡ file_at old p) ⊎ MayChange own edges steps p ⊎ (files.free p ≡ true)
   pub until_start : FilesAreKept own edges old new → (i stamp : ℕ) (act : Act) (o : List ℕ) (before after : List Moment)
       → more ≡ before ++ Happened (Start i act stamp) ∷ after → has (outputs (edge_at edges i)) o ≡ true
       → file_at (old ++ before) o ≡ file_at old o
@@ -341,10 +370,10 @@ pub record IsFromNothing (own : OwnFiles) (edges : List Edge) (files : View) : T
   pub build_log : files own.build_log ≡ None
   pub deps_log : files own.deps_log ≡ None
 
--- each output of each command in the cone holds what the clean build of the present sources gives, absence included
-abbrev pub IsCleanlyBuilt : Behaviour → Asked → Store → View → Type 0
-IsCleanlyBuilt B asked store files =
-    (i : ℕ) (o : List ℕ) → InCone asked store i → IsCommand asked.graph.edges i → has (outputs (edge_at asked.graph.edges i)) o ≡ true
+-- each output of each of these commands in the cone holds what the clean build of the present sources gives, absence included
+abbrev pub IsCleanlyBuilt : Behaviour → (ℕ → Bool) → Asked → Store → View → Type 0
+IsCleanlyBuilt B quiet asked store files =
+    (i : ℕ) (o : List ℕ) → quiet i ≡ true → InCone asked store i → IsCommand asked.graph.edges i → has (outputs (edge_at asked.graph.edges i)) o ≡ true
     → files o ≡ clean_build B asked.graph.edges files o
 
 -- ---- the build
@@ -353,21 +382,27 @@ IsCleanlyBuilt B asked store files =
 pub record SingleBuild (tells : Bool) (B : Behaviour) (format : LogFormat) (own : OwnFiles) (asked : Asked) (old new : World) (answer : Answer) : Type 0 where
   -- the records that the build found; where the site tells its files, those of its logs
   pub store : Store
-  pub logs : IsTrue tells → NothingIsEdited old.history new.history → store ≡ store_in format own (view_of old.history)
+  pub logs : IsTrue tells → FilesAreKept own asked.graph.edges old.history new.history → store ≡ store_in format own (view_of old.history)
   -- what the loaded dyndep files held, and hold still: but for one that a dyndep file alone names as an output, whose maker may come
-  -- after the load
+  -- after the load, and for a free one
   pub texts : View
-  pub held : IsTrue tells → FilesAreKept own asked.graph.edges old.history new.history
-      → (file content : List ℕ) → texts file ≡ Some content → (maker asked.declared file ≡ None → maker asked.graph.edges file ≡ None)
+  pub held : IsTrue tells → (files : FilesAreKept own asked.graph.edges old.history new.history)
+      → (file content : List ℕ) → files.free file ≡ false → texts file ≡ Some content → (maker asked.declared file ≡ None → maker asked.graph.edges file ≡ None)
       → view_of new.history file ≡ Some content
   pub steps : List Step
   pub schedule : IsScheduled B texts asked store steps old new answer
   -- the edge whose start or taking in met the fault, if one did
   pub met : Option ℕ
   pub met_fault : (i : ℕ) → met ≡ Some i → MetFault (task_of asked store) steps old new answer i
-  pub judged : IsTrue tells → FilesAreKept own asked.graph.edges old.history new.history → RecordedApart own (recorded_inputs store asked.graph.edges)
+  pub judged : IsTrue tells → (files : FilesAreKept own asked.graph.edges old.history new.history) → RecordedApart own (recorded_inputs store asked.graph.edges)
       → InputsAreKnown asked.declared asked.graph.edges (recorded_inputs store asked.graph.edges)
-      → IsJudged B asked store steps met old.history new.history
+      → IsJudged B files.free asked store steps met old.history new.history
+  -- with dyndep files too: each verdict by the edges and files of then, and each loaded file as it was then
+  pub judged_then : IsTrue tells → (files : FilesAreKept own asked.graph.edges old.history new.history) → RecordedApart own (recorded_inputs store asked.graph.edges)
+      → ArePhasesJudgedAt files.free store [] schedule.lawful.earlier old.history new.history
+      × AreJudgedAt files.free asked.graph.edges store (steps_of schedule.lawful.earlier) schedule.lawful.last old.history new.history
+  pub held_then : IsTrue tells → (files : FilesAreKept own asked.graph.edges old.history new.history) → (file content : List ℕ) → texts file ≡ Some content → files.free file ≡ false
+      → HeldAt file content steps old.history new.history
   pub answers : IsAnswer tells B own texts asked store schedule.lawful.earlier (steps_of schedule.lawful.earlier ++ schedule.lawful.last) steps old new answer
   pub in_order : (steps ≡ []) ⊎ WasInOrder tells own asked store schedule.lawful.earlier schedule.lawful.last old new
   pub faults : PassesNoFault old new answer
@@ -376,5 +411,5 @@ pub record SingleBuild (tells : Bool) (B : Behaviour) (format : LogFormat) (own 
   pub taken_in : new.stopped ≡ false → new.wait_refused ≡ None → IsIdle new.events
   pub frame : IsTrue tells → IsFrame own asked.graph.edges steps old.history new.history
   pub from_nothing : IsTrue tells → IsSuccess answer → IsFromNothing own asked.graph.edges (view_of old.history)
-      → Premises B own asked.declared asked.graph.edges (recorded_inputs store asked.graph.edges) steps old.history new.history
-      → IsCleanlyBuilt B asked store (view_of new.history)
+      → (premises : Premises B own asked.declared asked.graph.edges (recorded_inputs store asked.graph.edges) steps old.history new.history)
+      → IsCleanlyBuilt B premises.files.quiet asked store (view_of new.history)

@@ -12,7 +12,7 @@ use Rattle.model.specs.Graph.{has_number}
 use Rattle.model.specs.Records.{OwnFiles, store_in, read_log, in_force}
 use Rattle.model.specs.Schedule.{well_in}
 use Rattle.model.specs.Premises.{FilesAreKept}
-use Rattle.build_theory.proofs.Looks.{looks_then, kept_before, looks_keep, sees_so}
+use Rattle.build_theory.proofs.Looks.{looks_then, kept_before, looks_keep_file, looks_saw}
 use Rattle.build_theory.proofs.Makers.{one_maker}
 use Rattle.build_log.specs.declared.form.Version.{Version}
 use Rattle.build_log.specs.declared.form.Version.TheVariants.{Two}
@@ -58,36 +58,37 @@ module _ (tells : Bool) (own : OwnFiles) (edges : List Edge) (first before after
   all_looks = looks_then tells first after now upto three
 
   module _ (tell : IsTrue tells) (kept : FilesAreKept own edges first.history now.history) where
-    kept_after : FilesAreKept own edges first.history after.history
+    abbrev kept_after : FilesAreKept own edges first.history after.history
     kept_after = let call = three.history tell in kept_before own edges first.history after.history now.history call.more call.grows kept
 
-    kept_then : FilesAreKept own edges first.history before.history
-    kept_then = let call = two.history tell in kept_before own edges first.history before.history after.history call.more call.grows kept_after
+    module _ (path : List ℕ) (mine : own.files path ≡ true) where
+      bound : kept.free path ≡ false
+      bound = kept.free_apart.set path (kept.own_files.within path mine)
 
-    before_is : before.history ≡ first.history
-    before_is = looks_keep tells first before idle one tell kept_then.edits
+      now_is : view_of now.history path ≡ view_of first.history path
+      now_is = ap content_of (looks_keep_file tells own edges first now idle all_looks tell kept.free kept.edits path bound)
 
-    after_is : after.history ≡ first.history
-    after_is = looks_keep tells first after idle upto tell kept_after.edits
+      -- what was read of a file of the program's own at some moment is what it held at the entry
+      content_is : (content : Option (List ℕ)) → Sees (λ history. content_of (file_at history path)) content before.history after.history → content ≡ view_of first.history path
+      content_is content seen = looks_saw tells own edges first before after idle one two tell kept.free kept_after.edits path bound content seen
 
-    now_is : now.history ≡ first.history
-    now_is = looks_keep tells first now idle all_looks tell kept.edits
-
-    content_is : (path : List ℕ) (content : Option (List ℕ)) → Sees (λ history. content_of (file_at history path)) content before.history after.history → content ≡ view_of first.history path
-    content_is path content seen =
-        sees_so (λ history. content_of (file_at history path)) content before.history after.history (after_is ∙ sym before_is) seen
-        ∙ ap (λ (h : List Moment). content_of (file_at h path)) before_is
+  is_own : (path : List ℕ) → FilesAreKept own edges first.history now.history → (path ≡ own.build_log) ⊎ (path ≡ own.deps_log) → own.files path ≡ true
+  is_own path kept (inl is) = ap own.files is ∙ kept.own_files.build_log
+  is_own path kept (inr is) = ap own.files is ∙ kept.own_files.deps_log
 
   module _ {R T : Type 0} (forms : Version → Form R) (Keeps : List R → T → Type 0) (compaction : List R → List R) (rs : List R) (file : Held T) (read : WasRead forms Keeps compaction tells before after rs file) where
-    pub read_held : IsHeldStill forms Keeps tells own edges first now file
-    read_held tell kept =
+    pub read_held : (file.path ≡ own.build_log) ⊎ (file.path ≡ own.deps_log) → IsHeldStill forms Keeps tells own edges first now file
+    read_held log tell kept =
         subst (λ (c : Option (List ℕ)). HoldsStill forms Keeps file.state file.log c)
-        (content_is tell kept file.path read.content (read.seen tell) ∙ ap (λ (h : List Moment). view_of h file.path) (sym (now_is tell kept)))
+        (content_is tell kept file.path (is_own file.path kept log) read.content (read.seen tell) ∙ sym (now_is tell kept file.path (is_own file.path kept log)))
         (read_holds forms Keeps compaction read.content rs file read.read)
 
-    pub read_store : (reader : List ℕ → Option (List R)) → Reads forms reader → (path : List ℕ) → file.path ≡ path → (tell : IsTrue tells) → FilesAreKept own edges first.history now.history → read_log reader (view_of first.history path) ≡ rs
-    read_store reader reads path is tell kept =
-        ap (λ (c : Option (List ℕ)). read_log reader c) (ap (λ (p : List ℕ). view_of first.history p) (sym is) ∙ sym (content_is tell kept file.path read.content (read.seen tell)))
+    pub read_store : (reader : List ℕ → Option (List R)) → Reads forms reader → (path : List ℕ) → file.path ≡ path → (path ≡ own.build_log) ⊎ (path ≡ own.deps_log) → (tell : IsTrue tells) → FilesAreKept own edges first.history now.history
+        → read_log reader (view_of first.history path) ≡ rs
+    read_store reader reads path is log tell kept =
+        ap (λ (c : Option (List ℕ)). read_log reader c)
+        (ap (λ (p : List ℕ). view_of first.history p) (sym is)
+        ∙ sym (content_is tell kept file.path (is_own file.path kept (subst (λ (p : List ℕ). (p ≡ own.build_log) ⊎ (p ≡ own.deps_log)) (sym is) log)) read.content (read.seen tell)))
         ∙ records_told forms reader reads read.content rs read.read.records
 
 pub log_begins_so : LogBegins
@@ -99,15 +100,15 @@ log_begins_so tells B format own edges first before after now logs rs ds idle on
     reads = reads;
     commands = λ job is. absurd (false≢true (sym (idle job) ∙ subst (λ (es : List Event). runs job es ≡ true) all.events is));
     grows = λ tell. let call = all.history tell in (call.more, call.grows);
-    build_held = read_held tells own edges first before after now idle one two three record_forms Keeps compaction rs logs.build_log read.build_log;
-    deps_held = read_held tells own edges first before after now idle one two three deps_forms KeepsDeps deps_compaction ds logs.deps_log read.deps_log;
+    build_held = read_held tells own edges first before after now idle one two three record_forms Keeps compaction rs logs.build_log read.build_log (inl build);
+    deps_held = read_held tells own edges first before after now idle one two three deps_forms KeepsDeps deps_compaction ds logs.deps_log read.deps_log (inr deps);
     logged = λ tell kept.
         looks_logged B format own edges (store_in format own (view_of first.history)) first first now [] (sym (append-nil first.history)) kept (λ job is. absurd (false≢true (sym (idle job) ∙ is)))
         [] None tells tell all (entry_logged B format own edges first);
   },
   λ tell kept. (
-    read_store tells own edges first before after now idle one two three record_forms Keeps compaction rs logs.build_log read.build_log format.records reads.records own.build_log build tell kept,
-    read_store tells own edges first before after now idle one two three deps_forms KeepsDeps deps_compaction ds logs.deps_log read.deps_log format.deps reads.deps own.deps_log deps tell kept,
+    read_store tells own edges first before after now idle one two three record_forms Keeps compaction rs logs.build_log read.build_log format.records reads.records own.build_log build (inl refl) tell kept,
+    read_store tells own edges first before after now idle one two three deps_forms KeepsDeps deps_compaction ds logs.deps_log read.deps_log format.deps reads.deps own.deps_log deps (inr refl) tell kept,
   ),
 )
   where

@@ -60,11 +60,11 @@ module _ {R T X : Type 0} (forms : Version → Form R) (Keeps : List R → T →
       | inr is ↦ ap own.files is ∙ kept.own_files.deps_log
     ]
 
-    within : (ms : List Moment) → new.history ≡ now.history ++ ms → AllByRecursion (IsWithinEdge edges) ms
-    within ms grows = since (IsWithinEdge edges) first.history (l.grows tell).0 now.history ms new.history (l.grows tell).1 grows kept.commands
+    within : (ms : List Moment) → new.history ≡ now.history ++ ms → AllByRecursion (IsWithinEdge kept.free edges) ms
+    within ms grows = since (IsWithinEdge kept.free edges) first.history (l.grows tell).0 now.history ms new.history (l.grows tell).1 grows kept.commands
 
-    edits : (ms : List Moment) → new.history ≡ now.history ++ ms → AllByRecursion IsNoEdit ms
-    edits ms grows = since IsNoEdit first.history (l.grows tell).0 now.history ms new.history (l.grows tell).1 grows kept.edits
+    edits : (ms : List Moment) → new.history ≡ now.history ++ ms → AllByRecursion (IsNoEdit kept.free) ms
+    edits ms grows = since (IsNoEdit kept.free) first.history (l.grows tell).0 now.history ms new.history (l.grows tell).1 grows kept.edits
 
     pub held_now : (ms : List Moment) → new.history ≡ now.history ++ ms → HoldsStill forms Keeps file.state file.log before
     held_now ms grows = l.held tell (kept_before own edges first.history now.history new.history ms grows kept)
@@ -74,13 +74,13 @@ module _ {R T X : Type 0} (forms : Version → Form R) (Keeps : List R → T →
     looked looks =
         let call = looks.history tell in
         ap content_of (ap (λ (h : List Moment). file_at h file.path) call.grows
-        ∙ file_stays file.path now.history call.more (log_elsewhere own edges kept.own_files file.path mine (IsRunning now.events) l.commands call.more call.all (within call.more call.grows) (edits call.more call.grows)))
+        ∙ file_stays file.path now.history call.more (log_elsewhere own edges kept.own_files kept.free kept.free_apart file.path mine (IsRunning now.events) l.commands call.more call.all (within call.more call.grows) (edits call.more call.grows)))
 
     -- the log holds what the program wrote
     pub written_view : (content : List ℕ) (stamp : ℕ) → Adds (IsRunning now.events) (IsRunning now.events) (Wrote Program file.path (Some content) stamp) now.history new.history → after ≡ Some content
     written_view content stamp adds =
         let ms = adds.earlier ++ Wrote Program file.path (Some content) stamp ∷ adds.later in
-        ap content_of (log_written_at own edges kept.own_files file.path mine (IsRunning now.events) l.commands (Some content) stamp now.history new.history adds (within ms adds.grows) (edits ms adds.grows))
+        ap content_of (log_written_at own edges kept.own_files kept.free kept.free_apart file.path mine (IsRunning now.events) l.commands (Some content) stamp now.history new.history adds (within ms adds.grows) (edits ms adds.grows))
 
     -- ---- the log is replaced by what is in force
 
@@ -121,9 +121,9 @@ module _ {R T X : Type 0} (forms : Version → Form R) (Keeps : List R → T →
       elsewhere : AllByRecursion (IsElsewhere file.path) (appends.history tell).earlier
       elsewhere =
           let x = appends.history tell in
-          log_elsewhere own edges kept.own_files file.path mine (IsRunning now.events) l.commands x.earlier x.all_earlier
-          (all_parts (IsWithinEdge edges) x.earlier (wrote ∷ x.later) (within (x.earlier ++ wrote ∷ x.later) x.grows)).0
-          (all_parts IsNoEdit x.earlier (wrote ∷ x.later) (edits (x.earlier ++ wrote ∷ x.later) x.grows)).0
+          log_elsewhere own edges kept.own_files kept.free kept.free_apart file.path mine (IsRunning now.events) l.commands x.earlier x.all_earlier
+          (all_parts (IsWithinEdge kept.free edges) x.earlier (wrote ∷ x.later) (within (x.earlier ++ wrote ∷ x.later) x.grows)).0
+          (all_parts (IsNoEdit kept.free) x.earlier (wrote ∷ x.later) (edits (x.earlier ++ wrote ∷ x.later) x.grows)).0
 
       content_is : content ≡ text ++ bytes
       content_is = ap (λ (t : List ℕ). t ++ bytes)

@@ -29,23 +29,23 @@ grew tells own edges first now new tell (inr (inr (i, ok, finishes))) = let adds
 
 module _ (tells : Bool) (own : OwnFiles) (edges : List Edge) (first now new : World) (commands : (job : ℕ) → runs job now.events ≡ true → IsCommand edges job)
     (grows : IsTrue tells → (so_far : List Moment) × (now.history ≡ first.history ++ so_far)) (tell : IsTrue tells) (kept : FilesAreKept own edges first.history new.history) where
-  within : (ms : List Moment) → new.history ≡ now.history ++ ms → AllByRecursion (IsWithinEdge edges) ms
-  within ms more = since (IsWithinEdge edges) first.history (grows tell).0 now.history ms new.history (grows tell).1 more kept.commands
+  within : (ms : List Moment) → new.history ≡ now.history ++ ms → AllByRecursion (IsWithinEdge kept.free edges) ms
+  within ms more = since (IsWithinEdge kept.free edges) first.history (grows tell).0 now.history ms new.history (grows tell).1 more kept.commands
 
-  edits : (ms : List Moment) → new.history ≡ now.history ++ ms → AllByRecursion IsNoEdit ms
-  edits ms more = since IsNoEdit first.history (grows tell).0 now.history ms new.history (grows tell).1 more kept.edits
+  edits : (ms : List Moment) → new.history ≡ now.history ++ ms → AllByRecursion (IsNoEdit kept.free) ms
+  edits ms more = since (IsNoEdit kept.free) first.history (grows tell).0 now.history ms new.history (grows tell).1 more kept.edits
 
   module _ (log : List ℕ) (mine : own.files log ≡ true) where
     pub other_stays : (path : List ℕ) → path ≢ log → GrewAt path (IsRunning now.events) now.history new.history → view_of new.history log ≡ view_of now.history log
     other_stays path other call =
         ap content_of (ap (λ (h : List Moment). file_at h log) call.grows
-        ∙ file_stays log now.history call.more (at_elsewhere edges (IsRunning now.events) path log other (λ ms all w e. log_elsewhere own edges kept.own_files log mine (IsRunning now.events) commands ms all w e)
+        ∙ file_stays log now.history call.more (at_elsewhere kept.free edges (IsRunning now.events) path log other (λ ms all w e. log_elsewhere own edges kept.own_files kept.free kept.free_apart log mine (IsRunning now.events) commands ms all w e)
         call.more call.all (within call.more call.grows) (edits call.more call.grows)))
 
     happened_stays : ((job : ℕ) → runs job new.events ≡ true → IsCommand edges job) → (event : Event) → Adds (IsRunning now.events) (IsRunning new.events) (Happened event) now.history new.history → view_of new.history log ≡ view_of now.history log
     happened_stays later event adds =
         let ms = adds.earlier ++ Happened event ∷ adds.later in
-        ap content_of (log_stays_at own edges kept.own_files log mine (IsRunning now.events) (IsRunning new.events) commands later (Happened event) now.history new.history tt adds
+        ap content_of (log_stays_at own edges kept.own_files kept.free kept.free_apart log mine (IsRunning now.events) (IsRunning new.events) commands later (Happened event) now.history new.history tt adds
         (within ms adds.grows) (edits ms adds.grows))
 
   module _ (later : (job : ℕ) → runs job new.events ≡ true → IsCommand edges job) where

@@ -10,7 +10,7 @@ use Rattle.model.specs.Graph.{has_number, edge_at, maker, IsMadeOnce}
 use Rattle.model.specs.OutOfDate.{is_made_anew, input_facts}
 use Rattle.model.specs.Records.{OwnFiles}
 use Rattle.model.specs.Schedule.{Step as Done, well_in, failed_in, ended_in, out_of_date_in}
-use Rattle.model.specs.Premises.{OwnFilesApart}
+use Rattle.model.specs.Premises.{FreeApart, OwnFilesApart}
 use Rattle.build_theory.proofs.Lists.{same_some}
 use Rattle.build_theory.proofs.Makers.{maker_has, maker_is}
 use Rattle.build_theory.proofs.Steps.{running_parts}
@@ -19,13 +19,14 @@ use Rattle.links.specs.declared.graph.Graph.{Graph}
 use Rattle.looks.specs.Seen.{AreKept}
 use Rattle.runner.specs.declared.state.State.{State}
 use Rattle.runner.specs.Course.{Course, edges_of, is_quiet, AreAnew, AreSeenBefore}
-use Rattle.runner.proofs.Quiet.{KeepsQuiet, quiet_from}
+use Rattle.runner.proofs.Quiet.{KeepsQuiet, files_then, quiet_from}
 
 -- ---- the path of an edge that has ended
 
 -- what an edge makes whose command has ended is quiet
-pub made_quiet : (own : OwnFiles) (edges : List Edge) → OwnFilesApart own edges → IsMadeOnce edges → (steps : List Done) (j : ℕ) (p : List ℕ) → maker edges p ≡ Some j → has_number (ended_in steps) j ≡ true → is_quiet own edges steps p ≡ true
-made_quiet own edges apart once steps j p is ended = quiet_from own edges steps p (record {
+pub made_quiet : (own : OwnFiles) (edges : List Edge) → OwnFilesApart own edges → (free : List ℕ → Bool) → FreeApart free own edges → IsMadeOnce edges → (steps : List Done) (j : ℕ) (p : List ℕ) → maker edges p ≡ Some j → has_number (ended_in steps) j ≡ true → is_quiet free own edges steps p ≡ true
+made_quiet own edges apart free free_apart once steps j p is ended = quiet_from free own edges steps p (record {
+  bound = free_apart.outputs j p (maker_has edges p j is);
   foreign = false_from_ne_true (own.files p) (λ mine. false≢true (sym outside ∙ apart.within p mine));
   private = λ i command named. elim named [
     | inl same ↦ false≢true (sym outside ∙ (ap own.set same ∙ (apart.depfiles i command).0))
@@ -77,15 +78,15 @@ module _ (tells : Bool) (course : Course) (graph : Graph) (steps many by : List 
       → AreAnew tells course graph steps state now → AreAnew tells course graph many state new
   anew_over once ended well failed anew tell kept p lt unfailed =
       let call = quiet tell kept in
-      anew tell call.0 p lt (λ j made. ap (λ (l : List ℕ). has_number l j) (sym failed) ∙ unfailed j made)
+      anew tell (files_then course.own (edges_of course) course.entry now new call.0 kept) p lt (λ j made. ap (λ (l : List ℕ). has_number l j) (sym failed) ∙ unfailed j made)
       ∙ as_new (edges_of course) (well_in steps) (well_in many) course.entry.history now.history new.history (text_at graph.manifest.paths p)
       (λ j is. ap (λ (l : List ℕ). has_number l j) well)
-      (λ j is ran. file_still (is_quiet course.own (edges_of course) by) now.history new.history call.2.0 (text_at graph.manifest.paths p) call.2.1 call.1
-      (made_quiet course.own (edges_of course) kept.own_files once by j (text_at graph.manifest.paths p) is (ended j ran)))
+      (λ j is ran. file_still (is_quiet kept.free course.own (edges_of course) by) now.history new.history call.0.0 (text_at graph.manifest.paths p) call.0.1 call.1
+      (made_quiet course.own (edges_of course) kept.own_files kept.free kept.free_apart once by j (text_at graph.manifest.paths p) is (ended j ran)))
 
   -- in which no edge is found to be out of date
   pub before_over : ((e : ℕ) → has_number (out_of_date_in many) e ≡ true → has_number (ended_in many) e ≡ false → (has_number (out_of_date_in steps) e ≡ true) × (has_number (ended_in steps) e ≡ false))
       → AreSeenBefore tells course graph steps state now → AreSeenBefore tells course graph many state new
   before_over fewer before tell kept e stale unended =
       let was = fewer (suc e) stale unended in
-      before tell (quiet tell kept).0 e was.0 was.1
+      before tell (files_then course.own (edges_of course) course.entry now new (quiet tell kept).0 kept) e was.0 was.1

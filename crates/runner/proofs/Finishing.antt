@@ -55,7 +55,7 @@ use Rattle.runner.specs.Starting.{in_hand_after, IsTakenIn}
 use Rattle.runner.specs.Telling.{WasRead, IsEnding, ended_well}
 use Rattle.runner.proofs.Onward.{taken_ended, since_ended}
 use Rattle.runner.proofs.Depfiles.{OneAnswer, went_well, said_by, unnamed_end, has_told, was_read_before}
-use Rattle.runner.proofs.Quiet.{RunBy, quiet_parts, quiet_from, quiet_adds, quiet_looks}
+use Rattle.runner.proofs.Quiet.{files_then, RunBy, quiet_parts, quiet_from, quiet_adds, quiet_looks}
 use Rattle.runner.proofs.Anew.{as_new, file_still, made_quiet}
 use Rattle.runner.proofs.Noticed.{differs_as}
 use Rattle.runner.proofs.Removed.{WellRest, StaysSinceEnd, stay_adds, removed_adds}
@@ -368,8 +368,8 @@ module _ (tells : Bool) (course : Course) (tick : List ℕ) (graph : Graph) (sui
   -- ---- what was seen
 
   -- what was not forgotten, when it had ended
-  forgot_seen : IsTrue tells → FilesAreKept course.own (edges_of course) course.entry.history was.history
-      → AreSeenOf (is_quiet course.own (edges_of course) so_far) graph.manifest.paths was.history noted_so.between.seen.items
+  forgot_seen : IsTrue tells → (files : FilesAreKept course.own (edges_of course) course.entry.history was.history)
+      → AreSeenOf (is_quiet files.free course.own (edges_of course) so_far) graph.manifest.paths was.history noted_so.between.seen.items
   forgot_seen tell kept p asked quiet = by_output (has_number ((links_of graph).outputs e) p) refl
     where
       by_output : (b : Bool) → has_number ((links_of graph).outputs e) p ≡ b → look_at noted_so.between.seen.items p ≡ look_of (stamp_of (file_at was.history (text_at graph.manifest.paths p)))
@@ -384,10 +384,11 @@ module _ (tells : Bool) (course : Course) (tick : List ℕ) (graph : Graph) (sui
           within : p < length graph.manifest.paths
           within = let lt = asked_within state.looks.seen.items p asked_then in let same = on.room.looks in omega (arith, lt, same)
 
-          still : is_quiet course.own (edges_of course) on.steps (text_at graph.manifest.paths p) ≡ true
+          still : is_quiet kept.free course.own (edges_of course) on.steps (text_at graph.manifest.paths p) ≡ true
           still =
-              let parts = quiet_parts course.own (edges_of course) so_far (text_at graph.manifest.paths p) quiet in
-              quiet_from course.own (edges_of course) on.steps (text_at graph.manifest.paths p) (record {
+              let parts = quiet_parts kept.free course.own (edges_of course) so_far (text_at graph.manifest.paths p) quiet in
+              quiet_from kept.free course.own (edges_of course) on.steps (text_at graph.manifest.paths p) (record {
+                bound = parts.bound;
                 foreign = parts.foreign;
                 private = parts.private;
                 rests = λ i runs makes. elim (cases_Bool (suc e == i)) [
@@ -400,7 +401,7 @@ module _ (tells : Bool) (course : Course) (tick : List ℕ) (graph : Graph) (sui
   noted_seen tell kept =
       let quiet = quiet_looks tells course.own (edges_of course) so_far course.entry was new (grown tells course graph so_far (in_hand_after (suc e) is_well) was carried_was)
       (run_by tells course graph so_far (in_hand_after (suc e) is_well) was carried_was) noted_so.looked.looks tell kept in
-      noted_so.looked.seen tell (is_quiet course.own (edges_of course) so_far) quiet.1 (forgot_seen tell quiet.0)
+      noted_so.looked.seen tell (is_quiet kept.free course.own (edges_of course) so_far) quiet.1 (forgot_seen tell (files_then course.own (edges_of course) course.entry was new quiet.0 kept))
 
   -- ---- what was made anew
 
@@ -423,9 +424,9 @@ module _ (tells : Bool) (course : Course) (tick : List ℕ) (graph : Graph) (sui
       compared : is_well ≡ true → (edge_at (edges_of course) (suc e)).restat ≡ true → is_asked (look_at after.looks.seen.items p) ≡ true
           → not (is_same_look (look_at state.looks.seen.items p) (look_at after.looks.seen.items p)) ≡ not was_same
       compared went restat asked =
-          ap (λ (b : Look). not (is_same_look b (look_at after.looks.seen.items p))) (on.before tell (over_end tell kept).0 e edge_here.stale (running_parts on.steps (suc e) edge_here.running).1 restat p made)
+          ap (λ (b : Look). not (is_same_look b (look_at after.looks.seen.items p))) (on.before tell (files_then course.own (edges_of course) course.entry now new (over_end tell kept).0 kept) e edge_here.stale (running_parts on.steps (suc e) edge_here.running).1 restat p made)
           ∙ (ap (λ (a : Look). not (is_same_look (look_of (stamp_of (file_at course.entry.history text))) a))
-          (noted_seen tell kept p asked (made_quiet course.own (edges_of course) kept.own_files suits.once so_far (suc e) text maker_here (in_right ended_in ended-append on.steps (Ended (suc e) is_well ∷ []) (suc e) (has_number-one (suc e)))))
+          (noted_seen tell kept p asked (made_quiet course.own (edges_of course) kept.own_files kept.free kept.free_apart suits.once so_far (suc e) text maker_here (in_right ended_in ended-append on.steps (Ended (suc e) is_well ∷ []) (suc e) (has_number-one (suc e)))))
           ∙ differs_as (stamp_of (file_at course.entry.history text)) (stamp_of (file_at new.history text)))
 
       by_restat : (b : Bool) → (edge_at (edges_of course) (suc e)).restat ≡ b → flags.has after.plan.changed.items p ≡ not (b && was_same)
@@ -449,11 +450,11 @@ module _ (tells : Bool) (course : Course) (tick : List ℕ) (graph : Graph) (sui
     anew_there lt unfailed other =
         let call = over_end tell kept in
         noted_so.unchanged p other
-        ∙ (on.anew tell call.0 p lt (λ j is. false_from_ne_true (has_number (failed_in on.steps) j) (λ h. false≢true (sym (unfailed j is) ∙ in_left failed_in failed-append on.steps (Ended (suc e) is_well ∷ []) j h)))
+        ∙ (on.anew tell (files_then course.own (edges_of course) course.entry now new call.0 kept) p lt (λ j is. false_from_ne_true (has_number (failed_in on.steps) j) (λ h. false≢true (sym (unfailed j is) ∙ in_left failed_in failed-append on.steps (Ended (suc e) is_well ∷ []) j h)))
         ∙ as_new (edges_of course) (well_in on.steps) (well_in so_far) course.entry.history now.history new.history text
         (λ j is. well_others on.steps (suc e) j is_well (λ same. false≢true (sym other ∙ made_by (edges_of course) graph suits.once stand_here e p lt (maker_has (edges_of course) text (suc e) (is ∙ ap (λ (n : ℕ). Some n) (sym same))))))
-        (λ j is ran. file_still (is_quiet course.own (edges_of course) on.steps) now.history new.history call.2.0 text call.2.1 call.1
-        (made_quiet course.own (edges_of course) kept.own_files suits.once on.steps j text is (well_before tells course graph on.steps None now on.carried j ran))))
+        (λ j is ran. file_still (is_quiet kept.free course.own (edges_of course) on.steps) now.history new.history call.0.0 text call.0.1 call.1
+        (made_quiet course.own (edges_of course) kept.own_files kept.free kept.free_apart suits.once on.steps j text is (well_before tells course graph on.steps None now on.carried j ran))))
 
   noted_anew : AreAnew tells course graph so_far after new
   noted_anew tell kept p lt unfailed = by_output (has_number ((links_of graph).outputs e) p) refl
@@ -471,7 +472,7 @@ module _ (tells : Bool) (course : Course) (tick : List ℕ) (graph : Graph) (sui
 
   noted_before : AreSeenBefore tells course graph so_far after new
   noted_before tell kept k stale unended restat p made =
-      let was_seen = on.before tell (over_end tell kept).0 k
+      let was_seen = on.before tell (files_then course.own (edges_of course) course.entry now new (over_end tell kept).0 kept) k
       (ap (λ (l : List ℕ). has_number l (suc k)) (sym (out_of_date-append on.steps (Ended (suc e) is_well ∷ []) ∙ append-nil (out_of_date_in on.steps))) ∙ stale)
       (false_from_ne_true (has_number (ended_in on.steps) (suc k)) (λ h. false≢true (sym unended ∙ in_left ended_in ended-append on.steps (Ended (suc e) is_well ∷ []) (suc k) h))) restat p made in
       let between = noted_so.forgets.others p (not_here k p unended made) ∙ was_seen in

@@ -12,7 +12,7 @@ use Rattle.model.specs.World.{World, file_at, stamp_of, IsRunning}
 use Rattle.model.specs.Calls.{OnlyLooks}
 use Rattle.model.specs.Graph.{has, has_number, edge_at, IsCommand}
 use Rattle.model.specs.Records.{recorded_inputs}
-use Rattle.model.specs.OutOfDate.{input_facts, Counted, IsVerdict}
+use Rattle.model.specs.OutOfDate.{input_facts, Counted, ReadsNoFree, IsVerdict}
 use Rattle.model.specs.Schedule.{Step as Done, Judged, MayBeJudged, out_of_date_in, started_in, ended_in, well_in, failed_in, running_in}
 use Rattle.model.specs.Premises.{FilesAreKept, RecordedApart, IsWithinEdge, IsNoEdit}
 use Rattle.model.specs.SingleBuild.{task_of}
@@ -47,7 +47,7 @@ use Rattle.runner.specs.Course.{Course, goes_on, Suits, edges_of, is_quiet, AreA
 use Rattle.runner.specs.Going.{IsSaid}
 use Rattle.runner.proofs.Onward.{taken_judged, since_goes}
 use Rattle.runner.proofs.Places.{phony_is}
-use Rattle.runner.proofs.Quiet.{all_kept, quiet_less}
+use Rattle.runner.proofs.Quiet.{files_then, all_kept, quiet_less}
 use Rattle.runner.proofs.Removed.{removed_steps}
 use Rattle.runner.proofs.Keeping.{Carried, grown, looks_carried, looks_leave, looks_quiet, looks_removed, logging_over, told_over, started_more, well_ended, still_anew, still_before}
 use Rattle.runner.proofs.Anew.{anew_over}
@@ -116,9 +116,9 @@ module _ (tells : Bool) (course : Course) (graph : Graph) (stays : LogStays) (ti
       let more = grown tells course graph on.steps None now on.carried tell in
       all_kept (bytes_eq depfile) now.history call.more new.history call.grows (λ p is.
       subst (λ (q : List ℕ). AllByRecursion (IsElsewhere q) call.more) (same_bytes depfile p is)
-      (private_elsewhere course.own (edges_of course) files.own_files (suc e) turn.command depfile (record { named = named; is = inl refl }) (IsRunning now.events) others call.more call.all
-      (since (IsWithinEdge (edges_of course)) course.entry.history more.0 now.history call.more new.history more.1 call.grows files.commands)
-      (since IsNoEdit course.entry.history more.0 now.history call.more new.history more.1 call.grows files.edits)))
+      (private_elsewhere course.own (edges_of course) files.own_files files.free files.free_apart (suc e) turn.command depfile (record { named = named; is = inl refl }) (IsRunning now.events) others call.more call.all
+      (since (IsWithinEdge files.free (edges_of course)) course.entry.history more.0 now.history call.more new.history more.1 call.grows files.commands)
+      (since (IsNoEdit files.free) course.entry.history more.0 now.history call.more new.history more.1 call.grows files.edits)))
 
   module _ (tell : IsTrue tells) (files : FilesAreKept course.own (edges_of course) course.entry.history new.history) (apart : RecordedApart course.own (recorded_inputs course.store (edges_of course))) where
     abbrev FlagsOver : List Edge → Type 0
@@ -129,11 +129,11 @@ module _ (tells : Bool) (course : Course) (graph : Graph) (stays : LogStays) (ti
     flagged : FlagsOver (edges_of course)
     flagged p lt counted =
         still_anew tells course graph stays None state now new on suits.once (looks_quiet tells course graph stays None state now new on looks) tell files p lt
-        (counted_unfailed edges on.steps kept course.own files.own_files suits.once course.asked course.store (suc e) turn.once apart (λ q j h made. turn.ready q h j made) new.history (text_at graph.manifest.paths p) counted)
+        (counted_unfailed edges on.steps kept course.own files.own_files files.free files.free_apart suits.once course.asked course.store (suc e) turn.once apart (λ q j h made. turn.ready q h j made) new.history (text_at graph.manifest.paths p) counted)
 
-    pub may_be_judged : FilesAreKept course.own (edges_of course) course.entry.history now.history
-        → MayBeJudgedBy graph on.told.records on.told.deps state.plan.changed.items course.store (well_in on.steps) course.entry.history new.history (suc e) (is_quiet course.own (edges_of course) on.steps)
-    may_be_judged before = record {
+    pub may_be_judged : ReadsNoFree files.free (edges_of course) course.store new.history (suc e)
+        → MayBeJudgedBy graph on.told.records on.told.deps state.plan.changed.items course.store (well_in on.steps) course.entry.history new.history (suc e) (is_quiet files.free course.own (edges_of course) on.steps)
+    may_be_judged bound = record {
       records = on.told.same.0;
       deps = on.told.same.1;
       recorded = subst (λ (es : List Edge). (p : List ℕ) → has (recorded_inputs course.store es (suc e)) p ≡ has (recorded_by graph (suc e)) p) same_edges (λ p. suits.recorded (suc e) p);
@@ -142,8 +142,8 @@ module _ (tells : Bool) (course : Course) (graph : Graph) (stays : LogStays) (ti
       depfile = subst (λ (es : List Edge). HasOldDepfile es course.entry.history new.history (suc e)) same_edges
           (λ named. depfile_stays tells course.own (task_of course.asked course.store) on.steps course.entry new suits.idle rest tell suits.once files (suc e) turn.command named (λ out. false≢true (sym turn.once ∙ kept.out_of_date (suc e) out)));
       flagged = subst (λ (es : List Edge). FlagsOver es) same_edges flagged;
-      paths = subst (λ (es : List Edge). HasPathsOf es course.store (suc e) (is_quiet course.own (edges_of course) on.steps)) same_edges
-          (paths_quiet edges on.steps kept course.own files.own_files suits.once course.asked course.store (suc e) turn.once apart (λ q j h made. turn.ready q h j made));
+      paths = subst (λ (es : List Edge). HasPathsOf es course.store (suc e) (is_quiet files.free course.own (edges_of course) on.steps)) same_edges
+          (paths_quiet edges on.steps kept course.own files.own_files files.free files.free_apart suits.once course.asked course.store (suc e) turn.once apart (λ q j h made. turn.ready q h j made) new.history bound);
     }
 
   -- ---- the verdict
@@ -156,24 +156,24 @@ module _ (tells : Bool) (course : Course) (graph : Graph) (stays : LogStays) (ti
     abbrev pub more : List Done
     more = on.steps ++ Judged (suc e) stale ∷ []
 
-    right : IsTrue tells → FilesAreKept course.own (edges_of course) course.entry.history new.history → RecordedApart course.own (recorded_inputs course.store (edges_of course))
-        → IsVerdict (edges_of course) course.store (well_in on.steps) course.entry.history new.history (suc e) stale
-    right tell files apart =
+    right : IsTrue tells → (files : FilesAreKept course.own (edges_of course) course.entry.history new.history) → RecordedApart course.own (recorded_inputs course.store (edges_of course))
+        → ReadsNoFree files.free (edges_of course) course.store new.history (suc e) → IsVerdict (edges_of course) course.store (well_in on.steps) course.entry.history new.history (suc e) stale
+    right tell files apart bound =
         let quiet = looks_quiet tells course graph stays None state now new on looks tell files in
         let keeps = subst (λ (es : List Edge). KeepsDepfile tells es now new (suc e)) same_edges (keeps_depfile files) in
-        let by = answer on.told.records on.told.deps on.told.known keeps tell (is_quiet course.own (edges_of course) on.steps) quiet.1 (on.seen tell quiet.0) course.store (well_in on.steps) course.entry.history
-        (may_be_judged tell files apart quiet.0) in
+        let by = answer on.told.records on.told.deps on.told.known keeps tell (is_quiet files.free course.own (edges_of course) on.steps) quiet.1 (on.seen tell (files_then course.own (edges_of course) course.entry now new quiet.0 files)) course.store (well_in on.steps) course.entry.history
+        (may_be_judged tell files apart bound) in
         let over = subst (λ (es : List Edge). IsReasonBy es course.store (well_in on.steps) course.entry.history new.history (suc e) reason) (sym same_edges) by in
         record { read = over.read; counted = over.counted; verdict = told ∙ ap (λ (r : Option Reason). is_some r) over.is }
 
     pub judged_carried : Carried tells course graph more None new
     judged_carried = carried_judged tells course.behaviour course.format course.own course.asked course.store course.entry course.phases (goes_on course) on.steps None new (suc e) stale said.goes (said.lawful stale) said.loads right carried_new
 
-    pub judged_seen : IsTrue tells → FilesAreKept course.own (edges_of course) course.entry.history new.history → AreSeenOf (is_quiet course.own (edges_of course) more) graph.manifest.paths new.history after.seen.items
+    pub judged_seen : IsTrue tells → (files : FilesAreKept course.own (edges_of course) course.entry.history new.history) → AreSeenOf (is_quiet files.free course.own (edges_of course) more) graph.manifest.paths new.history after.seen.items
     judged_seen tell files p asked quiet_so =
         let quiet = looks_quiet tells course graph stays None state now new on looks tell files in
-        looked.seen tell (is_quiet course.own (edges_of course) on.steps) quiet.1 (on.seen tell quiet.0) p asked
-        (quiet_less course.own (edges_of course) on.steps more (λ i runs. running_judged on.steps (suc e) stale i ∙ runs) (text_at graph.manifest.paths p) quiet_so)
+        looked.seen tell (is_quiet files.free course.own (edges_of course) on.steps) quiet.1 (on.seen tell (files_then course.own (edges_of course) course.entry now new quiet.0 files)) p asked
+        (quiet_less files.free course.own (edges_of course) on.steps more (λ i runs. running_judged on.steps (suc e) stale i ∙ runs) (text_at graph.manifest.paths p) quiet_so)
 
     judged_anew : AreAnew tells course graph more state new
     judged_anew = anew_over tells course graph on.steps more on.steps state now new (looks_quiet tells course graph stays None state now new on looks) suits.once (well_ended tells course graph on.steps None now on.carried)
@@ -186,8 +186,8 @@ module _ (tells : Bool) (course : Course) (graph : Graph) (stays : LogStays) (ti
         let quiet = looks_quiet tells course graph stays None state now new on looks tell files in
         let was = outputs_asked restat p made in
         let makes = makes_it (edges_of course) graph suits.once (subst (λ (es : List Edge). StandFor es graph.manifest.paths (links_of graph)) (sym same_edges) stand) e p made in
-        looked.seen tell (is_quiet course.own (edges_of course) on.steps) quiet.1 (on.seen tell quiet.0) p (ap is_asked (looked.stays p was) ∙ was)
-        (outputs_quiet edges on.steps kept course.own files.own_files suits.once (suc e) turn.once (text_at graph.manifest.paths p) makes)
+        looked.seen tell (is_quiet files.free course.own (edges_of course) on.steps) quiet.1 (on.seen tell (files_then course.own (edges_of course) course.entry now new quiet.0 files)) p (ap is_asked (looked.stays p was) ∙ was)
+        (outputs_quiet edges on.steps kept course.own files.own_files files.free files.free_apart suits.once (suc e) turn.once (text_at graph.manifest.paths p) makes)
         ∙ ap look_of (outputs_untouched tells course.own (task_of course.asked course.store) on.steps course.entry new suits.idle rest tell files suits.once (suc e) turn.command turn.once (text_at graph.manifest.paths p) makes)
 
     judged_before : AreSeenBefore tells course graph more (with_looks tells course graph state after) new

@@ -45,7 +45,7 @@ use Rattle.runner.specs.declared.state.State.{State}
 use Rattle.runner.specs.Course.{Course, goes_on, Suits, IsSince, edges_of, is_quiet, IsSeenStill, AreAnew, AreSeenBefore, AreTold, AreStarted, IsOn}
 use Rattle.runner.specs.Removing.{AreRemoved}
 use Rattle.runner.specs.Going.{IsInHand, IsCut}
-use Rattle.runner.proofs.Quiet.{KeepsQuiet, RunBy, quiet_own, quiet_response, quiet_depfile, quiet_looks}
+use Rattle.runner.proofs.Quiet.{KeepsQuiet, files_then, RunBy, quiet_own, quiet_response, quiet_depfile, quiet_looks}
 use Rattle.runner.proofs.Anew.{anew_over, before_over}
 use Rattle.runner.proofs.Removed.{WellRest, removed_looks, removed_own, removed_depfile, removed_response, removed_hand}
 
@@ -164,7 +164,7 @@ module _ (tells : Bool) (course : Course) (graph : Graph) where
   pub seen_over : (steps : List Done) (state : State) (now new : World) → Quietly steps now new → IsSeenStill tells course graph steps state now → IsSeenStill tells course graph steps state new
   seen_over steps state now new quiet seen tell kept =
       let call = quiet tell kept in
-      seen_kept (is_quiet course.own (edges_of course) steps) graph.manifest.paths state.looks.seen.items now.history new.history call.2.0 call.2.1 call.1 (seen tell call.0)
+      seen_kept (is_quiet kept.free course.own (edges_of course) steps) graph.manifest.paths state.looks.seen.items now.history new.history call.0.0 call.0.1 call.1 (seen tell (files_then course.own (edges_of course) course.entry now new call.0 kept))
 
   pub started_over : (steps : List Done) (state : State) (now new : World) → new.events ≡ now.events → AreStarted course steps state now → AreStarted course steps state new
   started_over steps state now new same started e runs = started_more (suc e) _ course.entry now new [] (same ∙ sym (append-nil now.events)) (started e runs)

@@ -127,7 +127,7 @@ module _ (tells : Bool) (course : Course) (graph : Graph) where
 
     pub start_seen : IsSeenStill tells course graph more state new
     start_seen = seen_over tells course graph more state now new start_quiet
-        (λ tell kept p asked quiet. on.seen tell kept p asked (quiet_less course.own (edges_of course) on.steps more (λ i. running_started on.steps (suc e) i) (text_at graph.manifest.paths p) quiet))
+        (λ tell kept p asked quiet. on.seen tell kept p asked (quiet_less kept.free course.own (edges_of course) on.steps more (λ i. running_started on.steps (suc e) i) (text_at graph.manifest.paths p) quiet))
 
     pub start_started : get_or state.starts.items e 0 ≡ now.ticked → AreStarted course more state new
     start_started stamped k runs = elim (started_or_ran on.steps (suc e) (suc k) runs) [

@@ -171,7 +171,7 @@ module _ (tells : Bool) (course : Course) (tick : List ℕ) (graph grown : Graph
   well_same : (i : ℕ) → has_number (well_in on.steps) i ≡ true → edge_at next i ≡ edge_at few i
   well_same i well = started_same i (kept.ended i (kept.well i well))
 
-  before : IsTrue tells → FilesAreKept course.own next course.entry.history now.history → FilesAreKept course.own few course.entry.history now.history
+  abbrev before : IsTrue tells → FilesAreKept course.own next course.entry.history now.history → FilesAreKept course.own few course.entry.history now.history
   before tell files = kept_then tells course.own (task_of course.asked course.store) next more on.steps course.entry now tell on.carried.beside.idle rest loaded_before files
 
   -- ---- paths
@@ -260,10 +260,11 @@ module _ (tells : Bool) (course : Course) (tick : List ℕ) (graph grown : Graph
 
   -- ---- what was seen
 
-  quiet_before : (p : List ℕ) → is_quiet course.own next on.steps p ≡ true → is_quiet course.own few on.steps p ≡ true
-  quiet_before p quiet =
-      let parts = quiet_parts course.own next on.steps p quiet in
-      quiet_from course.own few on.steps p (record {
+  quiet_before : (free : List ℕ → Bool) (p : List ℕ) → is_quiet free course.own next on.steps p ≡ true → is_quiet free course.own few on.steps p ≡ true
+  quiet_before free p quiet =
+      let parts = quiet_parts free course.own next on.steps p quiet in
+      quiet_from free course.own few on.steps p (record {
+        bound = parts.bound;
         foreign = parts.foreign;
         private = λ i command named. parts.private i (more.phony i ∙ command) (subst (λ (a : Act). (p ≡ a.depfile) ⊎ (p ≡ a.response_path)) (sym (more.act i)) named);
         rests = λ i runs makes. parts.rests i runs (more.outputs i p makes);
@@ -271,7 +272,7 @@ module _ (tells : Bool) (course : Course) (tick : List ℕ) (graph grown : Graph
 
   pub loaded_seen : IsSeenStill tells later grown on.steps after now
   loaded_seen tell files p asked quiet =
-      room.looks p ∙ (on.seen tell (before tell files) p asked_then (quiet_before (text_at graph.manifest.paths p) (subst (λ (t : List ℕ). is_quiet course.own next on.steps t ≡ true) text quiet))
+      room.looks p ∙ (on.seen tell (before tell files) p asked_then (quiet_before files.free (text_at graph.manifest.paths p) (subst (λ (t : List ℕ). is_quiet files.free course.own next on.steps t ≡ true) text quiet))
       ∙ ap (λ (t : List ℕ). look_of (stamp_of (file_at now.history t))) (sym text))
     where
       asked_then : is_asked (look_at state.looks.seen.items p) ≡ true
@@ -347,7 +348,7 @@ module _ (tells : Bool) (course : Course) (tick : List ℕ) (graph grown : Graph
   -- ---- the run
 
   module _ (content : List ℕ) (is_next : IsNextLoad (task_of course.asked course.store) on.steps file) (read : course.behaviour.dyndep content ≡ Some additions) (order : IsInOrderAt course.store (task_of later.asked course.store))
-      (holds : IsTrue tells → FilesAreKept course.own few course.entry.history now.history → view_of now.history file ≡ Some content)
+      (holds : IsTrue tells → (files : FilesAreKept course.own few course.entry.history now.history) → files.free file ≡ false → view_of now.history file ≡ Some content)
       (cone : Cone) (planned : GoesOn grown cone state.plan after.plan) (stated : IsTaskOf (task_of later.asked later.store) grown)
       (is_cone : IsConeOf next (recorded_inputs course.store next) (task_of later.asked later.store).targets cone.order.items cone.marks.items) where
     carried_then : IsCarried tells course.behaviour course.format course.own later.asked course.store later.phases true on.steps None course.entry now

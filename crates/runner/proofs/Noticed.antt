@@ -13,6 +13,7 @@ use Rattle.records.specs.Laws.{LogStays}
 use Rattle.runner.specs.declared.state.State.{State}
 use Rattle.runner.specs.Course.{Course, Suits, edges_of, is_quiet, AreSeenBefore, IsOn}
 use Rattle.runner.specs.Restat.{is_same_look}
+use Rattle.runner.proofs.Quiet.{files_then}
 use Rattle.runner.proofs.Keeping.{looks_carried, looks_leave, looks_quiet, looks_removed, logging_over, told_over, started_over, still_anew, still_before}
 
 -- the looks differ as the stamps do
@@ -51,7 +52,7 @@ module _ (tells : Bool) (course : Course) (graph : Graph) where
         told = record { records = told.records; deps = told.deps; known = told.known; same = told.same };
         seen = λ tell files.
             let call = quiet tell files in
-            looked.seen tell (is_quiet course.own (edges_of course) on.steps) call.1 (on.seen tell call.0);
+            looked.seen tell (is_quiet files.free course.own (edges_of course) on.steps) call.1 (on.seen tell (files_then course.own (edges_of course) course.entry now new call.0 files));
         anew = still_anew tells course graph stays None state now new on suits.once quiet;
         before = before_kept on.steps state new after looked.stays (still_before tells course graph stays None state now new on quiet);
         started = started_over tells course graph on.steps state now new looked.looks.events on.started;

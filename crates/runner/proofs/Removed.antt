@@ -35,32 +35,32 @@ module _ (tells : Bool) (own : OwnFiles) (edges : List Edge) (first now new : Wo
   abbrev Holds : World → Type 0
   Holds world = HoldsStill tells own edges q held first world
 
-  theirs : (files : FilesAreKept own edges first.history new.history) (running : ℕ → Type 0) → OthersRun edges i running → (ms : List Moment) → AllByOthers running ms → AllByRecursion (IsWithinEdge edges) ms → AllByRecursion IsNoEdit ms → AllByRecursion (IsElsewhere q) ms
-  theirs files running others ms all within edits = private_elsewhere own edges files.own_files i command q private running others ms all within edits
+  theirs : (files : FilesAreKept own edges first.history new.history) (running : ℕ → Type 0) → OthersRun edges i running → (ms : List Moment) → AllByOthers running ms → AllByRecursion (IsWithinEdge files.free edges) ms → AllByRecursion (IsNoEdit files.free) ms → AllByRecursion (IsElsewhere q) ms
+  theirs files running others ms all within edits = private_elsewhere own edges files.own_files files.free files.free_apart i command q private running others ms all within edits
 
   -- where all that is written is elsewhere
   stays_by : (tell : IsTrue tells) (more : List Moment) → new.history ≡ now.history ++ more
-      → ((files : FilesAreKept own edges first.history new.history) → AllByRecursion (IsWithinEdge edges) more → AllByRecursion IsNoEdit more → AllByRecursion (IsElsewhere q) more)
+      → ((files : FilesAreKept own edges first.history new.history) → AllByRecursion (IsWithinEdge files.free edges) more → AllByRecursion (IsNoEdit files.free) more → AllByRecursion (IsElsewhere q) more)
       → Holds now → Holds new
   stays_by tell more grows each holds told files =
       ap content_of (ap (λ (h : List Moment). file_at h q) grows
-      ∙ file_stays q now.history more (each files (since (IsWithinEdge edges) first.history (grown tell).0 now.history more new.history (grown tell).1 grows files.commands)
-      (since IsNoEdit first.history (grown tell).0 now.history more new.history (grown tell).1 grows files.edits)))
+      ∙ file_stays q now.history more (each files (since (IsWithinEdge files.free edges) first.history (grown tell).0 now.history more new.history (grown tell).1 grows files.commands)
+      (since (IsNoEdit files.free) first.history (grown tell).0 now.history more new.history (grown tell).1 grows files.edits)))
       ∙ holds tell (kept_before own edges first.history now.history new.history more grows files)
 
   -- the program writes at another path alone
   stays_at : (path : List ℕ) → (FilesAreKept own edges first.history new.history → path ≢ q) → (IsTrue tells → GrewAt path (IsRunning now.events) now.history new.history) → Holds now → Holds new
   stays_at path apart grew holds tell =
       let call = grew tell in
-      stays_by tell call.more call.grows (λ files within edits. at_elsewhere edges (IsRunning now.events) path q (apart files) (theirs files (IsRunning now.events) before) call.more call.all within edits) holds tell
+      stays_by tell call.more call.grows (λ files within edits. at_elsewhere files.free edges (IsRunning now.events) path q (apart files) (theirs files (IsRunning now.events) before) call.more call.all within edits) holds tell
 
   -- a command is started or taken in
   stays_adds : OthersRun edges i (IsRunning new.events) → (event : Event) → (IsTrue tells → Adds (IsRunning now.events) (IsRunning new.events) (Happened event) now.history new.history) → Holds now → Holds new
   stays_adds after event adds holds tell =
       let call = adds tell in
       stays_by tell (call.earlier ++ Happened event ∷ call.later) call.grows (λ files within edits.
-      let w = all_parts (IsWithinEdge edges) call.earlier (Happened event ∷ call.later) within in
-      let e = all_parts IsNoEdit call.earlier (Happened event ∷ call.later) edits in
+      let w = all_parts (IsWithinEdge files.free edges) call.earlier (Happened event ∷ call.later) within in
+      let e = all_parts (IsNoEdit files.free) call.earlier (Happened event ∷ call.later) edits in
       all_append (IsElsewhere q) call.earlier (Happened event ∷ call.later) (theirs files (IsRunning now.events) before call.earlier call.all_earlier w.0 e.0)
       (tt, theirs files (IsRunning new.events) after call.later call.all_later w.1.1 e.1.1)) holds tell
 

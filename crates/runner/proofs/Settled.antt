@@ -7,9 +7,9 @@ use Rattle.model.specs.World.{World, View, stamp_of, view_of, IsIdle}
 use Rattle.model.specs.Graph.{has, has_number, edge_at, maker, outputs, regular_inputs, inputs, IsCommand, IsMadeOnce}
 use Rattle.model.specs.Reading.{IsRead, Itself, Through, needs}
 use Rattle.model.specs.Records.{OwnFiles, Store, recorded_inputs}
-use Rattle.model.specs.OutOfDate.{Counted}
+use Rattle.model.specs.OutOfDate.{Counted, ReadsNoFree}
 use Rattle.model.specs.Schedule.{Task, Step as Done, IsSettled, Done as ByItself, Alias, judged_in, clean_in, well_in, failed_in, running_in, done_in}
-use Rattle.model.specs.Premises.{FilesAreKept, OwnFilesApart, RecordedApart}
+use Rattle.model.specs.Premises.{FilesAreKept, FreeApart, OwnFilesApart, RecordedApart}
 use Rattle.model.specs.SingleBuild.{Asked}
 use Rattle.build_theory.specs.Run.{IsRunOrRest}
 use Rattle.build_theory.proofs.Lists.{has-left, has-right, has_number-cases, same_some}
@@ -18,7 +18,7 @@ use Rattle.build_theory.proofs.Settled.{settled_command}
 use Rattle.build_theory.proofs.Steps.{running_parts}
 use Rattle.build_theory.proofs.Orderly.{IsKept, kept_orderly}
 use Rattle.build_theory.proofs.Exit.{unchanged, may_not}
-use Rattle.log_theory.proofs.Carried.{read_apart}
+use Rattle.log_theory.proofs.Carried.{read_apart, read_bound}
 use Rattle.verdict.specs.Judged.{everything, HasPathsOf, AreUntouched}
 use Rattle.runner.specs.Course.{is_quiet}
 use Rattle.runner.proofs.Quiet.{quiet_from}
@@ -60,10 +60,11 @@ module _ (edges : List Edge) (steps : List Done) (kept : IsKept edges steps) whe
 
   -- ---- an edge whose turn has come
 
-  module _ (own : OwnFiles) (apart : OwnFilesApart own edges) (once : IsMadeOnce edges) where
-    -- a path outside the program's set, whose maker does not run
-    quiet_path : (p : List ℕ) → own.set p ≡ false → ((j : ℕ) → maker edges p ≡ Some j → has_number (running_in steps) j ≡ true → ⊥) → is_quiet own edges steps p ≡ true
-    quiet_path p outside rests = quiet_from own edges steps p (record {
+  module _ (own : OwnFiles) (apart : OwnFilesApart own edges) (free : List ℕ → Bool) (free_apart : FreeApart free own edges) (once : IsMadeOnce edges) where
+    -- a path that is not free and outside the program's set, whose maker does not run
+    quiet_path : (p : List ℕ) → free p ≡ false → own.set p ≡ false → ((j : ℕ) → maker edges p ≡ Some j → has_number (running_in steps) j ≡ true → ⊥) → is_quiet free own edges steps p ≡ true
+    quiet_path p bound outside rests = quiet_from free own edges steps p (record {
+      bound = bound;
       foreign = false_from_ne_true (own.files p) (λ mine. false≢true (sym outside ∙ apart.within p mine));
       private = λ i command named. elim named [
         | inl is ↦ false≢true (sym outside ∙ (ap own.set is ∙ (apart.depfiles i command).0))
@@ -73,8 +74,8 @@ module _ (edges : List Edge) (steps : List Done) (kept : IsKept edges steps) whe
     })
 
     -- what an edge makes that was not judged yet
-    pub outputs_quiet : (i : ℕ) → has_number (judged_in steps) i ≡ false → (p : List ℕ) → has (outputs (edge_at edges i)) p ≡ true → is_quiet own edges steps p ≡ true
-    outputs_quiet i fresh p h = quiet_path p (apart.outputs i p h) (λ j is runs.
+    pub outputs_quiet : (i : ℕ) → has_number (judged_in steps) i ≡ false → (p : List ℕ) → has (outputs (edge_at edges i)) p ≡ true → is_quiet free own edges steps p ≡ true
+    outputs_quiet i fresh p h = quiet_path p (free_apart.outputs i p h) (apart.outputs i p h) (λ j is runs.
         let same = same_some j i (sym is ∙ maker_is edges p i once h) in
         let judged = kept.out_of_date j (kept.started j (running_parts steps j runs).0) in
         false≢true (sym fresh ∙ subst (λ (n : ℕ). has_number (judged_in steps) n ≡ true) same judged))
@@ -92,12 +93,13 @@ module _ (edges : List Edge) (steps : List Done) (kept : IsKept edges steps) whe
       counted_unfailed files p (inl read) j made = settled_unfailed j (settled_reads edges (view_of files) (done_in steps) i p read input_ready j made)
       counted_unfailed files p (inr recorded) j made = settled_unfailed j (recorded_ready p j recorded made)
 
-      pub paths_quiet : HasPathsOf edges store i (is_quiet own edges steps)
-      paths_quiet = record {
+      -- where nothing that counts is free, all that it may look at is quiet
+      pub paths_quiet : (files : List Moment) → ReadsNoFree free edges store files i → HasPathsOf edges store i (is_quiet free own edges steps)
+      paths_quiet files bound = record {
         made = outputs_quiet i fresh;
-        read = λ p read. quiet_path p (read_apart edges everything (λ q. own.set q ≡ false) apart.inputs i p read)
+        read = λ p read. quiet_path p (read_bound edges free free_apart.outputs (view_of files) everything i (λ q counts. bound q (inl counts)) p read) (read_apart edges everything (λ q. own.set q ≡ false) apart.inputs i p read)
             (λ j is runs. settled_rests j (settled_reads edges everything (done_in steps) i p read input_ready j is) runs);
-        recorded = λ p h. quiet_path p (recorded_apart i p h) (λ j is runs. settled_rests j (recorded_ready p j h is) runs);
+        recorded = λ p h. quiet_path p (bound p (inr h)) (recorded_apart i p h) (λ j is runs. settled_rests j (recorded_ready p j h is) runs);
       }
 
 -- nobody has touched its outputs
@@ -106,5 +108,6 @@ pub outputs_untouched : (tells : Bool) (own : OwnFiles) (task : Task) (steps : L
     → AreUntouched task.graph.edges old.history now.history i
 outputs_untouched tells own task steps old now idle rest tell files once i command fresh o h = ap stamp_of (elim (unchanged tells own task steps old now idle rest tell files o) [
   | inl same ↦ same
-  | inr may ↦ absurd (may_not own task.graph.edges steps (kept_orderly task.graph.edges steps rest.orderly) files.own_files once i command fresh o (inl h) may)
+  | inr (inl may) ↦ absurd (may_not own task.graph.edges steps (kept_orderly task.graph.edges steps rest.orderly) files.own_files once i command fresh o (inl h) may)
+  | inr (inr free) ↦ absurd (false≢true (sym (files.free_apart.outputs i o h) ∙ free))
 ])

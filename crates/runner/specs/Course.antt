@@ -79,16 +79,16 @@ is_private edges p = list_any (λ edge. not edge.phony && has (edge.act.depfile 
 abbrev pub is_under_way : List Edge → List Done → List ℕ → Bool
 is_under_way edges steps p = list_any (λ i. has (outputs (edge_at edges i)) p) (running_in steps)
 
--- Nobody writes the path while these are the steps: it is no file of the program's own, none of an edge's, and no output of a
--- command that runs.
-abbrev pub is_quiet : OwnFiles → List Edge → List Done → List ℕ → Bool
-is_quiet own edges steps p = not (own.files p) && (not (is_private edges p) && not (is_under_way edges steps p))
+-- Nobody writes the path while these are the steps: it is none of the free paths, which others may write at any time, no file of the
+-- program's own, none of an edge's, and no output of a command that runs.
+abbrev pub is_quiet : (List ℕ → Bool) → OwnFiles → List Edge → List Done → List ℕ → Bool
+is_quiet free own edges steps p = not (free p) && (not (own.files p) && (not (is_private edges p) && not (is_under_way edges steps p)))
 
 -- what was seen of quiet paths is so of the files now, where files are kept
 abbrev pub IsSeenStill : Bool → Course → Graph → List Done → State → World → Type 0
 IsSeenStill tells course graph steps state now =
-    IsTrue tells → FilesAreKept course.own (edges_of course) course.entry.history now.history
-    → AreSeenOf (is_quiet course.own (edges_of course) steps) graph.manifest.paths now.history state.looks.seen.items
+    IsTrue tells → (files : FilesAreKept course.own (edges_of course) course.entry.history now.history)
+    → AreSeenOf (is_quiet files.free course.own (edges_of course) steps) graph.manifest.paths now.history state.looks.seen.items
 
 -- ---- what was made anew
 

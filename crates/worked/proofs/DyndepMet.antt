@@ -169,7 +169,7 @@ success = record {
       dyndep = names_no_other (codes "a");
       named = (refl, tt);
       no_cycle = λ i within. no_cycle i;
-      sources = λ told kept. (
+      sources = λ told kept needed. (
         λ loads apart at point. record {
           of_targets = (made_here (declared (codes "a")) at (codes "o") 2 refl, tt);
           of_edges = λ i due. declared_there at (there_at (codes "a") [] at point a_there refl) (there_at (codes "dd.src") [] at point src_there refl) i;
@@ -220,7 +220,7 @@ again = record {
       dyndep = names_no_other (codes "a");
       named = (refl, tt);
       no_cycle = λ i within. no_cycle i;
-      sources = λ told kept. (
+      sources = λ told kept needed. (
         λ loads apart at point. record {
           of_targets = (made_here (declared (codes "a")) at (codes "o") 2 refl, tt);
           of_edges = λ i due. declared_there at (there_again (codes "a") [] at refl point a_there) (there_again (codes "dd.src") [] at refl point src_there) i;

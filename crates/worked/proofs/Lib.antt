@@ -1,5 +1,8 @@
 pub mod Lists
 pub mod Refused
+pub mod Edited
+pub mod Forbidden
+pub mod Stricter
 pub mod Written
 pub mod ReadTooEarly
 pub mod ThreeEdges

@@ -13,7 +13,7 @@ use Rattle.model.specs.Outcome.{Behaviour, read_depfile, is_accepted}
 use Rattle.model.specs.Records.{LogFormat, OwnFiles, Told, in_force, deps_in_force, read_log}
 use Rattle.model.specs.Judgement.{start_of}
 use Rattle.model.specs.Schedule.{Step, Judged}
-use Rattle.model.specs.Premises.{IsWithinEdge, IsNoEdit, OwnFilesApart, LiesIn, SharesNone, FilesAreKept}
+use Rattle.model.specs.Premises.{none_free, IsWithinEdge, IsNoEdit, OwnFilesApart, LiesIn, SharesNone, FilesAreKept}
 use Rattle.model.specs.SingleBuild.{Answer, is_fault, IsFrame, IsReadyFor, PassesNoFault}
 use Rattle.model.specs.History.{Visit, Edited, Built, Unread, Restarted, IsHistoryFrom, IsEdit}
 use Rattle.model.specs.Driven.{CarriesOut, RestartsFrom, Does, is_restart, answers_in}
@@ -210,11 +210,13 @@ own_files = record {
 }
 
 -- what came after these moments
-kept_after : (old added : List Moment) → AllByRecursion (IsWithinEdge with_both) added → AllByRecursion IsNoEdit added → FilesAreKept own with_both old (old ++ added)
+kept_after : (old added : List Moment) → AllByRecursion (IsWithinEdge none_free with_both) added → AllByRecursion (IsNoEdit none_free) added → FilesAreKept own with_both old (old ++ added)
 kept_after old added within edits = record {
-  commands = λ more is. subst (AllByRecursion (IsWithinEdge with_both)) (append_cancel_left old added more is) within;
+  free = none_free;
+  free_apart = record { set = λ p is. refl; outputs = λ i p is. refl };
+  commands = λ more is. subst (AllByRecursion (IsWithinEdge none_free with_both)) (append_cancel_left old added more is) within;
   own_files = own_files;
-  edits = λ more is. subst (AllByRecursion IsNoEdit) (append_cancel_left old added more is) edits;
+  edits = λ more is. subst (AllByRecursion (IsNoEdit none_free)) (append_cancel_left old added more is) edits;
 }
 
 -- the frame of a build that did just this
@@ -259,8 +261,8 @@ none_before (step ∷ earlier) later is = cc
 
 starts : RefusedStarts
 starts = record {
-  clean = λ store old new stale. let first = stale (Judged 1 false ∷ []) [] 1 refl in false≢true (judged_before false first.0 first.1 first.2);
-  unjudged = λ store old new stale. let first = stale [] [] 1 refl in none_before first.0 first.1 first.2;
+  clean = λ free store old new stale. let first = stale (Judged 1 false ∷ []) [] 1 refl in false≢true (judged_before false first.0 first.1 first.2);
+  unjudged = λ free store old new stale. let first = stale [] [] 1 refl in none_before first.0 first.1 first.2;
   clean_step = λ lawful. false≢true lawful.1.0.1.stale;
   unjudged_step = λ lawful. false≢true lawful.0.1.stale;
   twice = λ lawful. false≢true (sym lawful.1.1.1.0.1.once);
@@ -273,8 +275,8 @@ refused_depfile held content is = ap (λ (h : Option (List ℕ)). is_accepted (r
 
 ends : RefusedEnds
 ends = record {
-  failed = λ store old new at ended judged. false≢true (judged.depfiles 1 at ended refl (λ met. none_some 1 met));
-  well = λ store old new at content ended held judged. false≢true (sym (refused_depfile _ content held) ∙ judged.well 1 at ended refl);
+  failed = λ free store old new at ended judged. false≢true (judged.depfiles 1 at ended refl (λ met. none_some 1 met));
+  well = λ free store old new at content ended held judged. false≢true (sym (refused_depfile _ content held) ∙ judged.well 1 at ended refl);
 }
 
 pub refused_rows : RefusedRows

@@ -1,3 +1,6 @@
 pub mod Small
 pub mod Refused
+pub mod Edited
+pub mod Forbidden
+pub mod Stricter
 pub mod Dyndep

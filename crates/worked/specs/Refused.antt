@@ -150,8 +150,8 @@ pub record RefusedFiles : Type 0 where
 
 pub record RefusedStarts : Type 0 where
   -- a command that was judged clean, or not judged, is started
-  pub clean : (store : Store) (old new : List Moment) → StartsOnlyStale edges store (Judged 1 false ∷ Started 1 ∷ []) old new → ⊥
-  pub unjudged : (store : Store) (old new : List Moment) → StartsOnlyStale edges store (Started 1 ∷ []) old new → ⊥
+  pub clean : (free : List ℕ → Bool) (store : Store) (old new : List Moment) → StartsOnlyStale free edges store (Judged 1 false ∷ Started 1 ∷ []) old new → ⊥
+  pub unjudged : (free : List ℕ → Bool) (store : Store) (old new : List Moment) → StartsOnlyStale free edges store (Started 1 ∷ []) old new → ⊥
   pub clean_step : IsLawful task (Judged 1 false ∷ Started 1 ∷ []) → ⊥
   pub unjudged_step : IsLawful task (Started 1 ∷ []) → ⊥
   -- it is started twice
@@ -171,11 +171,11 @@ refuses_depfiles = record { outcome = copies.outcome; depfile = λ content. None
 
 pub record RefusedEnds : Type 0 where
   -- a command ended well by itself and has no depfile, and is said to have failed
-  pub failed : (store : Store) (old new at : List Moment) → EndedAt 1 old new at
-      → IsJudged copies asked store (Judged 1 true ∷ Started 1 ∷ Ended 1 false ∷ []) None old new → ⊥
+  pub failed : (free : List ℕ → Bool) (store : Store) (old new at : List Moment) → EndedAt 1 old new at
+      → IsJudged copies free asked store (Judged 1 true ∷ Started 1 ∷ Ended 1 false ∷ []) None old new → ⊥
   -- it left a depfile that is refused, and is said to have ended well
-  pub well : (store : Store) (old new at : List Moment) (content : List ℕ) → EndedAt 1 old new at → view_of at (codes "d") ≡ Some content
-      → IsJudged refuses_depfiles asked_with_depfile store ran_well None old new → ⊥
+  pub well : (free : List ℕ → Bool) (store : Store) (old new at : List Moment) (content : List ℕ) → EndedAt 1 old new at → view_of at (codes "d") ≡ Some content
+      → IsJudged refuses_depfiles free asked_with_depfile store ran_well None old new → ⊥
 
 -- All of it.
 pub record RefusedRows : Type 0 where

@@ -4,6 +4,9 @@
 
 ghost use Rattle.worked.specs.Refused.{RefusedRows};
 ghost use Rattle.worked.specs.Dyndep.{DyndepRows};
+ghost use Rattle.worked.specs.Edited.{EditedRows};
+ghost use Rattle.worked.specs.Forbidden.{ForbiddenRows};
+ghost use Rattle.worked.specs.Stricter.{StricterSuffice};
 
 /// The definitions refuse these: records made up or dropped, a fault passed over, moves skipped, restarts that are missing or
 /// needless, answers that no build gave, a deps record of a start to come, one path for a depfile and a response file, a
@@ -18,4 +21,22 @@ pub fn refused_rows()
 /// excludes three graphs in which such an output is read too early.
 pub fn dyndep_rows()
     ensures { DyndepRows }
+{}
+
+/// A build during which a source is edited while its command runs, a write before a tick has the tick's stamp, and two files have
+/// one: it meets the premises of faithful records, and not those of contents.
+pub fn edited_rows()
+    ensures { EditedRows }
+{}
+
+/// What others may not do while a build runs, each with the smallest history in which a record would not be true: write an output, a
+/// source that has a record in force, or a log, or set a time back. In each a premise is broken.
+pub fn forbidden_rows()
+    ensures { ForbiddenRows }
+{}
+
+/// The premises in the stricter words of before imply those of today, with no free path and all edges quiet, where starts have the
+/// stamps of ticks: so what is promised by today's words holds by those, too.
+pub fn stricter_premises()
+    ensures { StricterSuffice }
 {}

@@ -1,0 +1,44 @@
+-- What others may not write: the logs, and paths while a build only looks.
+use Rattle.std.proofs.Common.{◌≡◌, ℕ, Bool, true, false, IsTrue, List, [], ◌++◌, sym, subst}
+use Rattle.std.proofs.lemmas.Bool.{not-true}
+use Rattle.model.specs.declared.event.Event.{Event}
+use Rattle.model.specs.declared.event.Moment.{Moment}
+use Rattle.model.specs.declared.graph.Edge.{Edge}
+use Rattle.model.specs.World.{World, runs, IsRunning, IsIdle}
+use Rattle.model.specs.Calls.{OthersWrote, OnlyLooks}
+use Rattle.model.specs.Records.{OwnFiles}
+use Rattle.model.specs.Premises.{FilesAreKept, OnlyFreeIsEdited, IsNoEdit}
+use Rattle.build_theory.proofs.Looks.{edits_before, untouched}
+use Rattle.build_theory.proofs.Starting.{since}
+use Rattle.looks.specs.Seen.{AreKept}
+use Rattle.runner.proofs.Quiet.{all_kept}
+use Rattle.builder.specs.Going.{is_bound}
+use Rattle.builder.specs.Reports.{LogsAreLeft}
+
+-- where files are kept, others leave the logs
+pub logs_left : (own : OwnFiles) (edges : List Edge) (old new : List Moment) → FilesAreKept own edges old new → LogsAreLeft own old new
+logs_left own edges old new kept = record {
+  free = kept.free;
+  build_log = kept.free_apart.set own.build_log (kept.own_files.within own.build_log kept.own_files.build_log);
+  deps_log = kept.free_apart.set own.deps_log (kept.own_files.within own.deps_log kept.own_files.deps_log);
+  edits = kept.edits;
+}
+
+-- up to each point before
+pub left_before : (own : OwnFiles) (old mid new later : List Moment) → new ≡ mid ++ later → LogsAreLeft own old new → LogsAreLeft own old mid
+left_before own old mid new later grows left =
+    record { free = left.free; build_log = left.build_log; deps_log = left.deps_log; edits = edits_before left.free old mid new later grows left.edits }
+
+-- in a call that only looks, where there was only looked since the entry, paths that are not free keep their files
+pub bound_kept : (tells : Bool) (own : OwnFiles) (entry now new : World) → IsIdle entry.events → OnlyLooks tells entry now → OnlyLooks tells now new → IsTrue tells
+    → (free : List ℕ → Bool) → OnlyFreeIsEdited free entry.history new.history → AreKept (is_bound free) now.history new.history
+bound_kept tells own entry now new idle before looks tell free edits =
+    all_kept (is_bound free) now.history call.more new.history call.grows (λ p is.
+    untouched tells own [] now new none_runs looks free p (not-true (free p) is) call.more call.all
+    (since (IsNoEdit free) entry.history (before.history tell).more now.history call.more new.history (before.history tell).grows call.grows edits))
+  where
+    call : OthersWrote (IsRunning now.events) now.history new.history
+    call = looks.history tell
+
+    none_runs : IsIdle now.events
+    none_runs job = subst (λ (es : List Event). runs job es ≡ false) (sym before.events) (idle job)

@@ -1,0 +1,157 @@
+-- The rows with an edit.
+use Rattle.std.proofs.Common.{◌≡◌, inl, inr, ℕ, zero, suc, ◌==◌, Bool, true, false, List, [], ◌∷◌, ◌++◌, Option, Some, None, refl, sym, ◌∙◌, ap, subst, arith}
+use Rattle.std.specs.List.{AllByRecursion}
+use Rattle.std.specs.Prelude.{codes, bytes_eq}
+use Rattle.std.proofs.lemmas.Bool.{false≢true, or_cases, eqb-true, cond-false, false_from_ne_true}
+use Rattle.std.proofs.lemmas.List.{append_cancel_left}
+use Rattle.model.specs.declared.act.Act.{Act}
+use Rattle.model.specs.declared.event.Event.TheVariants.{Start, Finish}
+use Rattle.model.specs.declared.event.Moment.{Moment}
+use Rattle.model.specs.declared.event.Moment.TheVariants.{Wrote, Happened}
+use Rattle.model.specs.declared.event.Writer.TheVariants.{Program, Command, Someone}
+use Rattle.model.specs.World.{File, IsNotAt, written, content_of, file_from, view_of}
+use Rattle.model.specs.Graph.{has, has_number, edge_at, inputs, outputs}
+use Rattle.model.specs.Reading.{Itself, Wanted}
+use Rattle.model.specs.Premises.{FilesAreKept, Increases, IsNoEdit, IsWithinEdge, KeepsFaith, LeftOutcome, LiesIn, OwnFilesApart}
+use Rattle.worked.specs.Small.{copy, edges, copies, no_records}
+use Rattle.worked.specs.Refused.{own, ran_well}
+use Rattle.worked.specs.Edited.{entry, behind, build, EditedRows}
+use Rattle.worked.proofs.Lists.{all_has, same_bytes}
+
+unmoved : (p : List ℕ) (f : Option File) (ms : List Moment) → AllByRecursion (IsNotAt p) ms → file_from p f ms ≡ f
+unmoved p f [] all = refl
+unmoved p f (Wrote by path content stamp ∷ ms) all =
+    ap (λ (g : Option File). file_from p g ms) (cond-false (bytes_eq path p) (written content stamp) f all.0) ∙ unmoved p f ms all.1
+unmoved p f (Happened event ∷ ms) all = unmoved p f ms all.1
+
+-- ---- its files are apart
+
+of_inputs : (i : ℕ) (p : List ℕ) → has (inputs (edge_at edges i)) p ≡ true → own.set p ≡ false
+of_inputs zero p h = absurd (false≢true h)
+of_inputs (suc zero) p h = all_has (λ q. own.set q ≡ false) (codes "a" ∷ []) p (refl, tt) h
+of_inputs (suc (suc i)) p h = absurd (false≢true h)
+
+of_outputs : (i : ℕ) (p : List ℕ) → has (outputs (edge_at edges i)) p ≡ true → own.set p ≡ false
+of_outputs zero p h = absurd (false≢true h)
+of_outputs (suc zero) p h = all_has (λ q. own.set q ≡ false) (codes "b" ∷ []) p (refl, tt) h
+of_outputs (suc (suc i)) p h = absurd (false≢true h)
+
+none_named : (i : ℕ) → ((edge_at edges i).act.depfile ≡ []) × ((edge_at edges i).act.response_path ≡ [])
+none_named zero = (refl, refl)
+none_named (suc zero) = (refl, refl)
+none_named (suc (suc i)) = (refl, refl)
+
+own_files : OwnFilesApart own edges
+own_files = record {
+  within = λ p h. all_has (λ q. own.set q ≡ true) (codes "l" ∷ codes "m" ∷ codes "t" ∷ []) p (refl, (refl, (refl, tt))) h;
+  build_log = refl;
+  deps_log = refl;
+  inputs = of_inputs;
+  outputs = of_outputs;
+  depfiles = λ i command. subst (λ (p : List ℕ). LiesIn own p) (sym (none_named i).0) (refl, refl);
+  responses = λ i command. subst (λ (p : List ℕ). LiesIn own p) (sym (none_named i).1) (refl, refl);
+  both = λ i command some. absurd (some (none_named i).0);
+  apart = λ i j command1 command2 other. ((λ some. absurd (some (none_named i).0)), (λ some. absurd (some (none_named i).1)), (λ some. absurd (some (none_named i).0)));
+}
+
+-- ---- the source is free
+
+abbrev a_free : List ℕ → Bool
+a_free p = bytes_eq p (codes "a")
+
+not_a : (set : List ℕ → Bool) (p : List ℕ) → set (codes "a") ≡ false → set p ≡ true → a_free p ≡ false
+not_a set p none h = false_from_ne_true (bytes_eq p (codes "a")) (λ same. false≢true (sym none ∙ (ap set (sym (same_bytes p (codes "a") same)) ∙ h)))
+
+free_outputs : (i : ℕ) (p : List ℕ) → has (outputs (edge_at edges i)) p ≡ true → a_free p ≡ false
+free_outputs zero p h = absurd (false≢true h)
+free_outputs (suc zero) p h = not_a (λ q. has (codes "b" ∷ []) q) p refl h
+free_outputs (suc (suc i)) p h = absurd (false≢true h)
+
+kept : FilesAreKept own edges entry (entry ++ build)
+kept = record {
+  free = a_free;
+  free_apart = record { set = λ p h. not_a own.set p refl h; outputs = free_outputs };
+  commands = λ more is. subst (AllByRecursion (IsWithinEdge a_free edges)) (append_cancel_left entry build more is) (tt, (tt, (tt, (tt, (inl refl, (tt, (tt, tt)))))));
+  own_files = own_files;
+  edits = λ more is. subst (AllByRecursion (IsNoEdit a_free)) (append_cancel_left entry build more is) (tt, (tt, (tt, (refl, (tt, (tt, (tt, tt)))))));
+}
+
+-- ---- what the command left
+
+which : (i : ℕ) → has_number (1 ∷ []) i ≡ true → i ≡ 1
+which i h = elim (or_cases (1 == i) false h) [
+  | inl same ↦ sym (eqb-true 1 i same)
+  | inr other ↦ absurd (false≢true other)
+]
+
+is_behind : (before since : List Moment) (i : ℕ) (act : Act) (stamp : ℕ) → build ≡ before ++ Happened (Start i act stamp) ∷ since → since ≡ behind
+is_behind [] since i act stamp is = cc
+is_behind (a ∷ []) since i act stamp is = cc
+is_behind (a ∷ b ∷ []) since i act stamp is = cc
+is_behind (a ∷ b ∷ c ∷ []) since i act stamp is = cc
+is_behind (a ∷ b ∷ c ∷ d ∷ []) since i act stamp is = cc
+is_behind (a ∷ b ∷ c ∷ d ∷ e ∷ []) since i act stamp is = cc
+is_behind (a ∷ b ∷ c ∷ d ∷ e ∷ f ∷ []) since i act stamp is = cc
+is_behind (a ∷ b ∷ c ∷ d ∷ e ∷ f ∷ g ∷ before) since i act stamp is = let none : [] ≡ before ++ Happened (Start i act stamp) ∷ since = cc in absurd (empty before none)
+  where
+    empty : (xs : List Moment) → [] ≡ xs ++ Happened (Start i act stamp) ∷ since → ⊥
+    empty [] e = cc
+    empty (x ∷ xs) e = cc
+
+abbrev up_to : List Moment
+up_to = Wrote Program (codes "t") (Some []) 9 ∷ Wrote Program (codes "l") (Some (codes "begun")) 9 ∷ Happened (Start 1 copy 9) ∷ Wrote Someone (codes "a") (Some (codes "y")) 10 ∷ Wrote (Command 1) (codes "b") (Some (codes "x")) 10 ∷ []
+
+is_end : (before after : List Moment) (i : ℕ) → build ≡ before ++ Happened (Finish i true) ∷ after → before ≡ up_to
+is_end [] after i is = cc
+is_end (a ∷ []) after i is = cc
+is_end (a ∷ b ∷ []) after i is = cc
+is_end (a ∷ b ∷ c ∷ []) after i is = cc
+is_end (a ∷ b ∷ c ∷ d ∷ []) after i is = cc
+is_end (a ∷ b ∷ c ∷ d ∷ e ∷ []) after i is = cc
+is_end (a ∷ b ∷ c ∷ d ∷ e ∷ f ∷ []) after i is = cc
+is_end (a ∷ b ∷ c ∷ d ∷ e ∷ f ∷ g ∷ before) after i is = let none : [] ≡ before ++ Happened (Finish i true) ∷ after = cc in absurd (empty before none)
+  where
+    empty : (xs : List Moment) → [] ≡ xs ++ Happened (Finish i true) ∷ after → ⊥
+    empty [] e = cc
+    empty (x ∷ xs) e = cc
+
+abbrev started : List Moment
+started = entry ++ (Wrote Program (codes "t") (Some []) 9 ∷ Wrote Program (codes "l") (Some (codes "begun")) 9 ∷ Happened (Start 1 copy 9) ∷ [])
+
+-- it saw the files of its start
+left : LeftOutcome copies edges behind (entry ++ build) (entry ++ up_to) 1
+left = record {
+  seen = view_of started;
+  well = refl;
+  unwritten = λ p none. at_start p none;
+  contents = (refl, tt);
+  depfile = refl;
+}
+  where
+    at_start : (p : List ℕ) → AllByRecursion (IsNotAt p) behind → view_of started p ≡ view_of (entry ++ build) p
+    at_start p none = sym (ap content_of (unmoved p (file_from p None started) behind none))
+
+faith : KeepsFaith copies own edges no_records ran_well entry (entry ++ build)
+faith = record {
+  kept = kept;
+  unrecorded = λ p is. refl;
+  stamps = λ more is. subst (Increases 9) (append_cancel_left entry build more is) (omega arith, (omega arith, (omega arith, (omega arith, (omega arith, tt)))));
+  left_outcomes = λ i at ended well before since act stamp is.
+      subst (λ (n : ℕ). LeftOutcome copies edges since (entry ++ build) at n) (sym (which i well))
+      (subst (λ (l : List Moment). LeftOutcome copies edges l (entry ++ build) at 1) (sym (is_behind before since i act stamp (append_cancel_left entry build (before ++ Happened (Start i act stamp) ∷ since) is)))
+      (subst (λ (l : List Moment). LeftOutcome copies edges behind (entry ++ build) l 1)
+      (sym (ended.is ∙ ap (λ (l : List Moment). entry ++ l) (is_end ended.before ended.after i (append_cancel_left entry build (ended.before ++ Happened (Finish i true) ∷ ended.after) ended.splits)))) left));
+}
+
+pub edited_rows : EditedRows
+edited_rows = record {
+  faith = faith;
+  other = λ clean. let same = clean 1 (codes "b") refl (Wanted 1 (codes "b") refl refl) refl refl in differ same;
+  loud = λ files quiet alone is. false≢true (sym (alone.unread 1 (codes "a") is (inl (Itself 1 (codes "a") refl (inl (λ j alias. none_some j alias.made))))) ∙ (files.edits build refl).1.1.1.0);
+}
+  where
+    none_some : (j : ℕ) → None ≡ Some j → ⊥
+    none_some j is = cc
+
+    differ : Some (codes "x") ≡ Some (codes "y") → ⊥
+    differ is = false≢true (ap (λ (o : Option (List ℕ)). elim o [ None ↦ false | Some q ↦ bytes_eq q (codes "x") ]) (sym is))

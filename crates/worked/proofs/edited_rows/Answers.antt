@@ -1,0 +1,5 @@
+use Rattle.worked.proofs.Edited.{edited_rows}
+use Rattle.worked.proofs.edited_rows.Goals as goal
+
+pub returns : goal.returns
+returns c = edited_rows
