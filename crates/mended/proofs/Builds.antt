@@ -18,7 +18,7 @@ use Rattle.mended.specs.Rich.{no_store, first_store}
 use Rattle.mended.proofs.Lists.{none_some, some_same, same_bytes, every, every_number, at_each, at_split}
 use Rattle.mended.proofs.Graphs.{is_flat}
 use Rattle.mended.proofs.Moments.{so_far, is_moment, moment, idle}
-use Rattle.mended.proofs.Reads.{verdict_is, verdict}
+use Rattle.mended.proofs.ReadPaths.{verdict_is, verdict}
 use Rattle.mended.proofs.Framed.{frame}
 use Rattle.mended.proofs.Left.{nothing_told}
 use Rattle.mended.proofs.Project.{silent, silent_declared, no_depfile}

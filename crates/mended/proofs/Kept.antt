@@ -20,7 +20,7 @@ use Rattle.mended.specs.Rich.{no_store, first_store, not_second, every_edge, Fir
 use Rattle.mended.proofs.Lists.{none_some, some_same, some_none, all_has, all_from_has, every, every_number, every_path, if_there, if_there_at, other_of, at_each}
 use Rattle.mended.proofs.Graphs.{numbers, within, none_recorded}
 use Rattle.mended.proofs.Moments.{grows, stamps_grow}
-use Rattle.mended.proofs.Reads.{reading, read_by, is_read, in_list}
+use Rattle.mended.proofs.ReadPaths.{reading, read_by, is_read, in_list}
 use Rattle.mended.proofs.Left.{none_reported, reports_none, starts_left, outcomes, keeps_to, kept_of}
 use Rattle.mended.proofs.Project.{silent, no_depfile, by_command, own_files}
 
@@ -101,7 +101,7 @@ names_dd (suc (suc (suc (suc (suc (suc (suc (suc i)))))))) file is = absurd (non
 known : (recorded : ℕ → List (List ℕ)) (i : ℕ) (p : List ℕ) → IsSeen i p → IsKnown declared edges recorded i p
 known recorded i p (inl seven) j file made unmade names =
     inl (subst (λ (n : ℕ). (edge_at declared n).dyndep ≡ Some file) (sym seven) (ap Some (names_dd j file names)))
-known recorded i p (inr no) j file made unmade names = absurd (no j made unmade)
+known recorded i p (inr other) j file made unmade names = absurd (other j made unmade)
 
 module _ (records : List Record) (steps : List Step) (old more : List Moment) where
   abbrev recorded : ℕ → List (List ℕ)

@@ -81,7 +81,7 @@ module _ (task : Task) where
       pub none_may_start : (before : List Step) → none_starts before ≡ true → NoneMayStart task before
       none_may_start before test k may = elim (or_cases (not (nat_lt (length (running_in before)) task.jobs)) (every (has_number (started_in before)) (out_of_date_in before)) test) [
         | inl full ↦ elim may.job [
-          | inl zero ↦ some_jobs zero
+          | inl none ↦ some_jobs none
           | inr room ↦ false≢true (sym (not-true (nat_lt (length (running_in before)) task.jobs) full) ∙ lt-ltb (length (running_in before)) task.jobs room)
         ]
         | inr all ↦ false≢true (sym may.once ∙ every_number (has_number (started_in before)) (out_of_date_in before) k all may.stale)

@@ -2,7 +2,7 @@ pub mod Lists
 pub mod Graphs
 pub mod Lawful
 pub mod Moments
-pub mod Reads
+pub mod ReadPaths
 pub mod Framed
 pub mod Left
 pub mod Project

@@ -23,22 +23,25 @@ use Rattle.mended.specs.Disk.{first_steps, second_steps, first_events, second_ev
 use Rattle.mended.specs.Rich.{no_store, first_store}
 use Rattle.mended.proofs.Lists.{none_some, all_has, every, every_number, every_path, same_content, contents_same, other_of}
 use Rattle.mended.proofs.Graphs.{numbers, command_within}
-use Rattle.mended.proofs.Reads.{verdict_is, verdict}
+use Rattle.mended.proofs.ReadPaths.{verdict_is, verdict}
 use Rattle.mended.proofs.Project.{silent, no_depfile}
 
 -- ---- what the logs tell in these files
 
+abbrev with_both : List Record → List DepsRecord → Store
+with_both records deps = record { records = records; deps = deps }
+
 module _ (all : OwnFiles) (fits : IsOwnIn all []) (files : View) where
   abbrev told_by : List ℕ → List ℕ → Store
-  told_by log other = record { records = read_log letters.records (files log); deps = read_log letters.deps (files other) }
+  told_by log other = with_both (read_log letters.records (files log)) (read_log letters.deps (files other))
 
   pub store_is : (records : List Record) → read_log letters.records (files build_log_name) ≡ records → read_log letters.deps (files deps_log_name) ≡ [] → store_of records ≡ store_in letters all files
   store_is records records_are deps_are =
       sym (
         ap (λ (p : List ℕ). told_by p all.deps_log) fits.build_log
         ∙ (ap (λ (p : List ℕ). told_by build_log_name p) fits.deps_log
-        ∙ (ap (λ (rs : List Record). record { records = rs; deps = read_log letters.deps (files deps_log_name) }) records_are
-        ∙ ap (λ (ds : List DepsRecord). record { records = records; deps = ds }) deps_are))
+        ∙ (ap (λ (rs : List Record). with_both rs (read_log letters.deps (files deps_log_name))) records_are
+        ∙ ap (λ (ds : List DepsRecord). with_both records ds) deps_are))
       )
 
 pub at_first : (all : OwnFiles) → IsOwnIn all [] → no_store ≡ store_in letters all (view_of first.history)
@@ -71,16 +74,22 @@ abbrev outputs_of : Record → List (List ℕ)
 outputs_of (Begun outs) = outs
 outputs_of (Done outs start act) = outs
 
+abbrev made_so : Act → ℕ → Option Made
+made_so act start = Some (record { act = act; start = start })
+
+abbrev none_made : Option Made
+none_made = None
+
 more_records : (o : List ℕ) (held : Option Made) (xs ys : List Record) → in_force_from o held (xs ++ ys) ≡ in_force_from o (in_force_from o held xs) ys
 more_records o held [] ys = refl
-more_records o held (Begun outs ∷ xs) ys = more_records o (if has outs o then None else held) xs ys
-more_records o held (Done outs start act ∷ xs) ys = more_records o (if has outs o then Some (record { act = act; start = start }) else held) xs ys
+more_records o held (Begun outs ∷ xs) ys = more_records o (if has outs o then none_made else held) xs ys
+more_records o held (Done outs start act ∷ xs) ys = more_records o (if has outs o then made_so act start else held) xs ys
 
 none_tells : (o : List ℕ) (held : Option Made) (rs : List Record) → AllByRecursion (λ r. has (outputs_of r) o ≡ false) rs → in_force_from o held rs ≡ held
 none_tells o held [] none = refl
-none_tells o held (Begun outs ∷ rs) none = ap (λ (h : Option Made). in_force_from o h rs) (cond-false (has outs o) None held none.0) ∙ none_tells o held rs none.1
+none_tells o held (Begun outs ∷ rs) none = ap (λ (h : Option Made). in_force_from o h rs) (cond-false (has outs o) none_made held none.0) ∙ none_tells o held rs none.1
 none_tells o held (Done outs start act ∷ rs) none =
-    ap (λ (h : Option Made). in_force_from o h rs) (cond-false (has outs o) (Some (record { act = act; start = start })) held none.0) ∙ none_tells o held rs none.1
+    ap (λ (h : Option Made). in_force_from o h rs) (cond-false (has outs o) (made_so act start) held none.0) ∙ none_tells o held rs none.1
 
 not_made : (steps : List Step) (o : List ℕ) → IsLeftAlone edges steps None o → (i : ℕ) → has_number (started_in steps) i ≡ true → has (outputs (edge_at edges i)) o ≡ false
 not_made steps o alone i started = elim (cases_Bool (has (outputs (edge_at edges i)) o)) [
@@ -144,7 +153,7 @@ module _ (is_loud : ℕ → Bool) (quiet : ℕ → Bool) (loud : (i : ℕ) → i
   but_at : (test : ℕ → Bool) → all_but test ≡ true → (i : ℕ) → (edge_at edges i).phony ≡ false → quiet i ≡ true → test i ≡ true
   but_at test all i command is_quiet =
       let here = other_of (edge_at edges i).phony (is_loud i || test i) (every_number (λ n. (edge_at edges n).phony || (is_loud n || test n)) (numbers edges) i all (command_within edges i command)) command in
-      elim (or_cases (is_loud i) (test i) here) [ inl no ↦ absurd (loud i no is_quiet) | inr so ↦ so ]
+      elim (or_cases (is_loud i) (test i) here) [ inl noisy ↦ absurd (loud i noisy is_quiet) | inr so ↦ so ]
 
   pub nothing_left : (entry : Store) (records : List Record) (steps : List Step) (old new : List Moment) → view_of new (codes "p") ≡ None
       → all_but (λ i. verdict_is edges records [] new new i false) ≡ true → LeavesNothing quiet asked entry (store_of records) steps old new

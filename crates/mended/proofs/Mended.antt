@@ -23,7 +23,7 @@ use Rattle.mended.specs.Disk.{two_run, meanwhile, first_steps, second_steps, fir
 use Rattle.mended.specs.Rich.{no_store, first_store, not_second, every_edge, ShowsAll, SpoilsOne, MendsAll, RichHistoryIsMet}
 use Rattle.mended.proofs.Lists.{none_some}
 use Rattle.mended.proofs.Moments.{stamps_grow, idle}
-use Rattle.mended.proofs.Reads.{is_read, verdict_is, verdict}
+use Rattle.mended.proofs.ReadPaths.{is_read, verdict_is, verdict}
 use Rattle.mended.proofs.Project.{silent, by_command, own_fits}
 use Rattle.mended.proofs.Kept.{first_faith, second_faith, first_premises, second_premises, a_is_free, loud}
 use Rattle.mended.proofs.Logged.{at_built, at_last, first_logs, second_logs, nothing_left, cleanly_built}

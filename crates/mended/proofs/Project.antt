@@ -65,7 +65,7 @@ silent_in : (es : List Edge) → stands_for_p es → (inputs (edge_at es 4) ≡ 
 silent_in es only fed view none q j alias counts =
     let is = only j q (made_here es q j alias.made) alias.phony in
     elim counts [
-      | inl no ↦ no j alias
+      | inl other ↦ other j alias
       | inr more ↦ elim more [
         | inl there ↦ false≢true (subst (λ (o : Option (List ℕ)). is_some o ≡ true) (ap view is.1 ∙ none) there)
         | inr empty ↦

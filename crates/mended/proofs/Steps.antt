@@ -118,6 +118,10 @@ module _ (records : List Record) where
   in_order_at : IsInOrderAt (store_of records) (task_with task (store_of records) edges)
   in_order_at = record { once = once; acyclic = acyclic }
 
+  last_lawful : (phase last : List Step) → at_each (is_next task) phase last ≡ true → phase ++ [] ≡ phase → IsLawfulPhase task (phase ++ []) last
+  last_lawful phase last test same =
+      subst (λ (before : List Step). IsLawfulPhase task before last) (sym same) (phase_lawful task refl some_jobs (cone (recorded_inputs (store_of records) edges)) no_pools phase last test)
+
   -- a build of these two phases
   abbrev pub lawful_by : (phase last : List Step) → has_number (done_in phase) 1 ≡ true → at_each (is_next before_load) [] phase ≡ true → at_each (is_next task) phase last ≡ true
       → phase ++ last ≡ (phase ++ []) ++ (last ++ []) → phase ++ [] ≡ phase → IsLawfulBuild reads_dyndep texts declared task (store_of records) (phase ++ last)
@@ -133,7 +137,7 @@ module _ (records : List Record) where
       in_order_at,
       tt,
     );
-    lawful = subst (λ (before : List Step). IsLawfulPhase task before last) (sym same) (phase_lawful task refl some_jobs (cone (recorded_inputs (store_of records) edges)) no_pools phase last second);
+    lawful = last_lawful phase last second same;
     rest = tt;
     cause = inl refl;
   }
