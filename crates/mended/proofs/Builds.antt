@@ -34,12 +34,12 @@ texts_are file content is = elim (cases_Bool (bytes_eq (codes "dd") file)) [
   | inr other ↦ let none : None ≡ Some content = rw other at is in absurd (none_some content none)
 ]
 
-held_by : (files : View) → files (codes "dd") ≡ Some dyndep_text → (file content : List ℕ) → texts file ≡ Some content → files file ≡ Some content
+pub held_by : (files : View) → files (codes "dd") ≡ Some dyndep_text → (file content : List ℕ) → texts file ≡ Some content → files file ≡ Some content
 held_by files here file content is =
     let are = texts_are file content is in
     subst (λ (p : List ℕ). files p ≡ Some content) are.0 (here ∙ ap Some are.1)
 
-held_at : (steps : List Step) (old new : List Moment) → HeldAt (codes "dd") dyndep_text steps old new → (file content : List ℕ) → texts file ≡ Some content → HeldAt file content steps old new
+pub held_at : (steps : List Step) (old new : List Moment) → HeldAt (codes "dd") dyndep_text steps old new → (file content : List ℕ) → texts file ≡ Some content → HeldAt file content steps old new
 held_at steps old new here file content is =
     let are = texts_are file content is in
     subst (λ (p : List ℕ). HeldAt p content steps old new) are.0 (subst (λ (c : List ℕ). HeldAt (codes "dd") c steps old new) are.1 here)

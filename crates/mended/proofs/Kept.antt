@@ -117,7 +117,7 @@ module _ (records : List Record) (steps : List Step) (old more : List Moment) wh
   pub recorded_apart : RecordedApart own (recorded_inputs (store_of records) edges)
   recorded_apart i p h = absurd (not_recorded i p h)
 
-  read_below : DyndepOutputsAreReadBelow commands declared edges (recorded_inputs (store_of records) edges) steps old (old ++ more)
+  pub read_below : DyndepOutputsAreReadBelow commands declared edges (recorded_inputs (store_of records) edges) steps old (old ++ more)
   read_below = record { inputs = inputs_known; reports = λ i j p reported made command. absurd (none_reported commands edges no_depfile steps old (old ++ more) i p reported) }
 
   -- ---- quiet edges
@@ -155,7 +155,7 @@ module _ (records : List Record) (steps : List Step) (old more : List Moment) wh
 
     module _ (apart : every (λ q. not (own.set q)) free ≡ true) (unmade : every (λ q. not (is_some (maker edges q))) free ≡ true) (to_outputs : every (keeps_to edges free) more ≡ true)
         (grow : grows (next_stamp old) more ≡ true) (left : at_each (starts_left commands edges old more) [] more ≡ true) where
-      left_outcomes : LeaveOutcomes commands edges steps old (old ++ more)
+      pub left_outcomes : LeaveOutcomes commands edges steps old (old ++ more)
       left_outcomes = outcomes commands edges old more no_depfile steps left
 
       abbrev pub faith_of : AllByRecursion (λ p. in_force records p ≡ None) free → KeepsFaith commands own edges (store_of records) steps old (old ++ more)

@@ -91,7 +91,7 @@ module _ (es : List Edge) (free : List (List ℕ)) where
   keeps_to (Wrote Someone path content stamp) = has free path
   keeps_to (Happened event) = true
 
-  within_edges : (ms : List Moment) → every keeps_to ms ≡ true → AllByRecursion (IsWithinEdge (has free) es) ms
+  pub within_edges : (ms : List Moment) → every keeps_to ms ≡ true → AllByRecursion (IsWithinEdge (has free) es) ms
   within_edges [] test = tt
   within_edges (Wrote Program path content stamp ∷ ms) test = (tt, within_edges ms test)
   within_edges (Wrote (Command job) path content stamp ∷ ms) test =
@@ -103,7 +103,7 @@ module _ (es : List Edge) (free : List (List ℕ)) where
   within_edges (Wrote Someone path content stamp ∷ ms) test = (tt, within_edges ms (and_parts (has free path) (every keeps_to ms) test).1)
   within_edges (Happened event ∷ ms) test = (tt, within_edges ms test)
 
-  only_free : (ms : List Moment) → every keeps_to ms ≡ true → AllByRecursion (IsNoEdit (has free)) ms
+  pub only_free : (ms : List Moment) → every keeps_to ms ≡ true → AllByRecursion (IsNoEdit (has free)) ms
   only_free [] test = tt
   only_free (Wrote Program path content stamp ∷ ms) test = (tt, only_free ms test)
   only_free (Wrote (Command job) path content stamp ∷ ms) test = (tt, only_free ms (and_parts (has (outputs (edge_at es job)) path || has free path) (every keeps_to ms) test).1)

@@ -22,7 +22,7 @@ use Rattle.mended.proofs.Graphs.{numbers, within, none_recorded, made_once, no_c
 use Rattle.mended.proofs.Lawful.{is_next, all_blocked, none_starts, no_load, none_judged, none_may_start, none_loads, phase_lawful}
 use Rattle.mended.proofs.Project.{made_here, no_pools, no_pools_declared, targets, cone, cone_before, six_before}
 
-some_jobs : 2 ≡ 0 → ⊥
+pub some_jobs : 2 ≡ 0 → ⊥
 some_jobs e = absurd (omega (arith, e))
 
 -- ---- the load
@@ -93,10 +93,10 @@ module _ (records : List Record) where
   abbrev before_load : Task
   before_load = task_with task (store_of records) declared
 
-  acyclic : HasNoCycle asked (store_of records)
+  pub acyclic : HasNoCycle asked (store_of records)
   acyclic i inside cycle = no_cycle edges (recorded_inputs (store_of records) edges) (none_recorded records edges) refl i cycle
 
-  load_of : (before : List Step) → has_number (done_in before) 1 ≡ true → IsLoad reads_dyndep texts before_load before edges
+  pub load_of : (before : List Step) → has_number (done_in before) 1 ≡ true → IsLoad reads_dyndep texts before_load before edges
   load_of before done = record {
     file = codes "dd";
     is_next = record {
@@ -115,10 +115,10 @@ module _ (records : List Record) where
     grown = record { as_many = refl; named = added; others = as_declared; fit = ((6, refl, refl), ((7, refl, refl), tt)) };
   }
 
-  in_order_at : IsInOrderAt (store_of records) (task_with task (store_of records) edges)
+  pub in_order_at : IsInOrderAt (store_of records) (task_with task (store_of records) edges)
   in_order_at = record { once = once; acyclic = acyclic }
 
-  last_lawful : (phase last : List Step) → at_each (is_next task) phase last ≡ true → phase ++ [] ≡ phase → IsLawfulPhase task (phase ++ []) last
+  pub last_lawful : (phase last : List Step) → at_each (is_next task) phase last ≡ true → phase ++ [] ≡ phase → IsLawfulPhase task (phase ++ []) last
   last_lawful phase last test same =
       subst (λ (before : List Step). IsLawfulPhase task before last) (sym same) (phase_lawful task refl some_jobs (cone (recorded_inputs (store_of records) edges)) no_pools phase last test)
 
