@@ -1,11 +1,11 @@
 -- Lawful schedules, decided by going through the edges at each step.
-use Rattle.std.proofs.Common.{◌≡◌, inl, inr, ℕ, suc, ◌<◌, nat_lt, ◌&&◌, ◌||◌, not, Bool, true, false, List, [], ◌∷◌, ◌++◌, length, Option, Some, None, refl, sym, ◌∙◌, subst}
+use Rattle.std.proofs.Common.{◌≡◌, inl, inr, ℕ, nat_lt, ◌&&◌, ◌||◌, not, Bool, true, false, List, [], ◌∷◌, ◌++◌, length, Some, sym, ◌∙◌}
 use Rattle.std.proofs.lemmas.Bool.{false≢true, or_cases, and_parts, ltb-true, lt-ltb, not-true}
 use Rattle.model.specs.declared.graph.Edge.{Edge}
-use Rattle.model.specs.Graph.{has, has_number, edge_at, maker, IsCommand}
+use Rattle.model.specs.Graph.{has_number, edge_at, maker, IsCommand}
 use Rattle.model.specs.Reading.{IsInCone, needs}
-use Rattle.model.specs.Schedule.{Task, Step, Judged, Started, Ended, IsSettled, MayBeJudged, MayStart, NoneMayBeJudged, NoneMayStart, IsLawfulStep, IsLawfulFrom, judged_in, out_of_date_in, started_in, failed_in, running_in, done_in}
-use Rattle.model.specs.Phases.{IsDueLoad, NoLoadIsDue, IsLawfulPhase, AreUnloadedFrom}
+use Rattle.model.specs.Schedule.{Task, Step, Judged, Started, Ended, IsSettled, MayBeJudged, NoneMayBeJudged, NoneMayStart, IsLawfulStep, IsLawfulFrom, judged_in, out_of_date_in, started_in, failed_in, running_in, done_in}
+use Rattle.model.specs.Phases.{NoLoadIsDue, IsLawfulPhase, AreUnloadedFrom}
 use Rattle.mended.proofs.Lists.{none_some, every, some_of, every_number, every_path, some_path, below, below_has, if_there, is_there, if_there_at, is_there_at, other_of, at_each}
 use Rattle.mended.proofs.Graphs.{numbers, within, command_within, is_flat, settles, settled, is_settled}
 

@@ -10,12 +10,12 @@ use Rattle.model.specs.declared.event.Moment.TheVariants.{Wrote, Happened}
 use Rattle.model.specs.declared.event.Writer.TheVariants.{Program, Command, Someone}
 use Rattle.model.specs.declared.graph.Edge.{Edge}
 use Rattle.model.specs.World.{View, IsNotAt, content_of, file_at, view_of}
-use Rattle.model.specs.Graph.{has, has_number, edge_at, outputs, maker}
-use Rattle.model.specs.Outcome.{Behaviour, left, depfile_in, is_accepted, listed, ends_well, reports_of, given}
+use Rattle.model.specs.Graph.{has, edge_at, outputs, maker}
+use Rattle.model.specs.Outcome.{Behaviour, left, depfile_in, listed, ends_well, given}
 use Rattle.model.specs.Records.{OwnFiles}
-use Rattle.model.specs.Schedule.{Step, well_in}
-use Rattle.model.specs.Premises.{LeftOutcome, EndedAt, LeaveOutcomes, IsWithinEdge, IsNoEdit, FreeApart, OwnFilesApart, FilesAreKept, IsReported, ReportsComeFromAbove, IsFromAbove}
-use Rattle.mended.proofs.Lists.{every, every_path, all_from_has, some_none, same_content, contents_same, at_each, at_split, other_of}
+use Rattle.model.specs.Schedule.{Step}
+use Rattle.model.specs.Premises.{LeftOutcome, LeaveOutcomes, IsWithinEdge, IsNoEdit, FreeApart, OwnFilesApart, FilesAreKept, IsReported, ReportsComeFromAbove, IsFromAbove}
+use Rattle.mended.proofs.Lists.{every, every_path, all_from_has, same_content, contents_same, at_each, at_split, other_of}
 use Rattle.mended.proofs.Graphs.{makes_all, made_by}
 use Rattle.mended.proofs.Moments.{unmoved, from_append}
 

@@ -1,5 +1,5 @@
 -- What both builds leave in the logs, and that their outputs are as the clean build gives them.
-use Rattle.std.proofs.Common.{◌≡◌, inl, inr, ℕ, ◌||◌, Bool, true, false, List, [], ◌∷◌, ◌++◌, Option, Some, None, is_some, refl, sym, ◌∙◌, ap, subst}
+use Rattle.std.proofs.Common.{◌≡◌, inl, inr, ℕ, ◌||◌, Bool, true, false, List, [], ◌∷◌, ◌++◌, Option, Some, None, refl, sym, ◌∙◌, ap, subst}
 use Rattle.std.specs.List.{AllByRecursion}
 use Rattle.std.proofs.lemmas.Bool.{false≢true, cases_Bool, cond-false, or_cases}
 use Rattle.std.proofs.lemmas.List.{append_cancel_left}
@@ -17,7 +17,7 @@ use Rattle.model.specs.Clean.{clean_build}
 use Rattle.model.specs.Records.{Store, OwnFiles, IsOwnIn, Made, store_in, read_log, build_log_name, deps_log_name, in_force, in_force_from}
 use Rattle.model.specs.Schedule.{Step, started_in, well_in}
 use Rattle.model.specs.SingleBuild.{IsCleanlyBuilt}
-use Rattle.model.specs.Kept.{KeepsRecords, IsRecorded, IsLeftAlone, LeavesNothing}
+use Rattle.model.specs.Kept.{KeepsRecords, IsLeftAlone, LeavesNothing}
 use Rattle.mended.specs.Project.{edges, asked, commands, letters, store_of, first_records, second_records, all_records}
 use Rattle.mended.specs.Disk.{first_steps, second_steps, first_events, second_events, building, mending, world_of, first, built, edited, last}
 use Rattle.mended.specs.Rich.{no_store, first_store}
