@@ -1,5 +1,5 @@
 -- What the command that copies gives, by what `a` holds.
-use Rattle.std.proofs.Common.{◌≡◌, ℕ, Bool, true, false, List, Option, Some, None}
+use Rattle.std.proofs.Common.{◌≡◌, ℕ, Bool, false, List, Option, Some, None}
 use Rattle.std.specs.Prelude.{codes, bytes_eq}
 use Rattle.model.specs.World.{File}
 use Rattle.model.specs.Outcome.{given, ends_well}

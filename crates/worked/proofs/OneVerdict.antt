@@ -1,5 +1,5 @@
 -- An edge has one verdict, and what counts for an edge with one input.
-use Rattle.std.proofs.Common.{◌≡◌, ◌⊎◌, inl, inr, ℕ, cond, ◌&&◌, ◌||◌, not, Bool, true, false, List, [], ◌∷◌, map, Option, Some, None, is_some, bytes_eq, refl, sym, ◌∙◌, ap, subst}
+use Rattle.std.proofs.Common.{◌≡◌, inl, inr, ℕ, cond, ◌&&◌, ◌||◌, not, Bool, true, false, List, [], ◌∷◌, map, Option, Some, is_some, bytes_eq, refl, sym, ◌∙◌, ap, subst}
 use Rattle.std.specs.Prelude.{is_none, find}
 use Rattle.std.specs.List.{list_any}
 use Rattle.std.proofs.lemmas.Bool.{false≢true, or_cases, or_left, or_right}
@@ -12,7 +12,7 @@ use Rattle.model.specs.Graph.{has, edge_at, regular_inputs}
 use Rattle.model.specs.Reading.{IsAlias, IsRead, Itself, Through}
 use Rattle.model.specs.Records.{Store, recorded_inputs}
 use Rattle.model.specs.Judgement.{OutputFacts, InputFacts, Facts, is_later, start_of, holds, all_reasons, reason_of}
-use Rattle.model.specs.OutOfDate.{ListsCounted, facts_of, input_facts, IsVerdict}
+use Rattle.model.specs.OutOfDate.{ListsCounted, facts_of, input_facts}
 use Rattle.worked.specs.Unsaid.{OneVerdict}
 use Rattle.worked.proofs.Lists.{all_has, bytes_same, same_bytes}
 

@@ -1,5 +1,5 @@
 -- The rows of what is not said where others edit.
-use Rattle.std.proofs.Common.{◌≡◌, ◌⊎◌, inl, inr, ℕ, zero, suc, ◌==◌, Bool, true, false, List, [], ◌∷◌, ◌++◌, Option, Some, None, is_some, refl, sym, ◌∙◌, ap, subst, append_assoc, arith}
+use Rattle.std.proofs.Common.{◌≡◌, ◌⊎◌, inl, inr, ℕ, zero, suc, ◌==◌, true, false, List, [], ◌∷◌, ◌++◌, Option, Some, None, is_some, refl, sym, ◌∙◌, ap, subst, append_assoc, arith}
 use Rattle.std.specs.Prelude.{codes}
 use Rattle.std.proofs.lemmas.Bool.{false≢true, or_cases, eqb-true}
 use Rattle.std.proofs.lemmas.List.{append_cancel_left}
@@ -7,8 +7,8 @@ use Rattle.model.specs.declared.event.Event.{Event}
 use Rattle.model.specs.declared.event.Event.TheVariants.{Start, Finish}
 use Rattle.model.specs.declared.event.Moment.{Moment}
 use Rattle.model.specs.declared.event.Moment.TheVariants.{Wrote, Happened}
-use Rattle.model.specs.declared.event.Writer.TheVariants.{Program, Command, Someone}
-use Rattle.model.specs.World.{File, content_of, file_at, view_of}
+use Rattle.model.specs.declared.event.Writer.TheVariants.{Program, Someone}
+use Rattle.model.specs.World.{File, content_of, file_at}
 use Rattle.model.specs.Graph.{has, has_number, edge_at, outputs}
 use Rattle.model.specs.Reading.{IsAlias, Itself, Wanted}
 use Rattle.model.specs.Records.{Store, in_force}
