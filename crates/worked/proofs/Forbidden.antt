@@ -7,7 +7,7 @@ use Rattle.model.specs.declared.event.Moment.TheVariants.{Wrote}
 use Rattle.model.specs.declared.event.Writer.{Writer}
 use Rattle.model.specs.declared.event.Writer.TheVariants.{Command, Someone}
 use Rattle.model.specs.World.{content_of, view_of}
-use Rattle.worked.specs.Forbidden.{before, ran, copied_over, patched, put_back, dated_back, failing, forged, scan, tells_h, scanned, retold, told_k, paste, pastes, pasted, pasted_b, IsBelieved, IsBelievedOf, ForbiddenRows}
+use Rattle.worked.specs.Forbidden.{before, ran, copied_over, patched, put_back, dated_back, failing, forged, scan, tells_h, scanned, retold, retold_over, told_k, paste, pastes, pasted, pasted_b, IsBelieved, IsBelievedOf, ForbiddenRows}
 use Rattle.worked.proofs.Copied.{gives, ends, is_x, no_told}
 
 believed : IsBelieved copied_over
@@ -44,7 +44,7 @@ forged_log made =
     false≢true (sym (ap ends seen_a) ∙ made.well)
 
 -- the deps record lists `k`, and the command reports `h`
-retold_d : IsBelievedOf tells_h told_k scan (before ++ scanned ++ retold) → ⊥
+retold_d : IsBelievedOf tells_h told_k scan retold_over → ⊥
 retold_d made =
     let lists = made.reports (record { start = 9; paths = codes "k" ∷ [] }) refl refl in
     false≢true (sym (lists.same (codes "k")))

@@ -83,6 +83,9 @@ scanned =
 abbrev pub retold : List Moment
 retold = Wrote Someone (codes "d") (Some (codes "k")) 10 ∷ []
 
+abbrev pub retold_over : List Moment
+retold_over = before ++ scanned ++ retold
+
 -- what the logs tell then
 abbrev pub told_k : Store
 told_k = record {
@@ -141,9 +144,9 @@ pub record ForbiddenRows : Type 0 where
   -- a log
   pub log : (FilesAreKept own edges failing (failing ++ forged) → ⊥) × (IsBelieved (failing ++ forged) → ⊥)
   -- a depfile, behind its command's end and before it is read: recorded inputs are not those that the command told
-  pub depfile : (FilesAreKept own scans before (before ++ scanned ++ retold) → ⊥) × (IsBelievedOf tells_h told_k scan (before ++ scanned ++ retold) → ⊥)
+  pub depfile : (FilesAreKept own scans before retold_over → ⊥) × (IsBelievedOf tells_h told_k scan retold_over → ⊥)
   -- a response file: the output is made of another text than the act's
   pub response : (FilesAreKept own pasting before (before ++ pasted) → ⊥) × (IsBelievedOf pastes pasted_b paste (before ++ pasted) → ⊥)
-  -- a time that is set back, of a source, and of an output that is read
+  -- a time that is set back: of a source, or of an output that is read
   pub time : (StampsGrow copied_over (copied_over ++ put_back) → ⊥) × (IsBelieved (copied_over ++ put_back) → ⊥)
   pub time_of_output : (StampsGrow copied_over (copied_over ++ dated_back) → ⊥) × (IsBelieved (copied_over ++ dated_back) → ⊥)

@@ -38,6 +38,14 @@ deleted = Wrote Someone (codes "a") None 10 ∷ []
 abbrev pub Judges : List Moment → List Moment → Bool → Type 0
 Judges old now out_of_date = IsVerdict edges (done_under 9) [] old now 1 out_of_date
 
+-- whatever others may write there, the edge reads of that
+abbrev pub ReadsFree : List Moment → List Moment → Type 0
+ReadsFree old new = (files : FilesAreKept own edges old new) → ReadsNoFree files.free edges (done_under 9) new 1 → ⊥
+
+-- and an edge needs of that
+abbrev pub NeedsFree : List Moment → List Moment → Type 0
+NeedsFree old new = (files : FilesAreKept own edges old new) → NothingNeededIsFree files.free task → ⊥
+
 -- an edge has one verdict
 abbrev pub OneVerdict : Type 0
 OneVerdict =
@@ -52,17 +60,18 @@ pub record UnsaidOfOne : Type 0 where
   -- the edge is clean by its stats; then the source is saved, and by the files of the exit it is out of date
   pub clean : Judges copied_over copied_over false
   pub outdated : Judges copied_over (copied_over ++ saved) false → ⊥
-  pub reads_free : (files : FilesAreKept own edges copied_over (copied_over ++ saved)) → ReadsNoFree files.free edges (done_under 9) (copied_over ++ saved) 1 → ⊥
+  pub reads_free : ReadsFree copied_over (copied_over ++ saved)
   -- the edge is out of date, and is started; then an older source is put back, and by the files of the exit it was not
   pub stale : Judges (copied_over ++ saved) (copied_over ++ saved) true
   pub renewed : Judges (copied_over ++ saved) (copied_over ++ saved ++ put_back) true → ⊥
   -- the source is deleted behind the entry, before it is looked for: the answer that it is missing is not so of the entry
   pub missing : IsMissing edges (before ++ deleted) (codes "a")
-  pub not_missing : (at : List Moment) → IsPointAfter [] before (before ++ deleted) at → IsMissingInput edges no_records [] at (codes "b" ∷ []) 1 (codes "a") → ⊥
-  pub needs_free : (files : FilesAreKept own edges before (before ++ deleted)) → NothingNeededIsFree files.free task → ⊥
+  pub not_missing : (at : List Moment) → IsPointAfter [] before (before ++ deleted) at
+      → IsMissingInput edges no_records [] at (codes "b" ∷ []) 1 (codes "a") → ⊥
+  pub needs_free : NeedsFree before (before ++ deleted)
   -- it is written behind the entry, before it is looked for: that nothing is missing is not so of the entry
   pub was_missing : IsNothingMissing own task no_records [] [] before → ⊥
-  pub needs_it_free : (files : FilesAreKept own edges [] before) → NothingNeededIsFree files.free task → ⊥
+  pub needs_it_free : NeedsFree [] before
   -- the source is edited while its command runs: the edge is left out of date
   pub left : LeavesNothing (λ i. true) asked no_records (done_under 9) ran_well entry (entry ++ build) → ⊥
   -- a log that somebody writes while it is read does not tell what it told at the entry (`forbidden_rows` says that this is no such edit)
@@ -126,7 +135,8 @@ pub record UnsaidOfLoads : Type 0 where
   -- said of verdicts by the files of the exit; those of then refuse it.
   pub unknown : InputsAreKnown reads_x reads_x_grown nothing_recorded → ⊥
   pub all_clean : (new : List Moment) → AreJudgedAt none_free reads_x_grown no_records [] (Judged 1 false ∷ Judged 2 false ∷ []) with_dd new → ⊥
-  -- `z` is judged before `dd` is loaded, and is clean; by the files of the exit, in which `x` is made anew, it is out of date, and a build that judges so is refused
+  -- `z` is judged before `dd` is loaded, and is clean; by the files of the exit, in which `x` is made anew, it is out of date, and a
+  -- build that judges so is refused
   pub by_then : IsVerdict reads_x_early z_recorded [] with_z with_z 3 false
   pub by_exit : IsVerdict reads_x_early_grown z_recorded [] with_z (with_z ++ makes_x) 3 true
   pub not_by_exit : JudgedAt none_free reads_x_early z_recorded at_first 3 true with_z (with_z ++ makes_x) → ⊥
