@@ -1,6 +1,5 @@
--- Where others edit while a build runs, its clauses say less: of each the smallest history in which more would be false. Each edit is
--- one that the premises of faithful records allow, and the clause's own premise is broken by it. And what the clauses on verdicts
--- refuse, where an edge reads what only a dyndep file makes.
+-- Where others edit while a build runs, its clauses say less: of each the smallest history in which more would be false. And what the
+-- clauses on verdicts refuse, where an edge reads what only a dyndep file makes.
 use Rattle.std.specs.Prelude.{◌≡◌, ◌⊎◌, ℕ, Bool, true, false, List, [], ◌∷◌, ◌++◌, Some, None, codes}
 use Rattle.model.specs.declared.event.Event.{Event}
 use Rattle.model.specs.declared.event.Event.TheVariants.{Start, Finish}
@@ -61,7 +60,8 @@ pub record UnsaidOfOne : Type 0 where
   pub clean : Judges copied_over copied_over false
   pub outdated : Judges copied_over (copied_over ++ saved) false → ⊥
   pub reads_free : ReadsFree copied_over (copied_over ++ saved)
-  -- the edge is out of date, and is started; then an older source is put back, and by the files of the exit it was not
+  -- the edge is out of date, and is started; then an older source is put back, and by the files of the exit it was not (no clause on
+  -- verdicts supposes that stamps grow)
   pub stale : Judges (copied_over ++ saved) (copied_over ++ saved) true
   pub renewed : Judges (copied_over ++ saved) (copied_over ++ saved ++ put_back) true → ⊥
   -- the source is deleted behind the entry, before it is looked for: the answer that it is missing is not so of the entry
@@ -74,7 +74,7 @@ pub record UnsaidOfOne : Type 0 where
   pub needs_it_free : NeedsFree [] before
   -- the source is edited while its command runs: the edge is left out of date
   pub left : LeavesNothing (λ i. true) asked no_records (done_under 9) ran_well entry (entry ++ build) → ⊥
-  -- a log that somebody writes while it is read does not tell what it told at the entry (`forbidden_rows` says that this is no such edit)
+  -- a log that somebody writes while it is read tells what it did not at the entry (that is no edit that may be: `forbidden_rows`)
   pub logs : store_in words own (view_of (failing ++ forged)) ≡ store_in words own (view_of failing) → ⊥
 
 -- ---- a dyndep file
