@@ -8,21 +8,21 @@ use Rattle.model.specs.declared.event.Event.TheVariants.{Start, Finish}
 use Rattle.model.specs.declared.event.Moment.{Moment}
 use Rattle.model.specs.declared.event.Moment.TheVariants.{Wrote, Happened}
 use Rattle.model.specs.declared.event.Writer.TheVariants.{Program, Someone}
-use Rattle.model.specs.World.{File, content_of, file_at}
+use Rattle.model.specs.World.{File, content_of, file_at, view_of}
 use Rattle.model.specs.Graph.{has, has_number, edge_at, outputs}
 use Rattle.model.specs.Reading.{IsAlias, Itself, Wanted}
 use Rattle.model.specs.Records.{Store, in_force}
 use Rattle.model.specs.OutOfDate.{Counted, ListsCounted, IsVerdict, Stale}
 use Rattle.model.specs.Phases.{happened_in}
 use Rattle.model.specs.Premises.{none_free}
-use Rattle.model.specs.SingleBuild.{MayChange, JudgedAt}
+use Rattle.model.specs.SingleBuild.{MayChange, JudgedAt, IsCleanlyBuilt}
 use Rattle.model.specs.Kept.{IsWritten, IsExcepted}
 use Rattle.worked.specs.Small.{copy, edges, no_records, done_under}
 use Rattle.worked.specs.Refused.{own, ran_well}
 use Rattle.worked.specs.Edited.{entry, build}
 use Rattle.worked.specs.Forbidden.{before, copied_over, put_back}
 use Rattle.worked.specs.Dyndep.{text}
-use Rattle.worked.specs.Unsaid.{saved, deleted, Judges, with_dd, rewritten, reads_x_early, reads_x_early_grown, z_recorded, with_z, starts_dd, behind_start, makes_x, at_first, UnsaidOfOne, UnsaidOfLoads, UnsaidRows}
+use Rattle.worked.specs.Unsaid.{saved, deleted, Judges, with_dd, rewritten, reads_x_early, reads_x_early_grown, z_recorded, with_z, starts_dd, behind_start, makes_x, at_first, copies_both, asked_both, copied_both, UnsaidOfOne, UnsaidOfLoads, UnsaidRows}
 use Rattle.worked.proofs.Lists.{all_has, none_some}
 use Rattle.worked.proofs.Copied.{is_x, is_held}
 use Rattle.worked.proofs.OneVerdict.{one_verdict, reads_one}
@@ -179,5 +179,10 @@ of_loads = record {
   not_by_exit = not_by_exit;
 }
 
+-- ---- two commands
+
+below : IsCleanlyBuilt copies_both (λ i. i == 2) asked_both no_records (view_of copied_both) → ⊥
+below clean = let same = clean 2 (codes "c") refl (Wanted 2 (codes "c") refl refl) refl refl in false≢true (sym (ap is_x same))
+
 pub unsaid_rows : UnsaidRows
-unsaid_rows = record { one_verdict = one_verdict; of_one = of_one; of_loads = of_loads }
+unsaid_rows = record { one_verdict = one_verdict; of_one = of_one; below = below; of_loads = of_loads }

@@ -1,6 +1,6 @@
 -- Where others edit while a build runs, its clauses say less: of each the smallest history in which more would be false. And what the
 -- clauses on verdicts refuse, where an edge reads what only a dyndep file makes.
-use Rattle.std.specs.Prelude.{◌≡◌, ◌⊎◌, ℕ, Bool, true, false, List, [], ◌∷◌, ◌++◌, Some, None, codes}
+use Rattle.std.specs.Prelude.{◌≡◌, ◌⊎◌, ℕ, ◌==◌, Bool, true, false, if◌then◌else◌, List, [], ◌∷◌, ◌++◌, Some, None, bytes_eq, codes}
 use Rattle.model.specs.declared.event.Event.{Event}
 use Rattle.model.specs.declared.event.Event.TheVariants.{Start, Finish}
 use Rattle.model.specs.declared.event.Moment.{Moment}
@@ -10,14 +10,15 @@ use Rattle.model.specs.declared.graph.Edge.{Edge}
 use Rattle.model.specs.declared.record.Record.TheVariants.{Done}
 use Rattle.model.specs.World.{file_at, view_of}
 use Rattle.model.specs.Graph.{grown_edge}
+use Rattle.model.specs.Outcome.{Behaviour}
 use Rattle.model.specs.Records.{Store, store_in}
 use Rattle.model.specs.OutOfDate.{ReadsNoFree, IsVerdict, IsMissing, IsMissingInput}
 use Rattle.model.specs.Schedule.{Step, Judged}
 use Rattle.model.specs.Phases.{NothingNeededIsFree, IsPointAfter, IsNothingMissing}
 use Rattle.model.specs.Premises.{FilesAreKept, InputsAreKnown, none_free}
-use Rattle.model.specs.SingleBuild.{MayChange, AreJudgedAt, JudgedAt, HeldAt}
+use Rattle.model.specs.SingleBuild.{Asked, MayChange, AreJudgedAt, JudgedAt, HeldAt, IsCleanlyBuilt}
 use Rattle.model.specs.Kept.{LeavesNothing}
-use Rattle.worked.specs.Small.{edges, asked, words, no_records, done_under, task}
+use Rattle.worked.specs.Small.{copy, edge_with, edges, asked, copied, copies, words, no_records, done_under, task}
 use Rattle.worked.specs.Refused.{own, ran_well}
 use Rattle.worked.specs.Edited.{entry, build}
 use Rattle.worked.specs.Forbidden.{before, copied_over, put_back, failing, forged}
@@ -76,6 +77,32 @@ pub record UnsaidOfOne : Type 0 where
   pub left : LeavesNothing (λ i. true) asked no_records (done_under 9) ran_well entry (entry ++ build) → ⊥
   -- a log that somebody writes while it is read tells what it did not at the entry (that is no edit that may be: `forbidden_rows`)
   pub logs : store_in words own (view_of (failing ++ forged)) ≡ store_in words own (view_of failing) → ⊥
+
+-- ---- two commands
+
+-- `build b: copy a`, and `build c: copy b`
+abbrev pub copies_both : Behaviour
+copies_both = record {
+  outcome = λ act view.
+      if bytes_eq act.command (codes "copy") then copied (view (codes "a"))
+      else record { ok = true; writes = record { path = codes "c"; content = view (codes "b"); only_changes = false } ∷ [] };
+  depfile = copies.depfile;
+  dyndep = copies.dyndep;
+}
+
+abbrev pub asked_both : Asked
+asked_both = record {
+  graph = record { edges = edge_with copy ∷ edge_of (codes "c") (codes "b" ∷ []) [] None ∷ []; pools = []; defaults = []; builddir = [] };
+  declared = edge_with copy ∷ edge_of (codes "c") (codes "b" ∷ []) [] None ∷ [];
+  targets = [];
+  folder = [];
+  jobs = 1;
+  keep = 1;
+}
+
+-- behind the build in which `a` was edited, the second command has run
+abbrev pub copied_both : List Moment
+copied_both = entry ++ build ++ Wrote (Command 2) (codes "c") (Some (codes "x")) 11 ∷ []
 
 -- ---- a dyndep file
 
@@ -144,4 +171,6 @@ pub record UnsaidOfLoads : Type 0 where
 pub record UnsaidRows : Type 0 where
   pub one_verdict : OneVerdict
   pub of_one : UnsaidOfOne
+  -- an edge that reads nothing edited, below one that does, is not as the clean build gives it
+  pub below : IsCleanlyBuilt copies_both (λ i. i == 2) asked_both no_records (view_of copied_both) → ⊥
   pub of_loads : UnsaidOfLoads
