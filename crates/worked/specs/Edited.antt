@@ -5,10 +5,11 @@ use Rattle.model.specs.declared.event.Moment.{Moment}
 use Rattle.model.specs.declared.event.Moment.TheVariants.{Wrote, Happened}
 use Rattle.model.specs.declared.event.Writer.TheVariants.{Program, Command, Someone}
 use Rattle.model.specs.World.{view_of}
+use Rattle.model.specs.Faithful.{IsFaithfulRecord}
 use Rattle.model.specs.Records.{recorded_inputs}
 use Rattle.model.specs.Premises.{AreQuiet, FilesAreKept, KeepsFaith}
 use Rattle.model.specs.SingleBuild.{IsCleanlyBuilt}
-use Rattle.worked.specs.Small.{copy, edges, asked, copies, no_records}
+use Rattle.worked.specs.Small.{copy, edges, asked, copies, no_records, done_under}
 use Rattle.worked.specs.Refused.{own, ran_well}
 
 -- the source `a` holds `x`
@@ -31,6 +32,14 @@ build =
     ∷ Happened (Start 1 copy 9)
     ∷ behind
 
+-- that, and what is written next
+abbrev pub and_later : List Moment
+and_later = entry ++ build ++ Wrote Program (codes "t") (Some []) 11 ∷ []
+
+-- that the command made `b`, recorded under this stamp, may be believed
+abbrev pub IsBelievedUnder : ℕ → Type 0
+IsBelievedUnder stamp = IsFaithfulRecord copies (done_under stamp) and_later (codes "b") (record { act = copy; start = stamp })
+
 pub record EditedRows : Type 0 where
   -- the premises of faithful records are met
   pub faith : KeepsFaith copies own edges no_records ran_well entry (entry ++ build)
@@ -38,3 +47,6 @@ pub record EditedRows : Type 0 where
   pub other : IsCleanlyBuilt copies (λ i. true) asked no_records (view_of (entry ++ build)) → ⊥
   pub loud : (files : FilesAreKept own edges entry (entry ++ build)) (quiet : ℕ → Bool)
       → AreQuiet copies quiet files.free edges (recorded_inputs no_records edges) ran_well entry (entry ++ build) → quiet 1 ≡ true → ⊥
+  -- the record has the stamp of the start: under that of the finish, or of the edit, it would say that `b` was made from what `a` holds now
+  pub by_start : IsBelievedUnder 9
+  pub by_finish : IsBelievedUnder 10 → ⊥
