@@ -1,5 +1,5 @@
 -- The premises of both builds.
-use Rattle.std.proofs.Common.{◌≡◌, ◌⊎◌, inl, inr, ℕ, zero, suc, ◌&&◌, ◌||◌, not, Bool, true, false, List, [], ◌∷◌, ◌++◌, Option, Some, None, is_some, refl, sym, ◌∙◌, ap, subst}
+use Rattle.std.proofs.Common.{◌≡◌, ◌⊎◌, inl, inr, ℕ, zero, suc, ◌&&◌, ◌||◌, not, Bool, true, List, [], ◌∷◌, ◌++◌, Option, Some, None, is_some, refl, sym, ◌∙◌, ap, subst}
 use Rattle.std.specs.List.{AllByRecursion}
 use Rattle.std.proofs.lemmas.Bool.{false≢true, and_parts, not-true}
 use Rattle.std.specs.Prelude.{codes}
@@ -200,7 +200,7 @@ second_premises = premises_of first_records second_steps edited.history mending 
 
 -- somebody writes `a` in the first build
 pub a_is_free : (own : OwnFiles) (files : FilesAreKept own edges first.history built.history) → files.free (codes "a") ≡ true
-a_is_free own files = (files.edits building refl).1.1.1.1.1.1.1.1.0
+a_is_free all files = (files.edits building refl).1.1.1.1.1.1.1.1.0
 
 pub loud : (files : List ℕ → Bool) (quiet : ℕ → Bool) → files (codes "a") ≡ true
     → AreQuiet commands quiet files edges (recorded_inputs no_store edges) first_steps first.history built.history → quiet 2 ≡ true → ⊥

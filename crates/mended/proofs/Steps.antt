@@ -1,5 +1,5 @@
 -- The schedules of both builds are lawful, and what is refused before the first start is in order.
-use Rattle.std.proofs.Common.{◌≡◌, inl, inr, ℕ, zero, suc, ◌||◌, Bool, true, false, List, [], ◌∷◌, ◌++◌, Option, Some, None, is_some, refl, sym, ◌∙◌, ap, subst, arith}
+use Rattle.std.proofs.Common.{◌≡◌, inl, inr, ℕ, zero, suc, ◌||◌, Bool, true, List, [], ◌∷◌, ◌++◌, Option, Some, is_some, refl, sym, ◌∙◌, ap, subst, arith}
 use Rattle.std.proofs.lemmas.Bool.{false≢true, or_cases}
 use Rattle.std.specs.Prelude.{codes, IsTrue}
 use Rattle.model.specs.declared.event.Moment.{Moment}
@@ -22,7 +22,7 @@ use Rattle.mended.proofs.Graphs.{numbers, within, none_recorded, made_once, no_c
 use Rattle.mended.proofs.Lawful.{is_next, all_blocked, none_starts, no_load, none_judged, none_may_start, none_loads, phase_lawful}
 use Rattle.mended.proofs.Project.{made_here, no_pools, no_pools_declared, targets, cone, cone_before, six_before}
 
-pub some_jobs : 2 ≡ 0 → ⊥
+pub some_jobs : ◌≡◌ {A = ℕ} 2 0 → ⊥
 some_jobs e = absurd (omega (arith, e))
 
 -- ---- the load
