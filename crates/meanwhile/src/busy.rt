@@ -101,7 +101,7 @@ impl<'a> Busy<'a> {
     }
 
     /// What a clean build of the files gives.
-    pub fn clean(&mut self, source: Source<'a>) -> Result<Option<Clean>, AllocError> {
+    pub fn clean_build(&mut self, source: Source<'a>) -> Result<Option<Clean>, AllocError> {
         Clean::of(self.alloc, &mut self.site, source)
     }
 
@@ -158,7 +158,7 @@ impl<'a> Busy<'a> {
     fn put_mark(&mut self)
         ensures { OnlyFiles (world_of self.old.site) (world_of self.new.site) }
     {
-        let put = put_mark(&mut self.site);
+        let put = mark(&mut self.site);
         self.lost = either(self.lost, put.is_err());
     }
 
@@ -199,7 +199,7 @@ fn either(one: bool, other: bool) -> bool {
 }
 
 /// The mark is written.
-fn put_mark(site: &mut Sim<Toy>) -> Result<(), AllocError>
+fn mark(site: &mut Sim<Toy>) -> Result<(), AllocError>
     ensures { OnlyFiles (world_of site.old) (world_of site.new) }
 {
     site.put(MARK, b"")?;

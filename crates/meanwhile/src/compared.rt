@@ -16,7 +16,7 @@ pub struct Difference {
 }
 
 /// How the outputs differ of the commands that make the target, or of all where there is none. Some edges may be marked.
-pub fn difference(
+pub fn compare(
     site: &Busy<'_>,
     clean: &Clean,
     target: Option<&str>,

@@ -3,7 +3,7 @@
 use crate::beneath::below;
 use crate::busy::Busy;
 use crate::clean_site::Clean;
-use crate::compared::{difference, starts_marked};
+use crate::compared::{compare, starts_marked};
 use crate::counts::Counts;
 use crate::made_up::{Source, edges_in};
 use crate::random::Random;
@@ -19,6 +19,9 @@ const ROUNDS: usize = 4;
 
 /// How far the site is brought before each tick, so that what was written since the last start has the stamp of the tick.
 const STEP: u64 = 64;
+
+/// What builds record, and somebody may delete.
+const LOGS: &str = ".nj_log .nj_deps";
 
 /// Histories that are being made, one after another.
 #[derive(Drop)]
@@ -129,6 +132,9 @@ impl<'a> Trial<'a> {
         if self.random.one_in(4) {
             site.erase(self.random.part(self.source.outputs, ' '))?;
         }
+        if self.random.one_in(8) {
+            site.erase(self.random.part(LOGS, ' '))?;
+        }
         for _ in 0..self.random.below(3) {
             site.edit()?;
         }
@@ -185,7 +191,7 @@ impl<'a> Trial<'a> {
 
     /// Whether all that is below no edit is as the clean build gives it.
     fn is_right_beside(&mut self, site: &mut Busy<'a>) -> Result<bool, AllocError> {
-        match site.clean(self.source)? {
+        match site.clean_build(self.source)? {
             Some(clean) => self.compare_beside(site, &clean),
             None => Ok(false),
         }
@@ -193,7 +199,7 @@ impl<'a> Trial<'a> {
 
     fn compare_beside(&mut self, site: &Busy<'a>, clean: &Clean) -> Result<bool, AllocError> {
         self.marked = below(self.alloc, clean.edges(), site.edited())?;
-        let found = difference(site, clean, self.target, &self.marked);
+        let found = compare(site, clean, self.target, &self.marked);
         self.counts.mended = self.counts.mended.saturating_add(found.below);
         Ok(found.elsewhere == 0)
     }
@@ -226,8 +232,8 @@ impl<'a> Trial<'a> {
 
     /// Whether what was asked for is as the clean build gives it.
     fn is_clean(&mut self, site: &mut Busy<'a>) -> Result<bool, AllocError> {
-        match site.clean(self.source)? {
-            Some(clean) => Ok(difference(site, &clean, self.target, &[]).elsewhere == 0),
+        match site.clean_build(self.source)? {
+            Some(clean) => Ok(compare(site, &clean, self.target, &[]).elsewhere == 0),
             None => Ok(false),
         }
     }
