@@ -23,7 +23,7 @@ use Rattle.mended.proofs.Moments.{unmoved, from_append}
 
 module _ (B : Behaviour) (es : List Edge) (no_depfile : (i : ℕ) → (edge_at es i).act.depfile ≡ []) where
   pub nothing_told : (i : ℕ) (view : View) → depfile_in B (edge_at es i).act view ≡ Some []
-  nothing_told i view = rw (no_depfile i) refl
+  nothing_told i view = rw (no_depfile i, depfile_in) refl
 
   pub none_reported : (steps : List Step) (old new : List Moment) (i : ℕ) (p : List ℕ) → IsReported B es steps old new i p → ⊥
   none_reported steps old new i p reported = false≢true (subst (λ (o : Option (List (List ℕ))). has (listed o) p ≡ true) (nothing_told i (view_of reported.at)) reported.told)
