@@ -80,9 +80,8 @@ module _ (records : List Record) (old more : List Moment) where
     judged_then before (Judged i out_of_date ∷ steps) test =
         let both = and_parts (is_right_then before (Judged i out_of_date)) (at_each is_right_then (before ++ Judged i out_of_date ∷ []) steps) test in
         let a = and_parts (is_moment before more)
-            (not (is_some (view_of (old ++ so_far before more) (codes "p"))) && verdict_is es records (well_in before) old (old ++ so_far before more) i out_of_date) both.0 in
-        let b = and_parts (not (is_some (view_of (old ++ so_far before more) (codes "p")))) (verdict_is es records (well_in before) old (old ++ so_far before more) i out_of_date) a.1 in
-        (
+        (not (is_some (view_of (old ++ so_far before more) (codes "p"))) && verdict_is es records (well_in before) old (old ++ so_far before more) i out_of_date) both.0 in
+        let b = and_parts (not (is_some (view_of (old ++ so_far before more) (codes "p")))) (verdict_is es records (well_in before) old (old ++ so_far before more) i out_of_date) a.1 in (
           record {
             at = old ++ so_far before more;
             moment = moment before old more a.0;
@@ -116,8 +115,33 @@ first_build all fits = record {
     later = [];
     grows = refl;
     of_steps = (
-      refl, refl, (refl, refl, (refl, (λ well. well, λ none. refl), (refl, refl, (refl, (λ well. well, λ none. refl), (refl, refl, (refl, (λ well. well, λ none. refl),
-      (refl, refl, (refl, (λ well. well, λ none. refl), (refl, refl, (refl, (λ well. well, λ none. refl), (refl, (λ well. well, λ none. refl), tt))))))))))),
+      refl,
+      refl,
+      (
+        refl,
+        refl,
+        (
+          refl,
+          (λ well. well, λ none. refl),
+          (
+            refl,
+            refl,
+            (
+              refl,
+              (λ well. well, λ none. refl),
+              (
+                refl,
+                refl,
+                (
+                  refl,
+                  (λ well. well, λ none. refl),
+                  (refl, refl, (refl, (λ well. well, λ none. refl), (refl, refl, (refl, (λ well. well, λ none. refl), (refl, (λ well. well, λ none. refl), tt))))),
+                ),
+              ),
+            ),
+          ),
+        ),
+      ),
     );
     finishes = tt;
     whole = λ none. refl;
@@ -183,7 +207,7 @@ second_build all fits = record {
       (record { before = second_phase; later = second_last; splits = refl; at = edited.history ++ so_far second_phase mending; moment = moment second_phase edited.history mending refl; holds = refl }) file content is;
   answers = (
     in_order first_records all (record { edges = declared; steps = second_phase } ∷ []) edited last
-    (λ tells files needed. (missing_before first_records all [] edited.history last.history refl refl, missing_after first_records all second_phase edited.history last.history refl refl)),
+        (λ tells files needed. (missing_before first_records all [] edited.history last.history refl refl, missing_after first_records all second_phase edited.history last.history refl refl)),
     has_ended first_records second_steps last (idle (first_events ++ second_events) refl) refl refl refl,
     all_settled first_records second_steps refl,
     refl,

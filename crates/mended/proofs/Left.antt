@@ -51,9 +51,9 @@ module _ (B : Behaviour) (es : List Edge) (old more : List Moment) where
       → view_of (old ++ before) p ≡ view_of (old ++ more) p
   as_at_start p before since i act stamp is none =
       let apart : file_at ((old ++ before) ++ Happened (Start i act stamp) ∷ since) p ≡ file_at (old ++ before) p =
-          from_append p None (old ++ before) (Happened (Start i act stamp) ∷ since) ∙ unmoved p (file_at (old ++ before) p) since none in
+      from_append p None (old ++ before) (Happened (Start i act stamp) ∷ since) ∙ unmoved p (file_at (old ++ before) p) since none in
       let whole : file_at (old ++ more) p ≡ file_at (old ++ before) p =
-          ap (λ (l : List Moment). file_at (old ++ l) p) is ∙ (ap (λ (l : List Moment). file_at l p) (sym (append_assoc old before (Happened (Start i act stamp) ∷ since))) ∙ apart) in
+      ap (λ (l : List Moment). file_at (old ++ l) p) is ∙ (ap (λ (l : List Moment). file_at l p) (sym (append_assoc old before (Happened (Start i act stamp) ∷ since))) ∙ apart) in
       sym (ap content_of whole)
 
   module _ (no_depfile : (i : ℕ) → (edge_at es i).act.depfile ≡ []) (steps : List Step) where
@@ -61,7 +61,7 @@ module _ (B : Behaviour) (es : List Edge) (old more : List Moment) where
         → left_well i (view_of (old ++ before)) (view_of (old ++ front)) ≡ true → LeftOutcome B es since (old ++ more) (old ++ front) i
     left_by i before since front act stamp is test =
         let both = and_parts (ends_well B (edge_at es i).act (view_of (old ++ before)))
-            (every (λ o. same_content (view_of (old ++ front) o) (given B (edge_at es i).act (view_of (old ++ before)) o)) (outputs (edge_at es i))) test in
+        (every (λ o. same_content (view_of (old ++ front) o) (given B (edge_at es i).act (view_of (old ++ before)) o)) (outputs (edge_at es i))) test in
         record {
           seen = view_of (old ++ before);
           well = both.0;
@@ -95,8 +95,7 @@ module _ (es : List Edge) (free : List (List ℕ)) where
   within_edges [] test = tt
   within_edges (Wrote Program path content stamp ∷ ms) test = (tt, within_edges ms test)
   within_edges (Wrote (Command job) path content stamp ∷ ms) test =
-      let both = and_parts (has (outputs (edge_at es job)) path || has free path) (every keeps_to ms) test in
-      (
+      let both = and_parts (has (outputs (edge_at es job)) path || has free path) (every keeps_to ms) test in (
         elim (or_cases (has (outputs (edge_at es job)) path) (has free path) both.0) [ inl output ↦ inl output | inr is_free ↦ inr (inr is_free) ],
         within_edges ms both.1,
       )

@@ -1,5 +1,5 @@
 -- The seven edges: their makers, cone and cycles, what they read, and that their files are apart.
-use Rattle.std.proofs.Common.{◌≡◌, ◌≢◌, ◌⊎◌, inl, inr, ℕ, zero, suc, not, true, false, List, [], ◌∷◌, ◌++◌, Option, Some, None, is_some, refl, sym, ◌∙◌, ap, subst, bytes_eq}
+use Rattle.std.proofs.Common.{◌≡◌, ◌≢◌, ◌⊎◌, inl, inr, ℕ, zero, suc, not, true, false, List, [], ◌∷◌, Option, Some, None, is_some, refl, sym, ◌∙◌, ap, subst, bytes_eq}
 use Rattle.std.proofs.lemmas.Bool.{false≢true, cases_Bool, or_cases, or_left, or_right, not-true}
 use Rattle.std.specs.Prelude.{codes}
 use Rattle.model.specs.declared.graph.Edge.{Edge}
@@ -31,7 +31,6 @@ made_here (e ∷ es) p j is = elim (cases_Bool (has (outputs e) p)) [
 ]
 
 -- ---- no path of a phony counts by itself, where the file of `p` is not there
-
 
 abbrev stands_for_p : List Edge → Type 0
 stands_for_p es = (j : ℕ) (q : List ℕ) → has (outputs (edge_at es j)) q ≡ true → (edge_at es j).phony ≡ true → (j ≡ 4) × (q ≡ codes "p")
