@@ -118,6 +118,8 @@ mends = record {
 shows : ShowsAll
 shows = record {
   at_once = (refl, refl);
+  at_once_again = (refl, refl);
+  parts = (refl, refl);
   dyndep_made = refl;
   dyndep_read = refl;
   output_added = (refl, refl);
