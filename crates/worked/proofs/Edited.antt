@@ -161,9 +161,13 @@ each_early : (p : List ℕ) → Early p
 each_early p = elim (cases_Bool (has (written_in since_start) p)) [
   | inl is_written ↦ all_has Early (codes "a" ∷ codes "b" ∷ codes "l" ∷ codes "t" ∷ []) p (
     λ file is early. absurd (late_file (file_at and_later (codes "a")) 10 refl (omega arith) file is early),
-    (λ file is early. absurd (late_file (file_at and_later (codes "b")) 10 refl (omega arith) file is early),
-    (λ file is early. absurd (late_file (file_at and_later (codes "l")) 10 refl (omega arith) file is early),
-    (λ file is early. absurd (late_file (file_at and_later (codes "t")) 11 refl (omega arith) file is early), tt))),
+    (
+      λ file is early. absurd (late_file (file_at and_later (codes "b")) 10 refl (omega arith) file is early),
+      (
+        λ file is early. absurd (late_file (file_at and_later (codes "l")) 10 refl (omega arith) file is early),
+        (λ file is early. absurd (late_file (file_at and_later (codes "t")) 11 refl (omega arith) file is early), tt),
+      ),
+    ),
   ) is_written
   | inr none ↦ λ file is early. ap content_of (sym (unwritten p (file_from p None started) since_start none) ∙ is)
 ]

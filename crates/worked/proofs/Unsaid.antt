@@ -128,7 +128,7 @@ of_one = record {
   needs_free = λ files none. false≢true (sym (none.0 1 (codes "a") refl) ∙ (files.edits deleted refl).0);
   was_missing = λ none.
       let here = none (λ file due made. names_none due.edge file due.names) (inl refl) []
-          (record { so_far = []; later = before; is = refl; grows = refl; happened = refl; entry = λ unstarted. refl; behind = tt }) in
+      (record { so_far = []; later = before; is = refl; grows = refl; happened = refl; entry = λ unstarted. refl; behind = tt }) in
       (here.of_edges 1 (record { within = Wanted 1 (codes "b") refl refl; due = Stale 1 refl refl due_at_first })).0 (record { source = refl; absent = refl });
   needs_it_free = λ files none. false≢true (sym (none.0 1 (codes "a") refl) ∙ (files.edits before refl).0);
   left = λ nothing. elim (nothing 1 refl (Wanted 1 (codes "b") refl refl) refl) [
