@@ -76,7 +76,7 @@ left_stale = record { read = codes "a" ∷ []; counted = of_record (entry ++ bui
 
 -- both verdicts on one edge
 both : (old now : List Moment) → Judges old now false → Judges old now true → ⊥
-both old now no is = false≢true (one_verdict edges (done_under 9) [] old now 1 false true no is)
+both old now clean is = false≢true (one_verdict edges (done_under 9) [] old now 1 false true clean is)
 
 counts_a : (store : Store) (now : List Moment) → Counted edges store now 1 (codes "a")
 counts_a store now = inl (Itself 1 (codes "a") refl (inl (λ j alias. none_some j alias.made)))
@@ -119,7 +119,7 @@ of_one = record {
   unchanged = unchanged;
   changes = λ files. (files.edits build refl).1.1.1.0;
   clean = clean;
-  outdated = λ no. both copied_over (copied_over ++ saved) no outdated;
+  outdated = λ settled. both copied_over (copied_over ++ saved) settled outdated;
   reads_free = λ files none. false≢true (sym (none (codes "a") (counts_a (done_under 9) (copied_over ++ saved))) ∙ (files.edits saved refl).0);
   stale = stale;
   renewed = λ is. both (copied_over ++ saved) (copied_over ++ saved ++ put_back) renewed is;
@@ -133,7 +133,7 @@ of_one = record {
   needs_it_free = λ files none. false≢true (sym (none.0 1 (codes "a") refl) ∙ (files.edits before refl).0);
   left = λ nothing. elim (nothing 1 refl (Wanted 1 (codes "b") refl refl) refl) [
     | inl excepted ↦ not_excepted excepted
-    | inr no ↦ both (entry ++ build) (entry ++ build) no left_stale
+    | inr settled ↦ both (entry ++ build) (entry ++ build) settled left_stale
   ];
   logs = λ same. false≢true (sym (ap (λ (s : Store). is_some (in_force s.records (codes "b"))) same));
 }
