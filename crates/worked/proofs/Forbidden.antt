@@ -1,8 +1,7 @@
 -- The rows of what others may not do.
-use Rattle.std.proofs.Common.{◌≡◌, ◌<◌, ◌≤◌, List, [], ◌∷◌, ◌++◌, Some, None, refl, sym, ◌∙◌, ap, arith}
+use Rattle.std.proofs.Common.{◌≡◌, ◌<◌, ◌≤◌, [], ◌∷◌, ◌++◌, Some, None, refl, sym, ◌∙◌, ap, arith}
 use Rattle.std.specs.Prelude.{codes}
 use Rattle.std.proofs.lemmas.Bool.{false≢true}
-use Rattle.model.specs.declared.event.Moment.{Moment}
 use Rattle.model.specs.declared.event.Moment.TheVariants.{Wrote}
 use Rattle.model.specs.declared.event.Writer.{Writer}
 use Rattle.model.specs.declared.event.Writer.TheVariants.{Command, Someone}
