@@ -197,7 +197,7 @@ module _ (tells : Bool) (B : Behaviour) (format : LogFormat) (own : OwnFiles) (a
         depfiles = λ i at ended has. absurd (false≢true has);
       };
       judged_then = λ tell kept apart. (tt, tt);
-      held_then = λ tell kept file content loaded bound. absurd (nothing_held content loaded);
+      held_then = λ tell. (tt, λ next load. absurd (nothing_held load.content load.holds));
       answers = is;
       in_order = inl refl;
       faults = passes;

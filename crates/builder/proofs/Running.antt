@@ -14,7 +14,7 @@ use Rattle.model.specs.Premises.{FilesAreKept, RecordedApart}
 use Rattle.model.specs.Records.{OwnFiles, Store, LogFormat, recorded_inputs}
 use Rattle.model.specs.Schedule.{Task, Step as Done, IsSettled, NoneMayBeJudged, NoneMayStart, AreEventsOf, AreFinishes, started_in, well_in, failed_in, running_in, done_in}
 use Rattle.model.specs.SingleBuild as answer
-use Rattle.model.specs.SingleBuild.{HeldAt, AreJudgedAt, ArePhasesJudgedAt, Asked, Answer, is_fault, IsSuccess, WentOn, InCone, IsScheduled, IsInOrder, WasInOrder, HasEnded, IsAnswer, MetFault, PassesNoFault, NamesOther, AllNamed, HasNoCycle, SingleBuild, declared_graph, task_of}
+use Rattle.model.specs.SingleBuild.{AreHeldThen, AreJudgedAt, ArePhasesJudgedAt, Asked, Answer, is_fault, IsSuccess, WentOn, InCone, IsScheduled, IsInOrder, WasInOrder, HasEnded, IsAnswer, MetFault, PassesNoFault, NamesOther, AllNamed, HasNoCycle, SingleBuild, declared_graph, task_of}
 use Rattle.build_theory.specs.Run.{IsRun, IsRunOrRest}
 use Rattle.build_theory.specs.Seen.{IsSeen}
 use Rattle.build_theory.proofs.Builds.{idle_at_end, has_ended}
@@ -27,8 +27,9 @@ use Rattle.links.specs.declared.cone.Mark.{Mark}
 use Rattle.links.specs.Linked.{IsConeOf}
 use Rattle.log_theory.specs.Ledger.{IsCutOff, LoadedThen}
 use Rattle.log_theory.proofs.Carried.{settled_stays}
-use Rattle.log_theory.proofs.Ledger.{run_of, judged_of, judged_at_of, held_at_of, frame_of, met_by_step}
+use Rattle.log_theory.proofs.Ledger.{run_of, judged_of, judged_at_of, frame_of, met_by_step}
 use Rattle.log_theory.proofs.Over.{no_logs_are_faithful}
+use Rattle.log_theory.proofs.Phased.{no_text}
 use Rattle.log_theory.proofs.Stated.{clean_with_loads}
 use Rattle.runner.specs.Going.{IsInHand}
 use Rattle.runner.specs.Removing.{AreRemoved}
@@ -65,8 +66,8 @@ module _ (tells : Bool) (B : Behaviour) (format : LogFormat) (own : OwnFiles) (a
       → view_of now.history file ≡ Some content
 
   -- and held it when it was loaded
-  abbrev HeldThen : View → Type 0
-  HeldThen texts = IsTrue tells → (files : Kept) → (file content : List ℕ) → texts file ≡ Some content → files.free file ≡ false → HeldAt file content steps entry.history now.history
+  abbrev HeldThen : View → List Phase → List Done → Type 0
+  HeldThen texts phases last = IsTrue tells → AreHeldThen B.dyndep texts (task_of asked store) store phases (steps_of phases ++ last) entry.history now.history
 
   -- each verdict was right at its moment
   abbrev RightThen : List Phase → List Done → Type 0
@@ -85,15 +86,18 @@ module _ (tells : Bool) (B : Behaviour) (format : LogFormat) (own : OwnFiles) (a
   pub held : HoldStill cut.phased.texts
   held tell kept file content bound is same = holds_still tell kept file content bound (cut.phased.held tell file content is) same
 
-  pub held_so : HeldThen cut.phased.texts
-  held_so tell kept file content is bound = held_at_of tells B format own asked store entry phases steps met now cut tell kept file content is bound
+  pub held_so : HeldThen cut.phased.texts cut.phased.build.earlier cut.phased.build.last
+  held_so tell = (
+    cut.phased.read_then tell,
+    λ next load. absurd (no_text load.content (sym (cut.phased.unread load.is_next.due.edge load.file load.is_next.due.names) ∙ load.holds)),
+  )
 
   pub right_so : RightThen cut.phased.build.earlier cut.phased.build.last
   right_so tell kept apart = judged_at_of tells B format own asked store entry phases steps met now cut tell kept apart
 
   -- ---- by these phases, and what the loaded files held
 
-  module _ (texts : View) (build : IsLawfulBuild B.dyndep texts asked.declared (task_of asked store) store steps) (holds : HoldStill texts) (held_then : HeldThen texts)
+  module _ (texts : View) (build : IsLawfulBuild B.dyndep texts asked.declared (task_of asked store) store steps) (holds : HoldStill texts) (held_then : HeldThen texts build.earlier build.last)
       (right_then : RightThen build.earlier build.last) where
     -- the steps up to a refusal
     abbrev done : List Done

@@ -9,7 +9,7 @@ use Rattle.model.specs.Phases.{IsNextLoad, IsPointAfter}
 use Rattle.model.specs.Premises.{FilesAreKept}
 use Rattle.model.specs.Records.{OwnFiles, Store}
 use Rattle.model.specs.Schedule.{Step}
-use Rattle.model.specs.SingleBuild.{Asked, task_of}
+use Rattle.model.specs.SingleBuild.{Asked, HeldAt, task_of}
 use Rattle.dyndep.specs.declared.addition.Addition.{Addition as Statement}
 use Rattle.dyndep.specs.declared.fault.DynFault.{DynFault}
 use Rattle.dyndep.specs.declared.fault.DynFault.TheVariants as said
@@ -30,11 +30,13 @@ pub record HeldThen (done : List Step) (file : List ℕ) (old new : List Moment)
   pub point : IsPointAfter done old new at
   pub is : view_of at file ≡ held
 
--- The file was to be loaded next where just these steps were done, and it held then, where files are kept and it is not free, what is not taken.
+-- The file was to be loaded next where just these steps were done, and it held then what is not taken: at a moment of then; and, where
+-- files are kept and it is not free, right behind the last start or finish.
 pub record IsRefusedFile (tells : Bool) (own : OwnFiles) (asked : Asked) (store : Store) (done : List Step) (old new : World) (file : List ℕ) (Faulty : Option (List ℕ) → Type 0) : Type 0 where
   pub next : IsNextLoad (task_of asked store) done file
   pub held : Option (List ℕ)
   pub faulty : Faulty held
+  pub was : IsTrue tells → HeldAt file held done old.history new.history
   pub is : IsTrue tells → (files : FilesAreKept own asked.graph.edges old.history new.history) → files.free file ≡ false → HeldThen done file old.history new.history held
 
 -- a file that says so

@@ -16,7 +16,7 @@ use Rattle.model.specs.OutOfDate.{ReadsNoFree, IsVerdict}
 use Rattle.model.specs.Schedule.{Step, Judged, Started, Ended, IsLawfulStep, IsEndOf, NoneMayBeJudged, NoneMayStart, started_in, out_of_date_in, ended_in, well_in, running_in}
 use Rattle.model.specs.Phases.{steps_of, Phase, NoLoadIsDue}
 use Rattle.model.specs.Premises.{FilesAreKept, RecordedApart, EndedAt, InputsAreKnown, LiesIn}
-use Rattle.model.specs.SingleBuild.{HeldAt, AreJudgedAt, ArePhasesJudgedAt, WasTakenIn, NamesOther, Asked, task_of, IsJudged, IsFrame}
+use Rattle.model.specs.SingleBuild.{AreJudgedAt, ArePhasesJudgedAt, WasTakenIn, NamesOther, Asked, task_of, IsJudged, IsFrame}
 use Rattle.model.specs.Kept.{StartedUnder, KeepsRecords, store_at}
 use Rattle.build_theory.specs.Run.{events_in, starts_in, IsRun, IsRunOrRest}
 use Rattle.build_theory.proofs.Steps.{running_parts}
@@ -33,7 +33,7 @@ use Rattle.log_theory.specs.Builds.{IsRunOf}
 use Rattle.log_theory.specs.Writes.{GrewAt, WritesAt}
 use Rattle.log_theory.specs.Alone.{IsNoFileOf, AreLeftAlone}
 use Rattle.log_theory.specs.Ledger.{IsPhased, IsRefused, IsBeside, IsCarried, IsCutOff, IsReadyToStart}
-use Rattle.log_theory.proofs.AtMoments.{held_at, verdicts_at_moments}
+use Rattle.log_theory.proofs.AtMoments.{verdicts_at_moments}
 use Rattle.log_theory.proofs.Alone.{runs_idle, alone_nothing, alone_looks, alone_adds, alone_at, own_apart, response_apart, depfile_apart}
 use Rattle.log_theory.proofs.Calls.{entry_logged, looks_logged, start_logged, rest_logged}
 use Rattle.log_theory.proofs.Growing.{logged_hand, logged_judged, logged_as_failed, logged_as_well}
@@ -626,15 +626,12 @@ module _ (tells : Bool) (B : Behaviour) (format : LogFormat) (own : OwnFiles) (a
         verdicts_with_loads tells B own cut.phased.texts asked store steps met old now tell cut.beside.idle once others cut.phased.build cut.run (cut.phased.before tell) (cut.phased.last tell) files apart known
         (cut.beside.taken_in tell files)
 
-    -- each verdict at its moment, and each loaded file as it was when it was loaded
+    -- each verdict at its moment
     pub judged_at_of : IsTrue tells → (files : Kept now) → RecordedApart own (recorded_inputs store asked.graph.edges)
         → ArePhasesJudgedAt files.free store [] cut.phased.build.earlier old.history now.history
         × AreJudgedAt files.free asked.graph.edges store (steps_of cut.phased.build.earlier) cut.phased.build.last old.history now.history
     judged_at_of tell files apart =
         verdicts_at_moments tells B own cut.phased.texts asked store steps old now tell cut.beside.idle cut.phased.build (cut.phased.before tell) (cut.phased.last tell) files apart
-
-    pub held_at_of : IsTrue tells → (files : Kept now) → (file content : List ℕ) → cut.phased.texts file ≡ Some content → files.free file ≡ false → HeldAt file content steps old.history now.history
-    held_at_of tell files file content is bound = held_at tells own asked store old now tell cut.beside.idle files file content steps (cut.phased.held tell file content is) bound
 
     pub frame_of : IsMadeOnce asked.graph.edges → IsTrue tells → IsFrame own asked.graph.edges steps old.history now.history
     frame_of once tell = frame tells own (task_of asked store) steps old now cut.beside.idle cut.run tell once (cut.beside.ready tell)

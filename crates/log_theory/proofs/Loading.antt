@@ -11,7 +11,7 @@ use Rattle.model.specs.Records.{Store, LogFormat, OwnFiles}
 use Rattle.model.specs.Schedule.{Step, started_in, well_in}
 use Rattle.model.specs.Phases.{Phase, IsGrownBy, IsNextLoad, IsInOrderAt}
 use Rattle.model.specs.Premises.{FilesAreKept, SharesNone}
-use Rattle.model.specs.SingleBuild.{Asked, asked_with, task_of}
+use Rattle.model.specs.SingleBuild.{HeldAt, Asked, asked_with, task_of}
 use Rattle.model.specs.Kept.{store_at}
 use Rattle.build_theory.specs.Run.{IsRunOrRest}
 use Rattle.build_theory.proofs.Growth.{HasGrown, grown_by}
@@ -41,13 +41,14 @@ module _ (tells : Bool) (B : Behaviour) (format : LogFormat) (own : OwnFiles) (a
   more : HasGrown asked.graph.edges next
   more = grown_by file additions asked.graph.edges next grown
 
-  -- The file was loaded, which was the next one: it held this, which can be read, and fits; and the edges are in order with it.
+  -- The file was loaded, which was the next one: it held this then, which can be read, and fits; and the edges are in order with it.
   pub carried_load : (steps : List Step) → (carried : IsCarried tells B format own asked store phases true steps None old now) → IsNextLoad (task_of asked store) steps file → B.dyndep content ≡ Some additions
       → IsInOrderAt store (task_of (asked_with asked next) store) → (IsTrue tells → (files : FilesAreKept own asked.graph.edges old.history now.history) → files.free file ≡ false → view_of now.history file ≡ Some content)
+      → (IsTrue tells → HeldAt file (Some content) steps old.history now.history)
       → IsCarried tells B format own (asked_with asked next) store (phases ++ record { edges = asked.graph.edges; steps = carried.phased.build.last } ∷ []) true steps None old now
-  carried_load steps carried is_next read order holds = record {
+  carried_load steps carried is_next read order holds held_then = record {
     run = run_moved tells own (task_of asked store) (task_of (asked_with asked next) store) steps old now more carried.run;
-    phased = phased_load tells B own asked store phases old now next file content additions grown steps carried.phased (carried.goes refl) is_next read order carried.run carried.beside.idle holds;
+    phased = phased_load tells B own asked store phases old now next file content additions grown steps carried.phased (carried.goes refl) is_next read order carried.run carried.beside.idle holds held_then;
     goes = λ on. refl;
     refused = λ off. absurd (true≢false off);
     beside = record {

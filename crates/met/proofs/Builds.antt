@@ -125,7 +125,7 @@ module _ (reading : List ℕ → Option (List (List ℕ))) (dyndep : List ℕ �
     logs = λ tells unedited. at_named format reads_logs all fits;
     texts = λ p. None;
     held = λ tells kept file content bound is _. absurd (none_some content is);
-    held_then = λ tells kept file content is bound. absurd (none_some content is);
+    held_then = λ tells. (tt, λ next load. absurd (none_some load.content load.holds));
     steps = failing_steps;
     schedule = record {
       lawful = in_one_phase reading dyndep no_store [] refl refl tt (λ p. None) failing_steps (
@@ -204,7 +204,7 @@ module _ (reading : List ℕ → Option (List (List ℕ))) (dyndep : List ℕ �
     logs = λ tells unedited. at_edited format reads_logs all fits;
     texts = λ p. None;
     held = λ tells kept file content bound is _. absurd (none_some content is);
-    held_then = λ tells kept file content is bound. absurd (none_some content is);
+    held_then = λ tells. (tt, λ next load. absurd (none_some load.content load.holds));
     steps = stopping_steps;
     schedule = record {
       lawful = in_one_phase reading dyndep failed_store [] refl refl tt (λ p. None) stopping_steps
@@ -239,7 +239,7 @@ module _ (reading : List ℕ → Option (List (List ℕ))) (dyndep : List ℕ �
     logs = λ tells unedited. at_stopped format reads_logs all fits;
     texts = λ p. None;
     held = λ tells kept file content bound is _. absurd (none_some content is);
-    held_then = λ tells kept file content is bound. absurd (none_some content is);
+    held_then = λ tells. (tt, λ next load. absurd (none_some load.content load.holds));
     steps = good_steps;
     schedule = record {
       lawful = in_one_phase reading dyndep stopped_store [] refl refl tt (λ p. None) good_steps (
@@ -291,7 +291,7 @@ module _ (reading : List ℕ → Option (List (List ℕ))) (dyndep : List ℕ �
     logs = λ tells unedited. at_edited_again format reads_logs all fits;
     texts = λ p. None;
     held = λ tells kept file content bound is _. absurd (none_some content is);
-    held_then = λ tells kept file content is bound. absurd (none_some content is);
+    held_then = λ tells. (tt, λ next load. absurd (none_some load.content load.holds));
     steps = all_steps;
     schedule = record {
       lawful = in_one_phase reading dyndep built_store (codes "h" ∷ []) refl refl (refl, tt) (λ p. None) all_steps (
