@@ -18,7 +18,7 @@ use Rattle.model.specs.SingleBuild.{Asked, Answer, is_fault, IsSuccess, IsSchedu
 use Rattle.build_theory.specs.Run.{IsRunOrRest}
 use Rattle.build_theory.specs.Seen.{Looked}
 use Rattle.build_theory.proofs.Calls.{seen_of}
-use Rattle.build_theory.proofs.Looks.{frame_of_looks}
+use Rattle.build_theory.proofs.Looks.{logs_left, frame_of_looks}
 use Rattle.build_theory.proofs.Runs.{run_begins, rest_begins, rest_looks}
 use Rattle.build_theory.proofs.Starting.{ready_nothing}
 use Rattle.log_theory.specs.Builds.{IsRunOf}
@@ -36,8 +36,6 @@ use Rattle.builder.specs.declared.report.Report.{Report}
 use Rattle.builder.specs.declared.report.Report.TheVariants.{Fault}
 use Rattle.builder.specs.Build.{RemovesFiles, LeavesAlone}
 use Rattle.builder.specs.Loads.{RefusesFile}
-use Rattle.builder.specs.Reports.{LogsAreLeft}
-use Rattle.builder.proofs.Unedited.{logs_left}
 
 none_before : (before after : List Done) (step : Done) → [] ≡ before ++ step ∷ after → ⊥
 none_before [] after step is = cc
@@ -184,7 +182,7 @@ module _ (tells : Bool) (B : Behaviour) (format : LogFormat) (own : OwnFiles) (a
     abbrev looking : SingleBuild tells B format own asked entry now said
     looking = record {
       store = store;
-      logs = λ tell kept. found tell (logs_left own asked.graph.edges entry.history now.history kept);
+      logs = found;
       texts = none_loaded;
       held = λ tell kept file content bound loaded _. absurd (nothing_held content loaded);
       steps = [];

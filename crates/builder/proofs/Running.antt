@@ -20,7 +20,7 @@ use Rattle.build_theory.specs.Seen.{IsSeen}
 use Rattle.build_theory.proofs.Builds.{idle_at_end, has_ended}
 use Rattle.build_theory.proofs.Counts.{started_length, ended_length}
 use Rattle.build_theory.proofs.Loads.{declared_once}
-use Rattle.build_theory.proofs.Looks.{kept_before}
+use Rattle.build_theory.proofs.Looks.{logs_left, kept_before}
 use Rattle.build_theory.proofs.Runs.{rest_begins}
 use Rattle.build_theory.proofs.Turns.{settled_at_end}
 use Rattle.links.specs.declared.cone.Mark.{Mark}
@@ -37,7 +37,6 @@ use Rattle.builder.specs.declared.report.Report.{Report}
 use Rattle.builder.specs.declared.report.Report.TheVariants.{Success, Failed, Fault}
 use Rattle.builder.specs.Loads.{RefusesFile}
 use Rattle.builder.proofs.Looking.{Built, built_by, IsFoundAt}
-use Rattle.builder.proofs.Unedited.{logs_left}
 use Rattle.builder.proofs.Slices.{suc_has}
 
 -- where nothing was missing when phases began, and the last one, nothing was when they and a last one that has steps began
@@ -116,7 +115,7 @@ module _ (tells : Bool) (B : Behaviour) (format : LogFormat) (own : OwnFiles) (a
       abbrev running : SingleBuild tells B format own asked entry now said
       running = record {
         store = store;
-        logs = λ tell kept. found tell (logs_left own asked.graph.edges entry.history now.history kept);
+        logs = found;
         texts = texts;
         held = holds;
         steps = steps;

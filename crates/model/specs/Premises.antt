@@ -135,6 +135,14 @@ none_free p = false
 abbrev pub NothingIsEdited : List Moment → List Moment → Type 0
 NothingIsEdited old new = OnlyFreeIsEdited none_free old new
 
+-- Others wrote neither log between these moments: what they wrote are free paths, and no log is one. So it is where files are kept,
+-- and where nobody edits.
+pub record LogsAreLeft (own : OwnFiles) (old new : List Moment) : Type 0 where
+  pub free : List ℕ → Bool
+  pub build_log : free own.build_log ≡ false
+  pub deps_log : free own.deps_log ≡ false
+  pub edits : OnlyFreeIsEdited free old new
+
 -- a free path is none of the program's own files, no depfile, no response file, and no output
 pub record FreeApart (free : List ℕ → Bool) (own : OwnFiles) (edges : List Edge) : Type 0 where
   pub set : (p : List ℕ) → own.set p ≡ true → free p ≡ false

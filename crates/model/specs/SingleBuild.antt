@@ -21,7 +21,7 @@ use Rattle.model.specs.Records.{Store, LogFormat, OwnFiles, store_in, recorded_i
 use Rattle.model.specs.OutOfDate.{ReadsNoFree, IsVerdict, IsOutOfDate, IsMissingInput, IsFirstMissing}
 use Rattle.model.specs.Schedule.{Task, Step, Judged, Started, IsSettled, AreEventsOf, AreFinishes, NoneMayBeJudged, NoneMayStart, done_in, started_in, ended_in, out_of_date_in, well_in, failed_in, Ended, MayStart}
 use Rattle.model.specs.Phases.{Phase, steps_of, task_with, IsLawfulBuild, IsLoad, IsDueLoad, IsNextLoad, NoLoadIsDue, NothingNeededIsFree, IsMomentAfter, IsPointAfter, AreAskedApart, WasNothingMissing, WasNothingMissingIn}
-use Rattle.model.specs.Premises.{FilesAreKept, RecordedApart, Premises, EndedAt, InputsAreKnown}
+use Rattle.model.specs.Premises.{LogsAreLeft, FilesAreKept, RecordedApart, Premises, EndedAt, InputsAreKnown}
 
 -- ---- what a build was asked, and what it answers
 
@@ -400,9 +400,9 @@ IsCleanlyBuilt B quiet asked store files =
 
 -- One build, from its entry to its exit.
 pub record SingleBuild (tells : Bool) (B : Behaviour) (format : LogFormat) (own : OwnFiles) (asked : Asked) (old new : World) (answer : Answer) : Type 0 where
-  -- the records that the build found; where the site tells its files, those of its logs
+  -- the records that the build found; where the site tells its files, and nobody else writes a log, those of its logs at the entry
   pub store : Store
-  pub logs : IsTrue tells → FilesAreKept own asked.graph.edges old.history new.history → store ≡ store_in format own (view_of old.history)
+  pub logs : IsTrue tells → LogsAreLeft own old.history new.history → store ≡ store_in format own (view_of old.history)
   -- what the loaded dyndep files held, and hold still: but for one that a dyndep file alone names as an output, whose maker may come
   -- after the load, and for a free one
   pub texts : View

@@ -13,7 +13,8 @@ use Rattle.model.specs.Records.{OwnFiles}
 use Rattle.model.specs.Graph.{edge_at, outputs}
 use Rattle.build_theory.specs.Order.{LeftAsNow}
 use Rattle.build_theory.proofs.Lists.{all_has, all_from_has}
-use Rattle.worked.specs.Stricter.{AreLater, AreOfWrites, StricterSuffice}
+use Rattle.build_theory.proofs.Looks.{logs_left, logs_unedited}
+use Rattle.worked.specs.Stricter.{AreLater, AreOfWrites, StricterSuffice, LogsAreLeftByBoth}
 
 below_or : (a b : ℕ) → (a < b) ⊎ (b ≤ a)
 below_or zero zero = inr (omega arith)
@@ -119,3 +120,7 @@ stricter_suffice B own declared edges recorded store steps old new judged ticked
 
     left : LeaveOutcomes B edges steps old new
     left i at ended well before since act stamp splits = own_view B edges since new at i (strict.one_outcome i refl (judged i well)) (strict.left i at refl ended well)
+
+pub left_by_both : LogsAreLeftByBoth
+left_by_both own edges old new (inl kept) = logs_left own edges old new kept
+left_by_both own edges old new (inr edits) = logs_unedited own old new edits

@@ -6,7 +6,7 @@ ghost use Rattle.worked.specs.Refused.{RefusedRows};
 ghost use Rattle.worked.specs.Dyndep.{DyndepRows};
 ghost use Rattle.worked.specs.Edited.{EditedRows};
 ghost use Rattle.worked.specs.Forbidden.{ForbiddenRows};
-ghost use Rattle.worked.specs.Stricter.{StricterSuffice};
+ghost use Rattle.worked.specs.Stricter.{LogsAreLeftByBoth, StricterSuffice};
 
 /// The definitions refuse these: records made up or dropped, a fault passed over, moves skipped, restarts that are missing or
 /// needless, answers that no build gave, a deps record of a start to come, one path for a depfile and a response file, a
@@ -39,4 +39,9 @@ pub fn forbidden_rows()
 /// stamps of ticks: so what is promised by today's words holds by those, too.
 pub fn stricter_premises()
     ensures { StricterSuffice }
+{}
+
+/// Each of the premises that the records of a build stood on before implies that others leave the logs.
+pub fn logs_are_left()
+    ensures { LogsAreLeftByBoth }
 {}
