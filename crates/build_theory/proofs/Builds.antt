@@ -7,7 +7,7 @@ use Rattle.model.specs.declared.event.Event.{Event}
 use Rattle.model.specs.declared.event.Event.TheVariants.{Start, Finish}
 use Rattle.model.specs.declared.event.Moment.{Moment}
 use Rattle.model.specs.declared.event.Moment.TheVariants.{Happened}
-use Rattle.model.specs.World.{World, View, view_of, runs, IsIdle}
+use Rattle.model.specs.World.{World, View, view_of, runs, IsIdle, events_in}
 use Rattle.model.specs.Graph.{has, has_number, edge_at, outputs, inputs, IsMadeOnce, IsCommand}
 use Rattle.model.specs.Outcome.{Behaviour, depfile_in, is_accepted}
 use Rattle.model.specs.Records.{Store, OwnFiles, recorded_inputs}
@@ -16,7 +16,7 @@ use Rattle.model.specs.Schedule.{Task, Step, Judged, Started, Ended, clean_in, e
 use Rattle.model.specs.Premises.{Matters, Premises, EndedAt}
 use Rattle.model.specs.SingleBuild.{Asked, Answer, is_fault, task_of, InCone, IsScheduled, HasEnded, IsJudged, IsFrame, IsCleanlyBuilt}
 use Rattle.build_theory.specs.Order.{LeaveAsNow, AreReadFirst, no_records}
-use Rattle.build_theory.specs.Run.{events_in, IsToldBy, IsRun, IsRunOrRest, AreStartsReady}
+use Rattle.build_theory.specs.Run.{IsToldBy, IsRun, IsRunOrRest, AreStartsReady}
 use Rattle.build_theory.proofs.Orderly.{kept_orderly}
 use Rattle.build_theory.proofs.Lists.{same_rest, has-left, has_number-right}
 use Rattle.build_theory.proofs.Steps.{lawful_parts, running_parts, in_right, clean-append}

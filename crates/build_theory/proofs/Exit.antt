@@ -11,7 +11,7 @@ use Rattle.model.specs.declared.event.Event.TheVariants.{Start, Finish}
 use Rattle.model.specs.declared.event.Moment.{Moment}
 use Rattle.model.specs.declared.event.Moment.TheVariants.{Wrote, Happened}
 use Rattle.model.specs.declared.event.Writer.TheVariants.{Program, Command, Someone}
-use Rattle.model.specs.World.{World, file_at, content_of, view_of, runs, IsIdle}
+use Rattle.model.specs.World.{World, file_at, content_of, view_of, runs, IsIdle, events_in}
 use Rattle.model.specs.Outcome.{Behaviour, given, listed, depfile_in}
 use Rattle.model.specs.Clean.{clean_build}
 use Rattle.model.specs.Graph.{has, has_number, edge_at, outputs, IsMadeOnce, IsCommand}
@@ -21,7 +21,7 @@ use Rattle.model.specs.Premises.{FilesAreKept, OwnFilesApart, LiesIn, Premises, 
 use Rattle.model.specs.SingleBuild.{IsOwnWrite, IsOfBuild, MayChange, IsMadeBy, IsFrame}
 use Rattle.model.specs.Phases.{happened_in, EndsInEvent, IsPointAfter}
 use Rattle.build_theory.specs.Order.{settled_in, LeftAsNow, LeaveAsNow, IsExplained, IsOrderlyFrom, IsOrderly, AreReadFirst}
-use Rattle.build_theory.specs.Run.{events_in, starts_in, AreOfRun, IsToldBy, IsRunOrRest, AreStartsReady, EndOf}
+use Rattle.build_theory.specs.Run.{starts_in, AreOfRun, IsToldBy, IsRunOrRest, AreStartsReady, EndOf}
 use Rattle.build_theory.proofs.Lists.{same_rest, all_has, all_from_has, all_parts, has_number-cases, has_number-right, has_number-one}
 use Rattle.build_theory.proofs.Steps.{running_parts, started-append, in_right, settled_done, done_settled}
 use Rattle.build_theory.proofs.Orderly.{IsKept, kept_orderly, orderly_parts, started_once, started_before, reading_order}

@@ -202,6 +202,7 @@ module _ (tells : Bool) (B : Behaviour) (format : LogFormat) (own : OwnFiles) (a
       idle = λ fine. subst IsIdle (sym {A = List Event} looks.events) idle;
       taken_in = λ goes none. subst IsIdle (sym {A = List Event} looks.events) idle;
       frame = λ tell. frame_of_looks tells own asked.graph.edges entry now idle looks tell;
+      ticked = beside_now.ticked;
       from_nothing = λ tell success. absurd (failed success);
     }
 

@@ -131,6 +131,7 @@ module _ (tells : Bool) (B : Behaviour) (format : LogFormat) (own : OwnFiles) (a
         idle = ended;
         taken_in = taken_in;
         frame = λ tell. frame_of tells B format own asked store entry phases steps met now cut once tell;
+        ticked = cut.beside.ticked;
         from_nothing = λ tell success nothing premises.
             clean_with_loads tells B format own texts asked store steps met entry now tell idle cut.run build
             (declared_once B.dyndep texts asked.declared (task_of asked store) store steps build once) once others

@@ -9,7 +9,7 @@ use Rattle.model.specs.declared.event.Moment.{Moment}
 use Rattle.model.specs.declared.event.Moment.TheVariants.{Wrote, Happened}
 use Rattle.model.specs.declared.event.Writer.TheVariants.{Program, Command, Someone}
 use Rattle.model.specs.declared.graph.Edge.{Edge}
-use Rattle.model.specs.World.{World, file_at, runs, IsIdle}
+use Rattle.model.specs.World.{World, file_at, runs, IsIdle, events_in}
 use Rattle.model.specs.Graph.{has, has_number, edge_at, maker, inputs, outputs, IsCommand, IsMadeOnce}
 use Rattle.model.specs.Phases.{happened_in, IsPointAfter}
 use Rattle.model.specs.Premises.{FilesAreKept, FreeApart, OwnFilesApart, RecordedApart, IsWithinEdge, IsNoEdit}
@@ -17,7 +17,7 @@ use Rattle.model.specs.Reading.{needs}
 use Rattle.model.specs.Records.{OwnFiles, Store, recorded_inputs}
 use Rattle.model.specs.Schedule.{Task, Step, Judged, Started, Ended, judged_in, out_of_date_in, started_in, ended_in, running_in, AreEventsOf}
 use Rattle.model.specs.SingleBuild.{IsOwnWrite}
-use Rattle.build_theory.specs.Run.{events_in, steps_until, AreOfRun, IsToldBy, IsRun}
+use Rattle.build_theory.specs.Run.{steps_until, AreOfRun, IsToldBy, IsRun}
 use Rattle.build_theory.proofs.Files.{IsElsewhere, file_stays}
 use Rattle.build_theory.proofs.Lists.{has-left, has-right, same_bytes, same_rest, same_some, some_none}
 use Rattle.build_theory.proofs.Makers.{maker_is}

@@ -5,7 +5,7 @@ use Rattle.model.specs.declared.event.Event.{Event}
 use Rattle.model.specs.declared.event.Moment.{Moment}
 use Rattle.model.specs.declared.event.Moment.TheVariants.{Wrote, Happened}
 use Rattle.model.specs.declared.graph.Edge.{Edge}
-use Rattle.model.specs.World.{World, View, view_of, IsIdle, IsRunning}
+use Rattle.model.specs.World.{World, View, view_of, IsIdle, IsRunning, events_in}
 use Rattle.model.specs.Calls.{OthersWrote, OnlyLooks, Sees}
 use Rattle.model.specs.Outcome.{Behaviour}
 use Rattle.model.specs.Records.{Store, OwnFiles, recorded_inputs}
@@ -13,7 +13,7 @@ use Rattle.model.specs.Schedule.{Task, Step, Judged, Started, Ended}
 use Rattle.model.specs.Phases.{Phase, happened_in, steps_of, task_with, ArePhasesFrom, IsMomentAfter}
 use Rattle.model.specs.Premises.{FilesAreKept, RecordedApart}
 use Rattle.model.specs.SingleBuild.{Asked, task_of, JudgedAt, AreJudgedAt, ArePhasesJudgedAt, HeldAt}
-use Rattle.build_theory.specs.Run.{events_in, IsToldBy, IsRun}
+use Rattle.build_theory.specs.Run.{IsToldBy, IsRun}
 use Rattle.build_theory.proofs.Events.{as_many}
 use Rattle.build_theory.proofs.Growth.{HasGrown, grown_same}
 use Rattle.build_theory.proofs.Lists.{same_rest}

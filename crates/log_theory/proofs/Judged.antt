@@ -7,7 +7,7 @@ use Rattle.model.specs.declared.event.Event.TheVariants.{Finish}
 use Rattle.model.specs.declared.event.Moment.{Moment}
 use Rattle.model.specs.declared.event.Moment.TheVariants.{Happened}
 use Rattle.model.specs.declared.graph.Edge.{Edge}
-use Rattle.model.specs.World.{World, View, view_of}
+use Rattle.model.specs.World.{World, View, view_of, events_in}
 use Rattle.model.specs.Graph.{has, has_number, edge_at, maker, inputs, regular_inputs, IsCommand}
 use Rattle.model.specs.Outcome.{Behaviour, depfile_in, is_accepted}
 use Rattle.model.specs.Reading.{IsRead, Itself, Through}
@@ -17,7 +17,7 @@ use Rattle.model.specs.Schedule.{Step, Judged, Ended, ended_in, well_in, done_in
 use Rattle.model.specs.Premises.{FilesAreKept, RecordedApart, EndedAt}
 use Rattle.model.specs.SingleBuild.{Asked, task_of}
 use Rattle.build_theory.specs.Order.{IsReadAfter}
-use Rattle.build_theory.specs.Run.{events_in, IsRunOrRest}
+use Rattle.build_theory.specs.Run.{IsRunOrRest}
 use Rattle.build_theory.proofs.Lists.{same_rest, has-left, has-right, place_in, has_number-append, has_number-one}
 use Rattle.build_theory.proofs.Looks.{kept_before}
 use Rattle.build_theory.proofs.Moments.{events_in-append}

@@ -7,7 +7,7 @@ use Rattle.model.specs.declared.event.Event.TheVariants.{Start, Finish}
 use Rattle.model.specs.declared.event.Moment.{Moment}
 use Rattle.model.specs.declared.event.Moment.TheVariants.{Happened}
 use Rattle.model.specs.declared.graph.Edge.{Edge}
-use Rattle.model.specs.World.{World, view_of, runs_from, runs, IsRunning, IsIdle}
+use Rattle.model.specs.World.{World, view_of, runs_from, runs, IsRunning, IsIdle, events_in}
 use Rattle.model.specs.Calls.{OthersWrote, Adds, OnlyLooks, Ticks, TicksOrNot, WritesOrNot, Starts, StartsOrNot, Finishes}
 use Rattle.model.specs.Graph.{has_number, edge_at, IsCommand, IsMadeOnce}
 use Rattle.model.specs.Outcome.{Behaviour, depfile_in, is_accepted}
@@ -18,7 +18,7 @@ use Rattle.model.specs.Phases.{steps_of, Phase, NoLoadIsDue}
 use Rattle.model.specs.Premises.{FilesAreKept, RecordedApart, EndedAt, InputsAreKnown, LiesIn}
 use Rattle.model.specs.SingleBuild.{AreJudgedAt, ArePhasesJudgedAt, WasTakenIn, NamesOther, Asked, task_of, IsJudged, IsFrame}
 use Rattle.model.specs.Kept.{StartedUnder, KeepsRecords, store_at}
-use Rattle.build_theory.specs.Run.{events_in, starts_in, IsRun, IsRunOrRest}
+use Rattle.build_theory.specs.Run.{starts_in, IsRun, IsRunOrRest}
 use Rattle.build_theory.proofs.Steps.{running_parts}
 use Rattle.build_theory.proofs.Orderly.{IsKept, kept_orderly, orderly_step}
 use Rattle.build_theory.proofs.Events.{runs_from-append, runs_started, runs_now, no_starts}

@@ -9,10 +9,10 @@ use Rattle.model.specs.Outcome.{Behaviour}
 use Rattle.model.specs.Records.{Store, LogFormat, OwnFiles, store_in, in_force}
 use Rattle.model.specs.Schedule.{Step, judged_in, done_in}
 use Rattle.model.specs.Phases.{Phase, steps_of, IsDueLoad, IsLawfulBuild}
-use Rattle.model.specs.Premises.{FilesAreKept}
+use Rattle.model.specs.Premises.{FilesAreKept, IsTickedAt, StartsAreTicked}
 use Rattle.model.specs.SingleBuild.{Asked, task_of, AreLoadsHeldAt}
 use Rattle.build_theory.specs.Run.{IsRun, IsRunOrRest, AreStartsReady}
-use Rattle.log_theory.specs.Logged.{IsLoggedAt, IsTickedAt, StartsAreTicked}
+use Rattle.log_theory.specs.Logged.{IsLoggedAt}
 use Rattle.log_theory.specs.Judged.{AreJudgedOver, ArePhasesJudged, AreTakenIn}
 use Rattle.log_theory.specs.Alone.{AreLeftAlone}
 

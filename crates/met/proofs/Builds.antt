@@ -8,7 +8,7 @@ use Rattle.model.specs.declared.fault.SiteFault.TheVariants.{Stopped}
 use Rattle.model.specs.World.{view_of, IsIdle}
 use Rattle.model.specs.Graph.{Addition, has_number}
 use Rattle.model.specs.Outcome.{Behaviour}
-use Rattle.model.specs.Records.{Store, LogFormat, OwnFiles, IsOwnIn, recorded_inputs}
+use Rattle.model.specs.Records.{Store, LogFormat, OwnFiles, IsOwnIn, tick_name, recorded_inputs}
 use Rattle.model.specs.OutOfDate.{IsVerdict}
 use Rattle.model.specs.Schedule.{Step, Judged, Started, Ended, IsSettled, Done, done_in}
 use Rattle.model.specs.SingleBuild.{SingleBuild, Success, Failed, Fault, InCone, IsOfBuild, MayChange}
@@ -18,7 +18,7 @@ use Rattle.met.specs.Worlds.{failing, stopping, succeeding, again, named, failed
 use Rattle.met.proofs.Lists.{none_some}
 use Rattle.met.proofs.Given.{ReadsNames}
 use Rattle.met.proofs.TwoEdges.{in_cone, counts_g, counts_all, no_load, judged_both, started_all, first_judged, first_started, first_ended, second_judged, second_started, second_ended, alone_started, alone_ended}
-use Rattle.met.proofs.TwoBuilt.{written_in, ready_cat, ready_scan, h_is, b_is, some_moment, untouched_at, untouched_still, frame_of, judged_of, in_one_phase, in_order, was_in_order}
+use Rattle.met.proofs.TwoBuilt.{written_in, ready_cat, ready_scan, h_is, b_is, some_moment, untouched_at, untouched_still, frame_of, behind_tick, ticked_of, judged_of, in_one_phase, in_order, was_in_order}
 use Rattle.met.proofs.Between.{no_store, failed_store, stopped_store, built_store, at_named, at_edited, at_stopped, at_edited_again, failing_steps, stopping_steps, good_steps, all_steps, failing_ends, stopping_ends, succeeding_ends, again_ends}
 
 pub some_none : {A : Type 0} (x : A) → Some x ≡ None → ⊥
@@ -195,6 +195,7 @@ module _ (reading : List ℕ → Option (List (List ℕ))) (dyndep : List ℕ �
             ),
           ),
         );
+    ticked = λ tells. ticked_of named.history failing (tt, (tt, (tt, (behind_tick (take 2 failing) tick_name [] 6, (tt, (tt, (tt, (tt, (tt, (tt, (behind_tick (take 9 failing) tick_name [] 11, (tt, tt))))))))))));
     from_nothing = λ tells success. absurd success;
   }
 
@@ -230,6 +231,7 @@ module _ (reading : List ℕ → Option (List (List ℕ))) (dyndep : List ℕ �
         frame_of all stopping_steps edited.history stopping (stopping_writes all fits) (stopping_changes all fits)
         (tt, (tt, (tt, ((b_is edited.history (edited.history ++ take 3 stopping) refl, ready_scan _ refl), (tt, (tt, tt))))))
         (untouched_still edited.history stopping [] 1 false refl, (untouched_still edited.history stopping (Judged 1 false ∷ []) 2 true refl, (tt, tt)));
+    ticked = λ tells. ticked_of edited.history stopping (tt, (tt, (tt, (behind_tick (take 2 stopping) tick_name [] 15, (tt, (tt, tt))))));
     from_nothing = λ tells success. absurd success;
   }
 
@@ -281,6 +283,7 @@ module _ (reading : List ℕ → Option (List (List ℕ))) (dyndep : List ℕ �
         frame_of all good_steps restarted_world.history succeeding (succeeding_writes all fits) (succeeding_changes all fits)
         (tt, (tt, (tt, ((b_is restarted_world.history (restarted_world.history ++ take 3 succeeding) refl, ready_scan _ refl), (tt, (tt, (tt, (tt, (tt, (tt, (tt, tt)))))))))))
         (untouched_still restarted_world.history succeeding [] 1 false refl, (untouched_still restarted_world.history succeeding (Judged 1 false ∷ []) 2 true refl, (tt, (tt, tt))));
+    ticked = λ tells. ticked_of restarted_world.history succeeding (tt, (tt, (tt, (behind_tick (take 2 succeeding) tick_name [] 20, (tt, (tt, (tt, (tt, (tt, (tt, (tt, tt)))))))))));
     from_nothing = λ tells success nothing premises.
         absurd (some_none _ (subst (λ (p : List ℕ). view_of restarted_world.history p ≡ None) fits.build_log nothing.build_log));
   }
@@ -383,6 +386,7 @@ module _ (reading : List ℕ → Option (List (List ℕ))) (dyndep : List ℕ �
             ),
           ),
         );
+    ticked = λ tells. ticked_of edited_again.history again (tt, (tt, (behind_tick (take 1 again) tick_name [] 29, (tt, (tt, (tt, (tt, (tt, (tt, (behind_tick (take 8 again) tick_name [] 34, (tt, (tt, (tt, (tt, (tt, (tt, tt))))))))))))))));
     from_nothing = λ tells success nothing premises.
         absurd (some_none _ (subst (λ (p : List ℕ). view_of edited_again.history p ≡ None) fits.build_log nothing.build_log));
   }

@@ -7,6 +7,7 @@ use Rattle.std.specs.List.{AllByRecursion}
 use Rattle.model.specs.declared.event.Event.TheVariants.{Start, Finish}
 use Rattle.model.specs.declared.event.Moment.{Moment}
 use Rattle.model.specs.declared.event.Moment.TheVariants.{Wrote, Happened}
+use Rattle.model.specs.declared.event.Writer.TheVariants.{Program}
 use Rattle.model.specs.World.{World, File, View, file_after, file_from, file_at, view_of, next_stamp}
 use Rattle.model.specs.Graph.{Addition, has, has_number, edge_at, maker, inputs, outputs}
 use Rattle.model.specs.Outcome.{Behaviour, depfile_in, is_accepted, listed}
@@ -15,7 +16,7 @@ use Rattle.model.specs.Records.{Store, OwnFiles, IsOwnIn, output_name, recorded_
 use Rattle.model.specs.OutOfDate.{IsVerdict, IsMissing}
 use Rattle.model.specs.Schedule.{Step, Judged, Started, Ended, judged_in, started_in, ended_in, well_in, IsLawfulFrom}
 use Rattle.model.specs.Phases.{IsLawfulBuild, AreUnloadedFrom, IsPointAfter, WasNothingMissingIn, EndsInEvent, happened_in, NothingNeededIsFree}
-use Rattle.model.specs.Premises.{HasOneOutcome, LeftOutcome, EndedAt, Increases, IsWithinEdge, IsNoEdit, OwnFilesApart, LiesIn, SharesNone, FilesAreKept, IsKnownAbove, ByOne, Premises, none_free, KeepsFaith, StampsGrow, LeaveOutcomes}
+use Rattle.model.specs.Premises.{HasOneOutcome, LeftOutcome, EndedAt, Increases, IsWithinEdge, IsNoEdit, OwnFilesApart, LiesIn, SharesNone, FilesAreKept, IsKnownAbove, ByOne, Premises, none_free, KeepsFaith, StampsGrow, LeaveOutcomes, IsTickedAt, StartsAreTicked}
 use Rattle.model.specs.SingleBuild.{IsJudged, IsInOrder, WasInOrder, IsOfBuild, MayChange, IsReadyFor, IsMadeBy, IsFrame, task_of}
 use Rattle.met.specs.Scanning.{cat, scan, edges, asked, toys, own, own_paths, begins_with}
 use Rattle.met.proofs.Lists.{all_has, all_from_has, none_some}
@@ -132,6 +133,21 @@ frame_of all steps old more writes changes starts judged = record {
   until_judged = λ kept before after i b is. at_each (JudgedUntouched old (old ++ more)) [] steps (Judged i b) before after judged is;
   at_start = λ kept i stamp act before after is. (at_each (StartsReady old) [] more (Happened (Start i act stamp)) before after starts is).1;
 }
+
+-- ---- the stamps of starts
+
+abbrev pub TickedIn : List Moment → Moment → Type 0
+TickedIn front (Wrote by path content stamp) = Unit {0}
+TickedIn front (Happened (Start i act stamp)) = IsTickedAt stamp front
+TickedIn front (Happened (Finish i ok)) = Unit {0}
+
+-- a tick just before
+pub behind_tick : (earlier : List Moment) (path content : List ℕ) (stamp : ℕ) → IsTickedAt stamp (earlier ++ Wrote Program path (Some content) stamp ∷ [])
+behind_tick earlier path content stamp = record { earlier = earlier; by = Program; path = path; content = Some content; between = []; splits = refl; quiet = refl }
+
+pub ticked_of : (old more : List Moment) → AtEach TickedIn [] more → StartsAreTicked old (old ++ more)
+ticked_of old more each before after i stamp act is =
+    at_each TickedIn [] more (Happened (Start i act stamp)) before after each (append_cancel_left old more (before ++ Happened (Start i act stamp) ∷ after) is)
 
 -- ---- the judgements
 

@@ -21,7 +21,7 @@ use Rattle.model.specs.Records.{Store, LogFormat, OwnFiles, store_in, recorded_i
 use Rattle.model.specs.OutOfDate.{ReadsNoFree, IsVerdict, IsOutOfDate, IsMissingInput, IsFirstMissing}
 use Rattle.model.specs.Schedule.{Task, Step, Judged, Started, IsSettled, AreEventsOf, AreFinishes, NoneMayBeJudged, NoneMayStart, done_in, started_in, ended_in, out_of_date_in, well_in, failed_in, Ended, MayStart}
 use Rattle.model.specs.Phases.{Phase, steps_of, task_with, IsLawfulBuild, IsLoad, IsDueLoad, IsNextLoad, NoLoadIsDue, NothingNeededIsFree, IsMomentAfter, IsPointAfter, AreAskedApart, WasNothingMissing, WasNothingMissingIn}
-use Rattle.model.specs.Premises.{LogsAreLeft, FilesAreKept, RecordedApart, Premises, EndedAt, InputsAreKnown}
+use Rattle.model.specs.Premises.{LogsAreLeft, FilesAreKept, RecordedApart, Premises, EndedAt, InputsAreKnown, StartsAreTicked}
 
 -- ---- what a build was asked, and what it answers
 
@@ -431,6 +431,8 @@ pub record SingleBuild (tells : Bool) (B : Behaviour) (format : LogFormat) (own 
   pub idle : is_fault answer ≡ false → IsIdle new.events
   pub taken_in : new.stopped ≡ false → new.wait_refused ≡ None → IsIdle new.events
   pub frame : IsTrue tells → IsFrame own asked.graph.edges steps old.history new.history
+  -- the stamp of each start is that of a tick just before it
+  pub ticked : IsTrue tells → StartsAreTicked old.history new.history
   pub from_nothing : IsTrue tells → IsSuccess answer → IsFromNothing own asked.graph.edges (view_of old.history)
       → (premises : Premises B own asked.declared asked.graph.edges (recorded_inputs store asked.graph.edges) steps old.history new.history)
       → IsCleanlyBuilt B premises.files.quiet asked store (view_of new.history)

@@ -4,10 +4,14 @@ use Rattle.std.proofs.lemmas.Bool.{false≢true}
 use Rattle.std.proofs.lemmas.List.{append_cancel_left}
 use Rattle.std.specs.Prelude.{codes}
 use Rattle.std.specs.List.{AllByRecursion}
+use Rattle.model.specs.declared.event.Event.TheVariants.{Start, Finish}
 use Rattle.model.specs.declared.event.Moment.{Moment}
+use Rattle.model.specs.declared.event.Moment.TheVariants.{Wrote, Happened}
+use Rattle.model.specs.declared.event.Writer.{Writer}
+use Rattle.model.specs.declared.event.Writer.TheVariants.{Program}
 use Rattle.model.specs.declared.moves.Move.{Move}
 use Rattle.model.specs.declared.moves.Move.TheVariants.{Write, Delete, Build}
-use Rattle.model.specs.World.{World, view_of}
+use Rattle.model.specs.World.{World, view_of, events_in}
 use Rattle.model.specs.Graph.{has, edge_at, inputs, outputs, IsCommand}
 use Rattle.model.specs.Outcome.{Behaviour, read_depfile, is_accepted}
 use Rattle.model.specs.Records.{LogFormat, OwnFiles, Told, in_force, deps_in_force, read_log}
@@ -17,7 +21,7 @@ use Rattle.model.specs.Premises.{none_free, IsWithinEdge, IsNoEdit, OwnFilesApar
 use Rattle.model.specs.SingleBuild.{Answer, is_fault, IsFrame, IsReadyFor, PassesNoFault}
 use Rattle.model.specs.History.{Visit, Edited, Built, Unread, Restarted, IsHistoryFrom, IsEdit}
 use Rattle.model.specs.Driven.{CarriesOut, RestartsFrom, Does, is_restart, answers_in}
-use Rattle.worked.specs.Small.{edges, copies, words, done_under}
+use Rattle.worked.specs.Small.{copy, edges, copies, words, done_under}
 use Rattle.worked.specs.Refused.{RefusedRecords, RefusedFaults, RefusedMoves, RefusedFiles, RefusedStarts, RefusedEnds, RefusedRows, refuses_depfiles, anything, own, with_both, start_of_both, response, old_depfile, starts_one, too_early}
 use Rattle.model.specs.Faithful.{IsFaithfulStore}
 use Rattle.worked.proofs.Lists.{all_has, bytes_same, none_some, no_more}
@@ -259,6 +263,23 @@ none_before : (earlier later : List Step) → [] ≡ earlier ++ Judged 1 true �
 none_before [] later is = cc
 none_before (step ∷ earlier) later is = cc
 
+-- the moments up to the second start have no tick behind the first one's end
+no_tick : (earlier between : List Moment) (by : Writer) (path : List ℕ) (content : Option (List ℕ))
+    → Wrote Program (codes "t") (Some []) 9 ∷ Happened (Start 1 copy 9) ∷ Happened (Finish 1 true) ∷ [] ≡ earlier ++ Wrote by path content 9 ∷ between → events_in between ≡ [] → ⊥
+no_tick [] between by path content is none =
+    let rest : Happened (Start 1 copy 9) ∷ Happened (Finish 1 true) ∷ [] ≡ between = cc in
+    some_first (ap events_in rest ∙ none)
+  where
+    some_first : Start 1 copy 9 ∷ Finish 1 true ∷ [] ≡ [] → ⊥
+    some_first is = cc
+no_tick (a ∷ []) between by path content is none = cc
+no_tick (a ∷ b ∷ []) between by path content is none = cc
+no_tick (a ∷ b ∷ c ∷ earlier) between by path content is none = let nothing : [] ≡ earlier ++ Wrote by path content 9 ∷ between = cc in absurd (empty earlier nothing)
+  where
+    empty : (xs : List Moment) → [] ≡ xs ++ Wrote by path content 9 ∷ between → ⊥
+    empty [] e = cc
+    empty (x ∷ xs) e = cc
+
 starts : RefusedStarts
 starts = record {
   clean = λ free store old new stale. let first = stale (Judged 1 false ∷ []) [] 1 refl in false≢true (judged_before false first.0 first.1 first.2);
@@ -266,6 +287,9 @@ starts = record {
   clean_step = λ lawful. false≢true lawful.1.0.1.stale;
   unjudged_step = λ lawful. false≢true lawful.0.1.stale;
   twice = λ lawful. false≢true (sym lawful.1.1.1.0.1.once);
+  without_tick = λ ticks.
+      let tick = ticks (Wrote Program (codes "t") (Some []) 9 ∷ Happened (Start 1 copy 9) ∷ Happened (Finish 1 true) ∷ []) [] 2 9 copy refl in
+      no_tick tick.earlier tick.between tick.by tick.path tick.content tick.splits tick.quiet;
 }
 
 -- ---- ends

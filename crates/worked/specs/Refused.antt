@@ -1,6 +1,6 @@
 -- What the definitions refuse.
 use Rattle.std.specs.Prelude.{◌≡◌, ◌≢◌, ℕ, ◌≤◌, ◌<◌, Bool, true, false, List, [], ◌∷◌, ◌++◌, Some, None, codes}
-use Rattle.model.specs.declared.event.Event.TheVariants.{Start}
+use Rattle.model.specs.declared.event.Event.TheVariants.{Start, Finish}
 use Rattle.model.specs.declared.event.Moment.{Moment}
 use Rattle.model.specs.declared.event.Moment.TheVariants.{Wrote, Happened}
 use Rattle.model.specs.declared.event.Writer.TheVariants.{Program}
@@ -13,13 +13,13 @@ use Rattle.model.specs.Graph.{has}
 use Rattle.model.specs.Outcome.{Behaviour}
 use Rattle.model.specs.Records.{Store, LogFormat, OwnFiles}
 use Rattle.model.specs.Schedule.{Step, Judged, Started, Ended, IsLawful}
-use Rattle.model.specs.Premises.{EndedAt, OwnFilesApart, FilesAreKept, RecordedApart}
+use Rattle.model.specs.Premises.{EndedAt, OwnFilesApart, FilesAreKept, RecordedApart, StartsAreTicked}
 use Rattle.model.specs.Kept.{KeepsRecords, StartedUnder}
 use Rattle.model.specs.SingleBuild.{Asked, Answer, Fault, SingleBuild, IsJudged, IsFrame, StartsOnlyStale, is_fault}
 use Rattle.model.specs.Faithful.{IsFaithfulStore}
 use Rattle.model.specs.History.{Visit, IsNotRead}
 use Rattle.model.specs.Driven.{Reader, IsDriven, CarriesOut, RestartsFrom, is_restart, asks_restart}
-use Rattle.worked.specs.Small.{act_with, edge_with, edges, asked, copies, words, no_records, done_under, world_with, task}
+use Rattle.worked.specs.Small.{act_with, copy, edge_with, edges, asked, copies, words, no_records, done_under, world_with, task}
 
 -- ---- records
 
@@ -148,6 +148,10 @@ pub record RefusedFiles : Type 0 where
 
 -- ---- starts
 
+-- the second start is under a stamp of before the first one's end
+abbrev pub unticked : List Moment
+unticked = Wrote Program (codes "t") (Some []) 9 ∷ Happened (Start 1 copy 9) ∷ Happened (Finish 1 true) ∷ Happened (Start 2 copy 9) ∷ []
+
 pub record RefusedStarts : Type 0 where
   -- a command that was judged clean, or not judged, is started
   pub clean : (free : List ℕ → Bool) (store : Store) (old new : List Moment) → StartsOnlyStale free edges store (Judged 1 false ∷ Started 1 ∷ []) old new → ⊥
@@ -156,6 +160,8 @@ pub record RefusedStarts : Type 0 where
   pub unjudged_step : IsLawful task (Started 1 ∷ []) → ⊥
   -- it is started twice
   pub twice : IsLawful task (Judged 1 true ∷ Started 1 ∷ Ended 1 true ∷ Started 1 ∷ []) → ⊥
+  -- it has no stamp of its own
+  pub without_tick : StartsAreTicked [] unticked → ⊥
 
 -- ---- ends
 
