@@ -210,6 +210,8 @@ module _ (tells : Bool) (own : OwnFiles) (asked : Asked) (steps : List Step) (ol
       → ((i : ℕ) → has_number (ended_in steps) i ≡ true → (edge_at asked.graph.edges i).act.depfile ≡ []) → IsJudged B free asked no_records steps None old.history now.history
   judged_of_nothing B free tell none some no_depfiles = record {
     verdicts = λ before after i b splits unread. verdicts_of_nothing own asked steps lawful none some old.history now.history before after i b splits;
-    well = λ i at ended well. accepts_none B (edge_at asked.graph.edges i).act (view_of at) (no_depfiles i ((kept_orderly asked.graph.edges steps rest.orderly).well i well));
-    depfiles = λ i at ended has unmet. depfiles_of_none tells own (task_of asked no_records) steps old now idle rest tell B i at (no_depfiles i has) ended has;
+    ended = record {
+      well = λ i at ended well. accepts_none B (edge_at asked.graph.edges i).act (view_of at) (no_depfiles i ((kept_orderly asked.graph.edges steps rest.orderly).well i well));
+      depfiles = λ i at ended has unmet. depfiles_of_none tells own (task_of asked no_records) steps old now idle rest tell B i at (no_depfiles i has) ended has;
+    };
   }

@@ -189,10 +189,10 @@ module _ (tells : Bool) (B : Behaviour) (format : LogFormat) (own : OwnFiles) (a
       schedule = nothing_scheduled said;
       met = None;
       met_fault = λ i is. absurd (none_met i is);
+      ended = beside_now.taken_in;
       judged = λ tell kept apart known. record {
         verdicts = λ before after i stale is. absurd (none_before before after (Judged i stale) is);
-        well = λ i at ended has. absurd (false≢true has);
-        depfiles = λ i at ended has. absurd (false≢true has);
+        ended = beside_now.taken_in tell kept;
       };
       judged_then = λ tell kept apart. (tt, tt);
       held_then = λ tell. (tt, λ next load. absurd (nothing_held load.content load.holds));

@@ -16,7 +16,7 @@ use Rattle.model.specs.OutOfDate.{ReadsNoFree, IsVerdict}
 use Rattle.model.specs.Schedule.{Step, Judged, Started, Ended, IsLawfulStep, IsEndOf, NoneMayBeJudged, NoneMayStart, started_in, out_of_date_in, ended_in, well_in, running_in}
 use Rattle.model.specs.Phases.{steps_of, Phase, NoLoadIsDue}
 use Rattle.model.specs.Premises.{FilesAreKept, RecordedApart, EndedAt, InputsAreKnown, LiesIn}
-use Rattle.model.specs.SingleBuild.{AreJudgedAt, ArePhasesJudgedAt, WasTakenIn, NamesOther, Asked, task_of, IsJudged, IsFrame}
+use Rattle.model.specs.SingleBuild.{AreJudgedAt, ArePhasesJudgedAt, WasTakenIn, NamesOther, Asked, task_of, IsJudged, IsFrame, EndRightly}
 use Rattle.model.specs.Kept.{StartedUnder, KeepsRecords, store_at}
 use Rattle.build_theory.specs.Run.{starts_in, IsRun, IsRunOrRest}
 use Rattle.build_theory.proofs.Steps.{running_parts}
@@ -28,7 +28,6 @@ use Rattle.build_theory.proofs.Starting.{OthersRun, ready_nothing, ready_quiet, 
 use Rattle.build_theory.proofs.Runs.{run_begins, run_judged, run_looks, run_starts, run_takes_in, rest_begins, rest_looks, rest_finishes}
 use Rattle.build_theory.proofs.Exit.{frame}
 use Rattle.log_theory.specs.Logged.{IsLoggedAt}
-use Rattle.log_theory.specs.Judged.{AreTakenIn}
 use Rattle.log_theory.specs.Builds.{IsRunOf}
 use Rattle.log_theory.specs.Writes.{GrewAt, WritesAt}
 use Rattle.log_theory.specs.Alone.{IsNoFileOf, AreLeftAlone}
@@ -161,7 +160,7 @@ module _ (tells : Bool) (B : Behaviour) (format : LogFormat) (own : OwnFiles) (a
     pub files_before : IsTrue tells → Kept new → Kept now
     files_before tell files = kept_before own asked.graph.edges old.history now.history new.history (grew tell).more (grew tell).grows files
 
-    taken_in_on : (met : Option ℕ) → EndsOf es steps → (tell : IsTrue tells) → AreTakenIn B asked.graph.edges steps met old.history now.history → AreTakenIn B asked.graph.edges steps met old.history new.history
+    taken_in_on : (met : Option ℕ) → EndsOf es steps → (tell : IsTrue tells) → EndRightly B asked.graph.edges steps met old.history now.history → EndRightly B asked.graph.edges steps met old.history new.history
     taken_in_on met ends tell taken = taken_on B asked.graph.edges old.history steps met met (rest.history tell).more now.history (grew tell).more new.history (rest.history tell).grows (grew tell).grows (λ i h. h)
         (λ before after i splits. ends (events_in before) (events_in after) i (sym (grew tell).happened ∙ (ap events_in splits ∙ events_in-append before (Happened (Finish i true) ∷ after))))
         (λ i well. (kept_orderly asked.graph.edges steps rest.orderly).well i well) taken

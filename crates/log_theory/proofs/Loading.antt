@@ -11,7 +11,7 @@ use Rattle.model.specs.Records.{Store, LogFormat, OwnFiles}
 use Rattle.model.specs.Schedule.{Step, started_in, well_in}
 use Rattle.model.specs.Phases.{Phase, IsGrownBy, IsNextLoad, IsInOrderAt}
 use Rattle.model.specs.Premises.{FilesAreKept, SharesNone}
-use Rattle.model.specs.SingleBuild.{HeldAt, Asked, asked_with, task_of}
+use Rattle.model.specs.SingleBuild.{HeldAt, Asked, asked_with, task_of, EndRightly}
 use Rattle.model.specs.Kept.{store_at}
 use Rattle.build_theory.specs.Run.{IsRunOrRest}
 use Rattle.build_theory.proofs.Growth.{HasGrown, grown_by}
@@ -19,14 +19,13 @@ use Rattle.build_theory.proofs.Moved.{run_moved}
 use Rattle.build_theory.proofs.Orderly.{IsKept, kept_orderly}
 use Rattle.build_theory.proofs.Runs.{rest_begins}
 use Rattle.log_theory.specs.Alone.{AreLeftAlone}
-use Rattle.log_theory.specs.Judged.{AreTakenIn}
 use Rattle.log_theory.specs.Ledger.{IsCarried}
 use Rattle.log_theory.proofs.Grown.{logged_moved}
 use Rattle.log_theory.proofs.Phased.{phased_load}
 use Rattle.log_theory.proofs.Turned.{kept_then}
 
 module _ (few many : List Edge) (grown : HasGrown few many) where
-  taken_moved : (B : Behaviour) (steps : List Step) (met : Option ℕ) (old now : List Moment) → AreTakenIn B few steps met old now → AreTakenIn B many steps met old now
+  taken_moved : (B : Behaviour) (steps : List Step) (met : Option ℕ) (old now : List Moment) → EndRightly B few steps met old now → EndRightly B many steps met old now
   taken_moved B steps met old now taken = record {
     well = λ i at ended well. subst (λ (a : Act). is_accepted (depfile_in B a (view_of at)) ≡ true) (sym (grown.act i)) (taken.well i at ended well);
     depfiles = λ i at ended has unmet. subst (λ (a : Act). has_number (well_in steps) i ≡ is_accepted (depfile_in B a (view_of at))) (sym (grown.act i)) (taken.depfiles i at ended has unmet);

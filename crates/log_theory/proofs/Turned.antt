@@ -241,6 +241,5 @@ module _ (tells : Bool) (B : Behaviour) (own : OwnFiles) (texts : View) (asked :
 pub verdicts_with_loads : VerdictsWithLoads
 verdicts_with_loads tells B own texts asked store steps met old now tell idle once others build rest phases last files apart known taken_in = record {
   verdicts = verdict_now tells B own texts asked store steps old now tell idle once others build rest files apart known phases last;
-  well = taken_in.well;
-  depfiles = taken_in.depfiles;
+  ended = taken_in;
 }

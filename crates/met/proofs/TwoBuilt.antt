@@ -17,7 +17,7 @@ use Rattle.model.specs.OutOfDate.{IsVerdict, IsMissing}
 use Rattle.model.specs.Schedule.{Step, Judged, Started, Ended, judged_in, started_in, ended_in, well_in, IsLawfulFrom}
 use Rattle.model.specs.Phases.{IsLawfulBuild, AreUnloadedFrom, IsPointAfter, WasNothingMissingIn, EndsInEvent, happened_in, NothingNeededIsFree}
 use Rattle.model.specs.Premises.{HasOneOutcome, LeftOutcome, EndedAt, Increases, IsWithinEdge, IsNoEdit, OwnFilesApart, LiesIn, SharesNone, FilesAreKept, IsKnownAbove, ByOne, Premises, none_free, KeepsFaith, StampsGrow, LeaveOutcomes, IsTickedAt, StartsAreTicked}
-use Rattle.model.specs.SingleBuild.{IsJudged, IsInOrder, WasInOrder, IsOfBuild, MayChange, IsReadyFor, IsMadeBy, IsFrame, task_of}
+use Rattle.model.specs.SingleBuild.{EndRightly, IsJudged, IsInOrder, WasInOrder, IsOfBuild, MayChange, IsReadyFor, IsMadeBy, IsFrame, task_of}
 use Rattle.met.specs.Scanning.{cat, scan, edges, asked, toys, own, own_paths, begins_with}
 use Rattle.met.proofs.Lists.{all_has, all_from_has, none_some}
 use Rattle.met.proofs.TwoEdges.{reads_these, no_dyndep, names_no_other, made_once, recorded_h, no_cycle, is_either}
@@ -290,12 +290,17 @@ module _ (reading : List ℕ → Option (List (List ℕ))) (dyndep : List ℕ �
   pub told_at : (steps : List Step) (old more : List Moment) → AtEach (EndsIn (EndsTelling old steps)) [] more → (i : ℕ) (at : List Moment) → EndedAt i old (old ++ more) at → Tells at i
   told_at steps old more ends i at ended = subst (λ (files : List Moment). Tells files i) (sym ended.is) (ended_in_build (EndsTelling old steps) old more ends i at ended).1
 
+  pub ends_of : (steps : List Step) (old more : List Moment) → AtEach (EndsIn (EndsTelling old steps)) [] more → EndRightly B edges steps None old (old ++ more)
+  ends_of steps old more ends = record {
+    well = λ i at ended h. ap is_accepted (told_at steps old more ends i at ended);
+    depfiles = λ i at ended h unmet. (ended_in_build (EndsTelling old steps) old more ends i at ended).0 ∙ sym (ap is_accepted (told_at steps old more ends i at ended));
+  }
+
   pub judged_of : (free : List ℕ → Bool) (steps : List Step) (old more : List Moment) → AtEach (VerdictAt store old (old ++ more)) [] steps → AtEach (EndsIn (EndsTelling old steps)) [] more
       → IsJudged B free asked store steps None old (old ++ more)
   judged_of free steps old more verdicts ends = record {
     verdicts = λ before after i b is unread. at_each (VerdictAt store old (old ++ more)) [] steps (Judged i b) before after verdicts is;
-    well = λ i at ended h. ap is_accepted (told_at steps old more ends i at ended);
-    depfiles = λ i at ended h unmet. (ended_in_build (EndsTelling old steps) old more ends i at ended).0 ∙ sym (ap is_accepted (told_at steps old more ends i at ended));
+    ended = ends_of steps old more ends;
   }
 
   abbrev pub in_one_phase : (texts : View) (steps : List Step) → IsLawfulFrom (task_of asked store) [] steps → IsLawfulBuild dyndep texts edges (task_of asked store) store steps

@@ -153,15 +153,19 @@ pub record MetFault (task : Task) (steps : List Step) (old new : World) (answer 
   pub stale : has_number (out_of_date_in steps) i ≡ true
   pub taken_in : WasTakenIn i old new → has_number (ended_in steps) i ≡ true
 
--- Each verdict is that of the table, where others write nothing that the edge reads. A command that ended well by itself and whose depfile is not refused ended well, and no other
--- did; of the one whose taking in met the fault, whose depfile may not have been read, the second is said alone.
+-- A command that ended well by itself and whose depfile is not refused ended well, and no other did; of the one whose taking in met
+-- the fault, whose depfile may not have been read, the second is said alone.
+pub record EndRightly (B : Behaviour) (edges : List Edge) (steps : List Step) (met : Option ℕ) (old new : List Moment) : Type 0 where
+  pub well : (i : ℕ) (at : List Moment) → EndedAt i old new at → has_number (well_in steps) i ≡ true
+      → is_accepted (depfile_in B (edge_at edges i).act (view_of at)) ≡ true
+  pub depfiles : (i : ℕ) (at : List Moment) → EndedAt i old new at → has_number (ended_in steps) i ≡ true → (met ≡ Some i → ⊥)
+      → has_number (well_in steps) i ≡ is_accepted (depfile_in B (edge_at edges i).act (view_of at))
+
+-- Each verdict is that of the table, where others write nothing that the edge reads; and commands ended as is said.
 pub record IsJudged (B : Behaviour) (free : List ℕ → Bool) (asked : Asked) (store : Store) (steps : List Step) (met : Option ℕ) (old new : List Moment) : Type 0 where
   pub verdicts : (before after : List Step) (i : ℕ) (out_of_date : Bool) → steps ≡ before ++ Judged i out_of_date ∷ after
       → ReadsNoFree free asked.graph.edges store new i → IsVerdict asked.graph.edges store (well_in before) old new i out_of_date
-  pub well : (i : ℕ) (at : List Moment) → EndedAt i old new at → has_number (well_in steps) i ≡ true
-      → is_accepted (depfile_in B (edge_at asked.graph.edges i).act (view_of at)) ≡ true
-  pub depfiles : (i : ℕ) (at : List Moment) → EndedAt i old new at → has_number (ended_in steps) i ≡ true → (met ≡ Some i → ⊥)
-      → has_number (well_in steps) i ≡ is_accepted (depfile_in B (edge_at asked.graph.edges i).act (view_of at))
+  pub ended : EndRightly B asked.graph.edges steps met old new
 
 -- The verdict on edge i is that of the table at a moment when just the steps before it were done, over the edges of then, where others
 -- write nothing that the edge reads.
@@ -414,6 +418,8 @@ pub record SingleBuild (tells : Bool) (B : Behaviour) (format : LogFormat) (own 
   -- the edge whose start or taking in met the fault, if one did
   pub met : Option ℕ
   pub met_fault : (i : ℕ) → met ≡ Some i → MetFault (task_of asked store) steps old new answer i
+  -- which commands ended well, whatever is known of inputs
+  pub ended : IsTrue tells → FilesAreKept own asked.graph.edges old.history new.history → EndRightly B asked.graph.edges steps met old.history new.history
   pub judged : IsTrue tells → (files : FilesAreKept own asked.graph.edges old.history new.history) → RecordedApart own (recorded_inputs store asked.graph.edges)
       → InputsAreKnown asked.declared asked.graph.edges (recorded_inputs store asked.graph.edges)
       → IsJudged B files.free asked store steps met old.history new.history

@@ -299,8 +299,8 @@ refused_depfile held content is = ap (λ (h : Option (List ℕ)). is_accepted (r
 
 ends : RefusedEnds
 ends = record {
-  failed = λ free store old new at ended judged. false≢true (judged.depfiles 1 at ended refl (λ met. none_some 1 met));
-  well = λ free store old new at content ended held judged. false≢true (sym (refused_depfile _ content held) ∙ judged.well 1 at ended refl);
+  failed = λ old new at ended right. false≢true (right.depfiles 1 at ended refl (λ met. none_some 1 met));
+  well = λ old new at content ended held right. false≢true (sym (refused_depfile _ content held) ∙ right.well 1 at ended refl);
 }
 
 pub refused_rows : RefusedRows

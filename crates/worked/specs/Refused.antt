@@ -15,7 +15,7 @@ use Rattle.model.specs.Records.{Store, LogFormat, OwnFiles}
 use Rattle.model.specs.Schedule.{Step, Judged, Started, Ended, IsLawful}
 use Rattle.model.specs.Premises.{EndedAt, OwnFilesApart, FilesAreKept, RecordedApart, StartsAreTicked}
 use Rattle.model.specs.Kept.{KeepsRecords, StartedUnder}
-use Rattle.model.specs.SingleBuild.{Asked, Answer, Fault, SingleBuild, IsJudged, IsFrame, StartsOnlyStale, is_fault}
+use Rattle.model.specs.SingleBuild.{Asked, Answer, Fault, SingleBuild, EndRightly, IsFrame, StartsOnlyStale, is_fault}
 use Rattle.model.specs.Faithful.{IsFaithfulStore}
 use Rattle.model.specs.History.{Visit, IsNotRead}
 use Rattle.model.specs.Driven.{Reader, IsDriven, CarriesOut, RestartsFrom, is_restart, asks_restart}
@@ -168,20 +168,17 @@ pub record RefusedStarts : Type 0 where
 abbrev pub with_depfile : List Edge
 with_depfile = edge_with (act_with (codes "copy") (codes "d") []) ∷ []
 
-abbrev pub asked_with_depfile : Asked
-asked_with_depfile = record { graph = record { edges = with_depfile; pools = []; defaults = []; builddir = [] }; declared = with_depfile; targets = []; folder = []; jobs = 1; keep = 1 }
-
 -- no depfile can be read
 abbrev pub refuses_depfiles : Behaviour
 refuses_depfiles = record { outcome = copies.outcome; depfile = λ content. None; dyndep = copies.dyndep }
 
 pub record RefusedEnds : Type 0 where
   -- a command ended well by itself and has no depfile, and is said to have failed
-  pub failed : (free : List ℕ → Bool) (store : Store) (old new at : List Moment) → EndedAt 1 old new at
-      → IsJudged copies free asked store (Judged 1 true ∷ Started 1 ∷ Ended 1 false ∷ []) None old new → ⊥
+  pub failed : (old new at : List Moment) → EndedAt 1 old new at
+      → EndRightly copies edges (Judged 1 true ∷ Started 1 ∷ Ended 1 false ∷ []) None old new → ⊥
   -- it left a depfile that is refused, and is said to have ended well
-  pub well : (free : List ℕ → Bool) (store : Store) (old new at : List Moment) (content : List ℕ) → EndedAt 1 old new at → view_of at (codes "d") ≡ Some content
-      → IsJudged refuses_depfiles free asked_with_depfile store ran_well None old new → ⊥
+  pub well : (old new at : List Moment) (content : List ℕ) → EndedAt 1 old new at → view_of at (codes "d") ≡ Some content
+      → EndRightly refuses_depfiles with_depfile ran_well None old new → ⊥
 
 -- All of it.
 pub record RefusedRows : Type 0 where
