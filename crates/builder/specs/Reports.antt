@@ -10,7 +10,7 @@ use Rattle.model.specs.Graph.{edge_at, first_output, IsMadeOnce}
 use Rattle.model.specs.OutOfDate.{IsFirstMissing, IsMissingInput}
 use Rattle.model.specs.Premises.{LogsAreLeft}
 use Rattle.model.specs.Schedule.{Step}
-use Rattle.model.specs.Records.{Store, OwnFiles, IsOwnIn, store_in}
+use Rattle.model.specs.Records.{Store, IsOwnIn, store_in}
 use Rattle.model.specs.SingleBuild.{Asked, NamesOther, task_of}
 use Rattle.build_theory.specs.Seen.{Looked}
 use Rattle.paths.specs.declared.manifest.Manifest.{Manifest}

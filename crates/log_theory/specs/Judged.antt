@@ -1,14 +1,14 @@
 -- What a run carries of its verdicts and of the depfiles that it read: no premise is named here but where a moment needs it.
-use Rattle.std.specs.Prelude.{◌≡◌, ℕ, Bool, true, IsTrue, List, [], ◌∷◌, ◌++◌, Option, Some, None}
+use Rattle.std.specs.Prelude.{◌≡◌, ℕ, Bool, true, IsTrue, List, [], ◌∷◌, ◌++◌, Option, None}
 use Rattle.model.specs.declared.event.Moment.{Moment}
 use Rattle.model.specs.declared.graph.Edge.{Edge}
-use Rattle.model.specs.World.{World, View, view_of, IsIdle}
+use Rattle.model.specs.World.{World, View, IsIdle}
 use Rattle.model.specs.Graph.{has_number, edge_at, IsMadeOnce}
-use Rattle.model.specs.Outcome.{Behaviour, depfile_in, is_accepted}
+use Rattle.model.specs.Outcome.{Behaviour}
 use Rattle.model.specs.Records.{Store, OwnFiles, recorded_inputs}
 use Rattle.model.specs.OutOfDate.{ReadsNoFree, IsVerdict}
-use Rattle.model.specs.Schedule.{judged_in, Step, Judged, Started, Ended, IsLawful, ended_in, well_in}
-use Rattle.model.specs.Premises.{FilesAreKept, RecordedApart, EndedAt, InputsAreKnown}
+use Rattle.model.specs.Schedule.{judged_in, Step, Judged, Started, Ended, IsLawful, well_in}
+use Rattle.model.specs.Premises.{FilesAreKept, RecordedApart, InputsAreKnown}
 use Rattle.model.specs.SingleBuild.{Asked, NamesOther, task_of, IsJudged, AreJudgedAt, ArePhasesJudgedAt, EndRightly}
 use Rattle.model.specs.Phases.{Phase, steps_of, task_with, IsLawfulBuild}
 use Rattle.build_theory.specs.Run.{IsRun, IsRunOrRest}
