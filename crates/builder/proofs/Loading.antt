@@ -433,6 +433,7 @@ module _ (tells : Bool) (tick : List ℕ) (course : Course) (edges : List Edge) 
             | inr recorded ↦ needed.0 i p (has-right (inputs (edge_at next i)) (recorded_inputs course.store next i) p (recorded_more i p recorded))
           ],
           needed.1,
+          λ i p h. needed.2 i p (more.outputs i p h),
         )
 
         -- nothing was missing when the phases began

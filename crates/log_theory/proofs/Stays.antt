@@ -109,7 +109,7 @@ module _ (tells : Bool) (B : Behaviour) (format : LogFormat) (own : OwnFiles) (a
 
     holds_now : (o : List ℕ) → has (outputs (edge_at asked.graph.edges i)) o ≡ true → view_of now.history o ≡ given B (edge_at asked.graph.edges i).act left.seen o
     holds_now o is_output =
-        ap content_of (output_stays tells own (task_of asked entry) steps old now idle rest tell once keeps.kept i o is_output end)
+        ap content_of (output_stays tells own (task_of asked entry) steps old now idle rest tell once keeps.kept i (all.judged i (all.out_of_date i (all.started i (all.ended i (all.well i well))))) o is_output end)
         ∙ (ap (λ (h : List Moment). view_of h o) same_end
         ∙ all_has (λ p. view_of at p ≡ given B (edge_at asked.graph.edges i).act left.seen p) (outputs (edge_at asked.graph.edges i)) o left.contents is_output)
 

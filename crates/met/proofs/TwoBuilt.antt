@@ -255,7 +255,7 @@ own_fits = record { build_log = refl; deps_log = refl; is_log = refl; is_deps = 
 abbrev pub kept_of : (old more : List Moment) → AllByRecursion (IsWithinEdge none_free edges) more → AllByRecursion (IsNoEdit none_free) more → FilesAreKept own edges old (old ++ more)
 kept_of old more within edits = record {
   free = none_free;
-  free_apart = record { set = λ p is. refl; outputs = λ i p is. refl };
+  free_apart = record { set = λ p is. refl; outputs = λ i p makes is. refl };
   commands = λ added is. subst (AllByRecursion (IsWithinEdge none_free edges)) (append_cancel_left old more added is) within;
   own_files = own_files;
   edits = λ added is. subst (AllByRecursion (IsNoEdit none_free)) (append_cancel_left old more added is) edits;

@@ -163,10 +163,14 @@ pub record LogsAreLeft (own : OwnFiles) (old new : List Moment) : Type 0 where
   pub deps_log : free own.deps_log ≡ false
   pub edits : OnlyFreeIsEdited free old new
 
--- a free path is none of the program's own files, no depfile, no response file, and no output
+-- The edge makes what it names as an output: it has a command, or inputs. A `phony` line without inputs only names a source.
+abbrev pub IsMaking : List Edge → ℕ → Type 0
+IsMaking edges i = IsCommand edges i ⊎ (inputs (edge_at edges i) ≢ [])
+
+-- a free path is none of the program's own files, no depfile, no response file, and no output that an edge makes
 pub record FreeApart (free : List ℕ → Bool) (own : OwnFiles) (edges : List Edge) : Type 0 where
   pub set : (p : List ℕ) → own.set p ≡ true → free p ≡ false
-  pub outputs : (i : ℕ) (p : List ℕ) → has (outputs (edge_at edges i)) p ≡ true → free p ≡ false
+  pub outputs : (i : ℕ) (p : List ℕ) → IsMaking edges i → has (outputs (edge_at edges i)) p ≡ true → free p ≡ false
 
 -- ---- reports come from above
 
@@ -233,8 +237,8 @@ HaveEnded world = IsIdle world.events
 
 -- ---- together
 
--- What the frame and the records suppose: only commands write outputs, the program's own files are apart from what the graph
--- names, and others write nothing but free paths, which are whatever these are.
+-- What the frame and the records suppose, for some set of paths that are free: only commands write outputs, the program's own files
+-- are apart from what the graph names, and others write nothing but free paths.
 pub record FilesAreKept (own : OwnFiles) (edges : List Edge) (old new : List Moment) : Type 0 where
   pub free : List ℕ → Bool
   pub free_apart : FreeApart free own edges

@@ -49,7 +49,7 @@ use Rattle.runner.proofs.Onward.{taken_judged, since_goes}
 use Rattle.runner.proofs.Places.{phony_is}
 use Rattle.runner.proofs.Quiet.{files_then, all_kept, quiet_less}
 use Rattle.runner.proofs.Removed.{removed_steps}
-use Rattle.runner.proofs.Keeping.{Carried, grown, looks_carried, looks_leave, looks_quiet, looks_removed, logging_over, told_over, started_more, well_ended, still_anew, still_before}
+use Rattle.runner.proofs.Keeping.{Carried, grown, looks_carried, looks_leave, looks_quiet, looks_removed, logging_over, told_over, started_more, ended_command, still_anew, still_before}
 use Rattle.runner.proofs.Anew.{anew_over}
 use Rattle.runner.proofs.Finishing.{makes_it}
 use Rattle.runner.proofs.Noticed.{with_looks, before_kept}
@@ -129,7 +129,7 @@ module _ (tells : Bool) (course : Course) (graph : Graph) (stays : LogStays) (ti
     flagged : FlagsOver (edges_of course)
     flagged p lt counted =
         still_anew tells course graph stays None state now new on suits.once (looks_quiet tells course graph stays None state now new on looks) tell files p lt
-        (counted_unfailed edges on.steps kept course.own files.own_files files.free files.free_apart suits.once course.asked course.store (suc e) turn.once apart (λ q j h made. turn.ready q h j made) new.history (text_at graph.manifest.paths p) counted)
+        (counted_unfailed edges on.steps kept course.own files.own_files files.free files.free_apart suits.once course.asked course.store (suc e) turn.command turn.once apart (λ q j h made. turn.ready q h j made) new.history (text_at graph.manifest.paths p) counted)
 
     pub may_be_judged : ReadsNoFree files.free (edges_of course) course.store new.history (suc e)
         → MayBeJudgedBy graph on.told.records on.told.deps state.plan.changed.items course.store (well_in on.steps) course.entry.history new.history (suc e) (is_quiet files.free course.own (edges_of course) on.steps)
@@ -143,7 +143,7 @@ module _ (tells : Bool) (course : Course) (graph : Graph) (stays : LogStays) (ti
           (λ named. depfile_stays tells course.own (task_of course.asked course.store) on.steps course.entry new suits.idle rest tell suits.once files (suc e) turn.command named (λ out. false≢true (sym turn.once ∙ kept.out_of_date (suc e) out)));
       flagged = subst (λ (es : List Edge). FlagsOver es) same_edges flagged;
       paths = subst (λ (es : List Edge). HasPathsOf es course.store (suc e) (is_quiet files.free course.own (edges_of course) on.steps)) same_edges
-          (paths_quiet edges on.steps kept course.own files.own_files files.free files.free_apart suits.once course.asked course.store (suc e) turn.once apart (λ q j h made. turn.ready q h j made) new.history bound);
+          (paths_quiet edges on.steps kept course.own files.own_files files.free files.free_apart suits.once course.asked course.store (suc e) turn.command turn.once apart (λ q j h made. turn.ready q h j made) new.history bound);
     }
 
   -- ---- the verdict
@@ -176,7 +176,7 @@ module _ (tells : Bool) (course : Course) (graph : Graph) (stays : LogStays) (ti
         (quiet_less files.free course.own (edges_of course) on.steps more (λ i runs. running_judged on.steps (suc e) stale i ∙ runs) (text_at graph.manifest.paths p) quiet_so)
 
     judged_anew : AreAnew tells course graph more state new
-    judged_anew = anew_over tells course graph on.steps more on.steps state now new (looks_quiet tells course graph stays None state now new on looks) suits.once (well_ended tells course graph on.steps None now on.carried)
+    judged_anew = anew_over tells course graph on.steps more on.steps state now new (looks_quiet tells course graph stays None state now new on looks) suits.once (ended_command tells course graph on.steps None now on.carried)
         (well_judged on.steps (suc e) stale) (failed_judged on.steps (suc e) stale) on.anew
 
     -- of its own outputs that were asked for: nobody has touched them
@@ -187,7 +187,7 @@ module _ (tells : Bool) (course : Course) (graph : Graph) (stays : LogStays) (ti
         let was = outputs_asked restat p made in
         let makes = makes_it (edges_of course) graph suits.once (subst (λ (es : List Edge). StandFor es graph.manifest.paths (links_of graph)) (sym same_edges) stand) e p made in
         looked.seen tell (is_quiet files.free course.own (edges_of course) on.steps) quiet.1 (on.seen tell (files_then course.own (edges_of course) course.entry now new quiet.0 files)) p (ap is_asked (looked.stays p was) ∙ was)
-        (outputs_quiet edges on.steps kept course.own files.own_files files.free files.free_apart suits.once (suc e) turn.once (text_at graph.manifest.paths p) makes)
+        (outputs_quiet edges on.steps kept course.own files.own_files files.free files.free_apart suits.once (suc e) turn.command turn.once (text_at graph.manifest.paths p) makes)
         ∙ ap look_of (outputs_untouched tells course.own (task_of course.asked course.store) on.steps course.entry new suits.idle rest tell files suits.once (suc e) turn.command turn.once (text_at graph.manifest.paths p) makes)
 
     judged_before : AreSeenBefore tells course graph more (with_looks tells course graph state after) new

@@ -70,7 +70,7 @@ free_outputs (suc (suc i)) p h = absurd (false≢true h)
 kept : FilesAreKept own edges entry (entry ++ build)
 kept = record {
   free = a_free;
-  free_apart = record { set = λ p h. not_a own.set p refl h; outputs = free_outputs };
+  free_apart = record { set = λ p h. not_a own.set p refl h; outputs = λ i p makes h. free_outputs i p h };
   commands = λ more is. subst (AllByRecursion (IsWithinEdge a_free edges)) (append_cancel_left entry build more is) (tt, (tt, (tt, (tt, (inl refl, (tt, (tt, tt)))))));
   own_files = own_files;
   edits = λ more is. subst (AllByRecursion (IsNoEdit a_free)) (append_cancel_left entry build more is) (tt, (tt, (tt, (refl, (tt, (tt, (tt, tt)))))));

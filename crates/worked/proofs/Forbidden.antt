@@ -1,5 +1,5 @@
 -- The rows of what others may not do.
-use Rattle.std.proofs.Common.{◌≡◌, ◌<◌, ◌≤◌, ℕ, Bool, true, false, List, [], ◌∷◌, ◌++◌, Option, Some, None, refl, sym, ◌∙◌, ap, arith}
+use Rattle.std.proofs.Common.{◌≡◌, inl, ◌<◌, ◌≤◌, ℕ, Bool, true, false, List, [], ◌∷◌, ◌++◌, Option, Some, None, refl, sym, ◌∙◌, ap, arith}
 use Rattle.std.specs.Prelude.{codes, bytes_eq}
 use Rattle.std.proofs.lemmas.Bool.{false≢true}
 use Rattle.model.specs.declared.event.Moment.{Moment}
@@ -61,7 +61,7 @@ none_some x is = cc
 pub forbidden_rows : ForbiddenRows
 forbidden_rows = record {
   believed = believed;
-  output = ((λ files. false≢true (sym (files.free_apart.outputs 1 (codes "b") refl) ∙ (files.edits (ran ++ patched) refl).1.1.1.1.0)), patched_b);
+  output = ((λ files. false≢true (sym (files.free_apart.outputs 1 (codes "b") (inl refl) refl) ∙ (files.edits (ran ++ patched) refl).1.1.1.1.0)), patched_b);
   source = ((λ faith. none_some _ (faith.unrecorded (codes "b") (faith.kept.edits patched refl).0)), patched_b);
   log = ((λ files. false≢true (sym (files.free_apart.set (codes "l") refl) ∙ (files.edits forged refl).0)), forged_log);
   time = ((λ stamps. let low : 10 ≤ 8 = (stamps put_back refl).0 in absurd (omega (arith, low))), put_back_a);

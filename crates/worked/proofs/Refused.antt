@@ -217,7 +217,7 @@ own_files = record {
 kept_after : (old added : List Moment) → AllByRecursion (IsWithinEdge none_free with_both) added → AllByRecursion (IsNoEdit none_free) added → FilesAreKept own with_both old (old ++ added)
 kept_after old added within edits = record {
   free = none_free;
-  free_apart = record { set = λ p is. refl; outputs = λ i p is. refl };
+  free_apart = record { set = λ p is. refl; outputs = λ i p makes is. refl };
   commands = λ more is. subst (AllByRecursion (IsWithinEdge none_free with_both)) (append_cancel_left old added more is) within;
   own_files = own_files;
   edits = λ more is. subst (AllByRecursion (IsNoEdit none_free)) (append_cancel_left old added more is) edits;

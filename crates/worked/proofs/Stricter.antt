@@ -89,7 +89,7 @@ own_view B edges since new at i one left =
 abbrev kept_by : (own : OwnFiles) (edges : List Edge) (old new : List Moment) → KeepToOutputs none_free edges old new → OwnFilesApart own edges → NothingIsEdited old new → FilesAreKept own edges old new
 kept_by own edges old new commands own_files edits = record {
   free = none_free;
-  free_apart = record { set = λ p h. refl; outputs = λ i p h. refl };
+  free_apart = record { set = λ p h. refl; outputs = λ i p makes h. refl };
   commands = commands;
   own_files = own_files;
   edits = edits;
