@@ -145,6 +145,7 @@ module _ (tells : Bool) (B : Behaviour) (format : LogFormat) (own : OwnFiles) (a
     idle = idle;
     ready = λ tell. ready_nothing own asked.graph.edges entry.history;
     ticked = λ tell. ticked_nothing entry.history;
+    clean = λ tell kept i h stale. false≢true h;
     taken_in = λ tell kept. taken_nothing B asked.graph.edges entry.history None entry.history;
     logged = λ tell kept. entry_logged B format own asked.graph.edges entry;
     alone = λ tell kept. alone_nothing asked.graph.edges entry.history;
@@ -194,6 +195,7 @@ module _ (tells : Bool) (B : Behaviour) (format : LogFormat) (own : OwnFiles) (a
         verdicts = λ before after i stale is. absurd (none_before before after (Judged i stale) is);
         ended = beside_now.taken_in tell kept;
       };
+      clean = λ tell kept i h stale. false≢true h;
       judged_then = λ tell kept apart. (tt, tt);
       held_then = λ tell. (tt, λ next load. absurd (nothing_held load.content load.holds));
       answers = is;

@@ -124,6 +124,7 @@ module _ (tells : Bool) (B : Behaviour) (format : LogFormat) (own : OwnFiles) (a
         met_fault = met_fault;
         ended = cut.beside.taken_in;
         judged = λ tell kept apart known. judged_of tells B format own asked store entry phases steps met now cut once others tell kept apart known;
+        clean = cut.beside.clean;
         judged_then = right_then;
         held_then = held_then;
         answers = is;

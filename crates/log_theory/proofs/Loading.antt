@@ -1,5 +1,5 @@
 -- What a run carries goes on through the load of a dyndep file, over the edges that it gives.
-use Rattle.std.proofs.Common.{◌≡◌, ℕ, Bool, true, false, IsTrue, List, [], ◌∷◌, ◌++◌, Option, Some, None, refl, sym, subst}
+use Rattle.std.proofs.Common.{◌≡◌, ℕ, Bool, true, false, IsTrue, List, [], ◌∷◌, ◌++◌, Option, Some, None, is_some, refl, sym, subst}
 use Rattle.std.proofs.lemmas.Bool.{true≢false}
 use Rattle.model.specs.declared.act.Act.{Act}
 use Rattle.model.specs.declared.event.Moment.{Moment}
@@ -7,6 +7,8 @@ use Rattle.model.specs.declared.graph.Edge.{Edge}
 use Rattle.model.specs.World.{World, view_of}
 use Rattle.model.specs.Graph.{has_number, edge_at, Addition}
 use Rattle.model.specs.Outcome.{Behaviour, depfile_in, is_accepted}
+use Rattle.model.specs.Judgement.{reason_of}
+use Rattle.model.specs.OutOfDate.{IsStaleByOutputs, made_facts}
 use Rattle.model.specs.Records.{Store, LogFormat, OwnFiles}
 use Rattle.model.specs.Schedule.{Step, started_in, well_in}
 use Rattle.model.specs.Phases.{Phase, IsGrownBy, IsNextLoad, IsInOrderAt}
@@ -54,6 +56,7 @@ module _ (tells : Bool) (B : Behaviour) (format : LogFormat) (own : OwnFiles) (a
       idle = carried.beside.idle;
       ready = λ tell files. carried.beside.ready tell (before tell files);
       ticked = carried.beside.ticked;
+      clean = λ tell files k h stale. carried.beside.clean tell (before tell files) k h (stale_before k (carried.phased.loaded k (kept.clean k h)) stale);
       taken_in = λ tell files. taken_moved asked.graph.edges next more B steps None old.history now.history (carried.beside.taken_in tell (before tell files));
       logged = λ tell files.
           let was = carried.beside.logged tell (before tell files) in
@@ -70,6 +73,10 @@ module _ (tells : Bool) (B : Behaviour) (format : LogFormat) (own : OwnFiles) (a
 
       loaded : (i : ℕ) → has_number (started_in steps) i ≡ true → (edge_at asked.graph.edges i).dyndep ≡ None
       loaded i started = carried.phased.loaded i (kept.out_of_date i (kept.started i started))
+
+      -- an edge whose dyndep file was loaded is as it was
+      stale_before : (k : ℕ) → (edge_at asked.graph.edges k).dyndep ≡ None → IsStaleByOutputs next store old.history k → IsStaleByOutputs asked.graph.edges store old.history k
+      stale_before k none stale = subst (λ (e : Edge). is_some (reason_of (made_facts e store old.history)) ≡ true) (more.same k none) stale
 
       before : IsTrue tells → FilesAreKept own next old.history now.history → FilesAreKept own asked.graph.edges old.history now.history
       before tell files = kept_then tells own (task_of asked store) next more steps old now tell carried.beside.idle rest loaded files

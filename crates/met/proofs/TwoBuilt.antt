@@ -2,7 +2,7 @@
 use Rattle.std.proofs.Common.{◌≡◌, ◌≢◌, ◌⊎◌, inl, inr, ℕ, zero, suc, ◌==◌, if◌then◌else◌, Bool, true, false, List, [], ◌∷◌, ◌++◌, length, Option, Some, None, refl, sym, ◌∙◌, ap, subst, bytes_eq, append_assoc}
 use Rattle.std.proofs.lemmas.Bool.{false≢true, or_cases, or_left, or_right, cases_Bool, eqb-true}
 use Rattle.std.proofs.lemmas.List.{append-nil, append_cancel_left}
-use Rattle.std.specs.Prelude.{codes, IsTrue}
+use Rattle.std.specs.Prelude.{codes, is_some, IsTrue}
 use Rattle.std.specs.List.{AllByRecursion}
 use Rattle.model.specs.declared.event.Event.TheVariants.{Start, Finish}
 use Rattle.model.specs.declared.event.Moment.{Moment}
@@ -13,7 +13,8 @@ use Rattle.model.specs.Graph.{Addition, has, has_number, edge_at, maker, inputs,
 use Rattle.model.specs.Outcome.{Behaviour, depfile_in, is_accepted, listed}
 use Rattle.model.specs.Reading.{IsAbove, Direct, needs}
 use Rattle.model.specs.Records.{Store, OwnFiles, IsOwnIn, output_name, recorded_inputs}
-use Rattle.model.specs.OutOfDate.{IsVerdict, IsMissing}
+use Rattle.model.specs.Judgement.{reason_of}
+use Rattle.model.specs.OutOfDate.{IsVerdict, IsStaleByOutputs, IsMissing, made_facts}
 use Rattle.model.specs.Schedule.{Step, Judged, Started, Ended, judged_in, started_in, ended_in, well_in, IsLawfulFrom}
 use Rattle.model.specs.Phases.{IsLawfulBuild, AreUnloadedFrom, IsPointAfter, WasNothingMissingIn, EndsInEvent, happened_in, NothingNeededIsFree}
 use Rattle.model.specs.Premises.{HasOneOutcome, LeftOutcome, EndedAt, Increases, IsWithinEdge, IsNoEdit, OwnFilesApart, LiesIn, SharesNone, FilesAreKept, IsKnownAbove, ByOne, Premises, none_free, KeepsFaith, StampsGrow, LeaveOutcomes, IsTickedAt, StartsAreTicked}
@@ -155,6 +156,13 @@ abbrev pub VerdictAt : Store → List Moment → List Moment → List Step → S
 VerdictAt store old new before (Judged i out_of_date) = IsVerdict edges store (well_in before) old new i out_of_date
 VerdictAt store old new before (Started i) = Unit {0}
 VerdictAt store old new before (Ended i well) = Unit {0}
+
+-- where just the first edge was judged clean, it is so by what it makes
+pub clean_first : (store : Store) (old : List Moment) → is_some (reason_of (made_facts (edge_at edges 1) store old)) ≡ false → (i : ℕ) → has_number (1 ∷ []) i ≡ true → IsStaleByOutputs edges store old i → ⊥
+clean_first store old clean i h stale = elim (or_cases (1 == i) false h) [
+  | inl here ↦ false≢true (sym clean ∙ subst (λ (n : ℕ). IsStaleByOutputs edges store old n) (sym (eqb-true 1 i here)) stale)
+  | inr none ↦ false≢true none
+]
 
 -- of each command that ended well by itself
 abbrev pub EndsIn : (ℕ → List Moment → Type 0) → List Moment → Moment → Type 0

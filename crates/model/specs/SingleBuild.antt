@@ -18,8 +18,8 @@ use Rattle.model.specs.Outcome.{Behaviour, depfile_in, is_accepted}
 use Rattle.model.specs.Clean.{clean_build}
 use Rattle.model.specs.Reading.{IsInCone, IsCycle, needs}
 use Rattle.model.specs.Records.{Store, LogFormat, OwnFiles, store_in, recorded_inputs}
-use Rattle.model.specs.OutOfDate.{ReadsNoFree, IsVerdict, IsOutOfDate, IsMissingInput, IsFirstMissing}
-use Rattle.model.specs.Schedule.{Task, Step, Judged, Started, IsSettled, AreEventsOf, AreFinishes, NoneMayBeJudged, NoneMayStart, done_in, started_in, ended_in, out_of_date_in, well_in, failed_in, Ended, MayStart}
+use Rattle.model.specs.OutOfDate.{ReadsNoFree, IsStaleByOutputs, IsVerdict, IsOutOfDate, IsMissingInput, IsFirstMissing}
+use Rattle.model.specs.Schedule.{Task, Step, Judged, Started, IsSettled, AreEventsOf, AreFinishes, NoneMayBeJudged, NoneMayStart, done_in, clean_in, started_in, ended_in, out_of_date_in, well_in, failed_in, Ended, MayStart}
 use Rattle.model.specs.Phases.{Phase, steps_of, task_with, IsLawfulBuild, IsLoad, IsDueLoad, IsNextLoad, NoLoadIsDue, NothingNeededIsFree, IsMomentAfter, IsPointAfter, AreAskedApart, WasNothingMissing, WasNothingMissingIn}
 use Rattle.model.specs.Premises.{LogsAreLeft, FilesAreKept, RecordedApart, Premises, EndedAt, InputsAreKnown, StartsAreTicked}
 
@@ -186,6 +186,11 @@ abbrev pub ArePhasesJudgedAt : (List ℕ → Bool) → Store → List Step → L
 ArePhasesJudgedAt free store before [] old new = Unit {0}
 ArePhasesJudgedAt free store before (phase ∷ phases) old new =
     AreJudgedAt free phase.edges store before phase.steps old new × ArePhasesJudgedAt free store (before ++ phase.steps) phases old new
+
+-- No edge that was judged clean is out of date by what it makes. That rests on its outputs and their records alone, so it is so where
+-- others write what the edge reads, too.
+abbrev pub AreCleanByOutputs : List Edge → Store → List Step → List Moment → Type 0
+AreCleanByOutputs edges store steps old = (i : ℕ) → has_number (clean_in steps) i ≡ true → IsStaleByOutputs edges store old i → ⊥
 
 -- the file held this, or was absent, at a moment when just these steps were done
 pub record HeldAt (file : List ℕ) (held : Option (List ℕ)) (before : List Step) (old new : List Moment) : Type 0 where
@@ -423,6 +428,8 @@ pub record SingleBuild (tells : Bool) (B : Behaviour) (format : LogFormat) (own 
   pub judged : IsTrue tells → (files : FilesAreKept own asked.graph.edges old.history new.history) → RecordedApart own (recorded_inputs store asked.graph.edges)
       → InputsAreKnown asked.declared asked.graph.edges (recorded_inputs store asked.graph.edges)
       → IsJudged B files.free asked store steps met old.history new.history
+  -- of each edge, whatever it reads
+  pub clean : IsTrue tells → FilesAreKept own asked.graph.edges old.history new.history → AreCleanByOutputs asked.graph.edges store steps old.history
   -- with dyndep files too: each verdict by the edges and files of then
   pub judged_then : IsTrue tells → (files : FilesAreKept own asked.graph.edges old.history new.history) → RecordedApart own (recorded_inputs store asked.graph.edges)
       → ArePhasesJudgedAt files.free store [] schedule.lawful.earlier old.history new.history
