@@ -11,14 +11,13 @@ use Rattle.model.specs.declared.event.Moment.TheVariants.{Wrote, Happened}
 use Rattle.model.specs.declared.event.Writer.TheVariants.{Program, Command, Someone}
 use Rattle.model.specs.World.{File, IsNotAt, written, content_of, file_from, view_of}
 use Rattle.model.specs.Graph.{has, has_number, edge_at, inputs, outputs}
-use Rattle.model.specs.Reading.{Itself, Wanted}
 use Rattle.model.specs.Premises.{FilesAreKept, Increases, IsNoEdit, IsWithinEdge, KeepsFaith, LeftOutcome, LiesIn, OwnFilesApart}
 use Rattle.worked.specs.Small.{copy, edges, copies, no_records}
 use Rattle.worked.specs.Refused.{own, ran_well}
-use Rattle.worked.specs.Edited.{entry, behind, build, EditedRows}
+use Rattle.worked.specs.Edited.{entry, behind, build}
 use Rattle.worked.proofs.Lists.{all_has, same_bytes}
 
-unmoved : (p : List ℕ) (f : Option File) (ms : List Moment) → AllByRecursion (IsNotAt p) ms → file_from p f ms ≡ f
+pub unmoved : (p : List ℕ) (f : Option File) (ms : List Moment) → AllByRecursion (IsNotAt p) ms → file_from p f ms ≡ f
 unmoved p f [] all = refl
 unmoved p f (Wrote by path content stamp ∷ ms) all =
     ap (λ (g : Option File). file_from p g ms) (cond-false (bytes_eq path p) (written content stamp) f all.0) ∙ unmoved p f ms all.1
@@ -56,10 +55,10 @@ own_files = record {
 
 -- ---- the source is free
 
-abbrev a_free : List ℕ → Bool
+abbrev pub a_free : List ℕ → Bool
 a_free p = bytes_eq p (codes "a")
 
-not_a : (set : List ℕ → Bool) (p : List ℕ) → set (codes "a") ≡ false → set p ≡ true → a_free p ≡ false
+pub not_a : (set : List ℕ → Bool) (p : List ℕ) → set (codes "a") ≡ false → set p ≡ true → a_free p ≡ false
 not_a set p none h = false_from_ne_true (bytes_eq p (codes "a")) (λ same. false≢true (sym none ∙ (ap set (sym (same_bytes p (codes "a") same)) ∙ h)))
 
 free_outputs : (i : ℕ) (p : List ℕ) → has (outputs (edge_at edges i)) p ≡ true → a_free p ≡ false
@@ -131,7 +130,7 @@ left = record {
     at_start : (p : List ℕ) → AllByRecursion (IsNotAt p) behind → view_of started p ≡ view_of (entry ++ build) p
     at_start p none = sym (ap content_of (unmoved p (file_from p None started) behind none))
 
-faith : KeepsFaith copies own edges no_records ran_well entry (entry ++ build)
+pub faith : KeepsFaith copies own edges no_records ran_well entry (entry ++ build)
 faith = record {
   kept = kept;
   unrecorded = λ p is. refl;
@@ -142,16 +141,3 @@ faith = record {
       (subst (λ (l : List Moment). LeftOutcome copies edges behind (entry ++ build) l 1)
       (sym (ended.is ∙ ap (λ (l : List Moment). entry ++ l) (is_end ended.before ended.after i (append_cancel_left entry build (ended.before ++ Happened (Finish i true) ∷ ended.after) ended.splits)))) left));
 }
-
-pub edited_rows : EditedRows
-edited_rows = record {
-  faith = faith;
-  other = λ clean. let same = clean 1 (codes "b") refl (Wanted 1 (codes "b") refl refl) refl refl in differ same;
-  loud = λ files quiet alone is. false≢true (sym (alone.unread 1 (codes "a") is (inl (Itself 1 (codes "a") refl (inl (λ j alias. none_some j alias.made))))) ∙ (files.edits build refl).1.1.1.0);
-}
-  where
-    none_some : (j : ℕ) → None ≡ Some j → ⊥
-    none_some j is = cc
-
-    differ : Some (codes "x") ≡ Some (codes "y") → ⊥
-    differ is = false≢true (ap (λ (o : Option (List ℕ)). elim o [ None ↦ false | Some q ↦ bytes_eq q (codes "x") ]) (sym is))

@@ -1,6 +1,7 @@
 pub mod Lists
 pub mod Refused
 pub mod Edited
+pub mod Beside
 pub mod Forbidden
 pub mod Stricter
 pub mod Written

@@ -24,7 +24,8 @@ pub fn dyndep_rows()
 {}
 
 /// A build during which a source is edited while its command runs, a write before a tick has the tick's stamp, and two files have
-/// one: it meets the premises of faithful records, and not those of contents.
+/// one: it meets the premises of faithful records, and not those of contents. Beside another command, which reads another source, it
+/// meets these too, with that one's edge quiet; and the edited source may be named by a phony line.
 pub fn edited_rows()
     ensures { EditedRows }
 {}
