@@ -1,5 +1,5 @@
 -- The rows that are refused.
-use Rattle.std.proofs.Common.{◌≡◌, inl, inr, ℕ, zero, suc, ◌<◌, Bool, true, false, List, [], ◌∷◌, ◌++◌, Option, Some, None, refl, sym, ◌∙◌, ap, subst, bytes_eq, arith}
+use Rattle.std.proofs.Common.{◌≡◌, inl, inr, ℕ, zero, suc, ◌<◌, Bool, true, false, List, [], ◌∷◌, ◌++◌, Option, Some, None, refl, sym, ◌∙◌, ap, subst, bytes_eq, arith, append_assoc}
 use Rattle.std.proofs.lemmas.Bool.{false≢true}
 use Rattle.std.proofs.lemmas.List.{append_cancel_left}
 use Rattle.std.specs.Prelude.{codes}
@@ -18,11 +18,11 @@ use Rattle.model.specs.Records.{LogFormat, OwnFiles, Told, in_force, deps_in_for
 use Rattle.model.specs.Judgement.{start_of}
 use Rattle.model.specs.Schedule.{Step, Judged}
 use Rattle.model.specs.Premises.{none_free, IsWithinEdge, IsNoEdit, OwnFilesApart, LiesIn, SharesNone, FilesAreKept}
-use Rattle.model.specs.SingleBuild.{Answer, is_fault, IsFrame, IsReadyFor, PassesNoFault}
+use Rattle.model.specs.SingleBuild.{Answer, is_fault, IsFrame, IsReadyFor, HeldAt, PassesNoFault}
 use Rattle.model.specs.History.{Visit, Edited, Built, Unread, Restarted, IsHistoryFrom, IsEdit}
 use Rattle.model.specs.Driven.{CarriesOut, RestartsFrom, Does, is_restart, answers_in}
 use Rattle.worked.specs.Small.{copy, edges, copies, words, done_under}
-use Rattle.worked.specs.Refused.{RefusedRecords, RefusedFaults, RefusedMoves, RefusedFiles, RefusedStarts, RefusedEnds, RefusedRows, refuses_depfiles, anything, own, with_both, start_of_both, response, old_depfile, starts_one, too_early}
+use Rattle.worked.specs.Refused.{RefusedRecords, RefusedFaults, RefusedMoves, RefusedFiles, RefusedStarts, RefusedLoads, RefusedEnds, RefusedRows, naming, dd_there, refuses_depfiles, anything, own, with_both, start_of_both, response, old_depfile, starts_one, too_early}
 use Rattle.model.specs.Faithful.{IsFaithfulStore}
 use Rattle.worked.proofs.Lists.{all_has, bytes_same, none_some, no_more}
 
@@ -287,9 +287,45 @@ starts = record {
   clean_step = λ lawful. false≢true lawful.1.0.1.stale;
   unjudged_step = λ lawful. false≢true lawful.0.1.stale;
   twice = λ lawful. false≢true (sym lawful.1.1.1.0.1.once);
+  absent_output = λ store clean. clean 1 refl refl;
   without_tick = λ ticks.
       let tick = ticks (Wrote Program (codes "t") (Some []) 9 ∷ Happened (Start 1 copy 9) ∷ Happened (Finish 1 true) ∷ []) [] 2 9 copy refl in
       no_tick tick.earlier tick.between tick.by tick.path tick.content tick.splits tick.quiet;
+}
+
+-- ---- loads
+
+names_dd : (i : ℕ) (file : List ℕ) → (edge_at naming i).dyndep ≡ Some file → codes "dd" ≡ file
+names_dd zero file is = absurd (none_some file is)
+names_dd (suc zero) file is = cc
+names_dd (suc (suc i)) file is = absurd (none_some file is)
+
+no_other : Some (codes "nothing") ≡ Some (codes "other") → ⊥
+no_other is = false≢true (ap (λ (o : Option (List ℕ)). elim o [ None ↦ false | Some q ↦ bytes_eq q (codes "nothing") ]) (sym is))
+
+none_first : (xs ys : List Moment) → xs ++ ys ≡ [] → xs ≡ []
+none_first [] ys is = refl
+none_first (x ∷ xs) ys is = cc
+
+-- where nobody has written since the entry, the file holds what it held
+held_still : (content : List ℕ) → HeldAt (codes "dd") (Some content) [] dd_there dd_there → Some (codes "nothing") ≡ Some content
+held_still content held = subst (λ (h : List Moment). view_of h (codes "dd") ≡ Some content) at_entry held.holds
+  where
+    parts : held.moment.so_far ++ held.moment.later ≡ []
+    parts = append_cancel_left dd_there (held.moment.so_far ++ held.moment.later) []
+        (sym (append_assoc dd_there held.moment.so_far held.moment.later) ∙ (ap (λ (l : List Moment). l ++ held.moment.later) (sym held.moment.is) ∙ sym held.moment.grows))
+
+    at_entry : held.at ≡ dd_there
+    at_entry = held.moment.is ∙ ap (λ (l : List Moment). dd_there ++ l) (none_first held.moment.so_far held.moment.later parts)
+
+loads : RefusedLoads
+loads = record {
+  other_text = λ texts is held.
+      let load = held.0 in
+      let named = names_dd load.is_next.due.edge load.file load.is_next.due.names in
+      let content : Some (codes "other") ≡ Some load.content = sym is ∙ (ap texts named ∙ load.read) in
+      let there = subst (λ (p : List ℕ). HeldAt p (Some load.content) [] dd_there dd_there) (sym named) load.held in
+      no_other (held_still load.content there ∙ sym content);
 }
 
 -- ---- ends
@@ -304,4 +340,4 @@ ends = record {
 }
 
 pub refused_rows : RefusedRows
-refused_rows = record { records = records; faults = faults; moves = moves; files = files; starts = starts; ends = ends }
+refused_rows = record { records = records; faults = faults; moves = moves; files = files; starts = starts; loads = loads; ends = ends }

@@ -3,19 +3,19 @@ use Rattle.std.specs.Prelude.{◌≡◌, ◌≢◌, ℕ, ◌≤◌, ◌<◌, Boo
 use Rattle.model.specs.declared.event.Event.TheVariants.{Start, Finish}
 use Rattle.model.specs.declared.event.Moment.{Moment}
 use Rattle.model.specs.declared.event.Moment.TheVariants.{Wrote, Happened}
-use Rattle.model.specs.declared.event.Writer.TheVariants.{Program}
+use Rattle.model.specs.declared.event.Writer.TheVariants.{Program, Someone}
 use Rattle.model.specs.declared.fault.SiteFault.TheVariants.{Stopped, Memory}
 use Rattle.model.specs.declared.graph.Edge.{Edge}
 use Rattle.model.specs.declared.moves.Move.{Move}
 use Rattle.model.specs.declared.moves.Move.TheVariants.{Write, Build}
-use Rattle.model.specs.World.{World, view_of, runs}
+use Rattle.model.specs.World.{World, View, view_of, runs}
 use Rattle.model.specs.Graph.{has}
 use Rattle.model.specs.Outcome.{Behaviour}
 use Rattle.model.specs.Records.{Store, LogFormat, OwnFiles}
 use Rattle.model.specs.Schedule.{Step, Judged, Started, Ended, IsLawful}
 use Rattle.model.specs.Premises.{EndedAt, OwnFilesApart, FilesAreKept, RecordedApart, StartsAreTicked}
 use Rattle.model.specs.Kept.{KeepsRecords, StartedUnder}
-use Rattle.model.specs.SingleBuild.{Asked, Answer, Fault, SingleBuild, EndRightly, IsFrame, StartsOnlyStale, is_fault}
+use Rattle.model.specs.SingleBuild.{Asked, Answer, Fault, SingleBuild, EndRightly, IsFrame, StartsOnlyStale, AreCleanByOutputs, AreLoadsHeldAt, is_fault}
 use Rattle.model.specs.Faithful.{IsFaithfulStore}
 use Rattle.model.specs.History.{Visit, IsNotRead}
 use Rattle.model.specs.Driven.{Reader, IsDriven, CarriesOut, RestartsFrom, is_restart, asks_restart}
@@ -160,8 +160,23 @@ pub record RefusedStarts : Type 0 where
   pub unjudged_step : IsLawful task (Started 1 ∷ []) → ⊥
   -- it is started twice
   pub twice : IsLawful task (Judged 1 true ∷ Started 1 ∷ Ended 1 true ∷ Started 1 ∷ []) → ⊥
+  -- an edge whose output is absent is judged clean, whatever it reads and the logs tell
+  pub absent_output : (store : Store) → AreCleanByOutputs edges store (Judged 1 false ∷ []) [] → ⊥
   -- it has no stamp of its own
   pub without_tick : StartsAreTicked [] unticked → ⊥
+
+-- ---- loads
+
+-- `build b: copy a || dd`, with `dyndep = dd`
+abbrev pub naming : List Edge
+naming = record (edge_with copy) { order_only_inputs = codes "dd" ∷ []; dyndep = Some (codes "dd") } ∷ []
+
+abbrev pub dd_there : List Moment
+dd_there = Wrote Someone (codes "dd") (Some (codes "nothing")) 9 ∷ []
+
+pub record RefusedLoads : Type 0 where
+  -- a dyndep file is read as what it does not hold, and nobody has written since the entry: whatever follows by what is read
+  pub other_text : (texts : View) → texts (codes "dd") ≡ Some (codes "other") → AreLoadsHeldAt texts task no_records [] (record { edges = naming; steps = [] } ∷ []) dd_there dd_there → ⊥
 
 -- ---- ends
 
@@ -187,4 +202,5 @@ pub record RefusedRows : Type 0 where
   pub moves : RefusedMoves
   pub files : RefusedFiles
   pub starts : RefusedStarts
+  pub loads : RefusedLoads
   pub ends : RefusedEnds
