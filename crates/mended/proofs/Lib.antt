@@ -1,0 +1,13 @@
+pub mod Lists
+pub mod Graphs
+pub mod Lawful
+pub mod Moments
+pub mod ReadPaths
+pub mod Framed
+pub mod Left
+pub mod Project
+pub mod Steps
+pub mod Kept
+pub mod Logged
+pub mod Builds
+pub mod Mended
