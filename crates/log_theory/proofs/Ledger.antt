@@ -264,7 +264,7 @@ module _ (tells : Bool) (B : Behaviour) (format : LogFormat) (own : OwnFiles) (a
     };
   }
 
-  -- The logs were read, while nothing was judged: the same of any records that are those of the entry, where nothing is edited.
+  -- The logs were read, while nothing was judged: the same of any records that are those of the entry, where files are kept.
   pub carried_found : asked.graph.edges ≡ asked.declared → ((file : List ℕ) → NamesOther asked.graph.edges file → ⊥) → (other : Store) (hand : Option ℕ) (now : World) → (IsTrue tells → Kept now → other ≡ store) → IsCarried tells B format own asked store [] true [] hand old now
       → IsCarried tells B format own asked other [] true [] hand old now
   carried_found unloaded others other hand now same carried = record {
