@@ -1,5 +1,5 @@
 -- The frame of a build, decided by going through its moments and steps.
-use Rattle.std.proofs.Common.{◌≡◌, ◌⊎◌, inl, inr, ℕ, ◌&&◌, ◌||◌, not, Bool, true, false, List, [], ◌∷◌, ◌++◌, Option, Some, None, refl, sym, ◌∙◌, ap, subst, bytes_eq}
+use Rattle.std.proofs.Common.{◌≡◌, ◌⊎◌, inl, inr, ℕ, ◌&&◌, ◌||◌, not, Bool, true, List, [], ◌∷◌, ◌++◌, Option, Some, refl, sym, ◌∙◌, subst, bytes_eq}
 use Rattle.std.specs.List.{AllByRecursion}
 use Rattle.std.proofs.lemmas.Bool.{false≢true, cases_Bool, and_parts, or_cases, not-true}
 use Rattle.model.specs.declared.act.Act.{Act}
@@ -14,7 +14,7 @@ use Rattle.model.specs.Records.{OwnFiles, IsOwnIn, build_log_name, tick_name}
 use Rattle.model.specs.Judgement.{is_empty_text}
 use Rattle.model.specs.Schedule.{Step, Judged, Started, Ended, started_in, out_of_date_in}
 use Rattle.model.specs.Phases.{IsPointAfter}
-use Rattle.model.specs.Premises.{FilesAreKept, IsWithinEdge, IsNoEdit}
+use Rattle.model.specs.Premises.{IsWithinEdge, IsNoEdit}
 use Rattle.model.specs.SingleBuild.{IsOfBuild, IsOwnWrite, MayChange, IsReadyFor, IsMadeBy, IsFrame}
 use Rattle.mended.proofs.Lists.{same_bytes, every, every_path, some_of, some_number, same_content, contents_same, at_each, at_split}
 use Rattle.mended.proofs.Moments.{written_in, still, so_far, is_point, point}
@@ -129,9 +129,8 @@ module _ (es : List Edge) (steps : List Step) where
       ready i stamp act before after test is =
           let here = at_split (is_ready old) more before after (Happened (Start i act stamp)) is test in
           let a = and_parts (are_unwritten i before)
-              (is_empty_text act.depfile && (is_empty_text act.response_path || same_content (view_of (old ++ before) act.response_path) (Some act.response_content))) here in
-          let b = and_parts (is_empty_text act.depfile) (is_empty_text act.response_path || same_content (view_of (old ++ before) act.response_path) (Some act.response_content)) a.1 in
-          (
+          (is_empty_text act.depfile && (is_empty_text act.response_path || same_content (view_of (old ++ before) act.response_path) (Some act.response_content))) here in
+          let b = and_parts (is_empty_text act.depfile) (is_empty_text act.response_path || same_content (view_of (old ++ before) act.response_path) (Some act.response_content)) a.1 in (
             a.0,
             record {
               depfile = λ some. absurd (some (empty_text act.depfile b.0));

@@ -1,5 +1,5 @@
 -- The premises of both builds.
-use Rattle.std.proofs.Common.{◌≡◌, ◌⊎◌, inl, inr, ℕ, zero, suc, ◌&&◌, ◌||◌, not, Bool, true, false, List, [], ◌∷◌, ◌++◌, Option, Some, None, is_some, refl, sym, ◌∙◌, ap, subst}
+use Rattle.std.proofs.Common.{◌≡◌, ◌⊎◌, inl, inr, ℕ, zero, suc, ◌&&◌, ◌||◌, not, Bool, true, List, [], ◌∷◌, ◌++◌, Option, Some, None, is_some, refl, sym, ◌∙◌, ap, subst}
 use Rattle.std.specs.List.{AllByRecursion}
 use Rattle.std.proofs.lemmas.Bool.{false≢true, and_parts, not-true}
 use Rattle.std.specs.Prelude.{codes}
@@ -9,7 +9,7 @@ use Rattle.model.specs.declared.graph.Edge.{Edge}
 use Rattle.model.specs.declared.outcome.Outcome.{Outcome}
 use Rattle.model.specs.declared.record.Record.{Record}
 use Rattle.model.specs.World.{View, view_of, next_stamp}
-use Rattle.model.specs.Graph.{has, has_number, edge_at, maker, regular_inputs, outputs, IsCommand}
+use Rattle.model.specs.Graph.{has, edge_at, maker, regular_inputs, outputs, IsCommand}
 use Rattle.model.specs.Outcome.{Behaviour, ends_well, reports_of, given, GivesTheSame}
 use Rattle.model.specs.Records.{OwnFiles, in_force, recorded_inputs}
 use Rattle.model.specs.Schedule.{Step, judged_in}

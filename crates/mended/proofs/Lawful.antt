@@ -1,11 +1,11 @@
 -- Lawful schedules, decided by going through the edges at each step.
-use Rattle.std.proofs.Common.{◌≡◌, inl, inr, ℕ, suc, ◌<◌, nat_lt, ◌&&◌, ◌||◌, not, Bool, true, false, List, [], ◌∷◌, ◌++◌, length, Option, Some, None, refl, sym, ◌∙◌, subst}
+use Rattle.std.proofs.Common.{◌≡◌, inl, inr, ℕ, nat_lt, ◌&&◌, ◌||◌, not, Bool, true, List, [], ◌∷◌, ◌++◌, length, Some, sym, ◌∙◌}
 use Rattle.std.proofs.lemmas.Bool.{false≢true, or_cases, and_parts, ltb-true, lt-ltb, not-true}
 use Rattle.model.specs.declared.graph.Edge.{Edge}
-use Rattle.model.specs.Graph.{has, has_number, edge_at, maker, IsCommand}
+use Rattle.model.specs.Graph.{has_number, edge_at, maker, IsCommand}
 use Rattle.model.specs.Reading.{IsInCone, needs}
-use Rattle.model.specs.Schedule.{Task, Step, Judged, Started, Ended, IsSettled, MayBeJudged, MayStart, NoneMayBeJudged, NoneMayStart, IsLawfulStep, IsLawfulFrom, judged_in, out_of_date_in, started_in, failed_in, running_in, done_in}
-use Rattle.model.specs.Phases.{IsDueLoad, NoLoadIsDue, IsLawfulPhase, AreUnloadedFrom}
+use Rattle.model.specs.Schedule.{Task, Step, Judged, Started, Ended, IsSettled, MayBeJudged, NoneMayBeJudged, NoneMayStart, IsLawfulStep, IsLawfulFrom, judged_in, out_of_date_in, started_in, failed_in, running_in, done_in}
+use Rattle.model.specs.Phases.{NoLoadIsDue, IsLawfulPhase, AreUnloadedFrom}
 use Rattle.mended.proofs.Lists.{none_some, every, some_of, every_number, every_path, some_path, below, below_has, if_there, is_there, if_there_at, is_there_at, other_of, at_each}
 use Rattle.mended.proofs.Graphs.{numbers, within, command_within, is_flat, settles, settled, is_settled}
 
@@ -93,8 +93,7 @@ module _ (task : Task) where
             let a = and_parts (not (edge_at es i).phony) (not (has_number (judged_in before) i) && (every (λ p. if_there (settles es (done_in before)) (maker es p)) (needs es task.recorded i) && all_blocked (judged_in before) (done_in before) (below i))) test in
             let b = and_parts (not (has_number (judged_in before) i)) (every (λ p. if_there (settles es (done_in before)) (maker es p)) (needs es task.recorded i) && all_blocked (judged_in before) (done_in before) (below i)) a.1 in
             let c = and_parts (every (λ p. if_there (settles es (done_in before)) (maker es p)) (needs es task.recorded i)) (all_blocked (judged_in before) (done_in before) (below i)) b.1 in
-            let command = not-true (edge_at es i).phony a.0 in
-            (
+            let command = not-true (edge_at es i).phony a.0 in (
               record {
                 within = cone i command;
                 command = command;
@@ -110,8 +109,7 @@ module _ (task : Task) where
             let b = and_parts (has_number (out_of_date_in before) i) (not (has_number (started_in before) i) && (nat_lt (length (running_in before)) task.jobs && (nat_lt (length (failed_in before)) task.keep && lowest))) a.1 in
             let c = and_parts (not (has_number (started_in before) i)) (nat_lt (length (running_in before)) task.jobs && (nat_lt (length (failed_in before)) task.keep && lowest)) b.1 in
             let d = and_parts (nat_lt (length (running_in before)) task.jobs) (nat_lt (length (failed_in before)) task.keep && lowest) c.1 in
-            let e = and_parts (nat_lt (length (failed_in before)) task.keep) lowest d.1 in
-            (
+            let e = and_parts (nat_lt (length (failed_in before)) task.keep) lowest d.1 in (
               none_judged before a.0,
               record {
                 stale = b.0;
@@ -122,9 +120,9 @@ module _ (task : Task) where
               },
               λ k lt may. elim (or_cases (not (has_number (out_of_date_in before) k)) (has_number (started_in before) k)
                   (every_number (λ n. not (has_number (out_of_date_in before) n) || has_number (started_in before) n) (below i) k e.1 (below_has i k lt))) [
-                | inl fresh ↦ false≢true (sym (not-true (has_number (out_of_date_in before) k) fresh) ∙ may.stale)
-                | inr started ↦ false≢true (sym may.once ∙ started)
-              ],
+                    | inl fresh ↦ false≢true (sym (not-true (has_number (out_of_date_in before) k) fresh) ∙ may.stale)
+                    | inr started ↦ false≢true (sym may.once ∙ started)
+                  ],
             )
         lawful_at before (Ended i well) test =
             let a = and_parts (has_number (running_in before) i) (all_blocked (judged_in before) (done_in before) (numbers es) && none_starts before) test in

@@ -10,12 +10,12 @@ use Rattle.model.specs.declared.event.Moment.TheVariants.{Wrote, Happened}
 use Rattle.model.specs.declared.event.Writer.TheVariants.{Program, Command, Someone}
 use Rattle.model.specs.declared.graph.Edge.{Edge}
 use Rattle.model.specs.World.{View, IsNotAt, content_of, file_at, view_of}
-use Rattle.model.specs.Graph.{has, has_number, edge_at, outputs, maker}
-use Rattle.model.specs.Outcome.{Behaviour, left, depfile_in, is_accepted, listed, ends_well, reports_of, given}
+use Rattle.model.specs.Graph.{has, edge_at, outputs, maker}
+use Rattle.model.specs.Outcome.{Behaviour, left, depfile_in, listed, ends_well, given}
 use Rattle.model.specs.Records.{OwnFiles}
-use Rattle.model.specs.Schedule.{Step, well_in}
-use Rattle.model.specs.Premises.{LeftOutcome, EndedAt, LeaveOutcomes, IsWithinEdge, IsNoEdit, FreeApart, OwnFilesApart, FilesAreKept, IsReported, ReportsComeFromAbove, IsFromAbove}
-use Rattle.mended.proofs.Lists.{every, every_path, all_from_has, some_none, same_content, contents_same, at_each, at_split, other_of}
+use Rattle.model.specs.Schedule.{Step}
+use Rattle.model.specs.Premises.{LeftOutcome, LeaveOutcomes, IsWithinEdge, IsNoEdit, FreeApart, OwnFilesApart, FilesAreKept, IsReported, ReportsComeFromAbove, IsFromAbove}
+use Rattle.mended.proofs.Lists.{every, every_path, all_from_has, same_content, contents_same, at_each, at_split, other_of}
 use Rattle.mended.proofs.Graphs.{makes_all, made_by}
 use Rattle.mended.proofs.Moments.{unmoved, from_append}
 
@@ -23,7 +23,7 @@ use Rattle.mended.proofs.Moments.{unmoved, from_append}
 
 module _ (B : Behaviour) (es : List Edge) (no_depfile : (i : ℕ) → (edge_at es i).act.depfile ≡ []) where
   pub nothing_told : (i : ℕ) (view : View) → depfile_in B (edge_at es i).act view ≡ Some []
-  nothing_told i view = rw (no_depfile i) refl
+  nothing_told i view = rw (no_depfile i, depfile_in) refl
 
   pub none_reported : (steps : List Step) (old new : List Moment) (i : ℕ) (p : List ℕ) → IsReported B es steps old new i p → ⊥
   none_reported steps old new i p reported = false≢true (subst (λ (o : Option (List (List ℕ))). has (listed o) p ≡ true) (nothing_told i (view_of reported.at)) reported.told)
@@ -51,9 +51,9 @@ module _ (B : Behaviour) (es : List Edge) (old more : List Moment) where
       → view_of (old ++ before) p ≡ view_of (old ++ more) p
   as_at_start p before since i act stamp is none =
       let apart : file_at ((old ++ before) ++ Happened (Start i act stamp) ∷ since) p ≡ file_at (old ++ before) p =
-          from_append p None (old ++ before) (Happened (Start i act stamp) ∷ since) ∙ unmoved p (file_at (old ++ before) p) since none in
+      from_append p None (old ++ before) (Happened (Start i act stamp) ∷ since) ∙ unmoved p (file_at (old ++ before) p) since none in
       let whole : file_at (old ++ more) p ≡ file_at (old ++ before) p =
-          ap (λ (l : List Moment). file_at (old ++ l) p) is ∙ (ap (λ (l : List Moment). file_at l p) (sym (append_assoc old before (Happened (Start i act stamp) ∷ since))) ∙ apart) in
+      ap (λ (l : List Moment). file_at (old ++ l) p) is ∙ (ap (λ (l : List Moment). file_at l p) (sym (append_assoc old before (Happened (Start i act stamp) ∷ since))) ∙ apart) in
       sym (ap content_of whole)
 
   module _ (no_depfile : (i : ℕ) → (edge_at es i).act.depfile ≡ []) (steps : List Step) where
@@ -61,7 +61,7 @@ module _ (B : Behaviour) (es : List Edge) (old more : List Moment) where
         → left_well i (view_of (old ++ before)) (view_of (old ++ front)) ≡ true → LeftOutcome B es since (old ++ more) (old ++ front) i
     left_by i before since front act stamp is test =
         let both = and_parts (ends_well B (edge_at es i).act (view_of (old ++ before)))
-            (every (λ o. same_content (view_of (old ++ front) o) (given B (edge_at es i).act (view_of (old ++ before)) o)) (outputs (edge_at es i))) test in
+        (every (λ o. same_content (view_of (old ++ front) o) (given B (edge_at es i).act (view_of (old ++ before)) o)) (outputs (edge_at es i))) test in
         record {
           seen = view_of (old ++ before);
           well = both.0;
@@ -95,8 +95,7 @@ module _ (es : List Edge) (free : List (List ℕ)) where
   within_edges [] test = tt
   within_edges (Wrote Program path content stamp ∷ ms) test = (tt, within_edges ms test)
   within_edges (Wrote (Command job) path content stamp ∷ ms) test =
-      let both = and_parts (has (outputs (edge_at es job)) path || has free path) (every keeps_to ms) test in
-      (
+      let both = and_parts (has (outputs (edge_at es job)) path || has free path) (every keeps_to ms) test in (
         elim (or_cases (has (outputs (edge_at es job)) path) (has free path) both.0) [ inl output ↦ inl output | inr is_free ↦ inr (inr is_free) ],
         within_edges ms both.1,
       )
@@ -120,7 +119,7 @@ module _ (es : List Edge) (free : List (List ℕ)) where
     pub free_apart : FreeApart (has free) own es
     free_apart = record {
       set = λ p so. not_free own.set p apart so;
-      outputs = λ i p h. not_free (λ q. is_some (maker es q)) p unmade (ap is_some (made_by es all_made i p h));
+      outputs = λ i p making h. not_free (λ q. is_some (maker es q)) p unmade (ap is_some (made_by es all_made i p h));
     }
 
     abbrev pub kept_of : OwnFilesApart own es → (old more : List Moment) → every keeps_to more ≡ true → FilesAreKept own es old (old ++ more)

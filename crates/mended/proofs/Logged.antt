@@ -1,5 +1,5 @@
 -- What both builds leave in the logs, and that their outputs are as the clean build gives them.
-use Rattle.std.proofs.Common.{◌≡◌, inl, inr, ℕ, ◌||◌, Bool, true, false, List, [], ◌∷◌, ◌++◌, Option, Some, None, is_some, refl, sym, ◌∙◌, ap, subst}
+use Rattle.std.proofs.Common.{◌≡◌, inl, inr, ℕ, ◌||◌, Bool, true, false, List, [], ◌∷◌, ◌++◌, Option, Some, None, refl, sym, ◌∙◌, ap, subst}
 use Rattle.std.specs.List.{AllByRecursion}
 use Rattle.std.proofs.lemmas.Bool.{false≢true, cases_Bool, cond-false, or_cases}
 use Rattle.std.proofs.lemmas.List.{append_cancel_left}
@@ -17,7 +17,7 @@ use Rattle.model.specs.Clean.{clean_build}
 use Rattle.model.specs.Records.{Store, OwnFiles, IsOwnIn, Made, store_in, read_log, build_log_name, deps_log_name, in_force, in_force_from}
 use Rattle.model.specs.Schedule.{Step, started_in, well_in}
 use Rattle.model.specs.SingleBuild.{IsCleanlyBuilt}
-use Rattle.model.specs.Kept.{KeepsRecords, IsRecorded, IsLeftAlone, LeavesNothing}
+use Rattle.model.specs.Kept.{KeepsRecords, IsLeftAlone, LeavesNothing}
 use Rattle.mended.specs.Project.{edges, asked, commands, letters, store_of, first_records, second_records, all_records}
 use Rattle.mended.specs.Disk.{first_steps, second_steps, first_events, second_events, building, mending, world_of, first, built, edited, last}
 use Rattle.mended.specs.Rich.{no_store, first_store}
@@ -38,10 +38,10 @@ module _ (all : OwnFiles) (fits : IsOwnIn all []) (files : View) where
   pub store_is : (records : List Record) → read_log letters.records (files build_log_name) ≡ records → read_log letters.deps (files deps_log_name) ≡ [] → store_of records ≡ store_in letters all files
   store_is records records_are deps_are =
       sym (
-        ap (λ (p : List ℕ). told_by p all.deps_log) fits.build_log
-        ∙ (ap (λ (p : List ℕ). told_by build_log_name p) fits.deps_log
-        ∙ (ap (λ (rs : List Record). with_both rs (read_log letters.deps (files deps_log_name))) records_are
-        ∙ ap (λ (ds : List DepsRecord). with_both records ds) deps_are))
+      ap (λ (p : List ℕ). told_by p all.deps_log) fits.build_log
+      ∙ (ap (λ (p : List ℕ). told_by build_log_name p) fits.deps_log
+      ∙ (ap (λ (rs : List Record). with_both rs (read_log letters.deps (files deps_log_name))) records_are
+      ∙ ap (λ (ds : List DepsRecord). with_both records ds) deps_are))
       )
 
 pub at_first : (all : OwnFiles) → IsOwnIn all [] → no_store ≡ store_in letters all (view_of first.history)
@@ -129,8 +129,31 @@ pub first_logs : KeepsRecords commands asked no_store first_store first_steps No
 first_logs =
     records_kept [] first_records first_steps first.history building [] first_events 0 8
     ((refl, tt), ((refl, tt), ((refl, tt), ((refl, (refl, tt)), ((refl, tt), ((refl, tt), tt)))))) refl
-    (λ o alone. (made o alone 1 refl, (made o alone 2 refl, (made o alone 1 refl, (made o alone 3 refl, (made o alone 2 refl, (made o alone 6 refl, (made o alone 3 refl, (made o alone 5 refl,
-    (made o alone 6 refl, (made o alone 7 refl, (made o alone 5 refl, (made o alone 7 refl, tt)))))))))))))
+    (λ o alone. (
+      made o alone 1 refl,
+      (
+        made o alone 2 refl,
+        (
+          made o alone 1 refl,
+          (
+            made o alone 3 refl,
+            (
+              made o alone 2 refl,
+              (
+                made o alone 6 refl,
+                (
+                  made o alone 3 refl,
+                  (
+                    made o alone 5 refl,
+                    (made o alone 6 refl, (made o alone 7 refl, (made o alone 5 refl, (made o alone 7 refl, tt)))),
+                  ),
+                ),
+              ),
+            ),
+          ),
+        ),
+      ),
+    ))
   where
     made : (o : List ℕ) → IsLeftAlone edges first_steps None o → (i : ℕ) → has_number (started_in first_steps) i ≡ true → has (outputs (edge_at edges i)) o ≡ false
     made o alone i started = not_made first_steps o alone i started

@@ -1,5 +1,5 @@
 -- The history in which an edit during a build is mended by the next one.
-use Rattle.std.proofs.Common.{◌≡◌, inl, ℕ, Bool, true, false, List, [], ◌∷◌, ◌++◌, take, drop, Option, Some, None, not, refl, sym, ◌∙◌, ap, subst, bytes_eq}
+use Rattle.std.proofs.Common.{◌≡◌, inl, ℕ, Bool, true, false, List, [], ◌∷◌, take, drop, Some, None, not, refl, sym, ◌∙◌, ap, subst, bytes_eq}
 use Rattle.std.specs.List.{AllByRecursion}
 use Rattle.std.proofs.lemmas.Bool.{false≢true, eqb-true}
 use Rattle.std.proofs.lemmas.List.{append_cancel_left}
@@ -18,7 +18,7 @@ use Rattle.model.specs.SingleBuild.{Success}
 use Rattle.model.specs.Faithful.{IsFaithfulStore}
 use Rattle.model.specs.History.{Visit, Edited, Built, IsEdit, Keeps}
 use Rattle.model.specs.Driven.{HasLogs}
-use Rattle.mended.specs.Project.{edges, asked, own, commands, letters, store_of, first_records, all_records}
+use Rattle.mended.specs.Project.{edges, asked, own, commands, letters, first_records, all_records}
 use Rattle.mended.specs.Disk.{two_run, meanwhile, first_steps, second_steps, first_events, first, built, edited, last}
 use Rattle.mended.specs.Rich.{no_store, first_store, not_second, every_edge, ShowsAll, SpoilsOne, MendsAll, RichHistoryIsMet}
 use Rattle.mended.proofs.Lists.{none_some}

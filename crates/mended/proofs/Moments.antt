@@ -1,14 +1,13 @@
 -- What is written among these moments, in which order, and which commands run.
-use Rattle.std.proofs.Common.{◌≡◌, ◌≢◌, inl, inr, ℕ, zero, suc, ◌==◌, nat_le, max, ◌&&◌, ◌||◌, not, if◌then◌else◌, Bool, true, false, List, [], ◌∷◌, ◌++◌, length, Option, None, refl, sym, ◌∙◌, ap, subst, bytes_eq, append_assoc}
+use Rattle.std.proofs.Common.{◌≡◌, ◌≢◌, inl, inr, ℕ, zero, suc, ◌==◌, nat_le, max, ◌&&◌, ◌||◌, not, Bool, true, false, List, [], ◌∷◌, ◌++◌, length, Option, None, refl, sym, ◌∙◌, ap, subst, bytes_eq, append_assoc}
 use Rattle.std.specs.List.{AllByRecursion}
 use Rattle.std.proofs.lemmas.Bool.{false≢true, cases_Bool, cond-false, and_parts, or_cases, not-true, eqb-true, leb-true}
 use Rattle.std.proofs.lemmas.List.{append-nil, append_cancel_left}
-use Rattle.model.specs.declared.act.Act.{Act}
 use Rattle.model.specs.declared.event.Event.{Event}
 use Rattle.model.specs.declared.event.Event.TheVariants.{Start, Finish}
 use Rattle.model.specs.declared.event.Moment.{Moment}
 use Rattle.model.specs.declared.event.Moment.TheVariants.{Wrote, Happened}
-use Rattle.model.specs.World.{File, IsNotAt, written, file_after, file_from, file_at, runs_from, runs_after, runs, IsIdle, next_stamp}
+use Rattle.model.specs.World.{File, IsNotAt, written, file_after, file_from, file_at, runs_from, runs, IsIdle, next_stamp}
 use Rattle.model.specs.Graph.{has, has_number}
 use Rattle.model.specs.Schedule.{Step, started_in, ended_in}
 use Rattle.model.specs.Phases.{happened_in, EndsInEvent, IsPointAfter, IsMomentAfter}

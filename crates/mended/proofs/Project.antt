@@ -1,12 +1,12 @@
 -- The seven edges: their makers, cone and cycles, what they read, and that their files are apart.
-use Rattle.std.proofs.Common.{◌≡◌, ◌≢◌, ◌⊎◌, inl, inr, ℕ, zero, suc, ◌&&◌, not, Bool, true, false, List, [], ◌∷◌, ◌++◌, Option, Some, None, is_some, refl, sym, ◌∙◌, ap, subst, bytes_eq}
+use Rattle.std.proofs.Common.{◌≡◌, ◌≢◌, ◌⊎◌, inl, inr, ℕ, zero, suc, not, true, false, List, [], ◌∷◌, Option, Some, None, is_some, refl, sym, ◌∙◌, ap, subst, bytes_eq}
 use Rattle.std.proofs.lemmas.Bool.{false≢true, cases_Bool, or_cases, or_left, or_right, not-true}
 use Rattle.std.specs.Prelude.{codes}
 use Rattle.model.specs.declared.graph.Edge.{Edge}
 use Rattle.model.specs.World.{View}
 use Rattle.model.specs.Graph.{has, edge_at, maker, later_number, inputs, outputs, IsCommand}
-use Rattle.model.specs.Reading.{IsAlias, Counts, IsInCone, Wanted, Needed, needs}
-use Rattle.model.specs.Records.{OwnFiles, IsOwnIn, output_name}
+use Rattle.model.specs.Reading.{IsAlias, Counts, IsInCone, Wanted, Needed}
+use Rattle.model.specs.Records.{IsOwnIn, output_name}
 use Rattle.model.specs.Premises.{OwnFilesApart, LiesIn, SharesNone}
 use Rattle.mended.specs.Project.{declared, edges, own, own_paths, begins_with}
 use Rattle.mended.proofs.Lists.{none_some, some_same, all_has, every, every_number, every_path}
@@ -31,7 +31,6 @@ made_here (e ∷ es) p j is = elim (cases_Bool (has (outputs e) p)) [
 ]
 
 -- ---- no path of a phony counts by itself, where the file of `p` is not there
-
 
 abbrev stands_for_p : List Edge → Type 0
 stands_for_p es = (j : ℕ) (q : List ℕ) → has (outputs (edge_at es j)) q ≡ true → (edge_at es j).phony ≡ true → (j ≡ 4) × (q ≡ codes "p")

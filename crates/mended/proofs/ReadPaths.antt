@@ -1,5 +1,5 @@
 -- What an edge reads, where a phony stands for what commands make, and the verdicts on edges.
-use Rattle.std.proofs.Common.{◌≡◌, inl, inr, ℕ, Bool, true, false, List, [], ◌∷◌, ◌++◌, length, Option, Some, None, is_some, refl, sym, ◌∙◌, subst, bytes_eq}
+use Rattle.std.proofs.Common.{◌≡◌, inl, inr, ℕ, Bool, true, false, List, [], ◌∷◌, ◌++◌, Option, Some, None, is_some, refl, sym, ◌∙◌, subst, bytes_eq}
 use Rattle.std.proofs.lemmas.Bool.{false≢true, cases_Bool, or_left, or_right}
 use Rattle.model.specs.declared.event.Moment.{Moment}
 use Rattle.model.specs.declared.graph.Edge.{Edge}
@@ -7,9 +7,8 @@ use Rattle.model.specs.declared.record.Record.{Record}
 use Rattle.model.specs.World.{View, view_of}
 use Rattle.model.specs.Graph.{has, edge_at, maker, regular_inputs, IsCommand}
 use Rattle.model.specs.Reading.{IsAlias, Counts, IsRead, Itself, Through}
-use Rattle.model.specs.Records.{recorded_inputs}
 use Rattle.model.specs.Judgement.{reason_of}
-use Rattle.model.specs.OutOfDate.{Counted, ListsCounted, IsVerdict, facts_of}
+use Rattle.model.specs.OutOfDate.{ListsCounted, IsVerdict, facts_of}
 use Rattle.mended.specs.Project.{store_of}
 use Rattle.mended.proofs.Lists.{none_some, some_same, all_has, bytes_same, has-left, has-right, has-cases, same_test, tests_same}
 use Rattle.mended.proofs.Graphs.{none_recorded, is_flat, command_behind}

@@ -1,5 +1,5 @@
 -- The schedules of both builds are lawful, and what is refused before the first start is in order.
-use Rattle.std.proofs.Common.{◌≡◌, inl, inr, ℕ, zero, suc, ◌||◌, Bool, true, false, List, [], ◌∷◌, ◌++◌, length, Option, Some, None, is_some, refl, sym, ◌∙◌, ap, subst, arith}
+use Rattle.std.proofs.Common.{◌≡◌, inl, inr, ℕ, zero, suc, ◌||◌, Bool, true, List, [], ◌∷◌, ◌++◌, Option, Some, is_some, refl, sym, ◌∙◌, ap, subst, arith}
 use Rattle.std.proofs.lemmas.Bool.{false≢true, or_cases}
 use Rattle.std.specs.Prelude.{codes, IsTrue}
 use Rattle.model.specs.declared.event.Moment.{Moment}
@@ -11,7 +11,7 @@ use Rattle.model.specs.Reading.{Wanted, Needed, Validating}
 use Rattle.model.specs.Records.{OwnFiles, recorded_inputs}
 use Rattle.model.specs.OutOfDate.{IsMissing, NothingIsMissing}
 use Rattle.model.specs.Schedule.{Task, Step, Done, IsSettled, judged_in, started_in, done_in}
-use Rattle.model.specs.Phases.{Phase, IsOnlyFor, IsLoad, IsLawfulPhase, IsLawfulBuild, IsInOrderAt, IsNothingMissing, WasNothingMissing, WasNothingMissingIn, NothingNeededIsFree, task_with}
+use Rattle.model.specs.Phases.{Phase, IsOnlyFor, IsNextLoad, IsLoad, IsLawfulPhase, IsLawfulBuild, IsInOrderAt, IsNothingMissing, WasNothingMissing, WasNothingMissingIn, NothingNeededIsFree, task_with}
 use Rattle.model.specs.Premises.{FilesAreKept}
 use Rattle.model.specs.SingleBuild.{NamesOther, InCone, HasNoCycle, HasEnded, IsInOrder, WasInOrder, task_of}
 use Rattle.mended.specs.Project.{declared, edges, asked, commands, texts, dyndep_text, makes_x, reads_x, reads_dyndep, store_of, first_records}
@@ -22,7 +22,7 @@ use Rattle.mended.proofs.Graphs.{numbers, within, none_recorded, made_once, no_c
 use Rattle.mended.proofs.Lawful.{is_next, all_blocked, none_starts, no_load, none_judged, none_may_start, none_loads, phase_lawful}
 use Rattle.mended.proofs.Project.{made_here, no_pools, no_pools_declared, targets, cone, cone_before, six_before}
 
-pub some_jobs : 2 ≡ 0 → ⊥
+pub some_jobs : ◌≡◌ {A = ℕ} 2 0 → ⊥
 some_jobs e = absurd (omega (arith, e))
 
 -- ---- the load
@@ -96,18 +96,21 @@ module _ (records : List Record) where
   pub acyclic : HasNoCycle asked (store_of records)
   acyclic i inside cycle = no_cycle edges (recorded_inputs (store_of records) edges) (none_recorded records edges) refl i cycle
 
+  pub next_load : (before : List Step) → has_number (done_in before) 1 ≡ true → IsNextLoad before_load before (codes "dd")
+  next_load before done = record {
+    due = record {
+      edge = 6;
+      within = six_before (recorded_inputs (store_of records) declared);
+      names = refl;
+      settled = λ j made. subst (λ (n : ℕ). IsSettled declared (done_in before) n) (some_same 1 j made) (Done 1 refl done);
+    };
+    lowest = λ other due. inl (names_dd due.edge other due.names);
+  }
+
   pub load_of : (before : List Step) → has_number (done_in before) 1 ≡ true → IsLoad reads_dyndep texts before_load before edges
   load_of before done = record {
     file = codes "dd";
-    is_next = record {
-      due = record {
-        edge = 6;
-        within = six_before (recorded_inputs (store_of records) declared);
-        names = refl;
-        settled = λ j made. subst (λ (n : ℕ). IsSettled declared (done_in before) n) (some_same 1 j made) (Done 1 refl done);
-      };
-      lowest = λ other due. inl (names_dd due.edge other due.names);
-    };
+    is_next = next_load before done;
     content = dyndep_text;
     holds = refl;
     additions = makes_x ∷ reads_x ∷ [];

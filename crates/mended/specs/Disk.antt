@@ -1,5 +1,5 @@
 -- What happens on the disk: the sources, the first build, an edit of `k`, and the second build.
-use Rattle.std.specs.Prelude.{ℕ, Bool, true, false, List, [], ◌∷◌, ◌++◌, Some, None, codes}
+use Rattle.std.specs.Prelude.{ℕ, true, false, List, [], ◌∷◌, ◌++◌, Some, None, codes}
 use Rattle.model.specs.declared.act.Act.{Act}
 use Rattle.model.specs.declared.event.Event.{Event}
 use Rattle.model.specs.declared.event.Event.TheVariants.{Start, Finish}
