@@ -19,7 +19,7 @@ use Rattle.model.specs.Premises.{IsMaking, FilesAreKept, Increases, IsNoEdit, Is
 use Rattle.worked.specs.Small.{copy, no_records}
 use Rattle.worked.specs.Refused.{own}
 use Rattle.worked.specs.Edited.{EditedRows, EditedBeside, copy_c, copied_c, both, copy_both, both_ran, both_there, behind_first, behind_second, build_both, build}
-use Rattle.worked.proofs.Edited.{unmoved, a_free, not_a, faith}
+use Rattle.worked.proofs.Edited.{unmoved, a_free, not_a, faith, by_start, by_finish}
 use Rattle.worked.proofs.Lists.{all_has, none_some}
 
 abbrev ended_both : List Moment
@@ -252,5 +252,7 @@ edited_rows = record {
   faith = faith;
   other = λ clean. let same = clean 1 (codes "b") refl (Wanted 1 (codes "b") refl refl) refl refl in differ same;
   loud = λ files quiet alone is. false≢true (sym (alone.unread 1 (codes "a") is (inl (Itself 1 (codes "a") refl (inl (λ j alias. none_some j alias.made))))) ∙ (files.edits build refl).1.1.1.0);
+  by_start = by_start;
+  by_finish = by_finish;
   beside = beside;
 }

@@ -1,21 +1,23 @@
 -- The rows with an edit.
-use Rattle.std.proofs.Common.{◌≡◌, inl, inr, ℕ, zero, suc, ◌==◌, Bool, true, false, List, [], ◌∷◌, ◌++◌, Option, Some, None, refl, sym, ◌∙◌, ap, subst, arith}
+use Rattle.std.proofs.Common.{◌≡◌, inl, inr, ℕ, zero, suc, ◌==◌, ◌<◌, ◌≤◌, Bool, true, false, List, [], ◌∷◌, ◌++◌, Option, Some, None, refl, sym, ◌∙◌, ap, subst, arith}
 use Rattle.std.specs.List.{AllByRecursion}
 use Rattle.std.specs.Prelude.{codes, bytes_eq}
-use Rattle.std.proofs.lemmas.Bool.{false≢true, or_cases, eqb-true, cond-false, false_from_ne_true}
+use Rattle.std.proofs.lemmas.Bool.{false≢true, cases_Bool, or_cases, eqb-true, cond-false, false_from_ne_true}
 use Rattle.std.proofs.lemmas.List.{append_cancel_left}
 use Rattle.model.specs.declared.act.Act.{Act}
 use Rattle.model.specs.declared.event.Event.TheVariants.{Start, Finish}
 use Rattle.model.specs.declared.event.Moment.{Moment}
 use Rattle.model.specs.declared.event.Moment.TheVariants.{Wrote, Happened}
 use Rattle.model.specs.declared.event.Writer.TheVariants.{Program, Command, Someone}
-use Rattle.model.specs.World.{File, IsNotAt, written, content_of, file_from, view_of}
+use Rattle.model.specs.World.{File, IsNotAt, written, content_of, file_from, file_at, view_of}
 use Rattle.model.specs.Graph.{has, has_number, edge_at, inputs, outputs}
 use Rattle.model.specs.Premises.{FilesAreKept, Increases, IsNoEdit, IsWithinEdge, KeepsFaith, LeftOutcome, LiesIn, OwnFilesApart}
 use Rattle.worked.specs.Small.{copy, edges, copies, no_records}
 use Rattle.worked.specs.Refused.{own, ran_well}
-use Rattle.worked.specs.Edited.{entry, behind, build}
+use Rattle.worked.specs.Edited.{entry, behind, build, and_later, IsBelievedUnder}
 use Rattle.worked.proofs.Lists.{all_has, same_bytes}
+use Rattle.worked.proofs.Written.{written_in, unwritten}
+use Rattle.worked.proofs.Copied.{gives, is_x, stamp_in, no_told}
 
 pub unmoved : (p : List ℕ) (f : Option File) (ms : List Moment) → AllByRecursion (IsNotAt p) ms → file_from p f ms ≡ f
 unmoved p f [] all = refl
@@ -141,3 +143,50 @@ faith = record {
       (subst (λ (l : List Moment). LeftOutcome copies edges behind (entry ++ build) l 1)
       (sym (ended.is ∙ ap (λ (l : List Moment). entry ++ l) (is_end ended.before ended.after i (append_cancel_left entry build (ended.before ++ Happened (Finish i true) ∷ ended.after) ended.splits)))) left));
 }
+
+-- ---- what may be believed
+
+abbrev since_start : List Moment
+since_start = behind ++ Wrote Program (codes "t") (Some []) 11 ∷ []
+
+-- the view of the start has what each file holds that is no later
+abbrev Early : List ℕ → Type 0
+Early p = (file : File) → file_at and_later p ≡ Some file → file.stamp ≤ 9 → view_of started p ≡ Some file.content
+
+late_file : (held : Option File) (stamp : ℕ) → stamp_in held ≡ stamp → 9 < stamp → (file : File) → held ≡ Some file → file.stamp ≤ 9 → ⊥
+late_file held stamp stamped late file is early = let same : stamp ≡ file.stamp = sym stamped ∙ ap stamp_in is in omega (arith, late, same, early)
+
+each_early : (p : List ℕ) → Early p
+each_early p = elim (cases_Bool (has (written_in since_start) p)) [
+  | inl is_written ↦ all_has Early (codes "a" ∷ codes "b" ∷ codes "l" ∷ codes "t" ∷ []) p (
+    λ file is early. absurd (late_file (file_at and_later (codes "a")) 10 refl (omega arith) file is early),
+    (
+      λ file is early. absurd (late_file (file_at and_later (codes "b")) 10 refl (omega arith) file is early),
+      (
+        λ file is early. absurd (late_file (file_at and_later (codes "l")) 10 refl (omega arith) file is early),
+        (λ file is early. absurd (late_file (file_at and_later (codes "t")) 11 refl (omega arith) file is early), tt),
+      ),
+    ),
+  ) is_written
+  | inr none ↦ λ file is early. ap content_of (sym (unwritten p (file_from p None started) since_start none) ∙ is)
+]
+
+pub by_start : IsBelievedUnder 9
+by_start = record {
+  seen = view_of started;
+  well = refl;
+  holds = λ content is. is;
+  reports = λ deps force start. absurd (no_told deps force);
+  older = λ p file is early. each_early p file is early;
+  clock = soon;
+}
+  where
+    soon : 9 < 11
+    soon = omega arith
+
+-- `a` holds `y`, and counts as old
+pub by_finish : IsBelievedUnder 10 → ⊥
+by_finish made =
+    let seen_a = made.older (codes "a") (record { content = codes "y"; stamp = 10 }) refl (omega arith) in
+    let gave = made.holds (codes "x") refl in
+    false≢true (ap is_x (sym (ap gives seen_a) ∙ gave))

@@ -1,9 +1,12 @@
 pub mod Lists
+pub mod Copied
 pub mod Refused
 pub mod Edited
 pub mod Beside
 pub mod Forbidden
 pub mod Stricter
+pub mod OneVerdict
+pub mod Unsaid
 pub mod Written
 pub mod ReadTooEarly
 pub mod ThreeEdges

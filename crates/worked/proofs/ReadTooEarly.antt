@@ -7,7 +7,7 @@ use Rattle.model.specs.Graph.{has, edge_at, maker}
 use Rattle.model.specs.Outcome.{Behaviour}
 use Rattle.model.specs.Reading.{IsAbove, Direct, Further, needs}
 use Rattle.model.specs.Schedule.{Step}
-use Rattle.model.specs.Premises.{Input, IsKnown, IsBelowDyndep, IsKnownAbove, ByOne, ByMore, IsReported, DyndepOutputsAreReadBelow}
+use Rattle.model.specs.Premises.{Input, IsKnown, IsBelowDyndep, IsKnownAbove, ByOne, ByMore, IsReported, InputsAreKnown, DyndepOutputsAreReadBelow}
 use Rattle.worked.specs.Dyndep.{nothing_recorded, reads_x, reads_x_grown, waits_for_x, waits_for_x_grown, waits_for_q, waits_for_q_grown}
 use Rattle.worked.proofs.Lists.{all_has, none_some}
 
@@ -45,13 +45,16 @@ Unmade as_declared p = maker as_declared p ≡ None
 abbrev ByDyndep : List Edge → List Edge → List ℕ → Type 0
 ByDyndep as_declared edges p = (f : ℕ) → maker edges p ≡ Some f → (file : List ℕ) × ((edge_at as_declared f).dyndep ≡ Some file)
 
-pub read_beside : (B : Behaviour) (steps : List Step) (old new : List Moment) → DyndepOutputsAreReadBelow B reads_x reads_x_grown nothing_recorded steps old new → ⊥
-read_beside B steps old new below =
+pub inputs_beside : InputsAreKnown reads_x reads_x_grown nothing_recorded → ⊥
+inputs_beside known =
     not_known reads_x reads_x_grown 1
     (λ file is. none_some file is)
     (λ p h. all_has (Unmade reads_x) (codes "x" ∷ codes "dd" ∷ []) p (refl, (refl, tt)) h)
     (λ p f h made. all_has (ByDyndep reads_x reads_x_grown) (codes "x" ∷ codes "dd" ∷ []) p (λ m is. by_o reads_x (codes "dd") 2 m refl is, (λ m is. absurd (none_some m is), tt)) h f made)
-    (codes "x") 2 refl refl (below.inputs 1 (codes "x") refl (inl (Input (codes "x") refl)))
+    (codes "x") 2 refl refl (known 1 (codes "x") refl (inl (Input (codes "x") refl)))
+
+pub read_beside : (B : Behaviour) (steps : List Step) (old new : List Moment) → DyndepOutputsAreReadBelow B reads_x reads_x_grown nothing_recorded steps old new → ⊥
+read_beside B steps old new below = inputs_beside below.inputs
 
 pub reported_beside : (B : Behaviour) (steps : List Step) (old new : List Moment) → IsReported B waits_for_x_grown steps old new 1 (codes "x")
     → DyndepOutputsAreReadBelow B waits_for_x waits_for_x_grown nothing_recorded steps old new → ⊥

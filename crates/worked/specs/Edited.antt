@@ -9,12 +9,13 @@ use Rattle.model.specs.declared.graph.Deps.TheVariants.{Unset}
 use Rattle.model.specs.declared.graph.Edge.{Edge}
 use Rattle.model.specs.declared.outcome.Outcome.{Outcome}
 use Rattle.model.specs.World.{view_of}
+use Rattle.model.specs.Faithful.{IsFaithfulRecord}
 use Rattle.model.specs.Outcome.{Behaviour}
 use Rattle.model.specs.Records.{recorded_inputs}
 use Rattle.model.specs.Schedule.{Step, Judged, Started, Ended}
 use Rattle.model.specs.Premises.{AreQuiet, FilesAreKept, KeepsFaith, Premises}
 use Rattle.model.specs.SingleBuild.{Asked, IsCleanlyBuilt}
-use Rattle.worked.specs.Small.{copy, copied, edge_with, edges, asked, copies, no_records}
+use Rattle.worked.specs.Small.{copy, copied, edge_with, edges, asked, copies, no_records, done_under}
 use Rattle.worked.specs.Refused.{own, ran_well}
 
 -- the source `a` holds `x`
@@ -36,6 +37,14 @@ build =
     ∷ Wrote Program (codes "l") (Some (codes "begun")) 9
     ∷ Happened (Start 1 copy 9)
     ∷ behind
+
+-- that, and what is written next
+abbrev pub and_later : List Moment
+and_later = entry ++ build ++ Wrote Program (codes "t") (Some []) 11 ∷ []
+
+-- that the command made `b`, recorded under this stamp, may be believed
+abbrev pub IsBelievedUnder : ℕ → Type 0
+IsBelievedUnder stamp = IsFaithfulRecord copies (done_under stamp) and_later (codes "b") (record { act = copy; start = stamp })
 
 -- ---- beside another command
 
@@ -145,3 +154,6 @@ pub record EditedRows : Type 0 where
       → AreQuiet copies quiet files.free edges (recorded_inputs no_records edges) ran_well entry (entry ++ build) → quiet 1 ≡ true → ⊥
   -- beside it another command ran, which read another source
   pub beside : EditedBeside
+  -- the record has the stamp of the start: under that of the finish, or of the edit, it would say that `b` was made from what `a` holds now
+  pub by_start : IsBelievedUnder 9
+  pub by_finish : IsBelievedUnder 10 → ⊥

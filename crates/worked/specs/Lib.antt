@@ -4,3 +4,4 @@ pub mod Edited
 pub mod Forbidden
 pub mod Stricter
 pub mod Dyndep
+pub mod Unsaid

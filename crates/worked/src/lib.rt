@@ -7,6 +7,7 @@ ghost use Rattle.worked.specs.Dyndep.{DyndepRows};
 ghost use Rattle.worked.specs.Edited.{EditedRows};
 ghost use Rattle.worked.specs.Forbidden.{ForbiddenRows};
 ghost use Rattle.worked.specs.Stricter.{LogsAreLeftByBoth, StricterSuffice};
+ghost use Rattle.worked.specs.Unsaid.{UnsaidRows};
 
 /// The definitions refuse these: records made up or dropped, a fault passed over, moves skipped, restarts that are missing or
 /// needless, answers that no build gave, a deps record of a start to come, one path for a depfile and a response file, a
@@ -24,14 +25,15 @@ pub fn dyndep_rows()
 {}
 
 /// A build during which a source is edited while its command runs, a write before a tick has the tick's stamp, and two files have
-/// one: it meets the premises of faithful records, and not those of contents. Beside another command, which reads another source, it
-/// meets these too, with that one's edge quiet; and the edited source may be named by a phony line.
+/// one: it meets the premises of faithful records, and not those of contents. Its record is true under the stamp of the start, and
+/// not under that of the finish. Beside another command, which reads another source, it meets those of contents, too, with that one's
+/// edge quiet; and the edited source may be named by a phony line.
 pub fn edited_rows()
     ensures { EditedRows }
 {}
 
 /// What others may not do while a build runs, each with the smallest history in which a record would not be true: write an output, a
-/// source that has a record in force, or a log, or set a time back. In each a premise is broken.
+/// source that has a record in force, a log, a depfile or a response file, or set a time back. In each a premise is broken.
 pub fn forbidden_rows()
     ensures { ForbiddenRows }
 {}
@@ -45,4 +47,10 @@ pub fn stricter_premises()
 /// Each of the premises that the records of a build stood on before implies that others leave the logs.
 pub fn logs_are_left()
     ensures { LogsAreLeftByBoth }
+{}
+
+/// What a build says less of where others edit meanwhile: of each such clause the smallest history in which more would be false; an
+/// edge has one verdict; and where an edge reads too early what only a dyndep file makes, verdicts are those of their moments.
+pub fn unsaid_rows()
+    ensures { UnsaidRows }
 {}
