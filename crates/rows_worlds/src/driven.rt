@@ -6,10 +6,11 @@ ghost use Rattle.sim.specs.World.{world_of};
 
 use crate::ends::{push_end, push_last};
 use crate::lines::{self, Row, move_of};
-use crate::moves::{edges_of, options, start_again, targets};
+use crate::moves::start_again;
 use crate::watched::Watched;
 use builder::Report;
 use drive::drive;
+use meanwhile::{edges_of, options, targets};
 use model::Move;
 use sim::{Call, Sim, Toy};
 use site::Site;

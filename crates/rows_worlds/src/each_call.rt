@@ -2,9 +2,10 @@
 
 use crate::ends::push_last;
 use crate::lines::Row;
-use crate::moves::{Met, edit_all, make_all, options};
-use crate::places::{CALLS, Manner, Place, fits, name};
+use crate::moves::{Met, edit_all, make_all};
+use crate::places::{Manner, Place, fits, name};
 use builder::Options;
+use meanwhile::{CALLS, options};
 use sim::{Call, Sim, Toy, Trouble};
 use std::alloc::{AllocError, Global};
 use std::io::{self, Write};

@@ -1,7 +1,6 @@
 //! What is done to the files of a history between builds.
 
-use crate::made_up::{Source, dyndep_in};
-use crate::random::Random;
+use meanwhile::{Random, Source};
 use sim::{Sim, Toy};
 use std::alloc::{AllocError, Global};
 
@@ -24,33 +23,6 @@ const DEPS_LOG: Log = Log {
     kind: b'r',
     begun: b"r\t1\tb",
 };
-
-/// A source is written or deleted, beside the build file of this line.
-pub fn edit(
-    alloc: Global,
-    site: &mut Sim<Toy>,
-    source: Source<'_>,
-    graph: &str,
-    random: &mut Random,
-) -> Result<(), AllocError> {
-    let path = random.part(source.sources, ' ');
-    if random.one_in(5) {
-        return site.erase(path);
-    }
-    if path.starts_with('y') {
-        return site.put(path, &dyndep_in(alloc, graph, path)?);
-    }
-    let text = if path.starts_with('u') {
-        let (first, second) = (
-            random.part(source.sources, ' '),
-            random.part(source.sources, ' '),
-        );
-        format!(in alloc; "use {first}\nuse {second}\n")?
-    } else {
-        format!(in alloc; "{path}{}", random.below(3))?
-    };
-    site.put(path, text.as_bytes())
-}
 
 /// A file that a build made is deleted, or a log is damaged.
 pub fn harm(

@@ -8,9 +8,9 @@ use crate::clean_site::push_clean;
 use crate::driven::{push_calls, push_driven};
 use crate::each_call::push_swept;
 use crate::lines::Row;
-use crate::made_up::Source;
 use crate::places::{ALONE, MANNERS};
 use crate::trial::push_tried;
+use meanwhile::{Source, push_meanwhile};
 use std::alloc::{AllocError, Global};
 use std::io;
 use tables::word;
@@ -47,7 +47,7 @@ impl Histories {
     ) -> Result<bool, AllocError> {
         let (first, rest) = word(row);
         match first {
-            "each_call" | "each_call_alone" | "drive" | "calls" | "clean" | "made_up" => {
+            "each_call" | "each_call_alone" | "drive" | "calls" | "clean" | "made_up" | "meanwhile" => {
                 self.push_answer(alloc, first, rest, told)?;
                 return Ok(true);
             }
@@ -114,7 +114,8 @@ impl Histories {
 
 /// `each_call`: the history, in which each call goes wrong in turn, in each manner; `each_call_alone`: where one command runs at a time. `drive`: the history as one list of moves. `calls`: which calls of a site
 /// that list makes. `clean`: what a clean build leaves behind the edits. `made_up COUNT SEED`: so many histories that are made up, whose
-/// build files are the moves of this one.
+/// build files are the moves of this one. `meanwhile COUNT SEED`: the same, in which somebody writes while commands run; each build file
+/// makes all outputs, and commands may write `tmp`.
 fn push_asked(
     alloc: Global,
     row: Row<'_>,
@@ -128,6 +129,7 @@ fn push_asked(
         "drive" => push_driven(alloc, row, told),
         "calls" => push_calls(alloc, row, told),
         "clean" => push_clean(alloc, source, row.moves, told),
+        "meanwhile" => push_meanwhile(alloc, source, told),
         _ => push_tried(alloc, source, told),
     }
 }

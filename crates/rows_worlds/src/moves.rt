@@ -6,36 +6,13 @@ ghost use Rattle.sim.specs.World.{world_of};
 
 use crate::lines::{Move, move_of};
 use builder::{Options, Report, build};
+use meanwhile::{put_edges, targets};
 use model::{Event, SiteFault};
 use sim::{Sim, Toy};
 use site::Site;
-use status::Pattern;
 use std::alloc::{AllocError, Global};
 use tables::unescaped;
 use text::Text;
-
-/// The rules that stand before the edges of a build file.
-const RULES: &str = "rule cat
-  command = cat $out $in
-rule keep
-  command = keep $out $in
-  restat = 1
-rule both
-  command = both $out $in
-rule fail
-  command = fail $out $in
-rule args
-  command = args $out
-  rspfile = $out.rsp
-  rspfile_content = $in $flags
-rule scan
-  command = scan $out $out.d $in
-  depfile = $out.d
-  deps = gcc
-rule stay
-  command = scan $out $out.d $in
-  depfile = $out.d
-";
 
 /// What went wrong in a build.
 #[derive(Clone, Copy, PartialEq, Eq)]
@@ -49,26 +26,6 @@ pub enum Met {
     Stopped,
     /// There was no memory.
     NoMemory,
-}
-
-/// So many commands at once, and so many failures.
-pub fn options(alloc: Global, jobs: u32, keep: u32) -> Result<Options, AllocError> {
-    Ok(Options {
-        file: Text::from_str(alloc, "build.ninja")?,
-        jobs,
-        keep,
-        verbose: false,
-        pattern: Pattern::parse(alloc, Pattern::DEFAULT)?,
-    })
-}
-
-/// What is asked for: this target, or what is built by default.
-pub fn targets(alloc: Global, target: Option<&str>) -> Result<Vec<Text>, AllocError> {
-    let mut targets = Vec::new(alloc);
-    if let Some(target) = target {
-        targets.push(Text::from_str(alloc, target)?)?;
-    }
-    Ok(targets)
 }
 
 /// Builds once all commands that were left running have ended.
@@ -135,23 +92,10 @@ fn is_finish(event: &Event) -> bool {
     }
 }
 
-/// A build file with the rules, and these edges.
-pub fn edges_of(alloc: Global, edges: &str) -> Result<Vec<u8>, AllocError> {
-    let mut bytes = Vec::from_slice(alloc, RULES.as_bytes())?;
-    bytes.extend_from_slice(&unescaped(alloc, edges)?)?;
-    Ok(bytes)
-}
-
 /// Somebody writes this text.
 pub fn put(alloc: Global, site: &mut Sim<Toy>, path: &str, text: &str) -> Result<(), AllocError> {
     let bytes = unescaped(alloc, text)?;
     site.put(path, bytes.as_slice())
-}
-
-/// The build file gets the rules, and these edges.
-pub fn put_edges(alloc: Global, site: &mut Sim<Toy>, edges: &str) -> Result<(), AllocError> {
-    let bytes = edges_of(alloc, edges)?;
-    site.put("build.ninja", bytes.as_slice())
 }
 
 /// Does what a line says, and answers whether something went wrong.

@@ -4,20 +4,6 @@ use crate::moves::Met;
 use sim::{Call, Order, Sim, Timing, Toy, Trouble};
 use std::alloc::AllocError;
 
-pub const CALLS: [Call; 11] = [
-    Call::Read,
-    Call::Stat,
-    Call::Tick,
-    Call::Append,
-    Call::Replace,
-    Call::Write,
-    Call::Remove,
-    Call::MakeDirs,
-    Call::Start,
-    Call::WaitAny,
-    Call::Show,
-];
-
 /// How many commands may run at once, when they write, and which of those that run ends next.
 #[derive(Clone, Copy, Debug)]
 pub struct Manner {

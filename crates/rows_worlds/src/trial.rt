@@ -1,14 +1,13 @@
 //! Histories that are made up: edits, builds that go wrong and builds that succeed, each beside the clean build.
 
-use crate::clean_site::Clean;
 use crate::ends::is_success;
-use crate::harm::{edit, harm};
-use crate::made_up::{Source, dyndep_in, edges_in};
-use crate::moves::{build_alone, options, put_edges, start_again, targets};
-use crate::places::CALLS;
-use crate::random::Random;
+use crate::harm::harm;
+use crate::moves::{build_alone, start_again};
 use builder::{Options, Report};
-use sim::{Call, Order, Sim, Timing, Toy};
+use meanwhile::{
+    Clean, Random, Source, dyndep_in, edges_in, edit, name_trouble, options, put_edges, targets,
+};
+use sim::{Sim, Toy};
 use site::Site;
 use std::alloc::{AllocError, Global};
 use std::io::{self, Write};
@@ -275,30 +274,4 @@ impl Counts {
 /// A small number.
 fn small(number: usize) -> u32 {
     u32::try_from(number).unwrap_or(0)
-}
-
-/// How the site goes on, and what goes wrong in the next build: often nothing.
-fn name_trouble(site: &mut Sim<Toy>, random: &mut Random) -> Result<(), AllocError> {
-    site.timing(timing(random.one_in(2)));
-    site.order(order(random.one_in(2)));
-    if random.one_in(2) {
-        return Ok(());
-    }
-    let call = CALLS
-        .get(random.below(CALLS.len()))
-        .copied()
-        .unwrap_or(Call::Append);
-    let number = (random.below(5) as u64).saturating_add(1);
-    if random.one_in(2) {
-        return site.fail(call, number);
-    }
-    site.stop_at(call, number, random.below(30))
-}
-
-fn timing(early: bool) -> Timing {
-    if early { Timing::Early } else { Timing::Late }
-}
-
-fn order(first: bool) -> Order {
-    if first { Order::First } else { Order::Last }
 }
