@@ -37,12 +37,15 @@ appends_or_not path bytes old new (inr (part, rest, parts, appends)) = inr (part
 
 pub ticks_or_not : (path : List ℕ) (old mid new : World) → OnlyFiles old mid → TicksOrNot true path mid new → TicksOrNot false path old new
 ticks_or_not path old mid new files (inl looks) = inl (looks_after old mid new files looks)
-ticks_or_not path old mid new files (inr (stamp, ticks)) = inr (stamp, record {
-  events = ticks.events ∙ files.events;
-  ticked = ticks.ticked;
-  at_start = ticks.at_start ∙ files.at_start;
-  history = λ tells. absurd (false≢true tells);
-})
+ticks_or_not path old mid new files (inr (stamp, ticks)) = inr (
+  stamp,
+  record {
+    events = ticks.events ∙ files.events;
+    ticked = ticks.ticked;
+    at_start = ticks.at_start ∙ files.at_start;
+    history = λ tells. absurd (false≢true tells);
+  },
+)
 
 pub starts_or_not : (job : ℕ) (act : Act) (old mid new : World) → OnlyFiles old mid → StartsOrNot true job act mid new → StartsOrNot false job act old new
 starts_or_not job act old mid new files (inl looks) = inl (looks_after old mid new files looks)

@@ -123,13 +123,7 @@ impl<'a> Somebody<'a> {
         let path = self.random.part(self.source.sources, ' ');
         self.edited.push(' ')?;
         self.edited.push_str(path)?;
-        let text = next_text(
-            self.alloc,
-            self.source,
-            self.graph,
-            &mut self.random,
-            path,
-        )?;
+        let text = next_text(self.alloc, self.source, self.graph, &mut self.random, path)?;
         set(site, path, &text)?;
         Ok(())
     }

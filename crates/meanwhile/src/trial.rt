@@ -263,12 +263,7 @@ impl<'a> Trial<'a> {
 }
 
 /// Builds once all commands that were left running have ended.
-fn build_alone(
-    alloc: Global,
-    site: &mut Busy<'_>,
-    options: &Options,
-    targets: &[Text],
-) -> Report {
+fn build_alone(alloc: Global, site: &mut Busy<'_>, options: &Options, targets: &[Text]) -> Report {
     site.start_again();
     build(alloc, site, options, targets)
 }

@@ -47,7 +47,13 @@ impl Histories {
     ) -> Result<bool, AllocError> {
         let (first, rest) = word(row);
         match first {
-            "each_call" | "each_call_alone" | "drive" | "calls" | "clean" | "made_up" | "meanwhile" => {
+            "each_call"
+            | "each_call_alone"
+            | "drive"
+            | "calls"
+            | "clean"
+            | "made_up"
+            | "meanwhile" => {
                 self.push_answer(alloc, first, rest, told)?;
                 return Ok(true);
             }
