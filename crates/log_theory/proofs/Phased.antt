@@ -74,7 +74,7 @@ held_later file held before old now new ms grows was = record {
   holds = was.holds;
 }
 
-loads_later : (texts : View) (task : Task) (store : Store) (before : List Step) (phases : List Phase) (old now new ms : List Moment) → new ≡ now ++ ms → AreLoadsHeldAt texts task store before phases old now
+pub loads_later : (texts : View) (task : Task) (store : Store) (before : List Step) (phases : List Phase) (old now new ms : List Moment) → new ≡ now ++ ms → AreLoadsHeldAt texts task store before phases old now
     → AreLoadsHeldAt texts task store before phases old new
 loads_later texts task store before [] old now new ms grows held = tt
 loads_later texts task store before (phase ∷ phases) old now new ms grows held = (
@@ -381,7 +381,7 @@ module _ (tells : Bool) (B : Behaviour) (own : OwnFiles) (asked : Asked) (store 
   )
 
   -- the file with whose load the phase ends held then what it is read as
-  loads_push : (texts more : View) → HoldsAll texts more → (before : List Step) (phases : List Phase) (last : List Step) → AreLoadsHeldAt texts (task_of asked store) store before phases old.history now.history
+  pub loads_push : (texts more : View) → HoldsAll texts more → (before : List Step) (phases : List Phase) (last : List Step) → AreLoadsHeldAt texts (task_of asked store) store before phases old.history now.history
       → LoadHeldAt more (task_of asked store) ((before ++ steps_of phases) ++ last) old.history now.history → AreLoadsHeldAt more (task_of More store) store before (phases ++ ended_with last ∷ []) old.history now.history
   loads_push texts more holds before [] last held load = (subst (λ (l : List Step). LoadHeldAt more (task_of asked store) (l ++ last) old.history now.history) (append-nil before) load, tt)
   loads_push texts more holds before (phase ∷ phases) last held load = (

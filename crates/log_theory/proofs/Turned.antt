@@ -39,7 +39,7 @@ module _ (own : OwnFiles) (few many : List Edge) (grown : HasGrown few many) whe
   command_later i command = grown.phony i ∙ command
 
   -- an edge that makes what it names still does
-  making_later : (i : ℕ) → IsMaking few i → IsMaking many i
+  pub making_later : (i : ℕ) → IsMaking few i → IsMaking many i
   making_later i (inl command) = inl (command_later i command)
   making_later i (inr some) = inr (λ none. some (no_inputs none (inputs (edge_at few i)) refl))
     where
