@@ -437,7 +437,7 @@ module _ (tells : Bool) (course : Course) (grown : List Edge) (now : World) (fou
   ends_refused (Missing missing) stopped passes = record {
     said = missing_answer missing.path missing.needed_by;
     says = λ edges given targets. refl;
-    built = stopped_lacking (Missing missing) stopped passes tt missing stopped.cause;
+    built = stopped_lacking (Missing missing) stopped passes stopped.cause.named missing stopped.cause;
   }
   ends_refused (NoDyndep file) stopped passes = record {
     said = answer.Refused;

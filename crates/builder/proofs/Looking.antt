@@ -8,6 +8,7 @@ use Rattle.model.specs.declared.fault.SiteFault.TheVariants.{Device, Stopped, Me
 use Rattle.model.specs.World.{World, View, view_of, IsIdle}
 use Rattle.model.specs.Calls.{OnlyLooks, HasCause, is_stop}
 use Rattle.model.specs.Outcome.{Behaviour}
+use Rattle.model.specs.Premises.{LogsAreLeft}
 use Rattle.model.specs.Records.{OwnFiles, Store, LogFormat, store_in}
 use Rattle.model.specs.History.{IsHeadline}
 use Rattle.model.specs.Kept.{KeepsLogs}

@@ -7,6 +7,7 @@ use Rattle.model.specs.declared.record.DepsRecord.{DepsRecord}
 use Rattle.model.specs.World.{World, view_of, file_at, content_of, IsIdle}
 use Rattle.model.specs.Calls.{OnlyLooks, Sees}
 use Rattle.model.specs.Outcome.{Behaviour}
+use Rattle.model.specs.Premises.{LogsAreLeft}
 use Rattle.model.specs.Records.{LogFormat, OwnFiles, Store, read_log, store_in, IsOwnIn, file_in, build_log_name, deps_log_name}
 use Rattle.build_theory.specs.Seen.{IsSeen, Looked, Unrefused}
 use Rattle.build_theory.proofs.Calls.{seen_since}

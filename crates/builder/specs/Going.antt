@@ -42,7 +42,7 @@ use Rattle.builder.specs.declared.report.Refusal.TheVariants.{File, MadeTwice, N
 use Rattle.builder.specs.declared.report.Report.TheVariants.{Refused}
 use Rattle.builder.specs.declared.stop.Stop.{Stop}
 use Rattle.builder.specs.declared.stop.Stop.TheVariants as stop
-use Rattle.builder.specs.Loads.{ReadsDyndeps, RefusesFile}
+use Rattle.builder.specs.Loads.{ReadsDyndeps, NamesSource, RefusesFile}
 
 -- ---- where it stands
 
@@ -150,6 +150,7 @@ IsMissingAfter course edges done now path (Some output) =
 -- a source is missing where the present phase began
 pub record IsLacking (tells : Bool) (course : Course) (edges : List Edge) (phases : List Phase) (done : List Done) (now : World) (missing : Lacking) : Type 0 where
   pub asked : IsAsked (task_over course edges) phases done
+  pub named : NamesSource edges missing.path missing.needed_by
   pub is : IsTrue tells → (files : FilesAreKept course.own edges course.entry.history now.history) → NothingNeededIsFree files.free (task_over course edges) → AreAskedApart course.own (task_over course edges) done
       → IsMissingAfter course edges done now missing.path missing.needed_by
 

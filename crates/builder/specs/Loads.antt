@@ -1,10 +1,10 @@
 -- How dyndep files are read by a build, and why one ends it.
-use Rattle.std.specs.Prelude.{◌≡◌, ℕ, Bool, false, IsTrue, List, [], map, Option, None, Some, option_map, Result, Ok, Err}
+use Rattle.std.specs.Prelude.{◌≡◌, ℕ, Bool, true, false, IsTrue, List, [], map, Option, None, Some, option_map, Result, Ok, Err}
 use Rattle.model.specs.declared.event.Moment.{Moment}
 use Rattle.model.specs.declared.graph.Edge.{Edge}
 use Rattle.model.specs.World.{World, view_of}
 use Rattle.model.specs.Calls.{OnlyLooks}
-use Rattle.model.specs.Graph.{Addition}
+use Rattle.model.specs.Graph.{Addition, has, edge_at, maker, inputs, first_output}
 use Rattle.model.specs.Phases.{IsNextLoad, IsPointAfter}
 use Rattle.model.specs.Premises.{FilesAreKept}
 use Rattle.model.specs.Records.{OwnFiles, Store}
@@ -47,8 +47,15 @@ IsSaying outcome held = (content : List ℕ) × (held ≡ Some content) × IsRea
 abbrev pub IsUnfitFor : List Edge → List ℕ → List ℕ → Option (List ℕ) → Type 0
 IsUnfitFor edges file output held = (statements : List Statement) × IsSaying (Ok statements) held × IsUnfit edges file (map addition_of statements) output
 
+-- the path is a source; and where an output is named beside it, it is an input of an edge with this first output
+abbrev pub NamesSource : List Edge → List ℕ → Option (List ℕ) → Type 0
+NamesSource edges path None = maker edges path ≡ None
+NamesSource edges path (Some output) =
+    (i : ℕ) × (output ≡ first_output (edge_at edges i)) × (has (inputs (edge_at edges i)) path ≡ true) × (maker edges path ≡ None)
+
 -- why a dyndep file has ended the build, where one has, by these steps up to it: it is absent, or holds what cannot be read or does
--- not fit; and why a depfile or a response file has, before anything was done
+-- not fit; why a depfile or a response file has, before anything was done; and of which path it was found that it is missing, whatever
+-- its file is
 abbrev pub RefusesFile : Bool → OwnFiles → Asked → Store → List Step → World → World → Report → Type 0
 RefusesFile tells own asked store done old new (Success started) = Unit {0}
 RefusesFile tells own asked store done old new (Failed outputs) = Unit {0}
@@ -62,5 +69,5 @@ RefusesFile tells own asked store done old new (Refused (BadStatement file)) = I
 RefusesFile tells own asked store done old new (Refused (Unfit unfit)) = IsRefusedFile tells own asked store done old new unfit.file (IsUnfitFor asked.graph.edges unfit.file unfit.output)
 RefusesFile tells own asked store done old new (Refused (UnknownTarget target)) = Unit {0}
 RefusesFile tells own asked store done old new (Refused (Cycle paths)) = Unit {0}
-RefusesFile tells own asked store done old new (Refused (Missing missing)) = Unit {0}
+RefusesFile tells own asked store done old new (Refused (Missing missing)) = NamesSource asked.graph.edges missing.path missing.needed_by
 RefusesFile tells own asked store done old new (Fault fault) = Unit {0}
