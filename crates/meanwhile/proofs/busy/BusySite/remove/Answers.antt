@@ -4,4 +4,4 @@ use Rattle.meanwhile.proofs.Untold.{at_err, writes_or_not}
 use Rattle.meanwhile.proofs.busy.BusySite.remove.Goals as goal
 
 pub returns-in_err-remove-clause-err : goal.returns-in_err-remove-clause-err
-returns-in_err-remove-clause-err g c = at_err c.from_residual.result (writes_or_not c.args.path.now None (world_of c.args.self.now.site) (world_of c.remove.new.self) c.in_err-remove.ensures.err)
+returns-in_err-remove-clause-err c = at_err c.from_residual.result (writes_or_not c.args.path.now None (world_of c.args.self.now.site) (world_of c.remove.new.self) c.in_err-remove.ensures.err)

@@ -3,4 +3,4 @@ use Rattle.meanwhile.proofs.Untold.{at_err, spoils_or_not}
 use Rattle.meanwhile.proofs.busy.BusySite.write.Goals as goal
 
 pub returns-in_err-write-clause-err : goal.returns-in_err-write-clause-err
-returns-in_err-write-clause-err g c = at_err c.from_residual.result (spoils_or_not c.args.path.now (world_of c.args.self.now.site) (world_of c.write.new.self) c.in_err-write.ensures.err)
+returns-in_err-write-clause-err c = at_err c.from_residual.result (spoils_or_not c.args.path.now (world_of c.args.self.now.site) (world_of c.write.new.self) c.in_err-write.ensures.err)
