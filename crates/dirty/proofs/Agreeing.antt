@@ -46,15 +46,15 @@ and_second false b is = absurd (false≢true is)
 -- where one reason holds by the one test, one does by the other
 find_more : (f g : Reason → Bool) (reasons : List Reason) → ((r : Reason) → f r ≡ true → g r ≡ true) → is_some (find f reasons) ≡ true → is_some (find g reasons) ≡ true
 find_more f g [] more is = is
-find_more f g (r ∷ rs) more is = by_other (g r) refl
+find_more f g (r ∷ rs) more is = by_other (λ rest. find_more f g rs more rest) (g r) refl
   where
     by_one : (b : Bool) → f r ≡ b → g r ≡ false → is_some (find f rs) ≡ true
-    by_one true holds not = absurd (false≢true (sym not ∙ more r holds))
-    by_one false holds not = sym (ap (λ (b : Bool). is_some (cond b (Some r) (find f rs))) holds) ∙ is
+    by_one true here fails = absurd (false≢true (sym fails ∙ more r here))
+    by_one false here fails = sym (ap (λ (b : Bool). is_some (cond b (Some r) (find f rs))) here) ∙ is
 
-    by_other : (b : Bool) → g r ≡ b → is_some (cond (g r) (Some r) (find g rs)) ≡ true
-    by_other true holds = ap (λ (b : Bool). is_some (cond b (Some r) (find g rs))) holds
-    by_other false not = ap (λ (b : Bool). is_some (cond b (Some r) (find g rs))) not ∙ find_more f g rs more (by_one (f r) refl not)
+    by_other : (is_some (find f rs) ≡ true → is_some (find g rs) ≡ true) → (b : Bool) → g r ≡ b → is_some (cond (g r) (Some r) (find g rs)) ≡ true
+    by_other rest true here = ap (λ (b : Bool). is_some (cond b (Some r) (find g rs))) here
+    by_other rest false fails = ap (λ (b : Bool). is_some (cond b (Some r) (find g rs))) fails ∙ rest (by_one (f r) refl fails)
 
 module _ (facts : Facts) (outputs : List OutputFacts) (of_outputs : AreOutputs facts.act.now outputs facts.outputs) where
   holds_more : (r : Reason) → holds (facts_with facts outputs []) r ≡ true → holds_by facts r ≡ true

@@ -25,8 +25,8 @@ use Rattle.runner.proofs.Quiet.{KeepsQuiet, files_then, quiet_from}
 
 -- what a command makes that has ended is quiet
 pub made_quiet : (own : OwnFiles) (edges : List Edge) → OwnFilesApart own edges → (free : List ℕ → Bool) → FreeApart free own edges → IsMadeOnce edges → (steps : List Done) (j : ℕ) (p : List ℕ) → maker edges p ≡ Some j → IsCommand edges j → has_number (ended_in steps) j ≡ true → is_quiet free own edges steps p ≡ true
-made_quiet own edges apart free free_apart once steps j p is command ended = quiet_from free own edges steps p (record {
-  bound = free_apart.outputs j p (inl command) (maker_has edges p j is);
+made_quiet own edges apart free free_apart once steps j p is ran ended = quiet_from free own edges steps p (record {
+  bound = free_apart.outputs j p (inl ran) (maker_has edges p j is);
   foreign = false_from_ne_true (own.files p) (λ mine. false≢true (sym outside ∙ apart.within p mine));
   private = λ i command named. elim named [
     | inl same ↦ false≢true (sym outside ∙ (ap own.set same ∙ (apart.depfiles i command).0))
