@@ -199,8 +199,8 @@ second_premises = premises_of first_records second_steps edited.history mending 
 -- ---- the edge below the edited source is not quiet, whatever is free and quiet
 
 -- somebody writes `a` in the first build
-pub a_is_free : (own : OwnFiles) (files : FilesAreKept own edges first.history built.history) → files.free (codes "a") ≡ true
-a_is_free own files = (files.edits building refl).1.1.1.1.1.1.1.1.0
+pub a_is_free : (all : OwnFiles) (files : FilesAreKept all edges first.history built.history) → files.free (codes "a") ≡ true
+a_is_free all files = (files.edits building refl).1.1.1.1.1.1.1.1.0
 
 pub loud : (files : List ℕ → Bool) (quiet : ℕ → Bool) → files (codes "a") ≡ true
     → AreQuiet commands quiet files edges (recorded_inputs no_store edges) first_steps first.history built.history → quiet 2 ≡ true → ⊥

@@ -11,7 +11,7 @@ use Rattle.model.specs.declared.event.Moment.{Moment}
 use Rattle.model.specs.declared.record.DepsRecord.{DepsRecord}
 use Rattle.model.specs.declared.record.Record.{Record}
 use Rattle.model.specs.declared.record.Record.TheVariants.{Begun, Done}
-use Rattle.model.specs.World.{World, View, view_of}
+use Rattle.model.specs.World.{View, view_of}
 use Rattle.model.specs.Graph.{has, has_number, edge_at, outputs}
 use Rattle.model.specs.Clean.{clean_build}
 use Rattle.model.specs.Records.{Store, OwnFiles, IsOwnIn, Made, store_in, read_log, build_log_name, deps_log_name, in_force, in_force_from}
@@ -102,12 +102,6 @@ abbrev AreRecorded : List Record → ℕ → ℕ → Type 0
 AreRecorded records i stamp = AllByRecursion (λ o. in_force records o ≡ Some (record { act = (edge_at edges i).act; start = stamp })) (outputs (edge_at edges i))
 
 module _ (records added : List Record) (steps : List Step) (history more : List Moment) (es events : List Event) (tick next : ℕ) where
-  abbrev old : World
-  old = world_of history es tick
-
-  abbrev new : World
-  new = world_of (history ++ more) (es ++ events) next
-
   pub records_kept : AllStarts (AreRecorded (records ++ added)) events → every (has_number (well_in steps)) (started_in steps) ≡ true
       → ((o : List ℕ) → IsLeftAlone edges steps None o → AllByRecursion (λ r. has (outputs_of r) o ≡ false) added)
       → KeepsRecords commands asked (store_of records) (store_of (records ++ added)) steps None (world_of history es tick) (world_of (history ++ more) (es ++ events) next)

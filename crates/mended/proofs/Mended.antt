@@ -118,16 +118,20 @@ mends = record {
 shows : ShowsAll
 shows = record {
   at_once = (refl, refl);
+  at_once_again = (refl, refl);
+  parts = (refl, refl);
   dyndep_made = refl;
   dyndep_read = refl;
   output_added = (refl, refl);
   output_read = is_read edges refl (view_of built.history) 7 (codes "x") refl;
-  one_stamp = refl;
+  one_stamp = (refl, refl);
   cut = record { before = take 3 two_run; after = drop 5 two_run; splits = refl };
   cut_tells = refl;
+  response_start = refl;
   response = (refl, refl);
   scratch_file = (record { before = []; after = drop 1 meanwhile; splits = refl }, record { before = take 4 meanwhile; after = []; splits = refl }, refl);
   edit = (record { before = take 1 meanwhile; after = drop 2 meanwhile; splits = refl }, refl, is_read edges refl (view_of built.history) 2 (codes "a") refl);
+  input = (refl, refl);
   restat = (refl, refl, refl);
   alias = (refl, refl, is_read edges refl (view_of last.history) 5 (codes "h") refl);
   not_run = refl;

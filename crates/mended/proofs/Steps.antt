@@ -22,8 +22,11 @@ use Rattle.mended.proofs.Graphs.{numbers, within, none_recorded, made_once, no_c
 use Rattle.mended.proofs.Lawful.{is_next, all_blocked, none_starts, no_load, none_judged, none_may_start, none_loads, phase_lawful}
 use Rattle.mended.proofs.Project.{made_here, no_pools, no_pools_declared, targets, cone, cone_before, six_before}
 
-pub some_jobs : ◌≡◌ {A = ℕ} 2 0 → ⊥
-some_jobs e = absurd (omega (arith, e))
+two_none : (n : ℕ) → n ≡ 2 → n ≡ 0 → ⊥
+two_none n two none = omega (arith, two, none)
+
+pub some_jobs : asked.jobs ≡ 0 → ⊥
+some_jobs none = two_none asked.jobs refl none
 
 -- ---- the load
 

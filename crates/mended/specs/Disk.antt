@@ -48,7 +48,7 @@ two_run =
     logs (codes "a\n") 2 ∷ ticks 2 ∷ starts 1 2
     ∷ logs (codes "a\nb") 3 ∷ logs (codes "a\nb\n") 3 ∷ ticks 3 ∷ starts 2 3 ∷ []
 
--- the scratch file, an edit of `a` behind its command's look, and `b`, which has the stamp of that edit
+-- the scratch file, an edit of `a` after its command has read it, and `b`, which has the stamp of that edit
 abbrev pub meanwhile : List Moment
 meanwhile =
     leaves 2 (codes "t") (codes "1") 4 ∷ edits (codes "a") (codes "y") 4 ∷ leaves 2 (codes "b") (codes "x") 4 ∷ leaves 1 (codes "dd") dyndep_text 4

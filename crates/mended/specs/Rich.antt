@@ -1,8 +1,9 @@
 -- A history in which a source is edited during a build, and the next build mends it.
-use Rattle.std.specs.Prelude.{◌≡◌, ℕ, ◌==◌, not, Bool, true, false, List, [], ◌∷◌, ◌++◌, take, Some, None, map, codes}
+use Rattle.std.specs.Prelude.{◌≡◌, ℕ, ◌==◌, not, Bool, true, false, List, [], ◌∷◌, ◌++◌, take, drop, Some, None, map, codes}
 use Rattle.std.specs.List.{AllByRecursion}
+use Rattle.model.specs.declared.event.Event.{Event}
 use Rattle.model.specs.declared.event.Moment.{Moment}
-use Rattle.model.specs.declared.event.Moment.TheVariants.{Wrote}
+use Rattle.model.specs.declared.event.Moment.TheVariants.{Wrote, Happened}
 use Rattle.model.specs.declared.event.Writer.TheVariants.{Program}
 use Rattle.model.specs.World.{file_at, stamp_of, view_of, IsRunning}
 use Rattle.model.specs.Graph.{has, has_number, edge_at, maker, regular_inputs, IsCommand}
@@ -17,7 +18,7 @@ use Rattle.model.specs.Faithful.{IsFaithfulStore}
 use Rattle.model.specs.History.{Visit, Edited, Built, Unread, Restarted, IsHistory, Keeps, exit_of}
 use Rattle.model.specs.Driven.{HasLogs, answers_in}
 use Rattle.mended.specs.Project.{commands, letters, declared, edges, asked, own, makes_x, reads_x, dyndep_text, reads_dyndep, edited_or_scratch, scratch, lines_from, store_of, first_records}
-use Rattle.mended.specs.Disk.{two_run, meanwhile, building, first_steps, second_steps, first_events, first, built, edited, last, edits, leaves}
+use Rattle.mended.specs.Disk.{two_run, meanwhile, goes_on, building, mending, first_steps, second_steps, first, built, edited, last, edits, leaves, starts}
 
 -- the moment is among these
 pub record Holds (m : Moment) (ms : List Moment) : Type 0 where
@@ -25,11 +26,17 @@ pub record Holds (m : Moment) (ms : List Moment) : Type 0 where
   pub after : List Moment
   pub splits : ms ≡ before ++ m ∷ after
 
--- one write comes right behind another
+-- one write comes right after another
 pub record HoldsBoth (m n : Moment) (ms : List Moment) : Type 0 where
   pub before : List Moment
   pub after : List Moment
   pub splits : ms ≡ before ++ m ∷ n ∷ after
+
+-- the starts and finishes among these moments
+abbrev pub events_in : List Moment → List Event
+events_in [] = []
+events_in (Wrote by path content stamp ∷ ms) = events_in ms
+events_in (Happened event ∷ ms) = event ∷ events_in ms
 
 -- all edges but that below the edited source
 abbrev pub not_second : ℕ → Bool
@@ -62,25 +69,29 @@ GoBy steps (Restarted others old new restart ∷ vs) = ⊥
 
 -- That each of these is in the history, one after the other.
 pub record ShowsAll : Type 0 where
-  -- two commands run at once
-  pub at_once : IsRunning (take 2 first_events) 1 × IsRunning (take 2 first_events) 2
+  -- two commands run at once, in either build
+  pub at_once : IsRunning (events_in two_run) 1 × IsRunning (events_in two_run) 2
+  pub at_once_again : IsRunning (events_in (take 6 mending)) 2 × IsRunning (events_in (take 6 mending)) 3
+  pub parts : (building ≡ two_run ++ (meanwhile ++ goes_on)) × (events_in meanwhile ≡ [])
   -- the dyndep file is made by a command, and what is read in it gives the sixth edge an output, which the seventh reads
   pub dyndep_made : maker declared (codes "dd") ≡ Some 1
   pub dyndep_read : reads_dyndep dyndep_text ≡ Some (makes_x ∷ reads_x ∷ [])
   pub output_added : (maker declared (codes "x") ≡ None) × (maker edges (codes "x") ≡ Some 6)
   pub output_read : IsRead edges (view_of built.history) 7 (codes "x")
   -- two files get one stamp
-  pub one_stamp : stamp_of (file_at built.history (codes "b")) ≡ stamp_of (file_at built.history (codes "a"))
+  pub one_stamp : (stamp_of (file_at built.history (codes "a")) ≡ Some 4) × (stamp_of (file_at built.history (codes "b")) ≡ Some 4)
   -- a line is appended to the log in two writes, of which the first tells nothing
   pub cut : HoldsBoth (Wrote Program build_log_name (Some (codes "a\nb")) 3) (Wrote Program build_log_name (Some (codes "a\nb" ++ codes "\n")) 3) two_run
   pub cut_tells : lines_from None (codes "a\nb") ≡ lines_from None (codes "a\n")
   -- the response file is there when its command starts, and is gone at the end
+  pub response_start : building ≡ take 22 building ++ starts 6 6 ∷ drop 23 building
   pub response : (view_of (first.history ++ take 22 building) (codes "o.rsp") ≡ Some (codes "u")) × (view_of built.history (codes "o.rsp") ≡ None)
   -- a command and somebody else write a scratch file, which no edge makes
   pub scratch_file : Holds (leaves 2 (codes "t") (codes "1") 4) meanwhile × Holds (edits (codes "t") (codes "2") 4) meanwhile × (maker edges (codes "t") ≡ None)
   -- a source is edited while the command runs that reads it
-  pub edit : Holds (edits (codes "a") (codes "y") 4) meanwhile × IsRunning (take 2 first_events) 2 × IsRead edges (view_of built.history) 2 (codes "a")
-  -- a command with `restat` ran and left its output as it was, and what reads that through a phony edge was not started
+  pub edit : Holds (edits (codes "a") (codes "y") 4) meanwhile × IsRunning (events_in two_run) 2 × IsRead edges (view_of built.history) 2 (codes "a")
+  -- a command with `restat` ran, as its input was edited, and left its output as it was; what reads that through a phony edge was not started
+  pub input : (view_of built.history (codes "k") ≡ Some (codes "ku")) × (view_of edited.history (codes "k") ≡ Some (codes "kw"))
   pub restat : ((edge_at edges 3).restat ≡ true) × (has_number (well_in second_steps) 3 ≡ true) × (file_at last.history (codes "h") ≡ file_at edited.history (codes "h"))
   pub alias : ((edge_at edges 4).phony ≡ true) × (regular_inputs (edge_at edges 5) ≡ codes "p" ∷ []) × IsRead edges (view_of last.history) 5 (codes "h")
   pub not_run : has_number (started_in second_steps) 5 ≡ false
