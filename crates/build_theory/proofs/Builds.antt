@@ -7,7 +7,7 @@ use Rattle.model.specs.declared.event.Event.{Event}
 use Rattle.model.specs.declared.event.Event.TheVariants.{Start, Finish}
 use Rattle.model.specs.declared.event.Moment.{Moment}
 use Rattle.model.specs.declared.event.Moment.TheVariants.{Happened}
-use Rattle.model.specs.World.{World, View, view_of, runs, IsIdle}
+use Rattle.model.specs.World.{World, View, view_of, runs, IsIdle, events_in}
 use Rattle.model.specs.Graph.{has, has_number, edge_at, outputs, inputs, IsMadeOnce, IsCommand}
 use Rattle.model.specs.Outcome.{Behaviour, depfile_in, is_accepted}
 use Rattle.model.specs.Records.{Store, OwnFiles, recorded_inputs}
@@ -16,7 +16,7 @@ use Rattle.model.specs.Schedule.{Task, Step, Judged, Started, Ended, clean_in, e
 use Rattle.model.specs.Premises.{Matters, Premises, EndedAt}
 use Rattle.model.specs.SingleBuild.{Asked, Answer, is_fault, task_of, InCone, IsScheduled, HasEnded, IsJudged, IsFrame, IsCleanlyBuilt}
 use Rattle.build_theory.specs.Order.{LeaveAsNow, AreReadFirst, no_records}
-use Rattle.build_theory.specs.Run.{events_in, IsToldBy, IsRun, IsRunOrRest, AreStartsReady}
+use Rattle.build_theory.specs.Run.{IsToldBy, IsRun, IsRunOrRest, AreStartsReady}
 use Rattle.build_theory.proofs.Orderly.{kept_orderly}
 use Rattle.build_theory.proofs.Lists.{same_rest, has-left, has_number-right}
 use Rattle.build_theory.proofs.Steps.{lawful_parts, running_parts, in_right, clean-append}
@@ -210,6 +210,8 @@ module _ (tells : Bool) (own : OwnFiles) (asked : Asked) (steps : List Step) (ol
       → ((i : ℕ) → has_number (ended_in steps) i ≡ true → (edge_at asked.graph.edges i).act.depfile ≡ []) → IsJudged B free asked no_records steps None old.history now.history
   judged_of_nothing B free tell none some no_depfiles = record {
     verdicts = λ before after i b splits unread. verdicts_of_nothing own asked steps lawful none some old.history now.history before after i b splits;
-    well = λ i at ended well. accepts_none B (edge_at asked.graph.edges i).act (view_of at) (no_depfiles i ((kept_orderly asked.graph.edges steps rest.orderly).well i well));
-    depfiles = λ i at ended has unmet. depfiles_of_none tells own (task_of asked no_records) steps old now idle rest tell B i at (no_depfiles i has) ended has;
+    ended = record {
+      well = λ i at ended well. accepts_none B (edge_at asked.graph.edges i).act (view_of at) (no_depfiles i ((kept_orderly asked.graph.edges steps rest.orderly).well i well));
+      depfiles = λ i at ended has unmet. depfiles_of_none tells own (task_of asked no_records) steps old now idle rest tell B i at (no_depfiles i has) ended has;
+    };
   }

@@ -11,7 +11,7 @@ use Rattle.model.specs.declared.event.Event.TheVariants.{Start, Finish}
 use Rattle.model.specs.declared.event.Moment.{Moment}
 use Rattle.model.specs.declared.event.Moment.TheVariants.{Wrote, Happened}
 use Rattle.model.specs.declared.event.Writer.TheVariants.{Program, Command, Someone}
-use Rattle.model.specs.World.{World, file_at, content_of, view_of, runs, IsIdle}
+use Rattle.model.specs.World.{World, file_at, content_of, view_of, runs, IsIdle, events_in}
 use Rattle.model.specs.Outcome.{Behaviour, given, listed, depfile_in}
 use Rattle.model.specs.Clean.{clean_build}
 use Rattle.model.specs.Graph.{has, has_number, edge_at, outputs, IsMadeOnce, IsCommand}
@@ -21,8 +21,8 @@ use Rattle.model.specs.Premises.{FilesAreKept, OwnFilesApart, LiesIn, Premises, 
 use Rattle.model.specs.SingleBuild.{IsOwnWrite, IsOfBuild, MayChange, IsMadeBy, IsFrame}
 use Rattle.model.specs.Phases.{happened_in, EndsInEvent, IsPointAfter}
 use Rattle.build_theory.specs.Order.{settled_in, LeftAsNow, LeaveAsNow, IsExplained, IsOrderlyFrom, IsOrderly, AreReadFirst}
-use Rattle.build_theory.specs.Run.{events_in, starts_in, AreOfRun, IsToldBy, IsRunOrRest, AreStartsReady, EndOf}
-use Rattle.build_theory.proofs.Lists.{same_rest, all_has, all_from_has, all_parts, has_number-cases, has_number-right, has_number-one}
+use Rattle.build_theory.specs.Run.{starts_in, AreOfRun, IsToldBy, IsRunOrRest, AreStartsReady, EndOf}
+use Rattle.build_theory.proofs.Lists.{same_rest, all_has, all_from_has, all_parts, has_number-cases, has_number-left, has_number-right, has_number-one}
 use Rattle.build_theory.proofs.Steps.{running_parts, started-append, in_right, settled_done, done_settled}
 use Rattle.build_theory.proofs.Orderly.{IsKept, kept_orderly, orderly_parts, started_once, started_before, reading_order}
 use Rattle.build_theory.proofs.Events.{starts-append, starts_of_steps, starts_of_all, as_many, IsCutBehind, cut_behind, IsCutAt, cut_at_end, well_step, runs_push, no_starts}
@@ -210,19 +210,19 @@ module _ (tells : Bool) (own : OwnFiles) (task : Task) (steps : List Step) (old 
   commands i h = kept.judged i (kept.out_of_date i h)
 
   -- since a command ended well its outputs were not written
-  pub output_unwritten : (once : IsMadeOnce task.graph.edges) → FilesAreKept own task.graph.edges old.history now.history → (i : ℕ) (o : List ℕ) → has (outputs (edge_at task.graph.edges i)) o ≡ true
+  pub output_unwritten : (once : IsMadeOnce task.graph.edges) → FilesAreKept own task.graph.edges old.history now.history → (i : ℕ) → IsCommand task.graph.edges i → (o : List ℕ) → has (outputs (edge_at task.graph.edges i)) o ≡ true
       → (end : EndOf own task.graph.edges steps i old.history now.history) → AllByRecursion (IsElsewhere o) end.after
-  output_unwritten once files i o is_output end =
-      all_elsewhere own task.graph.edges steps files.own_files files.free files.free_apart commands kept.started once i o is_output end.after end.others
+  output_unwritten once files i command o is_output end =
+      all_elsewhere own task.graph.edges steps files.own_files files.free files.free_apart commands kept.started once i command o is_output end.after end.others
       (all_parts (IsWithinEdge files.free task.graph.edges) end.before (Happened (Finish i true) ∷ end.after) (files.commands (end.before ++ Happened (Finish i true) ∷ end.after) end.grows)).1.1
       (all_parts (IsNoEdit files.free) end.before (Happened (Finish i true) ∷ end.after) (files.edits (end.before ++ Happened (Finish i true) ∷ end.after) end.grows)).1.1
 
   -- what an edge's outputs were when its command ended well, they still are
-  pub output_stays : (once : IsMadeOnce task.graph.edges) → FilesAreKept own task.graph.edges old.history now.history → (i : ℕ) (o : List ℕ) → has (outputs (edge_at task.graph.edges i)) o ≡ true
+  pub output_stays : (once : IsMadeOnce task.graph.edges) → FilesAreKept own task.graph.edges old.history now.history → (i : ℕ) → IsCommand task.graph.edges i → (o : List ℕ) → has (outputs (edge_at task.graph.edges i)) o ≡ true
       → (end : EndOf own task.graph.edges steps i old.history now.history) → file_at now.history o ≡ file_at (old.history ++ end.before) o
-  output_stays once files i o is_output end =
+  output_stays once files i command o is_output end =
       ap (λ (h : List Moment). file_at h o) (end.grows ∙ sym (append_assoc old.history end.before (Happened (Finish i true) ∷ end.after)))
-      ∙ file_stays o (old.history ++ end.before) (Happened (Finish i true) ∷ end.after) (tt, output_unwritten once files i o is_output end)
+      ∙ file_stays o (old.history ++ end.before) (Happened (Finish i true) ∷ end.after) (tt, output_unwritten once files i command o is_output end)
 
   -- ---- contents
 
@@ -249,7 +249,7 @@ module _ (tells : Bool) (own : OwnFiles) (task : Task) (steps : List Step) (old 
         told = subst (λ (ps : List (List ℕ)). AllByRecursion (Matters B task.graph.edges task.recorded steps old.history now.history i) ps) (ap listed left.depfile)
             (all_from_has (Matters B task.graph.edges task.recorded steps old.history now.history i) (listed (depfile_in B (edge_at task.graph.edges i).act (view_of (old.history ++ end.before))))
             (λ p h. inr (inr (record { at = old.history ++ end.before; ended = ended_at; well = well; told = h }))));
-        gives = ap content_of (output_stays once premises.files.kept i o is_output end)
+        gives = ap content_of (output_stays once premises.files.kept i (commands i (kept.started i (kept.ended i (kept.well i well)))) o is_output end)
             ∙ all_has (λ p. view_of (old.history ++ end.before) p ≡ given B (edge_at task.graph.edges i).act left.seen p) (outputs (edge_at task.graph.edges i)) o left.contents is_output;
       }
 
@@ -356,7 +356,7 @@ module _ (tells : Bool) (own : OwnFiles) (task : Task) (steps : List Step) (old 
           ]
         where
           bound : IsMadeBy (edge_at task.graph.edges i) p → files.free p ≡ false
-          bound (inl output) = files.free_apart.outputs i p output
+          bound (inl output) = files.free_apart.outputs i p (inl turn.0) output
           bound (inr (named, is)) = files.free_apart.set p (ap own.set is ∙ (files.own_files.depfiles i turn.0).0)
 
           whole : now.history ≡ old.history ++ (so_far ++ drop_events (length cut.before) told.more)
@@ -377,7 +377,7 @@ module _ (tells : Bool) (own : OwnFiles) (task : Task) (steps : List Step) (old 
   pub unwritten_until : IsMadeOnce task.graph.edges → FilesAreKept own task.graph.edges old.history now.history → (i stamp : ℕ) (act : Act) (o : List ℕ) (before after : List Moment)
       → now.history ≡ old.history ++ (before ++ Happened (Start i act stamp) ∷ after) → has (outputs (edge_at task.graph.edges i)) o ≡ true → AllByRecursion (IsElsewhere o) before
   unwritten_until once files i stamp act o before after grows is_output =
-      all_elsewhere own task.graph.edges steps files.own_files files.free files.free_apart commands kept.started once i o is_output before
+      all_elsewhere own task.graph.edges steps files.own_files files.free files.free_apart commands kept.started once i (commands i (kept.started i was_started)) o is_output before
       (quiet own task.graph.edges steps i old.events [] before (ap (λ (l : List Event). runs i l) (append-nil old.events) ∙ idle i) none
       (of_run_parts own task.graph.edges steps old.events [] before (Happened (Start i act stamp) ∷ after) (subst (λ (l : List Moment). AreOfRun own task.graph.edges steps old.events [] l) splits told.all)).0
       (all_parts (IsOfBuild own task.graph.edges steps) before (Happened (Start i act stamp) ∷ after) (subst (λ (l : List Moment). AllByRecursion (IsOfBuild own task.graph.edges steps) l) splits all_of_build)).0)
@@ -392,6 +392,10 @@ module _ (tells : Bool) (own : OwnFiles) (task : Task) (steps : List Step) (old 
           sym starts_are ∙ (ap (λ (l : List Moment). starts_in (events_in l)) splits
           ∙ (ap starts_in (events_in-append before (Happened (Start i act stamp) ∷ after))
           ∙ starts-append (events_in before) (Start i act stamp ∷ events_in after)))
+
+      was_started : has_number (started_in steps) i ≡ true
+      was_started = ap (λ (l : List ℕ). has_number l i) starts
+          ∙ has_number-right (starts_in (events_in before)) (i ∷ starts_in (events_in after)) i (has_number-left (i ∷ []) (starts_in (events_in after)) i (has_number-one i))
 
       none : has_number (starts_in (events_in before)) i ≡ false
       none = distinct_from task.graph.edges [] steps rest.orderly (starts_in (events_in before)) (starts_in (events_in after)) i starts

@@ -77,13 +77,13 @@ module _ (own : OwnFiles) (edges : List Edge) (steps : List Step) (apart : OwnFi
   program_in_set path content (inr (inl (k, out, is, gone))) = lies_in_set path (edge_at edges k).act.depfile (apart.depfiles k (commands k out)) is
   program_in_set path content (inr (inr (k, out, is))) = lies_in_set path (edge_at edges k).act.response_path (apart.responses k (commands k out)) is
 
-  module _ (once : IsMadeOnce edges) (i : ℕ) (o : List ℕ) (is_output : has (outputs (edge_at edges i)) o ≡ true) where
+  module _ (once : IsMadeOnce edges) (i : ℕ) (command : IsCommand edges i) (o : List ℕ) (is_output : has (outputs (edge_at edges i)) o ≡ true) where
     not_in_set : (path : List ℕ) → path ≡ o → own.set path ≡ true → ⊥
     not_in_set path same in_set =
         false≢true (sym (apart.outputs i o is_output) ∙ (ap own.set (sym same) ∙ in_set))
 
     not_free : (path : List ℕ) → path ≡ o → free path ≡ true → ⊥
-    not_free path same is_free = false≢true (sym (free_apart.outputs i o is_output) ∙ (ap free (sym same) ∙ is_free))
+    not_free path same is_free = false≢true (sym (free_apart.outputs i o (inl command) is_output) ∙ (ap free (sym same) ∙ is_free))
 
     elsewhere : (m : Moment) → IsByOthersThan own edges steps i m → IsWithinEdge free edges m × IsNoEdit free m → IsElsewhere o m
     elsewhere (Wrote Program path content stamp) others kept =

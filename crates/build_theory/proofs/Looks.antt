@@ -12,7 +12,7 @@ use Rattle.model.specs.declared.event.Writer.TheVariants.{Program, Command, Some
 use Rattle.model.specs.World.{World, file_at, content_of, view_of, runs, IsRunning, IsIdle}
 use Rattle.model.specs.Calls.{IsByOthers, AllByOthers, OthersWrote, OnlyLooks, Sees}
 use Rattle.model.specs.Records.{OwnFiles}
-use Rattle.model.specs.Premises.{FilesAreKept, OnlyFreeIsEdited, NothingIsEdited, none_free, KeepToOutputs, AllSince, IsNoEdit, IsWithinEdge}
+use Rattle.model.specs.Premises.{LogsAreLeft, FilesAreKept, OnlyFreeIsEdited, NothingIsEdited, none_free, KeepToOutputs, AllSince, IsNoEdit, IsWithinEdge}
 use Rattle.model.specs.Schedule.{Step, Judged}
 use Rattle.model.specs.SingleBuild.{IsOfBuild, IsFrame}
 use Rattle.build_theory.proofs.Lists.{same_bytes, same_rest, all_append, all_parts}
@@ -106,21 +106,25 @@ kept_before own edges old mid new later grows kept =
       edits = edits_before kept.free old mid new later grows kept.edits;
     }
 
+-- others leave the logs, where files are kept
+pub logs_left : (own : OwnFiles) (edges : List Edge) (old new : List Moment) → FilesAreKept own edges old new → LogsAreLeft own old new
+logs_left own edges old new kept = record {
+  free = kept.free;
+  build_log = kept.free_apart.set own.build_log (kept.own_files.within own.build_log kept.own_files.build_log);
+  deps_log = kept.free_apart.set own.deps_log (kept.own_files.within own.deps_log kept.own_files.deps_log);
+  edits = kept.edits;
+}
+
+-- and where nobody edits
+pub logs_unedited : (own : OwnFiles) (old new : List Moment) → NothingIsEdited old new → LogsAreLeft own old new
+logs_unedited own old new edits = record { free = none_free; build_log = refl; deps_log = refl; edits = edits }
+
 pub none_wrote : (running : ℕ → Type 0) (ms : List Moment) → ((job : ℕ) → running job → ⊥) → AllByOthers running ms → AllByRecursion (IsNoEdit none_free) ms → ms ≡ []
 none_wrote running [] idle all edits = refl
 none_wrote running (Wrote Program path content stamp ∷ ms) idle all edits = absurd all.0
 none_wrote running (Wrote (Command job) path content stamp ∷ ms) idle all edits = absurd (idle job all.0)
 none_wrote running (Wrote Someone path content stamp ∷ ms) idle all edits = absurd (false≢true edits.0)
 none_wrote running (Happened event ∷ ms) idle all edits = absurd all.0
-
--- a call that only looks leaves the history as it is
-pub looks_keep : (tells : Bool) (old new : World) → IsIdle old.events → OnlyLooks tells old new → IsTrue tells → NothingIsEdited old.history new.history → new.history ≡ old.history
-looks_keep tells old new idle looks tell edits =
-    let call = looks.history tell in
-    call.grows
-    ∙ (ap (λ (l : List Moment). old.history ++ l)
-    (none_wrote (IsRunning old.events) call.more (λ job runs. false≢true (sym (idle job) ∙ runs)) call.all (edits call.more call.grows))
-    ∙ append-nil old.history)
 
 -- a call that only looks leaves each file as it is that others may not write
 pub looks_keep_file : (tells : Bool) (own : OwnFiles) (edges : List Edge) (old new : World) → IsIdle old.events → OnlyLooks tells old new → IsTrue tells → (free : List ℕ → Bool) → OnlyFreeIsEdited free old.history new.history
@@ -157,14 +161,3 @@ looks_saw tells own edges first old new idle one two tell free edits p bound con
     elsewhere : AllByRecursion (IsElsewhere p) seen.earlier
     elsewhere = (all_parts (IsElsewhere p) seen.earlier seen.later (subst (λ (ms : List Moment). AllByRecursion (IsElsewhere p) ms) same
         (untouched tells own edges old new none_runs two free p bound call.more call.all of_call))).0
-
--- an answer that was so at some moment of such a call was so at its beginning
-pub sees_so : {A : Type 0} (so : List Moment → A) (seen : A) (old new : List Moment) → new ≡ old → Sees so seen old new → seen ≡ so old
-sees_so so seen old new same sees = sees.is ∙ ap so (ap (λ (l : List Moment). old ++ l) none ∙ append-nil old)
-  where
-    nothing_left : (xs ys : List Moment) → xs ++ ys ≡ [] → xs ≡ []
-    nothing_left [] ys is = refl
-    nothing_left (x ∷ xs) ys is = cc
-
-    none : sees.earlier ≡ []
-    none = nothing_left sees.earlier sees.later (same_rest old (sees.earlier ++ sees.later) [] (sym sees.grows ∙ (same ∙ sym (append-nil old))))

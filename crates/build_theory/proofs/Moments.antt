@@ -10,13 +10,13 @@ use Rattle.model.specs.declared.event.Event.TheVariants.{Start, Finish}
 use Rattle.model.specs.declared.event.Moment.{Moment}
 use Rattle.model.specs.declared.event.Moment.TheVariants.{Wrote, Happened}
 use Rattle.model.specs.declared.event.Writer.TheVariants.{Program, Command, Someone}
-use Rattle.model.specs.World.{runs, IsRunning, IsIdle}
+use Rattle.model.specs.World.{runs, IsRunning, IsIdle, events_in}
 use Rattle.model.specs.Calls.{AllByOthers}
 use Rattle.model.specs.Graph.{has_number}
 use Rattle.model.specs.Records.{OwnFiles}
 use Rattle.model.specs.Schedule.{Step, Judged, Started, Ended, started_in, out_of_date_in, AreEventsOf}
 use Rattle.model.specs.SingleBuild.{IsOfBuild, IsOwnWrite}
-use Rattle.build_theory.specs.Run.{events_in, starts_in, steps_until, AreOfRun, IsToldBy, IsByOthersThan}
+use Rattle.build_theory.specs.Run.{starts_in, steps_until, AreOfRun, IsToldBy, IsByOthersThan}
 use Rattle.build_theory.proofs.Lists.{has_number-left}
 use Rattle.build_theory.proofs.Events.{runs_since, runs_push, starts-append}
 

@@ -7,14 +7,14 @@ use Rattle.model.specs.declared.event.Event.{Event}
 use Rattle.model.specs.declared.event.Event.TheVariants.{Start, Finish}
 use Rattle.model.specs.declared.event.Moment.{Moment}
 use Rattle.model.specs.declared.event.Moment.TheVariants.{Happened}
-use Rattle.model.specs.World.{World}
+use Rattle.model.specs.World.{World, events_in}
 use Rattle.model.specs.Graph.{has_number, edge_at}
 use Rattle.model.specs.Records.{Store, OwnFiles}
 use Rattle.model.specs.OutOfDate.{ReadsNoFree, IsVerdict}
 use Rattle.model.specs.Schedule.{Task, Step, Judged, Started, Ended, out_of_date_in, started_in, well_in, AreEventsOf, AreFinishes}
 use Rattle.model.specs.SingleBuild.{StartsOnlyStale}
 use Rattle.build_theory.specs.Order.{IsOrderly}
-use Rattle.build_theory.specs.Run.{events_in, IsToldBy, IsRunOrRest, AreStartsReady}
+use Rattle.build_theory.specs.Run.{IsToldBy, IsRunOrRest, AreStartsReady}
 use Rattle.build_theory.proofs.Lists.{same_rest, has_number-right}
 use Rattle.build_theory.proofs.Events.{HasStep, step_behind}
 use Rattle.build_theory.proofs.Moments.{events_in-append}

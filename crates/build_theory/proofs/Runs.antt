@@ -9,14 +9,14 @@ use Rattle.model.specs.declared.event.Event.TheVariants.{Start, Finish}
 use Rattle.model.specs.declared.event.Moment.{Moment}
 use Rattle.model.specs.declared.event.Moment.TheVariants.{Wrote, Happened}
 use Rattle.model.specs.declared.event.Writer.TheVariants.{Program}
-use Rattle.model.specs.World.{World, runs, IsRunning, IsIdle}
+use Rattle.model.specs.World.{World, runs, IsRunning, IsIdle, events_in}
 use Rattle.model.specs.Calls.{AllByOthers, OnlyLooks, Adds, Starts, Finishes}
 use Rattle.model.specs.Graph.{has_number, edge_at}
 use Rattle.model.specs.Records.{OwnFiles}
 use Rattle.model.specs.SingleBuild.{IsOwnWrite}
 use Rattle.model.specs.Schedule.{Task, Step, Judged, Started, Ended, IsEndOf, AreEventsOf, started_in, running_in}
 use Rattle.build_theory.specs.Order.{IsOrderlyStep}
-use Rattle.build_theory.specs.Run.{events_in, steps_until, AreOfRun, IsToldBy, IsRun, IsRunOrRest}
+use Rattle.build_theory.specs.Run.{steps_until, AreOfRun, IsToldBy, IsRun, IsRunOrRest}
 use Rattle.build_theory.proofs.Steps.{running_parts}
 use Rattle.build_theory.proofs.Orderly.{orderly_push}
 use Rattle.build_theory.proofs.Events.{events-append, events_judged, finishes_push, runs_now}

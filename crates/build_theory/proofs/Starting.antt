@@ -9,13 +9,13 @@ use Rattle.model.specs.declared.event.Moment.{Moment}
 use Rattle.model.specs.declared.event.Moment.TheVariants.{Wrote, Happened}
 use Rattle.model.specs.declared.event.Writer.TheVariants.{Program}
 use Rattle.model.specs.declared.graph.Edge.{Edge}
-use Rattle.model.specs.World.{World, content_of, written, file_at, view_of, IsRunning}
+use Rattle.model.specs.World.{World, content_of, written, file_at, view_of, IsRunning, events_in}
 use Rattle.model.specs.Calls.{AllByOthers, OthersWrote, Adds, Starts}
 use Rattle.model.specs.Graph.{edge_at, IsCommand}
 use Rattle.model.specs.Records.{OwnFiles}
 use Rattle.model.specs.Premises.{OwnFilesApart, FreeApart, FilesAreKept, AllSince, IsWithinEdge, IsNoEdit}
 use Rattle.model.specs.SingleBuild.{IsReadyFor}
-use Rattle.build_theory.specs.Run.{events_in, starts_in, AreStartsReady}
+use Rattle.build_theory.specs.Run.{starts_in, AreStartsReady}
 use Rattle.build_theory.proofs.Lists.{same_rest, all_parts, place_in}
 use Rattle.build_theory.proofs.Events.{starts-append}
 use Rattle.build_theory.proofs.Files.{IsElsewhere, file_stays, others_elsewhere, write_stands}

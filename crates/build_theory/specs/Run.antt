@@ -9,19 +9,13 @@ use Rattle.model.specs.declared.event.Moment.{Moment}
 use Rattle.model.specs.declared.event.Moment.TheVariants.{Wrote, Happened}
 use Rattle.model.specs.declared.event.Writer.TheVariants.{Program, Command, Someone}
 use Rattle.model.specs.declared.graph.Edge.{Edge}
-use Rattle.model.specs.World.{World, view_of, runs}
+use Rattle.model.specs.World.{World, view_of, events_in, runs}
 use Rattle.model.specs.Graph.{has_number}
 use Rattle.model.specs.Records.{OwnFiles}
 use Rattle.model.specs.Premises.{FilesAreKept}
 use Rattle.model.specs.SingleBuild.{IsOwnWrite, IsReadyFor}
 use Rattle.model.specs.Schedule.{Task, Step, Judged, Started, Ended, AreEventsOf, AreFinishes, started_in}
 use Rattle.build_theory.specs.Order.{IsOrderly}
-
--- the starts and finishes among these moments
-abbrev pub events_in : List Moment → List Event
-events_in [] = []
-events_in (Wrote by path content stamp ∷ moments) = events_in moments
-events_in (Happened event ∷ moments) = event ∷ events_in moments
 
 -- the jobs that were started, one after another
 abbrev pub starts_in : List Event → List ℕ

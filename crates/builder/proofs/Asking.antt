@@ -200,7 +200,7 @@ module _ (tells : Bool) (tick : List ℕ) (course : Course) (edges : List Edge) 
 
       bound_paths : NothingNeededIsFree files.free (task_over course edges) → HasPathsFor edges course.store (task_over course edges).targets steps (is_bound files.free)
       bound_paths needed = record {
-        made = λ i p fresh h. not_from_false (files.free p) (files.free_apart.outputs i p h);
+        made = λ i p fresh h. not_from_false (files.free p) (needed.2 i p h);
         named = λ i p h unmade. not_from_false (files.free p) (needed.0 i p (has-left (inputs (edge_at edges i)) (recorded_inputs course.store edges i) p h));
         recorded = λ i p h unmade. not_from_false (files.free p) (needed.0 i p (has-right (inputs (edge_at edges i)) (recorded_inputs course.store edges i) p h));
         requested = λ p h source. not_from_false (files.free p) (needed.1 p h);
@@ -225,7 +225,7 @@ module _ (tells : Bool) (tick : List ℕ) (course : Course) (edges : List Edge) 
       found_at needed (inl none) at point = found_over keeps_depfile (is_bound files.free) (bound_still none) (bound_seen none) (bound_paths none needed) at (bound_alike none at point)
       found_at needed (inr apart) at point =
           found_over keeps_depfile (is_quiet files.free course.own edges steps) quietly.1 (stands.on.seen tell (files_then course.own edges course.entry now new quietly.0 files))
-          (paths_for course.own edges course.store (task_over course edges).targets steps kept files.own_files apart.0 stands.suits.once (λ p h source. apart.1 p h) files.free files.free_apart needed.0 needed.1
+          (paths_for course.own edges course.store (task_over course edges).targets steps kept files.own_files apart.0 stands.suits.once (λ p h source. apart.1 p h) files.free needed.2 needed.0 needed.1
           (is_quiet files.free course.own edges steps) all_quiet) at
           (points_alike tells course.own (task_over course edges) steps course.entry new stands.suits.idle run_new tell files (is_quiet files.free course.own edges steps) spared at point)
 

@@ -16,7 +16,7 @@ use Rattle.model.specs.Records.{Store, OwnFiles, LogFormat, store_in, file_in, t
 use Rattle.model.specs.Schedule.{Step as Done}
 use Rattle.model.specs.SingleBuild.{Asked, NamesOther, task_of}
 use Rattle.build_theory.specs.Seen.{Looked}
-use Rattle.build_theory.proofs.Looks.{looks_nothing}
+use Rattle.build_theory.proofs.Looks.{logs_left, looks_nothing}
 use Rattle.depfile.specs.Depfile.{IsReading}
 use Rattle.log_theory.specs.Ledger.{IsCarried}
 use Rattle.log_theory.proofs.Ledger.{carried_entry, carried_found, carried_looks}
@@ -47,7 +47,7 @@ use Rattle.builder.proofs.Builds.{any_own, own_in, none_kept, looked_nothing, id
 use Rattle.builder.proofs.Entry.{AreUnasked, none_asked, all_there}
 use Rattle.builder.proofs.Folders.{logs_apart, tick_is_no_build_log, tick_is_no_deps_log}
 use Rattle.builder.proofs.Formed.{have_outputs}
-use Rattle.builder.proofs.Unedited.{logs_left, left_before}
+use Rattle.builder.proofs.Unedited.{left_before}
 
 -- A run of what was asked for may begin now: no command ran at the entry, since which there was only looked; where files are kept, the
 -- records that were read are those of the entry.

@@ -16,7 +16,7 @@ use Rattle.model.specs.Records.{Store, recorded_inputs}
 use Rattle.model.specs.Schedule.{Task, Step as Done, failed_in, done_in}
 use Rattle.model.specs.Phases.{IsPointAfter, Phase, steps_of, next_edges, IsNextLoad, IsLoad, ArePhasesFrom, IsLawfulBuild, AreAskedApart, NothingNeededIsFree, WasNothingMissing, WasNothingMissingIn, task_with}
 use Rattle.model.specs.SingleBuild as answer
-use Rattle.model.specs.SingleBuild.{HeldAt, AreJudgedAt, ArePhasesJudgedAt, Asked, Answer, IsSuccess, IsAnswer, IsAsked, IsShownCycle, WentOn, WasInOrder, PassesNoFault, NamesOther, asked_with, task_of}
+use Rattle.model.specs.SingleBuild.{HeldAt, IsRefusedLoadHeldAt, AreHeldThen, AreJudgedAt, ArePhasesJudgedAt, Asked, Answer, IsSuccess, IsAnswer, IsAsked, IsShownCycle, WentOn, WasInOrder, PassesNoFault, NamesOther, asked_with, task_of}
 use Rattle.build_theory.specs.Seen.{IsSeen}
 use Rattle.build_theory.proofs.Lists.{same_bytes, same_some}
 use Rattle.links.specs.declared.cone.Cone.{Cone}
@@ -24,9 +24,8 @@ use Rattle.links.specs.declared.graph.Graph.{Graph}
 use Rattle.records.specs.declared.records.Records.{Records}
 use Rattle.links.specs.Told.{declared_by}
 use Rattle.log_theory.specs.Ledger.{IsCutOff, LoadedThen}
-use Rattle.log_theory.proofs.AtMoments.{held_at}
 use Rattle.log_theory.proofs.Ledger.{cut_off}
-use Rattle.log_theory.proofs.Phased.{HoldsAll, with_text, holds_all, holds_it}
+use Rattle.log_theory.proofs.Phased.{HoldsAll, with_text, no_text, holds_all, holds_it, held_later, loads_with}
 use Rattle.runner.specs.declared.summary.Summary.{Summary}
 use Rattle.runner.specs.declared.summary.Summary.TheVariants.{Well, Failed as SomeFailed}
 use Rattle.runner.specs.Course.{Course}
@@ -233,6 +232,9 @@ module _ (tells : Bool) (course : Course) (grown : List Edge) (now : World) (fou
       next = refused.next;
       held = refused.held;
       faulty = refused.faulty;
+      was = λ tell.
+          let more = stopped.after.history tell in
+          held_later file refused.held stopped.done course.entry.history stopped.there.history now.history more.0 more.1 (refused.was tell);
       is = λ tell kept bound.
           let was = refused.is tell (kept_then tell kept) bound in
           record { at = was.at; point = point_later stopped.done course.entry.history stopped.there.history now.history was.at (stopped.after.history tell) was.point; is = was.is };
@@ -260,8 +262,8 @@ module _ (tells : Bool) (course : Course) (grown : List Edge) (now : World) (fou
         IsTrue tells → (files : Kept) → (file content : List ℕ) → files.free file ≡ false → texts file ≡ Some content → (maker course.asked.declared file ≡ None → maker grown file ≡ None)
         → view_of now.history file ≡ Some content
 
-    abbrev HeldThen : View → Type 0
-    HeldThen texts = IsTrue tells → (files : Kept) → (file content : List ℕ) → texts file ≡ Some content → files.free file ≡ false → HeldAt file content steps course.entry.history now.history
+    abbrev HeldThen : View → List Phase → List Done → Type 0
+    HeldThen texts phases last = IsTrue tells → AreHeldThen course.behaviour.dyndep texts task course.store phases (steps_of phases ++ last) course.entry.history now.history
 
     abbrev RightThen : List Phase → List Done → Type 0
     RightThen phases last =
@@ -271,14 +273,14 @@ module _ (tells : Bool) (course : Course) (grown : List Edge) (now : World) (fou
     held_still : HoldStill stopped.phased.texts
     held_still = held tells course.behaviour course.format course.own asked_now course.store course.entry now found idle stopped.phases steps None cut stopped.once others
 
-    held_then : HeldThen stopped.phased.texts
+    held_then : HeldThen stopped.phased.texts build.earlier build.last
     held_then = held_so tells course.behaviour course.format course.own asked_now course.store course.entry now found idle stopped.phases steps None cut stopped.once others
 
     right_then : RightThen build.earlier build.last
     right_then = right_so tells course.behaviour course.format course.own asked_now course.store course.entry now found idle stopped.phases steps None cut stopped.once others
 
     -- these are what loaded files held, the refused one included where it was read
-    module _ (texts : View) (build : IsLawfulBuild course.behaviour.dyndep texts course.asked.declared task course.store steps) (holds : HoldStill texts) (held_by : HeldThen texts) (right : RightThen build.earlier build.last)
+    module _ (texts : View) (build : IsLawfulBuild course.behaviour.dyndep texts course.asked.declared task course.store steps) (holds : HoldStill texts) (held_by : HeldThen texts build.earlier build.last) (right : RightThen build.earlier build.last)
         (ordered : WasInOrder tells course.own asked_now course.store build.earlier build.last course.entry now) where
       stopped_with : (said : Answer) → RefusesFile tells course.own asked_now course.store (steps_of build.earlier ++ build.last) course.entry now (Refused refusal) → (IsSuccess said → ⊥) → (WentOn said → ⊥)
           → IsAnswer tells course.behaviour course.own texts asked_now course.store build.earlier (steps_of build.earlier ++ build.last) steps course.entry now said
@@ -366,13 +368,25 @@ module _ (tells : Bool) (course : Course) (grown : List Edge) (now : World) (fou
           subst (λ (q : List ℕ). LoadedThen tells course.own asked_now course.store q content steps course.entry now) (same_bytes load.file p here)
           (subst (λ (c : List ℕ). LoadedThen tells course.own asked_now course.store load.file c steps course.entry now) (same_some load.content content told) (loaded_then tell))
 
-      read_then : HeldThen texts
-      read_then tell kept p content is bound = elim (cases_Bool (bytes_eq load.file p)) [
-        | inl here ↦
-            let told : Some load.content ≡ Some content = sym (ap (λ (b : Bool). cond b (Some load.content) (stopped.phased.texts p)) here) ∙ is in
-            held_at tells course.own asked_now course.store course.entry now tell idle kept p content steps (loaded_as p content here told tell) bound
-        | inr other ↦ held_then tell kept p content (sym (ap (λ (b : Bool). cond b (Some load.content) (stopped.phased.texts p)) other) ∙ is) bound
+      -- and it held then what it is read as
+      held_now : (p content : List ℕ) → bytes_eq load.file p ≡ true → Some load.content ≡ Some content → IsTrue tells → HeldAt p (Some content) (steps_of build.earlier ++ build.last) course.entry.history now.history
+      held_now p content here told tell =
+          let more = stopped.after.history tell in
+          subst (λ (l : List Done). HeldAt p (Some content) l course.entry.history now.history) (sym done_is)
+          (subst (λ (q : List ℕ). HeldAt q (Some content) stopped.done course.entry.history now.history) (same_bytes load.file p here)
+          (subst (λ (c : Option (List ℕ)). HeldAt load.file c stopped.done course.entry.history now.history) told
+          (held_later load.file (Some load.content) stopped.done course.entry.history stopped.there.history now.history more.0 more.1 (load.held tell))))
+
+      refused_then : IsTrue tells → IsRefusedLoadHeldAt course.behaviour.dyndep texts task (steps_of build.earlier ++ build.last) course.entry.history now.history
+      refused_then tell other again = elim (cases_Bool (bytes_eq load.file again.file)) [
+        | inl here ↦ held_now again.file again.content here (sym (ap (λ (b : Bool). cond b (Some load.content) (stopped.phased.texts again.file)) here) ∙ again.holds) tell
+        | inr apart ↦
+            let held : stopped.phased.texts again.file ≡ Some again.content = sym (ap (λ (b : Bool). cond b (Some load.content) (stopped.phased.texts again.file)) apart) ∙ again.holds in
+            absurd (no_text again.content (sym (stopped.phased.unread again.is_next.due.edge again.file again.is_next.due.names) ∙ held))
       ]
+
+      read_then : HeldThen texts build_read.earlier build_read.last
+      read_then tell = (loads_with stopped.phased.texts texts more task course.store [] build.earlier course.entry.history now.history (held_then tell).0, refused_then tell)
 
       held_read : HoldStill texts
       held_read tell kept p content bound is same = elim (cases_Bool (bytes_eq load.file p)) [
@@ -423,7 +437,7 @@ module _ (tells : Bool) (course : Course) (grown : List Edge) (now : World) (fou
   ends_refused (Missing missing) stopped passes = record {
     said = missing_answer missing.path missing.needed_by;
     says = λ edges given targets. refl;
-    built = stopped_lacking (Missing missing) stopped passes tt missing stopped.cause;
+    built = stopped_lacking (Missing missing) stopped passes stopped.cause.named missing stopped.cause;
   }
   ends_refused (NoDyndep file) stopped passes = record {
     said = answer.Refused;

@@ -19,7 +19,7 @@ use Rattle.model.specs.Premises.{FilesAreKept}
 use Rattle.model.specs.Reading.{IsInCone, IsCycle}
 use Rattle.model.specs.Records.{OwnFiles, Store, recorded_of, recorded_inputs}
 use Rattle.model.specs.Schedule.{Task, Step as Done, started_in, running_in}
-use Rattle.model.specs.SingleBuild.{HasNoCycle, asked_with, task_of}
+use Rattle.model.specs.SingleBuild.{HeldAt, HasNoCycle, asked_with, task_of}
 use Rattle.build_theory.specs.Run.{IsRunOrRest}
 use Rattle.build_theory.proofs.Calls.{looks_then}
 use Rattle.build_theory.proofs.Growth.{HasGrown, grown_by}
@@ -29,6 +29,7 @@ use Rattle.build_theory.proofs.Makers.{maker_is}
 use Rattle.build_theory.proofs.Orderly.{IsKept, kept_orderly}
 use Rattle.build_theory.proofs.Runs.{rest_begins}
 use Rattle.log_theory.specs.Ledger.{IsPhased, IsCarried, IsCutOff}
+use Rattle.log_theory.proofs.AtMoments.{held_seen}
 use Rattle.log_theory.proofs.Ledger.{cut_off}
 use Rattle.log_theory.proofs.Loading.{carried_load}
 use Rattle.log_theory.proofs.Phased.{steps_of-append, so_far}
@@ -210,6 +211,10 @@ module _ (tells : Bool) (tick : List ℕ) (course : Course) (edges : List Edge) 
 
     -- ---- what the file held
 
+    -- at a moment when just the steps so far were done
+    seen_then : (held : Option (List ℕ)) → (tell : IsTrue tells) → Sees (λ history. view_of history path) held now.history new.history → HeldAt path held steps course.entry.history new.history
+    seen_then held tell sees = held_seen tells course.own (task_over course edges) steps course.entry now new path held stands.on.carried.run looks tell sees
+
     module _ (tell : IsTrue tells) (files : FilesAreKept course.own edges course.entry.history new.history) (bound : files.free path ≡ false) where
       outside : course.own.set path ≡ false
       outside = files.own_files.inputs next_load.next.due.edge path (stands.on.carried.phased.inputs next_load.next.due.edge path next_load.next.due.names)
@@ -262,7 +267,13 @@ module _ (tells : Bool) (tick : List ℕ) (course : Course) (edges : List Edge) 
 
     -- the file ends the build by what it held
     refused_file : (Faulty : Option (List ℕ) → Type 0) → (read : WasHeld tells path Faulty now new) → IsRefusedFile tells course.own (asked_with course.asked edges) course.store steps course.entry new path Faulty
-    refused_file Faulty read = record { next = next_load.next; held = read.held; faulty = read.so; is = λ tell files bound. held_then tell files bound read.held (read.seen tell) }
+    refused_file Faulty read = record {
+      next = next_load.next;
+      held = read.held;
+      faulty = read.so;
+      was = λ tell. seen_then read.held tell (read.seen tell);
+      is = λ tell files bound. held_then tell files bound read.held (read.seen tell);
+    }
 
     pub unread_cause : (refusal : Refusal) → IsUnread tells path now new refusal → IsRefusedBy tells course edges phases steps new refusal
     unread_cause (BuildFile fault) is = absurd is
@@ -297,8 +308,11 @@ module _ (tells : Bool) (tick : List ℕ) (course : Course) (edges : List Edge) 
       holds : IsTrue tells → (files : FilesAreKept course.own edges course.entry.history new.history) → files.free path ≡ false → view_of new.history path ≡ Some content
       holds tell files bound = holds_still tell files bound read.held (read.seen tell) ∙ read.so.1
 
+      held_here : IsTrue tells → HeldAt path (Some content) steps course.entry.history new.history
+      held_here tell = subst (λ (h : Option (List ℕ)). HeldAt path h steps course.entry.history new.history) read.so.1 (seen_then read.held tell (read.seen tell))
+
       held_load : (next : List Edge) → IsGrownBy path additions edges next → IsHeldLoad tells course edges steps new next
-      held_load next grown = record { file = path; is_next = next_load.next; content = content; additions = additions; read = reads; grown = grown; holds = holds }
+      held_load next grown = record { file = path; is_next = next_load.next; content = content; additions = additions; read = reads; grown = grown; holds = holds; held = held_here }
 
       unfit_cause : (refusal : Refusal) → IsUnfitBy edges path additions refusal → IsRefusedBy tells course edges phases steps new refusal
       unfit_cause (BuildFile fault) is = absurd is
@@ -419,6 +433,7 @@ module _ (tells : Bool) (tick : List ℕ) (course : Course) (edges : List Edge) 
             | inr recorded ↦ needed.0 i p (has-right (inputs (edge_at next i)) (recorded_inputs course.store next i) p (recorded_more i p recorded))
           ],
           needed.1,
+          λ i p h. needed.2 i p (more.outputs i p h),
         )
 
         -- nothing was missing when the phases began
@@ -435,7 +450,7 @@ module _ (tells : Bool) (tick : List ℕ) (course : Course) (edges : List Edge) 
 
         carried_then : IsCarried tells later.behaviour later.format later.own later.asked later.store later.phases true steps None later.entry new
         carried_then = carried_load tells course.behaviour course.format course.own here.asked course.store phases course.entry new next path content additions grown_here steps
-            (record { run = on_new.carried.run; phased = on_new.carried.phased; goes = λ h. on_new.carried.goes stands.goes; refused = λ off. absurd (true≢false off); beside = on_new.carried.beside }) next_load.next reads order holds
+            (record { run = on_new.carried.run; phased = on_new.carried.phased; goes = λ h. on_new.carried.goes stands.goes; refused = λ off. absurd (true≢false off); beside = on_new.carried.beside }) next_load.next reads order holds held_here
 
         planned_then : IsPlanned (task_of later.asked later.store) grown after.plan steps × AreTaken (task_of later.asked later.store) steps
         planned_then = gone.planned graph (task_over course edges) (task_of later.asked later.store) steps on_new.planned on_new.taken stated
@@ -474,7 +489,7 @@ module _ (tells : Bool) (tick : List ℕ) (course : Course) (edges : List Edge) 
             has_room = record { fits = room.fits; looks = room.looks; logs = logs; known = known; changed = room.changed; starts = room.starts; failed = room.failed }
 
             abbrev on_then : IsOn tells later grown None after new
-            on_then = on_loaded tells here tick graph grown path additions gains stands.suits stands.goes state after new on_new has_room stand stand_grown content next_load.next reads order holds grown_cone gone.planned stated is_cone
+            on_then = on_loaded tells here tick graph grown path additions gains stands.suits stands.goes state after new on_new has_room stand stand_grown content next_load.next reads order holds held_here grown_cone gone.planned stated is_cone
 
             unstarted_then : started_in steps ≡ [] → IsUnstarted tells course grown after new
             unstarted_then none = record { looks = so.looks; seen = λ tell free edits p asked bound. seen_there free p asked bound (so.seen tell free edits) }

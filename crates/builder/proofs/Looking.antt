@@ -8,6 +8,7 @@ use Rattle.model.specs.declared.fault.SiteFault.TheVariants.{Device, Stopped, Me
 use Rattle.model.specs.World.{World, View, view_of, IsIdle}
 use Rattle.model.specs.Calls.{OnlyLooks, HasCause, is_stop}
 use Rattle.model.specs.Outcome.{Behaviour}
+use Rattle.model.specs.Premises.{LogsAreLeft}
 use Rattle.model.specs.Records.{OwnFiles, Store, LogFormat, store_in}
 use Rattle.model.specs.History.{IsHeadline}
 use Rattle.model.specs.Kept.{KeepsLogs}
@@ -18,7 +19,7 @@ use Rattle.model.specs.SingleBuild.{Asked, Answer, is_fault, IsSuccess, IsSchedu
 use Rattle.build_theory.specs.Run.{IsRunOrRest}
 use Rattle.build_theory.specs.Seen.{Looked}
 use Rattle.build_theory.proofs.Calls.{seen_of}
-use Rattle.build_theory.proofs.Looks.{frame_of_looks}
+use Rattle.build_theory.proofs.Looks.{logs_left, frame_of_looks}
 use Rattle.build_theory.proofs.Runs.{run_begins, rest_begins, rest_looks}
 use Rattle.build_theory.proofs.Starting.{ready_nothing}
 use Rattle.log_theory.specs.Builds.{IsRunOf}
@@ -36,8 +37,6 @@ use Rattle.builder.specs.declared.report.Report.{Report}
 use Rattle.builder.specs.declared.report.Report.TheVariants.{Fault}
 use Rattle.builder.specs.Build.{RemovesFiles, LeavesAlone}
 use Rattle.builder.specs.Loads.{RefusesFile}
-use Rattle.builder.specs.Reports.{LogsAreLeft}
-use Rattle.builder.proofs.Unedited.{logs_left}
 
 none_before : (before after : List Done) (step : Done) → [] ≡ before ++ step ∷ after → ⊥
 none_before [] after step is = cc
@@ -147,6 +146,7 @@ module _ (tells : Bool) (B : Behaviour) (format : LogFormat) (own : OwnFiles) (a
     idle = idle;
     ready = λ tell. ready_nothing own asked.graph.edges entry.history;
     ticked = λ tell. ticked_nothing entry.history;
+    clean = λ tell kept i h stale. false≢true h;
     taken_in = λ tell kept. taken_nothing B asked.graph.edges entry.history None entry.history;
     logged = λ tell kept. entry_logged B format own asked.graph.edges entry;
     alone = λ tell kept. alone_nothing asked.graph.edges entry.history;
@@ -184,26 +184,28 @@ module _ (tells : Bool) (B : Behaviour) (format : LogFormat) (own : OwnFiles) (a
     abbrev looking : SingleBuild tells B format own asked entry now said
     looking = record {
       store = store;
-      logs = λ tell kept. found tell (logs_left own asked.graph.edges entry.history now.history kept);
+      logs = found;
       texts = none_loaded;
       held = λ tell kept file content bound loaded _. absurd (nothing_held content loaded);
       steps = [];
       schedule = nothing_scheduled said;
       met = None;
       met_fault = λ i is. absurd (none_met i is);
+      ended = beside_now.taken_in;
       judged = λ tell kept apart known. record {
         verdicts = λ before after i stale is. absurd (none_before before after (Judged i stale) is);
-        well = λ i at ended has. absurd (false≢true has);
-        depfiles = λ i at ended has. absurd (false≢true has);
+        ended = beside_now.taken_in tell kept;
       };
+      clean = λ tell kept i h stale. false≢true h;
       judged_then = λ tell kept apart. (tt, tt);
-      held_then = λ tell kept file content loaded bound. absurd (nothing_held content loaded);
+      held_then = λ tell. (tt, λ next load. absurd (nothing_held load.content load.holds));
       answers = is;
       in_order = inl refl;
       faults = passes;
       idle = λ fine. subst IsIdle (sym {A = List Event} looks.events) idle;
       taken_in = λ goes none. subst IsIdle (sym {A = List Event} looks.events) idle;
       frame = λ tell. frame_of_looks tells own asked.graph.edges entry now idle looks tell;
+      ticked = beside_now.ticked;
       from_nothing = λ tell success. absurd (failed success);
     }
 

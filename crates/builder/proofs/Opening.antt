@@ -7,10 +7,11 @@ use Rattle.model.specs.declared.record.DepsRecord.{DepsRecord}
 use Rattle.model.specs.World.{World, view_of, file_at, content_of, IsIdle}
 use Rattle.model.specs.Calls.{OnlyLooks, Sees}
 use Rattle.model.specs.Outcome.{Behaviour}
+use Rattle.model.specs.Premises.{LogsAreLeft}
 use Rattle.model.specs.Records.{LogFormat, OwnFiles, Store, read_log, store_in, IsOwnIn, file_in, build_log_name, deps_log_name}
 use Rattle.build_theory.specs.Seen.{IsSeen, Looked, Unrefused}
 use Rattle.build_theory.proofs.Calls.{seen_since}
-use Rattle.build_theory.proofs.Looks.{looks_saw}
+use Rattle.build_theory.proofs.Looks.{logs_left, looks_saw}
 use Rattle.build_log.specs.declared.form.Version.{Version}
 use Rattle.build_log.specs.Form.{Form}
 use Rattle.build_log.specs.Laws.{Reads}
@@ -35,11 +36,11 @@ use Rattle.builder.specs.Build.{asked_of}
 use Rattle.builder.specs.Going.{IfFault}
 use Rattle.builder.specs.Loads.{ReadsDyndeps}
 use Rattle.builder.specs.Recorded.{HasJoined}
-use Rattle.builder.specs.Reports.{LogsAreLeft, HasRead}
+use Rattle.builder.specs.Reports.{HasRead}
 use Rattle.builder.proofs.Builds.{looked_more}
 use Rattle.builder.proofs.Looking.{IsFoundAt, course_of}
 use Rattle.builder.proofs.Folders.{logs_apart}
-use Rattle.builder.proofs.Unedited.{logs_left, left_before}
+use Rattle.builder.proofs.Unedited.{left_before}
 
 -- a fault has its cause since the entry, as no call was refused before
 pub cause_since : (entry old new : World) (stop : Stop) → old.failures ≡ entry.failures → IfFault stop (IsSeen old new) → IfFault stop (IsSeen entry new)

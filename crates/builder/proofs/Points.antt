@@ -6,13 +6,13 @@ use Rattle.model.specs.declared.event.Event.{Event}
 use Rattle.model.specs.declared.event.Moment.{Moment}
 use Rattle.model.specs.declared.event.Moment.TheVariants.{Wrote, Happened}
 use Rattle.model.specs.declared.graph.Edge.{Edge}
-use Rattle.model.specs.World.{World}
+use Rattle.model.specs.World.{World, events_in}
 use Rattle.model.specs.Graph.{has_number}
 use Rattle.model.specs.Phases.{Phase, steps_of, happened_in, EndsInEvent, IsPointAfter, IsNothingMissing, WasNothingMissing, WasNothingMissingIn, task_with}
 use Rattle.model.specs.Records.{OwnFiles, Store}
 use Rattle.model.specs.Schedule.{Task, Step, started_in, ended_in}
 use Rattle.model.specs.SingleBuild.{Asked, asked_with, task_of}
-use Rattle.build_theory.specs.Run.{events_in, IsToldBy, IsRun}
+use Rattle.build_theory.specs.Run.{IsToldBy, IsRun}
 use Rattle.build_theory.proofs.Events.{as_many}
 use Rattle.build_theory.proofs.Exit.{take_events, drop_events, taken_dropped, taken_events, taken_behind}
 use Rattle.build_theory.proofs.Lists.{same_rest}

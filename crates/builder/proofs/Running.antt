@@ -14,21 +14,22 @@ use Rattle.model.specs.Premises.{FilesAreKept, RecordedApart}
 use Rattle.model.specs.Records.{OwnFiles, Store, LogFormat, recorded_inputs}
 use Rattle.model.specs.Schedule.{Task, Step as Done, IsSettled, NoneMayBeJudged, NoneMayStart, AreEventsOf, AreFinishes, started_in, well_in, failed_in, running_in, done_in}
 use Rattle.model.specs.SingleBuild as answer
-use Rattle.model.specs.SingleBuild.{HeldAt, AreJudgedAt, ArePhasesJudgedAt, Asked, Answer, is_fault, IsSuccess, WentOn, InCone, IsScheduled, IsInOrder, WasInOrder, HasEnded, IsAnswer, MetFault, PassesNoFault, NamesOther, AllNamed, HasNoCycle, SingleBuild, declared_graph, task_of}
+use Rattle.model.specs.SingleBuild.{AreHeldThen, AreJudgedAt, ArePhasesJudgedAt, Asked, Answer, is_fault, IsSuccess, WentOn, InCone, IsScheduled, IsInOrder, WasInOrder, HasEnded, IsAnswer, MetFault, PassesNoFault, NamesOther, AllNamed, HasNoCycle, SingleBuild, declared_graph, task_of}
 use Rattle.build_theory.specs.Run.{IsRun, IsRunOrRest}
 use Rattle.build_theory.specs.Seen.{IsSeen}
 use Rattle.build_theory.proofs.Builds.{idle_at_end, has_ended}
 use Rattle.build_theory.proofs.Counts.{started_length, ended_length}
 use Rattle.build_theory.proofs.Loads.{declared_once}
-use Rattle.build_theory.proofs.Looks.{kept_before}
+use Rattle.build_theory.proofs.Looks.{logs_left, kept_before}
 use Rattle.build_theory.proofs.Runs.{rest_begins}
 use Rattle.build_theory.proofs.Turns.{settled_at_end}
 use Rattle.links.specs.declared.cone.Mark.{Mark}
 use Rattle.links.specs.Linked.{IsConeOf}
 use Rattle.log_theory.specs.Ledger.{IsCutOff, LoadedThen}
 use Rattle.log_theory.proofs.Carried.{settled_stays}
-use Rattle.log_theory.proofs.Ledger.{run_of, judged_of, judged_at_of, held_at_of, frame_of, met_by_step}
+use Rattle.log_theory.proofs.Ledger.{run_of, judged_of, judged_at_of, frame_of, met_by_step}
 use Rattle.log_theory.proofs.Over.{no_logs_are_faithful}
+use Rattle.log_theory.proofs.Phased.{no_text}
 use Rattle.log_theory.proofs.Stated.{clean_with_loads}
 use Rattle.runner.specs.Going.{IsInHand}
 use Rattle.runner.specs.Removing.{AreRemoved}
@@ -36,7 +37,6 @@ use Rattle.builder.specs.declared.report.Report.{Report}
 use Rattle.builder.specs.declared.report.Report.TheVariants.{Success, Failed, Fault}
 use Rattle.builder.specs.Loads.{RefusesFile}
 use Rattle.builder.proofs.Looking.{Built, built_by, IsFoundAt}
-use Rattle.builder.proofs.Unedited.{logs_left}
 use Rattle.builder.proofs.Slices.{suc_has}
 
 -- where nothing was missing when phases began, and the last one, nothing was when they and a last one that has steps began
@@ -65,8 +65,8 @@ module _ (tells : Bool) (B : Behaviour) (format : LogFormat) (own : OwnFiles) (a
       → view_of now.history file ≡ Some content
 
   -- and held it when it was loaded
-  abbrev HeldThen : View → Type 0
-  HeldThen texts = IsTrue tells → (files : Kept) → (file content : List ℕ) → texts file ≡ Some content → files.free file ≡ false → HeldAt file content steps entry.history now.history
+  abbrev HeldThen : View → List Phase → List Done → Type 0
+  HeldThen texts phases last = IsTrue tells → AreHeldThen B.dyndep texts (task_of asked store) store phases (steps_of phases ++ last) entry.history now.history
 
   -- each verdict was right at its moment
   abbrev RightThen : List Phase → List Done → Type 0
@@ -85,15 +85,18 @@ module _ (tells : Bool) (B : Behaviour) (format : LogFormat) (own : OwnFiles) (a
   pub held : HoldStill cut.phased.texts
   held tell kept file content bound is same = holds_still tell kept file content bound (cut.phased.held tell file content is) same
 
-  pub held_so : HeldThen cut.phased.texts
-  held_so tell kept file content is bound = held_at_of tells B format own asked store entry phases steps met now cut tell kept file content is bound
+  pub held_so : HeldThen cut.phased.texts cut.phased.build.earlier cut.phased.build.last
+  held_so tell = (
+    cut.phased.read_then tell,
+    λ next load. absurd (no_text load.content (sym (cut.phased.unread load.is_next.due.edge load.file load.is_next.due.names) ∙ load.holds)),
+  )
 
   pub right_so : RightThen cut.phased.build.earlier cut.phased.build.last
   right_so tell kept apart = judged_at_of tells B format own asked store entry phases steps met now cut tell kept apart
 
   -- ---- by these phases, and what the loaded files held
 
-  module _ (texts : View) (build : IsLawfulBuild B.dyndep texts asked.declared (task_of asked store) store steps) (holds : HoldStill texts) (held_then : HeldThen texts)
+  module _ (texts : View) (build : IsLawfulBuild B.dyndep texts asked.declared (task_of asked store) store steps) (holds : HoldStill texts) (held_then : HeldThen texts build.earlier build.last)
       (right_then : RightThen build.earlier build.last) where
     -- the steps up to a refusal
     abbrev done : List Done
@@ -112,14 +115,16 @@ module _ (tells : Bool) (B : Behaviour) (format : LogFormat) (own : OwnFiles) (a
       abbrev running : SingleBuild tells B format own asked entry now said
       running = record {
         store = store;
-        logs = λ tell kept. found tell (logs_left own asked.graph.edges entry.history now.history kept);
+        logs = found;
         texts = texts;
         held = holds;
         steps = steps;
         schedule = scheduled;
         met = met;
         met_fault = met_fault;
+        ended = cut.beside.taken_in;
         judged = λ tell kept apart known. judged_of tells B format own asked store entry phases steps met now cut once others tell kept apart known;
+        clean = cut.beside.clean;
         judged_then = right_then;
         held_then = held_then;
         answers = is;
@@ -128,6 +133,7 @@ module _ (tells : Bool) (B : Behaviour) (format : LogFormat) (own : OwnFiles) (a
         idle = ended;
         taken_in = taken_in;
         frame = λ tell. frame_of tells B format own asked store entry phases steps met now cut once tell;
+        ticked = cut.beside.ticked;
         from_nothing = λ tell success nothing premises.
             clean_with_loads tells B format own texts asked store steps met entry now tell idle cut.run build
             (declared_once B.dyndep texts asked.declared (task_of asked store) store steps build once) once others

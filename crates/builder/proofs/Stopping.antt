@@ -35,6 +35,7 @@ use Rattle.builder.specs.declared.report.Refusal.{Refusal}
 use Rattle.builder.specs.declared.stop.Stop.{Stop}
 use Rattle.builder.specs.declared.stop.Stop.TheVariants as stop
 use Rattle.builder.specs.Going.{grown_course, task_over, StandsAt, HadAsked, BeginsAt, IsAtNextLoad, HasSourcesAt, IsLacking, IsMissingAfter, IsStopped, IsRefusedAt, IsCutThere, WasCut, StoppedThere, NoSourceIsDue, IsStopThere, IfRefused, IfFault}
+use Rattle.builder.specs.Loads.{NamesSource}
 use Rattle.builder.specs.Reports.{IsMissingFor}
 use Rattle.builder.specs.Sources.{HasSources, LacksSource}
 use Rattle.builder.proofs.Asking.{fresh_steps, asked_on, had_asked_on, asked_in, asked_also, under, same_edges, run_new, found_at, nothing_missing_now}
@@ -149,6 +150,7 @@ module _ (tells : Bool) (tick : List ℕ) (course : Course) (edges : List Edge) 
             at_once = fresh_steps tells course edges phases stands.on.steps now stands.on.carried.run stands.on.carried.phased begins.fresh none_taken_in;
             loaded = λ file due source. made task stands.on.steps stands.on.planned stands.on.taken file due source;
           };
+          named = subst (λ (es : List Edge). NamesSource es lack.missing.path lack.missing.needed_by) (sym (same_edges tells tick course edges phases graph cone state now stands)) lack.named;
           is = λ tell files needed apart.
               let last = point_now tells course.own task stands.on.steps course.entry new (run_new tells tick course edges phases graph cone state now stands stays new looked.looks tell files) tell in
               missing_after course edges stands.on.steps new lack.missing.path lack.missing.needed_by last.0 last.1

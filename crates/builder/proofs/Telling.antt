@@ -4,7 +4,7 @@ use Rattle.std.specs.Option.{option_map}
 use Rattle.std.proofs.lemmas.List.{map-append, take_more}
 use Rattle.model.specs.declared.event.Moment.{Moment}
 use Rattle.model.specs.declared.graph.Edge.{Edge}
-use Rattle.model.specs.Graph.{edge_at, first_output, no_edge, outputs, has}
+use Rattle.model.specs.Graph.{edge_at, first_output, maker, no_edge, inputs, outputs, has}
 use Rattle.build_theory.proofs.Lists.{bytes_same}
 use Rattle.std.proofs.lemmas.Bool.{false≢true, or_left}
 use Rattle.links.specs.declared.graph.Graph.{Graph}
@@ -19,6 +19,7 @@ use Rattle.paths.specs.Commands.{no_action}
 use Rattle.paths.specs.Lists.{line_at, line_outputs}
 use Rattle.paths.specs.Told.{text_at, texts_at, edge_of, edges_of, graph_of}
 use Rattle.dues.specs.Lacks.{IsLackedBy}
+use Rattle.builder.specs.Loads.{NamesSource}
 use Rattle.builder.specs.Reports.{IsMissingFor, first_output_of}
 use Rattle.builder.specs.Recorded.{IsRecordedBy}
 
@@ -94,6 +95,19 @@ none_of_phony graph store in_use i phony =
     (λ p. sym (in_use i p) ∙ ap (λ (b : Bool). has (cond b [] (cond (is_some (edge_at (declared_by graph).edges i).dyndep) [] (recorded_of store (edge_at (declared_by graph).edges i)))) p) phony)
 
 -- ---- what is missing
+
+-- an edge, if one is named, has the path as an input
+abbrev pub HasInput : List Edge → List ℕ → Option ℕ → Type 0
+HasInput edges text None = Unit {0}
+HasInput edges text (Some e) = has (inputs (edge_at edges (suc e))) text ≡ true
+
+pub source_told : (edges : List Edge) (text path : List ℕ) (needed : Option ℕ) (needed_by : Option (List ℕ)) → path ≡ text
+    → needed_by ≡ option_map (λ e. first_output (edge_at edges (suc e))) needed → maker edges text ≡ None → HasInput edges text needed → NamesSource edges path needed_by
+source_told edges text path needed needed_by same by source input = subst (λ (p : List ℕ). NamesSource edges p needed_by) (sym same) (by_needed needed by input)
+  where
+    by_needed : (needed : Option ℕ) → needed_by ≡ option_map (λ e. first_output (edge_at edges (suc e))) needed → HasInput edges text needed → NamesSource edges text needed_by
+    by_needed None is input = subst (λ (n : Option (List ℕ)). NamesSource edges text n) (sym is) source
+    by_needed (Some e) is input = subst (λ (n : Option (List ℕ)). NamesSource edges text n) (sym is) (suc e, refl, input, source)
 
 pub missing_told : (edges : List Edge) (store : Store) (before : List Step) (requested : List (List ℕ)) (files : List Moment) (text path : List ℕ) (needed : Option ℕ) (needed_by : Option (List ℕ)) → path ≡ text
     → needed_by ≡ option_map (λ e. first_output (edge_at edges (suc e))) needed → IsLackedBy edges store before requested files text needed → IsMissingFor edges store before requested files path needed_by

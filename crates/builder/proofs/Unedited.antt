@@ -1,30 +1,19 @@
 -- What others may not write: the logs, and paths while a build only looks.
-use Rattle.std.proofs.Common.{◌≡◌, ℕ, Bool, true, false, IsTrue, List, [], ◌++◌, sym, subst}
+use Rattle.std.proofs.Common.{◌≡◌, ℕ, Bool, false, IsTrue, List, [], ◌++◌, sym, subst}
 use Rattle.std.proofs.lemmas.Bool.{not-true}
 use Rattle.model.specs.declared.event.Event.{Event}
 use Rattle.model.specs.declared.event.Moment.{Moment}
-use Rattle.model.specs.declared.graph.Edge.{Edge}
 use Rattle.model.specs.World.{World, runs, IsRunning, IsIdle}
 use Rattle.model.specs.Calls.{OthersWrote, OnlyLooks}
 use Rattle.model.specs.Records.{OwnFiles}
-use Rattle.model.specs.Premises.{FilesAreKept, OnlyFreeIsEdited, IsNoEdit}
+use Rattle.model.specs.Premises.{LogsAreLeft, OnlyFreeIsEdited, IsNoEdit}
 use Rattle.build_theory.proofs.Looks.{edits_before, untouched}
 use Rattle.build_theory.proofs.Starting.{since}
 use Rattle.looks.specs.Seen.{AreKept}
 use Rattle.runner.proofs.Quiet.{all_kept}
 use Rattle.builder.specs.Going.{is_bound}
-use Rattle.builder.specs.Reports.{LogsAreLeft}
 
--- where files are kept, others leave the logs
-pub logs_left : (own : OwnFiles) (edges : List Edge) (old new : List Moment) → FilesAreKept own edges old new → LogsAreLeft own old new
-logs_left own edges old new kept = record {
-  free = kept.free;
-  build_log = kept.free_apart.set own.build_log (kept.own_files.within own.build_log kept.own_files.build_log);
-  deps_log = kept.free_apart.set own.deps_log (kept.own_files.within own.deps_log kept.own_files.deps_log);
-  edits = kept.edits;
-}
-
--- up to each point before
+-- the logs, up to each point before
 pub left_before : (own : OwnFiles) (old mid new later : List Moment) → new ≡ mid ++ later → LogsAreLeft own old new → LogsAreLeft own old mid
 left_before own old mid new later grows left =
     record { free = left.free; build_log = left.build_log; deps_log = left.deps_log; edits = edits_before left.free old mid new later grows left.edits }

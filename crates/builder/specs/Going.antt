@@ -13,7 +13,7 @@ use Rattle.model.specs.Premises.{FilesAreKept, OnlyFreeIsEdited}
 use Rattle.model.specs.Records.{recorded_inputs}
 use Rattle.model.specs.Schedule.{Task, Step as Done, started_in}
 use Rattle.model.specs.SingleBuild as answer
-use Rattle.model.specs.SingleBuild.{Answer, IsAsked, IsShownCycle, HasNoCycle, NamesOther, PassesNoFault, asked_with, declared_graph, task_of}
+use Rattle.model.specs.SingleBuild.{Answer, HeldAt, IsAsked, IsShownCycle, HasNoCycle, NamesOther, PassesNoFault, asked_with, declared_graph, task_of}
 use Rattle.build_theory.specs.Run.{IsRun}
 use Rattle.build_theory.specs.Seen.{IsSeen, Unrefused, StartsUnrefused}
 use Rattle.paths.specs.Told.{text_at, texts_at}
@@ -42,7 +42,7 @@ use Rattle.builder.specs.declared.report.Refusal.TheVariants.{File, MadeTwice, N
 use Rattle.builder.specs.declared.report.Report.TheVariants.{Refused}
 use Rattle.builder.specs.declared.stop.Stop.{Stop}
 use Rattle.builder.specs.declared.stop.Stop.TheVariants as stop
-use Rattle.builder.specs.Loads.{ReadsDyndeps, RefusesFile}
+use Rattle.builder.specs.Loads.{ReadsDyndeps, NamesSource, RefusesFile}
 
 -- ---- where it stands
 
@@ -127,7 +127,8 @@ pub record IsLoadNext (course : Course) (edges : List Edge) (graph : Graph) (sta
 
 -- ---- why it ends
 
--- The next file holds what can be read and fits, where files are kept and it is not free; these are the edges with what it adds.
+-- The next file held, when just these steps were done, what can be read and fits, and holds it where files are kept and it is not
+-- free; these are the edges with what it adds.
 pub record IsHeldLoad (tells : Bool) (course : Course) (edges : List Edge) (done : List Done) (now : World) (next : List Edge) : Type 0 where
   pub file : List ℕ
   pub is_next : IsNextLoad (task_over course edges) done file
@@ -136,6 +137,7 @@ pub record IsHeldLoad (tells : Bool) (course : Course) (edges : List Edge) (done
   pub read : course.behaviour.dyndep content ≡ Some additions
   pub grown : IsGrownBy file additions edges next
   pub holds : IsTrue tells → (files : FilesAreKept course.own edges course.entry.history now.history) → files.free file ≡ false → view_of now.history file ≡ Some content
+  pub held : IsTrue tells → HeldAt file (Some content) done course.entry.history now.history
 
 -- the path is missing right behind the last start or finish of these steps: it was requested, or is an input of the edge with this first output
 abbrev pub IsMissingAfter : Course → List Edge → List Done → World → List ℕ → Option (List ℕ) → Type 0
@@ -148,6 +150,7 @@ IsMissingAfter course edges done now path (Some output) =
 -- a source is missing where the present phase began
 pub record IsLacking (tells : Bool) (course : Course) (edges : List Edge) (phases : List Phase) (done : List Done) (now : World) (missing : Lacking) : Type 0 where
   pub asked : IsAsked (task_over course edges) phases done
+  pub named : NamesSource edges missing.path missing.needed_by
   pub is : IsTrue tells → (files : FilesAreKept course.own edges course.entry.history now.history) → NothingNeededIsFree files.free (task_over course edges) → AreAskedApart course.own (task_over course edges) done
       → IsMissingAfter course edges done now missing.path missing.needed_by
 

@@ -8,9 +8,9 @@ use Rattle.model.specs.World.{World, view_of, IsIdle}
 use Rattle.model.specs.Calls.{HasCause, OnlyLooks}
 use Rattle.model.specs.Graph.{edge_at, first_output, IsMadeOnce}
 use Rattle.model.specs.OutOfDate.{IsFirstMissing, IsMissingInput}
-use Rattle.model.specs.Premises.{OnlyFreeIsEdited}
+use Rattle.model.specs.Premises.{LogsAreLeft}
 use Rattle.model.specs.Schedule.{Step}
-use Rattle.model.specs.Records.{Store, OwnFiles, IsOwnIn, store_in}
+use Rattle.model.specs.Records.{Store, IsOwnIn, store_in}
 use Rattle.model.specs.SingleBuild.{Asked, NamesOther, task_of}
 use Rattle.build_theory.specs.Seen.{Looked}
 use Rattle.paths.specs.declared.manifest.Manifest.{Manifest}
@@ -120,13 +120,6 @@ pub record SaysFault (old new : World) (report : Report) : Type 0 where
   pub cause : HasCause {T = Unit {0}} old new (Err fault)
 
 -- ---- what was read
-
--- others wrote neither log between these moments: what they wrote are free paths, and no log is one
-pub record LogsAreLeft (own : OwnFiles) (old new : List Moment) : Type 0 where
-  pub free : List ℕ → Bool
-  pub build_log : free own.build_log ≡ false
-  pub deps_log : free own.deps_log ≡ false
-  pub edits : OnlyFreeIsEdited free old new
 
 -- The logs were read by a build of what was asked for, on this course: no command ran at its entry, since which there was only looked
 -- and no call was refused; what they told is the store of the course, which is that of the entry unless somebody has written a log since; its

@@ -19,6 +19,7 @@ use Rattle.builder.specs.declared.report.Missing.{Missing as Lacking}
 use Rattle.builder.specs.declared.report.Refusal.TheVariants.{Missing}
 use Rattle.builder.specs.declared.stop.Stop.{Stop}
 use Rattle.builder.specs.declared.stop.Stop.TheVariants as stop
+use Rattle.builder.specs.Loads.{NamesSource}
 use Rattle.builder.specs.Reports.{IsMissingFor}
 
 -- a call was refused, or there was no memory
@@ -32,6 +33,7 @@ pub record SaysMissing (tells : Bool) (graph : Graph) (records : Records) (cone 
   pub missing : Lacking
   pub says : stopped ≡ stop.Refused (Missing missing)
   pub unrefused : Unrefused old new
+  pub named : NamesSource (declared_by graph).edges missing.path missing.needed_by
   pub is : (store : Store) (targets : List (List ℕ)) (before : List Step) → IsUnderWay graph records cone plan store targets before
       → IfQuiet tells graph store targets before old new seen (λ files. IsMissingFor (declared_by graph).edges store before targets files missing.path missing.needed_by)
 

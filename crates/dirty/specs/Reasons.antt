@@ -1,5 +1,5 @@
 -- The reason of the facts that summaries are of.
-use Rattle.std.specs.Prelude.{◌≡◌, ◌&&◌, ◌||◌, not, Bool, List, Option}
+use Rattle.std.specs.Prelude.{◌≡◌, ◌&&◌, ◌||◌, not, Bool, true, List, [], Option, is_some}
 use Rattle.model.specs.declared.reason.Reason.{Reason}
 use Rattle.model.specs.declared.reason.Reason.TheVariants.{OutputAbsent, NoRecord, OtherAct, InputAbsent, InputChanged, InputLater, OutputOlder, DepsUnknown}
 use Rattle.model.specs.Judgement.{OutputFacts, InputFacts, Facts as AllFacts, is_later, is_empty_text, is_unset, reason_of}
@@ -16,6 +16,11 @@ abbrev pub IsReasonOf : Facts → Option Reason → Type 0
 IsReasonOf facts reason =
     (outputs : List OutputFacts) (inputs : List InputFacts) → AreOutputs facts.act.now outputs facts.outputs → AreInputs inputs facts.inputs
     → reason ≡ reason_of (facts_with facts outputs inputs)
+
+-- there is a reason where one holds by the outputs that the summary is of, and by the depfile, whatever the inputs are
+abbrev pub IsStaleOf : Facts → Option Reason → Type 0
+IsStaleOf facts reason =
+    (outputs : List OutputFacts) → AreOutputs facts.act.now outputs facts.outputs → is_some (reason_of (facts_with facts outputs [])) ≡ true → is_some reason ≡ true
 
 -- when each reason holds, by the summaries
 abbrev pub holds_by : Facts → Reason → Bool

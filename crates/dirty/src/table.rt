@@ -2,7 +2,7 @@
 
 ghost use Rattle.std.specs.Prelude.{◌≡◌, find};
 ghost use Rattle.model.specs.Judgement.{all_reasons, is_later};
-ghost use Rattle.dirty.specs.Reasons.{IsReasonOf, holds_by};
+ghost use Rattle.dirty.specs.Reasons.{IsReasonOf, IsStaleOf, holds_by};
 
 use crate::inputs::Inputs;
 use crate::outputs::Outputs;
@@ -40,7 +40,8 @@ const REASONS: [Reason; 8] = [
 /// Why the command of an edge has to run: the first reason that holds, or `None` where none does and the edge is clean.
 /// It takes no memory.
 pub fn judge(facts: &Facts<'_>) -> Option<Reason>
-    ensures { IsReasonOf facts.now result }
+    ensures reason { IsReasonOf facts.now result }
+    ensures stale { IsStaleOf facts.now result }
 {
     facts.first_reason()
 }

@@ -1,5 +1,5 @@
 -- What looking for sources tells of the files.
-use Rattle.std.proofs.Common.{◌≡◌, ◌↔◌, ℕ, suc, ◌+◌, ◌<◌, ◌≤◌, ◌==◌, Bool, true, false, List, [], ◌∷◌, ◌++◌, Option, Some, None, length, take, drop, get_or, refl, sym, ◌∙◌, ap, subst, arith}
+use Rattle.std.proofs.Common.{◌≡◌, ◌↔◌, ℕ, suc, ◌+◌, ◌<◌, ◌≤◌, ◌==◌, Bool, true, false, List, [], ◌∷◌, ◌++◌, Option, Some, None, IfSome, length, take, drop, get_or, refl, sym, ◌∙◌, ap, subst, arith}
 use borrow.Author.Count.{below_more}
 use Rattle.std.proofs.lemmas.Bool.{false≢true, or_right}
 use Rattle.std.proofs.lemmas.List.{map-append, take_more, drop_more, take-append-drop, get_or_past}
@@ -26,7 +26,7 @@ use Rattle.looks.specs.Looking.{HasLooked}
 use Rattle.verdict.specs.Facts.{AreIn}
 use Rattle.dues.specs.Quiet.{IsUnmade, HasPathsFor, IfStill}
 use Rattle.dues.specs.Dues.{AreDue, due_at, is_absent, IsSourceIn, AreSourcesIn, HasAllSources}
-use Rattle.dues.specs.Lacks.{IsFound, IsLackedBy, NoneBelow, IsMissingAt, IsFirstIn, IsFirstFor, IsFirstOfDue, IsFoundOfDue}
+use Rattle.dues.specs.Lacks.{IsFound, IsLackedBy, NoneBelow, IsMissingAt, IsFirstIn, IsFirstFor, IsFirstOfDue, IsFoundOfDue, IsSourceOf, IsSourceFor}
 use Rattle.dues.proofs.AliasDues.{none_there, there_none}
 use Rattle.dues.proofs.Slices.{has_here, has_text, suc_has}
 use Rattle.dues.proofs.Stays.{Follow, Stay, still_first, still_second, all_at}
@@ -84,6 +84,17 @@ module _ (follow : Follow) (stay : Stay) (tells : Bool) (graph : Graph) (a b c :
       missing_found so told set kept seen files same fit =
           subst (λ (q : ℕ). IsFirstMissing all files (texts_at table xs) (text_at table q)) (sym is_at)
           (first_here all table files xs k d within (none_before told set kept seen files same fit) ((said told set kept seen files same fit).0 so))
+
+-- ---- whatever the files are
+
+-- a source among the inputs of an edge
+pub source_for : (graph : Graph) → StandFor (declared_by graph).edges graph.manifest.paths (links_of graph) → (e : ℕ) (found : Option ℕ) → IfSome found (IsSourceOf graph ((links_of graph).inputs e)) → IfSome found (IsSourceFor graph e)
+source_for graph stands e None named = tt
+source_for graph stands e (Some p) named = record {
+  within = named.within;
+  source = named.source;
+  input = subst (λ (l : List (List ℕ)). has l (text_at graph.manifest.paths p) ≡ true) (stands.inputs_are e) (has_text graph.manifest.paths ((links_of graph).inputs e) p named.listed);
+}
 
 -- ---- several edges
 

@@ -9,15 +9,15 @@ use Rattle.model.specs.declared.event.Moment.{Moment}
 use Rattle.model.specs.declared.event.Moment.TheVariants.{Wrote, Happened}
 use Rattle.model.specs.declared.event.Writer.TheVariants.{Program, Command, Someone}
 use Rattle.model.specs.declared.graph.Edge.{Edge}
-use Rattle.model.specs.World.{World, file_at, runs, IsIdle}
+use Rattle.model.specs.World.{World, file_at, runs, IsIdle, events_in}
 use Rattle.model.specs.Graph.{has, has_number, edge_at, maker, inputs, outputs, IsCommand, IsMadeOnce}
 use Rattle.model.specs.Phases.{happened_in, IsPointAfter}
-use Rattle.model.specs.Premises.{FilesAreKept, FreeApart, OwnFilesApart, RecordedApart, IsWithinEdge, IsNoEdit}
+use Rattle.model.specs.Premises.{FilesAreKept, OwnFilesApart, RecordedApart, IsWithinEdge, IsNoEdit}
 use Rattle.model.specs.Reading.{needs}
 use Rattle.model.specs.Records.{OwnFiles, Store, recorded_inputs}
 use Rattle.model.specs.Schedule.{Task, Step, Judged, Started, Ended, judged_in, out_of_date_in, started_in, ended_in, running_in, AreEventsOf}
 use Rattle.model.specs.SingleBuild.{IsOwnWrite}
-use Rattle.build_theory.specs.Run.{events_in, steps_until, AreOfRun, IsToldBy, IsRun}
+use Rattle.build_theory.specs.Run.{steps_until, AreOfRun, IsToldBy, IsRun}
 use Rattle.build_theory.proofs.Files.{IsElsewhere, file_stays}
 use Rattle.build_theory.proofs.Lists.{has-left, has-right, same_bytes, same_rest, same_some, some_none}
 use Rattle.build_theory.proofs.Makers.{maker_is}
@@ -34,13 +34,14 @@ use Rattle.dues.specs.Quiet.{HasPathsFor, AreAlike}
 abbrev pub HasQuiet : (List ℕ → Bool) → OwnFiles → List Edge → List Step → (List ℕ → Bool) → Type 0
 HasQuiet free own edges before set = (p : List ℕ) → free p ≡ false → own.set p ≡ false → ((j : ℕ) → maker edges p ≡ Some j → has_number (running_in before) j ≡ true → ⊥) → set p ≡ true
 
--- such a set has all paths that may be looked at, where own files are apart from these, and nothing that an edge needs is free, and no target
+-- such a set has all paths that may be looked at, where own files are apart from these, and nothing that an edge needs or names as an
+-- output is free, and no target
 pub paths_for : (own : OwnFiles) (edges : List Edge) (store : Store) (targets : List (List ℕ)) (before : List Step) → IsKept edges before → OwnFilesApart own edges → RecordedApart own (recorded_inputs store edges) → IsMadeOnce edges
-    → ((p : List ℕ) → has targets p ≡ true → maker edges p ≡ None → own.set p ≡ false) → (free : List ℕ → Bool) → FreeApart free own edges
+    → ((p : List ℕ) → has targets p ≡ true → maker edges p ≡ None → own.set p ≡ false) → (free : List ℕ → Bool) → ((i : ℕ) (p : List ℕ) → has (outputs (edge_at edges i)) p ≡ true → free p ≡ false)
     → ((i : ℕ) (p : List ℕ) → has (needs edges (recorded_inputs store edges) i) p ≡ true → free p ≡ false) → ((p : List ℕ) → has targets p ≡ true → free p ≡ false)
     → (set : List ℕ → Bool) → HasQuiet free own edges before set → HasPathsFor edges store targets before set
-paths_for own edges store targets before kept apart recorded_apart once requested free free_apart needed wanted set quiet = record {
-  made = λ i p fresh h. quiet p (free_apart.outputs i p h) (apart.outputs i p h) (λ j is runs.
+paths_for own edges store targets before kept apart recorded_apart once requested free named_bound needed wanted set quiet = record {
+  made = λ i p fresh h. quiet p (named_bound i p h) (apart.outputs i p h) (λ j is runs.
       let same = same_some j i (sym is ∙ maker_is edges p i once h) in
       false≢true (sym fresh ∙ subst (λ (n : ℕ). has_number (out_of_date_in before) n ≡ true) same (stale j runs)));
   named = λ i p h unmade. quiet p (needed i p (has-left (inputs (edge_at edges i)) (recorded_inputs store edges i) p h)) (apart.inputs i p h) (λ j is runs. false≢true (sym (unmade j is) ∙ stale j runs));

@@ -2,7 +2,7 @@
 use Rattle.std.specs.Prelude.{◌≡◌, ◌↔◌, ℕ, suc, ◌<◌, Bool, true, List, length, Option, Some, None}
 use Rattle.model.specs.declared.event.Moment.{Moment}
 use Rattle.model.specs.declared.graph.Edge.{Edge}
-use Rattle.model.specs.Graph.{edge_at, inputs}
+use Rattle.model.specs.Graph.{has, has_number, edge_at, maker, inputs}
 use Rattle.model.specs.Records.{Store}
 use Rattle.model.specs.Schedule.{Step}
 use Rattle.model.specs.OutOfDate.{IsMissing, NoneIsMissing, IsFirstMissing, NothingIsMissing, IsMissingInput}
@@ -55,10 +55,29 @@ abbrev pub IsEdgeBelow : ℕ → Option ℕ → Type 0
 IsEdgeBelow count None = Unit {0}
 IsEdgeBelow count (Some e) = e < count
 
--- a path and an edge of the graph
+-- a path of the graph among these, which no edge makes
+pub record IsSourceOf (graph : Graph) (numbers : List ℕ) (p : ℕ) : Type 0 where
+  pub within : p < length graph.manifest.paths
+  pub listed : has_number numbers p ≡ true
+  pub source : maker (declared_by graph).edges (text_at graph.manifest.paths p) ≡ None
+
+-- the edge, if one is named, has the path as an input
+abbrev pub IsInputOf : Graph → ℕ → Option ℕ → Type 0
+IsInputOf graph p None = Unit {0}
+IsInputOf graph p (Some e) = has (inputs (edge_at (declared_by graph).edges (suc e))) (text_at graph.manifest.paths p) ≡ true
+
+-- a path of the graph which the edge has as an input, and no edge makes
+pub record IsSourceFor (graph : Graph) (e p : ℕ) : Type 0 where
+  pub within : p < length graph.manifest.paths
+  pub source : maker (declared_by graph).edges (text_at graph.manifest.paths p) ≡ None
+  pub input : IsInputOf graph p (Some e)
+
+-- a path of the graph that no edge makes, and an edge of the graph, if one is named, which has it as an input
 pub record IsLackOf (graph : Graph) (lack : Lack) : Type 0 where
   pub path : lack.path < length graph.manifest.paths
   pub edge : IsEdgeBelow (length graph.manifest.lines) lack.needed_by
+  pub source : maker (declared_by graph).edges (text_at graph.manifest.paths lack.path) ≡ None
+  pub input : IsInputOf graph lack.path lack.needed_by
 
 -- ---- what calls answer, where the files are these, and are known at the paths of a set
 

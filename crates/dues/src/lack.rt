@@ -1,15 +1,18 @@
 //! Which source is missing.
 
-ghost use Rattle.std.specs.Prelude.{◌≡◌, ◌<◌, false, length, vec_len, All, IfOk, IfSome, List, ℕ};
+ghost use Rattle.std.specs.Prelude.{◌≡◌, ◌<◌, true, false, None, length, vec_len, All, IfOk, IfSome, List, ℕ};
 ghost use Rattle.model.specs.Calls.{HasCause};
+ghost use Rattle.model.specs.Graph.{maker};
 ghost use Rattle.model.specs.Records.{Store};
 ghost use Rattle.model.specs.Schedule.{Step};
+ghost use Rattle.paths.specs.Told.{text_at};
 ghost use Rattle.links.specs.Links.{links_of};
+ghost use Rattle.links.specs.Told.{declared_by};
 ghost use Rattle.looks.specs.Looking.{HasLooked};
 ghost use Rattle.dues.specs.Quiet.{IfStill, IfQuiet};
 ghost use Rattle.dues.specs.UnderWay.{IsUnderWay};
 ghost use Rattle.dues.specs.Dues.{AreSourcesIn, HasAllSources};
-ghost use Rattle.dues.specs.Lacks.{IsFound, lack_in, IfPresent, HasDue, IsLackOf, IsMissingAt, IsFirstIn, IsFirstFor, IsFoundOfDue};
+ghost use Rattle.dues.specs.Lacks.{IsFound, lack_in, IfPresent, HasDue, IsLackOf, IsSourceOf, IsSourceFor, IsMissingAt, IsFirstIn, IsFirstFor, IsFoundOfDue};
 
 use crate::aliases::is_absent;
 use crate::due::due_edges;
@@ -131,7 +134,7 @@ fn missing_of_edge<S: Site>(
     ensures looked { HasLooked S.tells graph.now (S.world site.old) (S.world site.new) looks.old looks.new }
     ensures cause { HasCause (S.world site.old) (S.world site.new) result }
     ensures first { IfOk result (λ found. IfStill S.tells graph.now (S.world site.old) (S.world site.new) looks.old (λ set files. AreSourcesIn set graph.now ((links_of graph.now).inputs edge) → IsFirstFor graph.now due.now edge files found)) }
-    ensures within { IfOk result (λ found. IfSome found (λ p. p < length graph.now.manifest.paths)) }
+    ensures within { IfOk result (λ found. IfSome found (IsSourceFor graph.now edge)) }
 {
     lists_stand(graph);
     if due[edge.index()] {
@@ -154,7 +157,7 @@ fn first_missing<S: Site>(
     ensures looked { HasLooked S.tells graph.now (S.world site.old) (S.world site.new) looks.old looks.new }
     ensures cause { HasCause (S.world site.old) (S.world site.new) result }
     ensures first { IfOk result (λ found. IfStill S.tells graph.now (S.world site.old) (S.world site.new) looks.old (λ set files. AreSourcesIn set graph.now paths.now → IsFirstIn graph.now paths.now files found)) }
-    ensures within { IfOk result (λ found. IfSome found (λ p. p < length graph.now.manifest.paths)) }
+    ensures within { IfOk result (λ found. IfSome found (IsSourceOf graph.now paths.now)) }
 {
     looks_follow();
     for path in paths {
@@ -178,6 +181,7 @@ fn is_missing<S: Site>(
     ensures looked { HasLooked S.tells graph.now (S.world site.old) (S.world site.new) looks.old looks.new }
     ensures cause { HasCause (S.world site.old) (S.world site.new) result }
     ensures missing { IfOk result (λ is. IfStill S.tells graph.now (S.world site.old) (S.world site.new) looks.old (IsMissingAt graph.now path is)) }
+    ensures source { IfOk result (λ is. is ≡ true → maker (declared_by graph.now).edges (text_at graph.now.manifest.paths path) ≡ None) }
 {
     match graph.maker(path) {
         Some(_) => Ok(false),

@@ -8,13 +8,12 @@ use Rattle.model.specs.declared.event.Moment.{Moment}
 use Rattle.model.specs.declared.event.Moment.TheVariants.{Wrote, Happened}
 use Rattle.model.specs.declared.event.Writer.TheVariants.{Program, Command, Someone}
 use Rattle.model.specs.declared.graph.Edge.{Edge}
-use Rattle.model.specs.World.{runs, runs_from, IsIdle}
+use Rattle.model.specs.World.{runs, runs_from, IsIdle, events_in}
 use Rattle.model.specs.Calls.{IsByOthers, AllByOthers, OthersWrote, Adds}
 use Rattle.model.specs.Graph.{has_number, edge_at, IsCommand}
 use Rattle.model.specs.Records.{OwnFiles}
 use Rattle.model.specs.Schedule.{Step, started_in, ended_in, running_in}
 use Rattle.model.specs.Premises.{LiesIn, OwnFilesApart}
-use Rattle.build_theory.specs.Run.{events_in}
 use Rattle.build_theory.proofs.Lists.{same_rest, all_parts, all_append, all_weaker, place_in}
 use Rattle.build_theory.proofs.Events.{runs_from-append}
 use Rattle.build_theory.proofs.Moments.{events_in-append}

@@ -11,14 +11,13 @@ use Rattle.model.specs.Graph.{has, has_number, edge_at, IsMadeOnce, outputs}
 use Rattle.model.specs.Outcome.{Behaviour, reports_of, depfile_in, listed, given}
 use Rattle.model.specs.Records.{Store, OwnFiles, recorded_inputs}
 use Rattle.model.specs.Schedule.{Step, started_in, well_in}
-use Rattle.model.specs.Premises.{HasOneOutcome, EndedAt, IsFromAbove, LeftOutcome, Matters, Premises}
+use Rattle.model.specs.Premises.{HasOneOutcome, EndedAt, IsFromAbove, LeftOutcome, Matters, Premises, StartsAreTicked}
 use Rattle.model.specs.SingleBuild.{Asked, task_of}
 use Rattle.model.specs.Kept.{StartedUnder}
 use Rattle.build_theory.specs.Order.{AreReadFirst, LeftAsNow, LeaveAsNow}
 use Rattle.build_theory.specs.Run.{IsRunOrRest, IsToldBy}
 use Rattle.build_theory.proofs.Lists.{all_has, all_from_has, all_parts}
 use Rattle.build_theory.proofs.Orderly.{IsKept, kept_orderly}
-use Rattle.log_theory.specs.Logged.{StartsAreTicked}
 use Rattle.log_theory.proofs.Carried.{read_apart, settled_unwritten}
 use Rattle.log_theory.proofs.Starts.{TickedAfter, started_under, ticked_after}
 use Rattle.log_theory.proofs.Ticked.{reads_early}

@@ -19,7 +19,7 @@ use Rattle.build_theory.specs.Run.{starts_in}
 use Rattle.build_theory.proofs.Events.{starts_of_steps}
 use Rattle.build_theory.proofs.Lists.{same_rest}
 use Rattle.build_theory.proofs.Loads.{build_is_orderly, declared_once}
-use Rattle.build_theory.proofs.Looks.{looks_keep_file}
+use Rattle.build_theory.proofs.Looks.{logs_left, looks_keep_file}
 use Rattle.log_theory.proofs.Less.{store_same}
 use Rattle.build_theory.proofs.Orderly.{IsKept, kept_orderly}
 use Rattle.build_theory.proofs.Ready.{stale_starts}
@@ -79,11 +79,11 @@ module _ (tells : Bool) (B : Behaviour) (format : LogFormat) (own : OwnFiles) (a
     | inl once ↦
         let logged = of_run.logged tell keeps.kept in
         faithful_at_exit tells B format own asked build.store build.steps hand old new tell of_run.idle of_run.run once
-        (build.logs tell keeps.kept) faithful (logged.readable (record { build_log = faithful.build_log; deps_log = faithful.deps_log })) logged.logged (of_run.ticked tell) keeps
+        (build.logs tell (logs_left own asked.graph.edges old.history new.history keeps.kept)) faithful (logged.readable (record { build_log = faithful.build_log; deps_log = faithful.deps_log })) logged.logged (of_run.ticked tell) keeps
     | inr looks ↦ nothing_keeps B format own asked.graph.edges old new faithful looks.events of_run.idle (record {
       free = keeps.kept.free;
       free_apart = keeps.kept.free_apart;
-      unrecorded = λ p is. ap (λ (s : Store). in_force s.records p) (sym (build.logs tell keeps.kept)) ∙ keeps.unrecorded p is;
+      unrecorded = λ p is. ap (λ (s : Store). in_force s.records p) (sym (build.logs tell (logs_left own asked.graph.edges old.history new.history keeps.kept))) ∙ keeps.unrecorded p is;
       logs = (keeps.kept.free_apart.set own.build_log (keeps.kept.own_files.within own.build_log keeps.kept.own_files.build_log), keeps.kept.free_apart.set own.deps_log (keeps.kept.own_files.within own.deps_log keeps.kept.own_files.deps_log));
       stamps = keeps.stamps;
       commands = keeps.kept.commands;
@@ -96,7 +96,7 @@ module _ (tells : Bool) (B : Behaviour) (format : LogFormat) (own : OwnFiles) (a
   clean tell faithful premises is =
       let well = success is in
       clean_with_loads tells B format own build.texts asked build.store build.steps build.met old new tell of_run.idle of_run.run build.schedule.lawful (declared well.once) well.once well.named
-      (build.logs tell premises.files.kept) faithful premises (of_run.ticked tell) (build.judged tell premises.files.kept premises.files.recorded_apart premises.files.dyndep.inputs) well.settled
+      (build.logs tell (logs_left own asked.graph.edges old.history new.history premises.files.kept)) faithful premises (of_run.ticked tell) (build.judged tell premises.files.kept premises.files.recorded_apart premises.files.dyndep.inputs) well.settled
 
   -- ---- the records
 
@@ -130,7 +130,7 @@ module _ (tells : Bool) (B : Behaviour) (format : LogFormat) (own : OwnFiles) (a
       log_same log mine = ap content_of (looks_keep_file tells own asked.graph.edges old new of_run.idle looks tell files.free files.edits log (files.free_apart.set log (files.own_files.within log mine)))
 
       same : store_at format own new ≡ build.store
-      same = store_same format own old.history new.history (log_same own.build_log files.own_files.build_log) (log_same own.deps_log files.own_files.deps_log) ∙ sym (build.logs tell files)
+      same = store_same format own old.history new.history (log_same own.build_log files.own_files.build_log) (log_same own.deps_log files.own_files.deps_log) ∙ sym (build.logs tell (logs_left own asked.graph.edges old.history new.history files))
 
       same_records : (o : List ℕ) → in_force (store_at format own new).records o ≡ in_force build.store.records o
       same_records o = ap (λ (s : Store). in_force s.records o) same

@@ -1,5 +1,5 @@
 -- A verdict stands: what was settled when an edge was judged is as it was at the exit.
-use Rattle.std.proofs.Common.{◌≡◌, ◌⊎◌, inl, inr, ℕ, Bool, true, false, IsTrue, List, ◌∷◌, ◌++◌, map, Option, Some, None, IsSome, is_some, refl, sym, ◌∙◌, ap, subst, append_assoc}
+use Rattle.std.proofs.Common.{◌≡◌, ◌≢◌, ◌⊎◌, inl, inr, ℕ, Bool, true, false, IsTrue, List, [], ◌∷◌, ◌++◌, map, Option, Some, None, IsSome, is_some, refl, sym, ◌∙◌, ap, subst, append_assoc}
 use Rattle.std.specs.List.{AllByRecursion}
 use Rattle.std.proofs.lemmas.Bool.{true≢false}
 use Rattle.model.specs.declared.event.Event.TheVariants.{Finish}
@@ -13,7 +13,7 @@ use Rattle.model.specs.Records.{Store, OwnFiles, recorded_inputs}
 use Rattle.model.specs.Judgement.{InputFacts, is_same_number, reason_of}
 use Rattle.model.specs.OutOfDate.{is_made_anew, output_facts, input_facts, Counted, ReadsNoFree, IsVerdict}
 use Rattle.model.specs.Schedule.{Step, Judged, clean_in, started_in, well_in, done_in}
-use Rattle.model.specs.Premises.{FilesAreKept, RecordedApart}
+use Rattle.model.specs.Premises.{IsMaking, FilesAreKept, RecordedApart}
 use Rattle.model.specs.SingleBuild.{Asked, task_of}
 use Rattle.build_theory.specs.Run.{IsToldBy, IsRunOrRest, EndOf}
 use Rattle.build_theory.proofs.Lists.{all_parts, same_rest, has-left, has_number-cases, map_same, same_some, some_none}
@@ -36,15 +36,23 @@ input_same edges ran old mid new p same =
 
 -- ---- the same reading set
 
--- whether a path counts by itself rests on files of aliases alone
-module _ (edges : List Edge) (u v : View) (same : (p : List ℕ) (j : ℕ) → IsAlias edges p j → v p ≡ u p) where
+some_input : (q : List ℕ) (qs : List (List ℕ)) → q ∷ qs ≡ [] → ⊥
+some_input q qs is = cc
+
+-- whether a path counts by itself rests on files of aliases with inputs alone
+module _ (edges : List Edge) (u v : View) (same : (p : List ℕ) (j : ℕ) → IsAlias edges p j → inputs (edge_at edges j) ≢ [] → v p ≡ u p) where
   counts_same : (p : List ℕ) → Counts edges u p → Counts edges v p
   counts_same p (inl no_alias) = inl no_alias
   counts_same p (inr (inr nothing)) = inr (inr nothing)
   counts_same p (inr (inl there)) = by_maker (maker edges p) refl
     where
+      by_inputs : (k : ℕ) → maker edges p ≡ Some k → (edge_at edges k).phony ≡ true → (ins : List (List ℕ)) → inputs (edge_at edges k) ≡ ins → Counts edges v p
+      by_inputs k is phony [] none = inr (inr (k, record { made = is; phony = phony }, none))
+      by_inputs k is phony (q ∷ qs) some =
+          inr (inl (subst (λ (held : Option (List ℕ)). IsSome held) (sym (same p k (record { made = is; phony = phony }) (λ none. some_input q qs (sym some ∙ none)))) there))
+
       by_phony : (k : ℕ) → maker edges p ≡ Some k → (b : Bool) → (edge_at edges k).phony ≡ b → Counts edges v p
-      by_phony k is true phony = inr (inl (subst (λ (held : Option (List ℕ)). IsSome held) (sym (same p k (record { made = is; phony = phony }))) there))
+      by_phony k is true phony = by_inputs k is phony (inputs (edge_at edges k)) refl
       by_phony k is false command = inl (λ j alias.
           true≢false (sym alias.phony ∙ subst (λ (n : ℕ). (edge_at edges n).phony ≡ false) (same_some k j (sym is ∙ alias.made)) command))
 
@@ -61,13 +69,17 @@ read_apart edges view outside apart i p (Itself _ _ h counts) = apart i p (has-l
 read_apart edges view outside apart i p (Through _ j q _ h alias below) = read_apart edges view outside apart j p below
 
 -- Where no path that edge i reads in these files is free, none is that it reads in any files: a phony's own path, which may count
--- there, is an output. (For the set of paths that a judgement looks at.)
-pub read_bound : (edges : List Edge) (free : List ℕ → Bool) → ((k : ℕ) (p : List ℕ) → has (outputs (edge_at edges k)) p ≡ true → free p ≡ false) → (view other : View) (i : ℕ) → ((p : List ℕ) → IsRead edges view i p → free p ≡ false)
+-- there, is an output that it makes, or counts in all files. (For the set of paths that a judgement looks at.)
+pub read_bound : (edges : List Edge) (free : List ℕ → Bool) → ((k : ℕ) (p : List ℕ) → IsMaking edges k → has (outputs (edge_at edges k)) p ≡ true → free p ≡ false) → (view other : View) (i : ℕ) → ((p : List ℕ) → IsRead edges view i p → free p ≡ false)
     → (p : List ℕ) → IsRead edges other i p → free p ≡ false
 read_bound edges free made view other i bound p (Itself _ _ h counts) = by_maker (maker edges p) refl
   where
+    by_inputs : (k : ℕ) → maker edges p ≡ Some k → (edge_at edges k).phony ≡ true → (ins : List (List ℕ)) → inputs (edge_at edges k) ≡ ins → free p ≡ false
+    by_inputs k is phony [] none = bound p (Itself i p h (inr (inr (k, record { made = is; phony = phony }, none))))
+    by_inputs k is phony (q ∷ qs) some = made k p (inr (λ none. some_input q qs (sym some ∙ none))) (maker_has edges p k is)
+
     by_phony : (k : ℕ) → maker edges p ≡ Some k → (b : Bool) → (edge_at edges k).phony ≡ b → free p ≡ false
-    by_phony k is true phony = made k p (maker_has edges p k is)
+    by_phony k is true phony = by_inputs k is phony (inputs (edge_at edges k)) refl
     by_phony k is false command = bound p (Itself i p h (inl (λ j alias.
         true≢false (sym alias.phony ∙ subst (λ (n : ℕ). (edge_at edges n).phony ≡ false) (same_some k j (sym is ∙ alias.made)) command))))
 
@@ -113,7 +125,7 @@ module _ (tells : Bool) (own : OwnFiles) (asked : Asked) (store : Store) (before
       ended : (j : ℕ) → maker asked.graph.edges p ≡ Some j → has_number (well_in before) j ≡ true → AllByRecursion (IsElsewhere p) more
       ended j is well =
           (all_parts (IsElsewhere p) early.after more (subst (λ (l : List Moment). AllByRecursion (IsElsewhere p) l) after_is
-          (output_unwritten tells own (task_of asked store) (before ++ later) old now idle last tell once files j p (maker_has asked.graph.edges p j is) late))).1
+          (output_unwritten tells own (task_of asked store) (before ++ later) old now idle last tell once files j (few.judged j (few.out_of_date j (few.started j (few.ended j (few.well j well))))) p (maker_has asked.graph.edges p j is) late))).1
         where
           early : EndOf own asked.graph.edges before j old.history mid.history
           early = end_of tells own (task_of asked store) before old mid idle first tell j well
@@ -176,8 +188,8 @@ module _ (tells : Bool) (own : OwnFiles) (asked : Asked) (store : Store) (before
   stays : (p : List ℕ) → own.set p ≡ false → files.free p ≡ false → ((j : ℕ) → maker asked.graph.edges p ≡ Some j → IsCommand asked.graph.edges j → has_number (done_in before) j ≡ true) → file_at now.history p ≡ file_at mid.history p
   stays p outside bound settled = settled_stays tells own asked store before (Judged i b ∷ after) old mid now more tell idle once first last grows files p outside bound settled
 
-  view_same : (p : List ℕ) (j : ℕ) → IsAlias asked.graph.edges p j → view_of now.history p ≡ view_of mid.history p
-  view_same p j alias = ap content_of (stays p (files.own_files.outputs j p (maker_has asked.graph.edges p j alias.made)) (files.free_apart.outputs j p (maker_has asked.graph.edges p j alias.made))
+  view_same : (p : List ℕ) (j : ℕ) → IsAlias asked.graph.edges p j → inputs (edge_at asked.graph.edges j) ≢ [] → view_of now.history p ≡ view_of mid.history p
+  view_same p j alias some = ap content_of (stays p (files.own_files.outputs j p (maker_has asked.graph.edges p j alias.made)) (files.free_apart.outputs j p (inr some) (maker_has asked.graph.edges p j alias.made))
       (λ k made command. absurd (true≢false (sym alias.phony ∙ subst (λ (n : ℕ). (edge_at asked.graph.edges n).phony ≡ false) (same_some k j (sym made ∙ alias.made)) command))))
 
   pub counted_on : (p : List ℕ) → Counted asked.graph.edges store mid.history i p → Counted asked.graph.edges store now.history i p
@@ -185,7 +197,7 @@ module _ (tells : Bool) (own : OwnFiles) (asked : Asked) (store : Store) (before
   counted_on p (inr recorded) = inr recorded
 
   counted_back : (p : List ℕ) → Counted asked.graph.edges store now.history i p → Counted asked.graph.edges store mid.history i p
-  counted_back p (inl read) = inl (read_same asked.graph.edges (view_of now.history) (view_of mid.history) (λ q j alias. sym (view_same q j alias)) i p read)
+  counted_back p (inl read) = inl (read_same asked.graph.edges (view_of now.history) (view_of mid.history) (λ q j alias some. sym (view_same q j alias some)) i p read)
   counted_back p (inr recorded) = inr recorded
 
   counted_stays : ReadsNoFree files.free asked.graph.edges store now.history i → (p : List ℕ) → Counted asked.graph.edges store mid.history i p → file_at now.history p ≡ file_at mid.history p

@@ -7,7 +7,7 @@ use Rattle.model.specs.declared.event.Event.TheVariants.{Finish}
 use Rattle.model.specs.declared.event.Moment.{Moment}
 use Rattle.model.specs.declared.event.Moment.TheVariants.{Happened}
 use Rattle.model.specs.declared.graph.Edge.{Edge}
-use Rattle.model.specs.World.{World, View, view_of}
+use Rattle.model.specs.World.{World, View, view_of, events_in}
 use Rattle.model.specs.Graph.{has, has_number, edge_at, maker, inputs, regular_inputs, IsCommand}
 use Rattle.model.specs.Outcome.{Behaviour, depfile_in, is_accepted}
 use Rattle.model.specs.Reading.{IsRead, Itself, Through}
@@ -15,15 +15,15 @@ use Rattle.model.specs.Records.{Store, OwnFiles, recorded_inputs}
 use Rattle.model.specs.OutOfDate.{Counted, ReadsNoFree, IsVerdict}
 use Rattle.model.specs.Schedule.{Step, Judged, Ended, ended_in, well_in, done_in, IsSettled, Done, Alias, MayBeJudged, IsLawful}
 use Rattle.model.specs.Premises.{FilesAreKept, RecordedApart, EndedAt}
-use Rattle.model.specs.SingleBuild.{Asked, task_of}
+use Rattle.model.specs.SingleBuild.{Asked, task_of, EndRightly}
 use Rattle.build_theory.specs.Order.{IsReadAfter}
-use Rattle.build_theory.specs.Run.{events_in, IsRunOrRest}
+use Rattle.build_theory.specs.Run.{IsRunOrRest}
 use Rattle.build_theory.proofs.Lists.{same_rest, has-left, has-right, place_in, has_number-append, has_number-one}
 use Rattle.build_theory.proofs.Looks.{kept_before}
 use Rattle.build_theory.proofs.Moments.{events_in-append}
 use Rattle.build_theory.proofs.Settled.{settled_command}
 use Rattle.build_theory.proofs.Steps.{lawful_parts, ended-append, well-append}
-use Rattle.log_theory.specs.Judged.{JudgedThen, AreJudgedThen, AreTakenIn, VerdictsAtExit}
+use Rattle.log_theory.specs.Judged.{JudgedThen, AreJudgedThen, VerdictsAtExit}
 use Rattle.log_theory.proofs.Carried.{counted_on, verdict_stands}
 
 -- ---- what is read is made by what is done
@@ -44,8 +44,7 @@ read_done edges view done k p (Through _ a q _ h alias below) settled j made com
 pub verdicts_at_exit : VerdictsAtExit
 verdicts_at_exit tells B own asked store steps met old now tell idle once lawful rest judged files apart taken_in = record {
   verdicts = λ before after i b splits. by_then before after i b splits (judged before after i b splits);
-  well = taken_in.well;
-  depfiles = taken_in.depfiles;
+  ended = taken_in;
 }
   where
     by_then : (before after : List Step) (i : ℕ) (b : Bool) → steps ≡ before ++ Judged i b ∷ after → JudgedThen tells own asked store before i b old now
@@ -144,13 +143,13 @@ module _ (B : Behaviour) (edges : List Edge) (old : List Moment) where
       nothing [] is = cc
       nothing (x ∷ xs) is = cc
 
-  pub taken_nothing : (met : Option ℕ) (now : List Moment) → AreTakenIn B edges [] met old now
+  pub taken_nothing : (met : Option ℕ) (now : List Moment) → EndRightly B edges [] met old now
   taken_nothing met now = record { well = λ i at ended well. absurd (false≢true well); depfiles = λ i at ended has unmet. absurd (false≢true has) }
 
   -- a call in which no command that was started has ended well by itself, or none is counted
   pub taken_on : (steps : List Step) (met next : Option ℕ) (so_far now ms new : List Moment) → now ≡ old ++ so_far → new ≡ now ++ ms → ((i : ℕ) → met ≡ Some i → next ≡ Some i)
       → ((before after : List Moment) (i : ℕ) → ms ≡ before ++ Happened (Finish i true) ∷ after → has_number (ended_in steps) i ≡ false) → ((i : ℕ) → has_number (well_in steps) i ≡ true → has_number (ended_in steps) i ≡ true)
-      → AreTakenIn B edges steps met old now → AreTakenIn B edges steps next old new
+      → EndRightly B edges steps met old now → EndRightly B edges steps next old new
   taken_on steps met next so_far now ms new was grows keeps none well_ended taken = record {
     well = λ i at ended well. elim (ended_back i at old so_far now ms new was grows ended) [
       | inl before ↦ taken.well i at before well
@@ -163,7 +162,7 @@ module _ (B : Behaviour) (edges : List Edge) (old : List Moment) where
   }
 
   -- a step that is no end
-  pub taken_other : (steps : List Step) (step : Step) (met : Option ℕ) (now : List Moment) → ended_in (step ∷ []) ≡ [] → well_in (step ∷ []) ≡ [] → AreTakenIn B edges steps met old now → AreTakenIn B edges (steps ++ step ∷ []) met old now
+  pub taken_other : (steps : List Step) (step : Step) (met : Option ℕ) (now : List Moment) → ended_in (step ∷ []) ≡ [] → well_in (step ∷ []) ≡ [] → EndRightly B edges steps met old now → EndRightly B edges (steps ++ step ∷ []) met old now
   taken_other steps step met now no_ended no_well taken = record {
     well = λ i at ended well. taken.well i at ended (subst (λ (l : List ℕ). has_number l i ≡ true) well_same well);
     depfiles = λ i at ended has unmet. ap (λ (l : List ℕ). has_number l i) well_same ∙ taken.depfiles i at ended (subst (λ (l : List ℕ). has_number l i ≡ true) ended_same has) unmet;
@@ -178,7 +177,7 @@ module _ (B : Behaviour) (edges : List Edge) (old : List Moment) where
   -- a command that was taken in is a step now: what its depfile says was read, or it met the fault and did not end well
   pub taken_ended : (steps : List Step) (i : ℕ) (w : Bool) (met next : Option ℕ) (now : List Moment) → has_number (well_in steps) i ≡ false → ((k : ℕ) → met ≡ Some k → next ≡ Some k)
       → ((at : List Moment) → EndedAt i old now at → (w ≡ is_accepted (depfile_in B (edge_at edges i).act (view_of at))) ⊎ ((w ≡ false) × (next ≡ Some i)))
-      → AreTakenIn B edges steps met old now → AreTakenIn B edges (steps ++ Ended i w ∷ []) next old now
+      → EndRightly B edges steps met old now → EndRightly B edges (steps ++ Ended i w ∷ []) next old now
   taken_ended steps i w met next now fresh keeps read taken = record {
     well = λ k at ended well. elim (cases_Bool (i == k)) [
       | inl same ↦

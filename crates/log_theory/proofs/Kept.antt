@@ -68,7 +68,7 @@ module _ (tells : Bool) (own : OwnFiles) (task : Task) (steps : List Step) (old 
 
   -- the outputs of an edge that was judged clean are as they were
   pub clean_stays : (i : ℕ) (o : List ℕ) → has_number (clean_in steps) i ≡ true → has (outputs (edge_at task.graph.edges i)) o ≡ true → file_at now.history o ≡ file_at old.history o
-  clean_stays i o clean is_output = path_stays o (files.own_files.outputs i o is_output) (files.free_apart.outputs i o is_output)
+  clean_stays i o clean is_output = path_stays o (files.own_files.outputs i o is_output) (files.free_apart.outputs i o (inl (kept.judged i (kept.clean i clean))) is_output)
       (λ j started makes. kept.apart i clean
       (subst (λ (k : ℕ). has_number (out_of_date_in steps) k ≡ true) (one_maker task.graph.edges o j i once makes is_output) (kept.started j started)))
 

@@ -1,5 +1,6 @@
 -- What a run carries goes on through each thing that it does: one lemma for each.
 use Rattle.std.proofs.Common.{◌≡◌, ◌≢◌, ◌⊎◌, inl, inr, ℕ, Bool, true, false, IsTrue, List, [], ◌∷◌, ◌++◌, Option, Some, None, refl, sym, ◌∙◌, ap, subst, append_assoc}
+use Rattle.std.proofs.lemmas.List.{append-nil}
 use Rattle.std.proofs.lemmas.Bool.{false≢true, true≢false, false_from_ne_true}
 use Rattle.model.specs.declared.act.Act.{Act}
 use Rattle.model.specs.declared.event.Event.{Event}
@@ -7,19 +8,20 @@ use Rattle.model.specs.declared.event.Event.TheVariants.{Start, Finish}
 use Rattle.model.specs.declared.event.Moment.{Moment}
 use Rattle.model.specs.declared.event.Moment.TheVariants.{Happened}
 use Rattle.model.specs.declared.graph.Edge.{Edge}
-use Rattle.model.specs.World.{World, view_of, runs_from, runs, IsRunning, IsIdle}
+use Rattle.model.specs.World.{World, view_of, runs_from, runs, IsRunning, IsIdle, events_in}
 use Rattle.model.specs.Calls.{OthersWrote, Adds, OnlyLooks, Ticks, TicksOrNot, WritesOrNot, Starts, StartsOrNot, Finishes}
 use Rattle.model.specs.Graph.{has_number, edge_at, IsCommand, IsMadeOnce}
 use Rattle.model.specs.Outcome.{Behaviour, depfile_in, is_accepted}
 use Rattle.model.specs.Records.{Store, LogFormat, OwnFiles, store_in, recorded_inputs}
-use Rattle.model.specs.OutOfDate.{ReadsNoFree, IsVerdict}
-use Rattle.model.specs.Schedule.{Step, Judged, Started, Ended, IsLawfulStep, IsEndOf, NoneMayBeJudged, NoneMayStart, started_in, out_of_date_in, ended_in, well_in, running_in}
+use Rattle.model.specs.OutOfDate.{ReadsNoFree, IsStaleByOutputs, IsVerdict}
+use Rattle.model.specs.Schedule.{Step, Judged, Started, Ended, IsLawfulStep, IsEndOf, NoneMayBeJudged, NoneMayStart, clean_in, started_in, out_of_date_in, ended_in, well_in, running_in}
 use Rattle.model.specs.Phases.{steps_of, Phase, NoLoadIsDue}
 use Rattle.model.specs.Premises.{FilesAreKept, RecordedApart, EndedAt, InputsAreKnown, LiesIn}
-use Rattle.model.specs.SingleBuild.{HeldAt, AreJudgedAt, ArePhasesJudgedAt, WasTakenIn, NamesOther, Asked, task_of, IsJudged, IsFrame}
+use Rattle.model.specs.SingleBuild.{AreCleanByOutputs, AreJudgedAt, ArePhasesJudgedAt, WasTakenIn, NamesOther, Asked, task_of, IsJudged, IsFrame, EndRightly}
 use Rattle.model.specs.Kept.{StartedUnder, KeepsRecords, store_at}
-use Rattle.build_theory.specs.Run.{events_in, starts_in, IsRun, IsRunOrRest}
-use Rattle.build_theory.proofs.Steps.{running_parts}
+use Rattle.build_theory.specs.Run.{starts_in, IsRun, IsRunOrRest}
+use Rattle.build_theory.proofs.Lists.{has_number-is}
+use Rattle.build_theory.proofs.Steps.{running_parts, clean-append, in_either}
 use Rattle.build_theory.proofs.Orderly.{IsKept, kept_orderly, orderly_step}
 use Rattle.build_theory.proofs.Events.{runs_from-append, runs_started, runs_now, no_starts}
 use Rattle.build_theory.proofs.Moments.{events_in-append, no_events}
@@ -28,12 +30,11 @@ use Rattle.build_theory.proofs.Starting.{OthersRun, ready_nothing, ready_quiet, 
 use Rattle.build_theory.proofs.Runs.{run_begins, run_judged, run_looks, run_starts, run_takes_in, rest_begins, rest_looks, rest_finishes}
 use Rattle.build_theory.proofs.Exit.{frame}
 use Rattle.log_theory.specs.Logged.{IsLoggedAt}
-use Rattle.log_theory.specs.Judged.{AreTakenIn}
 use Rattle.log_theory.specs.Builds.{IsRunOf}
 use Rattle.log_theory.specs.Writes.{GrewAt, WritesAt}
 use Rattle.log_theory.specs.Alone.{IsNoFileOf, AreLeftAlone}
 use Rattle.log_theory.specs.Ledger.{IsPhased, IsRefused, IsBeside, IsCarried, IsCutOff, IsReadyToStart}
-use Rattle.log_theory.proofs.AtMoments.{held_at, verdicts_at_moments}
+use Rattle.log_theory.proofs.AtMoments.{verdicts_at_moments}
 use Rattle.log_theory.proofs.Alone.{runs_idle, alone_nothing, alone_looks, alone_adds, alone_at, own_apart, response_apart, depfile_apart}
 use Rattle.log_theory.proofs.Calls.{entry_logged, looks_logged, start_logged, rest_logged}
 use Rattle.log_theory.proofs.Growing.{logged_hand, logged_judged, logged_as_failed, logged_as_well}
@@ -90,7 +91,28 @@ one_end_of steps j ok fresh (x ∷ xs) ys i is =
     let tail : [] ≡ xs ++ Finish i true ∷ ys = cc in
     no_ends steps xs ys i tail
 
--- the phases of a run that goes on, or that a refused load has ended
+-- ---- which edges were judged clean
+
+-- a step that is no clean judgement
+clean_other : (steps : List Step) (step : Step) (k : ℕ) → clean_in (step ∷ []) ≡ [] → has_number (clean_in (steps ++ step ∷ [])) k ≡ true → has_number (clean_in steps) k ≡ true
+clean_other steps step k none h =
+    subst (λ (l : List ℕ). has_number l k ≡ true) (clean-append steps (step ∷ []) ∙ (ap (λ (l : List ℕ). clean_in steps ++ l) none ∙ append-nil (clean_in steps))) h
+
+-- a judgement, which is out of date where the edge is by what it makes
+clean_push : (edges : List Edge) (store : Store) (old : List Moment) (steps : List Step) (i : ℕ) (b : Bool) → (IsStaleByOutputs edges store old i → b ≡ true)
+    → AreCleanByOutputs edges store steps old → AreCleanByOutputs edges store (steps ++ Judged i b ∷ []) old
+clean_push edges store old steps i b right clean k h stale = elim (in_either clean_in clean-append steps (Judged i b ∷ []) k h) [
+  | inl before ↦ clean k before stale
+  | inr here ↦ by_verdict b right here
+]
+  where
+    by_verdict : (c : Bool) → (IsStaleByOutputs edges store old i → c ≡ true) → has_number (clean_in (Judged i c ∷ [])) k ≡ true → ⊥
+    by_verdict true right here = false≢true here
+    by_verdict false right here = false≢true (right (subst (λ (n : ℕ). IsStaleByOutputs edges store old n) (sym (has_number-is i k here)) stale))
+
+-- ---- phases
+
+-- those of a run that goes on, or that a refused load has ended
 record ArePhases (tells : Bool) (B : Behaviour) (own : OwnFiles) (asked : Asked) (store : Store) (phases : List Phase) (goes_on : Bool) (steps : List Step) (old now : World) : Type 0 where
   phased : IsPhased tells B own asked store phases steps old now
   goes : goes_on ≡ true → phased.build.taken_in ≡ []
@@ -161,7 +183,7 @@ module _ (tells : Bool) (B : Behaviour) (format : LogFormat) (own : OwnFiles) (a
     pub files_before : IsTrue tells → Kept new → Kept now
     files_before tell files = kept_before own asked.graph.edges old.history now.history new.history (grew tell).more (grew tell).grows files
 
-    taken_in_on : (met : Option ℕ) → EndsOf es steps → (tell : IsTrue tells) → AreTakenIn B asked.graph.edges steps met old.history now.history → AreTakenIn B asked.graph.edges steps met old.history new.history
+    taken_in_on : (met : Option ℕ) → EndsOf es steps → (tell : IsTrue tells) → EndRightly B asked.graph.edges steps met old.history now.history → EndRightly B asked.graph.edges steps met old.history new.history
     taken_in_on met ends tell taken = taken_on B asked.graph.edges old.history steps met met (rest.history tell).more now.history (grew tell).more new.history (rest.history tell).grows (grew tell).grows (λ i h. h)
         (λ before after i splits. ends (events_in before) (events_in after) i (sym (grew tell).happened ∙ (ap events_in splits ∙ events_in-append before (Happened (Finish i true) ∷ after))))
         (λ i well. (kept_orderly asked.graph.edges steps rest.orderly).well i well) taken
@@ -172,6 +194,7 @@ module _ (tells : Bool) (B : Behaviour) (format : LogFormat) (own : OwnFiles) (a
       idle = beside.idle;
       ready = λ tell. ready_quiet own asked.graph.edges old.history now.history (rest.history tell).more (grew tell).more new.history (rest.history tell).grows (grew tell).grows (ap starts_in (grew tell).happened ∙ none) (beside.ready tell);
       ticked = λ tell. ticked_quiet old.history now.history (rest.history tell).more (grew tell).more new.history (rest.history tell).grows (grew tell).grows (ap starts_in (grew tell).happened ∙ none) (beside.ticked tell);
+      clean = λ tell files. beside.clean tell (files_before tell files);
       taken_in = λ tell files. taken_in_on met ends tell (beside.taken_in tell (files_before tell files));
       logged = λ tell files. logs tell files (beside.logged tell (files_before tell files));
       alone = λ tell files. alone tell files (beside.alone tell (files_before tell files));
@@ -211,6 +234,7 @@ module _ (tells : Bool) (B : Behaviour) (format : LogFormat) (own : OwnFiles) (a
     idle = beside.idle;
     ready = beside.ready;
     ticked = beside.ticked;
+    clean = λ tell files k h stale. beside.clean tell files k (clean_other steps (Ended i w) k refl h) stale;
     taken_in = λ tell files. taken_ended B asked.graph.edges old.history steps i w None met now.history fresh (λ k is. absurd (none_some k is))
         (λ at ended. elim read [ inl says ↦ inl (says tell files at ended) | inr met_it ↦ inr met_it ]) (beside.taken_in tell files);
     logged = λ tell files. logs tell files (beside.logged tell files);
@@ -233,13 +257,14 @@ module _ (tells : Bool) (B : Behaviour) (format : LogFormat) (own : OwnFiles) (a
       idle = idle;
       ready = λ tell. ready_nothing own asked.graph.edges old.history;
       ticked = λ tell. ticked_nothing old.history;
+      clean = λ tell files k h stale. false≢true h;
       taken_in = λ tell files. taken_nothing B asked.graph.edges old.history None old.history;
       logged = λ tell files. subst (λ (s : Store). IsLoggedAt B format own asked.graph.edges [] None s old old) (sym found) (entry_logged B format own asked.graph.edges old);
       alone = λ tell files. alone_nothing asked.graph.edges old.history;
     };
   }
 
-  -- The logs were read, while nothing was judged: the same of any records that are those of the entry, where nothing is edited.
+  -- The logs were read, while nothing was judged: the same of any records that are those of the entry, where files are kept.
   pub carried_found : asked.graph.edges ≡ asked.declared → ((file : List ℕ) → NamesOther asked.graph.edges file → ⊥) → (other : Store) (hand : Option ℕ) (now : World) → (IsTrue tells → Kept now → other ≡ store) → IsCarried tells B format own asked store [] true [] hand old now
       → IsCarried tells B format own asked other [] true [] hand old now
   carried_found unloaded others other hand now same carried = record {
@@ -251,6 +276,7 @@ module _ (tells : Bool) (B : Behaviour) (format : LogFormat) (own : OwnFiles) (a
       idle = carried.beside.idle;
       ready = carried.beside.ready;
       ticked = carried.beside.ticked;
+      clean = λ tell files k h stale. false≢true h;
       taken_in = carried.beside.taken_in;
       logged = λ tell files. subst (λ (s : Store). IsLoggedAt B format own asked.graph.edges [] hand s old now) (sym (same tell files)) (carried.beside.logged tell files);
       alone = carried.beside.alone;
@@ -281,8 +307,9 @@ module _ (tells : Bool) (B : Behaviour) (format : LogFormat) (own : OwnFiles) (a
     -- an edge was judged, rightly by the files of now
     pub carried_judged : (steps : List Step) (hand : Option ℕ) (now : World) (i : ℕ) (out_of_date : Bool) → goes_on ≡ true → IsLawfulStep (task_of asked store) steps (Judged i out_of_date) → NoLoadIsDue (task_of asked store) steps
         → (IsTrue tells → (files : Kept now) → RecordedApart own (recorded_inputs store asked.graph.edges) → ReadsNoFree files.free asked.graph.edges store now.history i → IsVerdict asked.graph.edges store (well_in steps) old.history now.history i out_of_date)
+        → (IsTrue tells → Kept now → IsStaleByOutputs asked.graph.edges store old.history i → out_of_date ≡ true)
         → Carried steps hand now → Carried (steps ++ Judged i out_of_date ∷ []) hand now
-    carried_judged steps hand now i b on next none right carried = record {
+    carried_judged steps hand now i b on next none right sound carried = record {
       run = run_judged tells own (task_of asked store) old steps now i b carried.run (orderly_step (task_of asked store) steps (Judged i b) next);
       phased = phased_step tells B own asked store old phases steps now carried.phased (Judged i b) (carried.goes on) next none
           (λ tell. over_now tells B own asked store old steps now i b carried.run carried.phased.loaded right);
@@ -292,6 +319,7 @@ module _ (tells : Bool) (B : Behaviour) (format : LogFormat) (own : OwnFiles) (a
         idle = carried.beside.idle;
         ready = carried.beside.ready;
         ticked = carried.beside.ticked;
+        clean = λ tell files. clean_push asked.graph.edges store old.history steps i b (sound tell files) (carried.beside.clean tell files);
         taken_in = λ tell files. taken_other B asked.graph.edges old.history steps (Judged i b) None now.history refl refl (carried.beside.taken_in tell files);
         logged = λ tell files.
             let was = carried.beside.logged tell files in
@@ -311,6 +339,7 @@ module _ (tells : Bool) (B : Behaviour) (format : LogFormat) (own : OwnFiles) (a
         idle = carried.beside.idle;
         ready = carried.beside.ready;
         ticked = carried.beside.ticked;
+        clean = carried.beside.clean;
         taken_in = carried.beside.taken_in;
         logged = λ tell files.
             let was = carried.beside.logged tell files in
@@ -441,6 +470,7 @@ module _ (tells : Bool) (B : Behaviour) (format : LogFormat) (own : OwnFiles) (a
         ticked = λ tell.
             let tick = ready.ticked tell in
             ticked_starts old.history own asked.graph.edges tells tell now new tick.so_far tick.was i act starts tick.tick (carried.beside.ticked tell);
+        clean = λ tell files k h stale. carried.beside.clean tell (before tell files) k (clean_other steps (Started i) k refl h) stale;
         taken_in = λ tell files. taken_other B asked.graph.edges old.history steps (Started i) None new.history refl refl
             (taken_in_on steps now new rest (Start i act now.ticked ∷ []) grew None (start_no_end steps i now.ticked act) tell (carried.beside.taken_in tell (before tell files)));
         logged = λ tell files. start_logged B format own asked.graph.edges store old now new (rest.history tell).more (rest.history tell).grows files (command_of steps now idle rest) steps tells tell i act starts
@@ -586,6 +616,7 @@ module _ (tells : Bool) (B : Behaviour) (format : LogFormat) (own : OwnFiles) (a
         idle = carried.beside.idle;
         ready = carried.beside.ready;
         ticked = carried.beside.ticked;
+        clean = carried.beside.clean;
         taken_in = λ tell files.
             let taken = carried.beside.taken_in tell files in
             record { well = taken.well; depfiles = λ i at ended has unmet. taken.depfiles i at ended has (λ is. absurd (nothing i is)) };
@@ -626,15 +657,12 @@ module _ (tells : Bool) (B : Behaviour) (format : LogFormat) (own : OwnFiles) (a
         verdicts_with_loads tells B own cut.phased.texts asked store steps met old now tell cut.beside.idle once others cut.phased.build cut.run (cut.phased.before tell) (cut.phased.last tell) files apart known
         (cut.beside.taken_in tell files)
 
-    -- each verdict at its moment, and each loaded file as it was when it was loaded
+    -- each verdict at its moment
     pub judged_at_of : IsTrue tells → (files : Kept now) → RecordedApart own (recorded_inputs store asked.graph.edges)
         → ArePhasesJudgedAt files.free store [] cut.phased.build.earlier old.history now.history
         × AreJudgedAt files.free asked.graph.edges store (steps_of cut.phased.build.earlier) cut.phased.build.last old.history now.history
     judged_at_of tell files apart =
         verdicts_at_moments tells B own cut.phased.texts asked store steps old now tell cut.beside.idle cut.phased.build (cut.phased.before tell) (cut.phased.last tell) files apart
-
-    pub held_at_of : IsTrue tells → (files : Kept now) → (file content : List ℕ) → cut.phased.texts file ≡ Some content → files.free file ≡ false → HeldAt file content steps old.history now.history
-    held_at_of tell files file content is bound = held_at tells own asked store old now tell cut.beside.idle files file content steps (cut.phased.held tell file content is) bound
 
     pub frame_of : IsMadeOnce asked.graph.edges → IsTrue tells → IsFrame own asked.graph.edges steps old.history now.history
     frame_of once tell = frame tells own (task_of asked store) steps old now cut.beside.idle cut.run tell once (cut.beside.ready tell)

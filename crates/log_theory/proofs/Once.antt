@@ -7,14 +7,14 @@ use Rattle.model.specs.declared.event.Event.{Event}
 use Rattle.model.specs.declared.event.Event.TheVariants.{Start, Finish}
 use Rattle.model.specs.declared.event.Moment.{Moment}
 use Rattle.model.specs.declared.event.Moment.TheVariants.{Happened}
-use Rattle.model.specs.World.{World, runs, IsIdle}
+use Rattle.model.specs.World.{World, runs, IsIdle, events_in}
 use Rattle.model.specs.Graph.{has_number}
 use Rattle.model.specs.Records.{OwnFiles}
 use Rattle.model.specs.Schedule.{Task, Step, Judged, Started, Ended, started_in, running_in, AreEventsOf, AreFinishes}
 use Rattle.model.specs.Premises.{EndedAt}
 use Rattle.model.specs.Kept.{StartedUnder}
 use Rattle.model.specs.SingleBuild.{WasTakenIn}
-use Rattle.build_theory.specs.Run.{events_in, starts_in, IsToldBy, IsRunOrRest}
+use Rattle.build_theory.specs.Run.{starts_in, IsToldBy, IsRunOrRest}
 use Rattle.build_theory.proofs.Lists.{same_rest, place_of, has_number-left, has_number-right, has_number-one}
 use Rattle.build_theory.specs.Order.{IsOrderlyFrom, IsOrderly}
 use Rattle.build_theory.proofs.Orderly.{orderly_push}

@@ -64,7 +64,7 @@ one tells B format own asked store old a b c d e f g h j k l m i stamp tick seen
     at_a = ledger.carried_found tells B format own asked (store_in format own (view_of old.history)) old unloaded others store None a (λ tell files. found tell files) at_a0
 
     judged : IsCarried tells B format own asked store [] true (Judged i true ∷ []) (Some i) old a
-    judged = ledger.carried_hand tells B format own asked store old [] true (Judged i true ∷ []) a i (ledger.carried_judged tells B format own asked store old [] true [] None a i true refl judge (no_load []) verdict at_a)
+    judged = ledger.carried_hand tells B format own asked store old [] true (Judged i true ∷ []) a i (ledger.carried_judged tells B format own asked store old [] true [] None a i true refl judge (no_load []) verdict (λ tell files stale. refl) at_a)
 
     at_b : IsCarried tells B format own asked store [] true (Judged i true ∷ []) (Some i) old b
     at_b = ledger.carried_ticks tells B format own asked store old [] true (Judged i true ∷ []) (Some i) a b tick mine t1 t2 stamp ticks judged

@@ -12,7 +12,7 @@ use Rattle.model.specs.OutOfDate.{ReadsNoFree, IsVerdict}
 use Rattle.model.specs.Schedule.{Task, Step, Judged, Started, Ended, IsLawfulStep, judged_in, started_in, running_in, well_in, done_in}
 use Rattle.model.specs.Phases.{Phase, IsGrownBy, IsDueLoad, NoLoadIsDue, IsNextLoad, AreUnloadedFrom, IsLawfulPhase, IsLoad, IsInOrderAt, AreTakenIn, ArePhasesFrom, steps_of, next_edges, task_with}
 use Rattle.model.specs.Premises.{FilesAreKept, RecordedApart}
-use Rattle.model.specs.SingleBuild.{Asked, NamesOther, asked_with, task_of}
+use Rattle.model.specs.SingleBuild.{HeldAt, LoadHeldAt, AreLoadsHeldAt, Asked, NamesOther, asked_with, task_of}
 use Rattle.build_theory.specs.Run.{IsRun, IsRunOrRest}
 use Rattle.build_theory.proofs.Lists.{same_bytes, bytes_same, same_some, has-left, has_number-is}
 use Rattle.build_theory.proofs.Settled.{settled_command}
@@ -57,6 +57,45 @@ load_moved reading texts more holds task before next load = record {
   read = load.read;
   grown = load.grown;
 }
+
+-- ---- what they held at their loads
+
+-- what was held at a moment of then was held at one of now
+pub held_later : (file : List ℕ) (held : Option (List ℕ)) (before : List Step) (old now new ms : List Moment) → new ≡ now ++ ms → HeldAt file held before old now → HeldAt file held before old new
+held_later file held before old now new ms grows was = record {
+  at = was.at;
+  moment = record {
+    so_far = was.moment.so_far;
+    later = was.moment.later ++ ms;
+    is = was.moment.is;
+    grows = grows ∙ (ap (λ (l : List Moment). l ++ ms) was.moment.grows ∙ append_assoc was.at was.moment.later ms);
+    happened = was.moment.happened;
+  };
+  holds = was.holds;
+}
+
+pub loads_later : (texts : View) (task : Task) (store : Store) (before : List Step) (phases : List Phase) (old now new ms : List Moment) → new ≡ now ++ ms → AreLoadsHeldAt texts task store before phases old now
+    → AreLoadsHeldAt texts task store before phases old new
+loads_later texts task store before [] old now new ms grows held = tt
+loads_later texts task store before (phase ∷ phases) old now new ms grows held = (
+  record {
+    file = held.0.file;
+    is_next = held.0.is_next;
+    content = held.0.content;
+    read = held.0.read;
+    held = held_later held.0.file (Some held.0.content) (before ++ phase.steps) old now new ms grows held.0.held;
+  },
+  loads_later texts task store (before ++ phase.steps) phases old now new ms grows held.1,
+)
+
+-- of phases it does not matter what else is held
+pub loads_with : (texts more : View) → HoldsAll texts more → (task : Task) (store : Store) (before : List Step) (phases : List Phase) (old now : List Moment) → AreLoadsHeldAt texts task store before phases old now
+    → AreLoadsHeldAt more task store before phases old now
+loads_with texts more holds task store before [] old now held = tt
+loads_with texts more holds task store before (phase ∷ phases) old now held = (
+  record { file = held.0.file; is_next = held.0.is_next; content = held.0.content; read = holds held.0.file held.0.content held.0.read; held = held.0.held },
+  loads_with texts more holds task store (before ++ phase.steps) phases old now held.1,
+)
 
 -- ---- lists of phases
 
@@ -144,6 +183,7 @@ module _ (tells : Bool) (B : Behaviour) (own : OwnFiles) (asked : Asked) (store 
     inputs = phased.inputs;
     loaded = phased.loaded;
     held = λ tell file content is. held_on now new (more tell) (grows tell) file content steps (phased.held tell file content is);
+    read_then = λ tell. loads_later phased.texts The store [] phased.build.earlier old.history now.history new.history (more tell) (grows tell) (phased.read_then tell);
     before = λ tell. all_on now new (more tell) (λ t. grows tell) [] phased.build.earlier (phased.before tell);
     last = λ tell. over_on now new (more tell) (λ t. grows tell) asked.graph.edges (steps_of phased.build.earlier) phased.build.last (phased.last tell);
   }
@@ -215,6 +255,7 @@ module _ (tells : Bool) (B : Behaviour) (own : OwnFiles) (asked : Asked) (store 
     ];
     loaded = λ i judged. absurd (false≢true judged);
     held = λ tell file content is. absurd (no_text content is);
+    read_then = λ tell. tt;
     before = λ tell. tt;
     last = λ tell. tt;
   }
@@ -273,6 +314,7 @@ module _ (tells : Bool) (B : Behaviour) (own : OwnFiles) (asked : Asked) (store 
       inputs = phased.inputs;
       loaded = λ i judged. loaded_then step next none i judged;
       held = λ tell file content is. held_push file content steps step now (phased.held tell file content is);
+      read_then = phased.read_then;
       before = phased.before;
       last = λ tell. over_push asked.graph.edges (steps_of phased.build.earlier) phased.build.last step now
           (λ i b is. subst (λ (l : List Step). JudgedOver tells own asked store asked.graph.edges l i b old now) (so_far on) (right tell i b is)) (phased.last tell);
@@ -304,6 +346,7 @@ module _ (tells : Bool) (B : Behaviour) (own : OwnFiles) (asked : Asked) (store 
         | inr now ↦ absurd (false≢true now)
       ];
       held = λ tell file content is. held_push file content steps (Ended i w) now (phased.held tell file content is);
+      read_then = phased.read_then;
       before = phased.before;
       last = phased.last;
     }
@@ -335,6 +378,16 @@ module _ (tells : Bool) (B : Behaviour) (own : OwnFiles) (asked : Asked) (store 
     phases_push texts more holds (before ++ phase.steps) phases last lawfuls.3
         (subst (λ (l : List Step). IsLawfulPhase (task_of asked store) l last) (sym (append_assoc before phase.steps (steps_of phases))) lawful)
         (subst (λ (l : List Step). IsLoad B.dyndep more (task_of asked store) (l ++ last) next) (sym (append_assoc before phase.steps (steps_of phases))) load) order,
+  )
+
+  -- the file with whose load the phase ends held then what it is read as
+  pub loads_push : (texts more : View) → HoldsAll texts more → (before : List Step) (phases : List Phase) (last : List Step) → AreLoadsHeldAt texts (task_of asked store) store before phases old.history now.history
+      → LoadHeldAt more (task_of asked store) ((before ++ steps_of phases) ++ last) old.history now.history → AreLoadsHeldAt more (task_of More store) store before (phases ++ ended_with last ∷ []) old.history now.history
+  loads_push texts more holds before [] last held load = (subst (λ (l : List Step). LoadHeldAt more (task_of asked store) (l ++ last) old.history now.history) (append-nil before) load, tt)
+  loads_push texts more holds before (phase ∷ phases) last held load = (
+    record { file = held.0.file; is_next = held.0.is_next; content = held.0.content; read = holds held.0.file held.0.content held.0.read; held = held.0.held },
+    loads_push texts more holds (before ++ phase.steps) phases last held.1
+        (subst (λ (l : List Step). LoadHeldAt more (task_of asked store) (l ++ last) old.history now.history) (sym (append_assoc before phase.steps (steps_of phases))) load),
   )
 
   -- verdicts stay, over the edges of then
@@ -458,8 +511,9 @@ module _ (tells : Bool) (B : Behaviour) (own : OwnFiles) (asked : Asked) (store 
 
     abbrev pub phased_load : (steps : List Step) → (phased : IsPhased tells B own asked store phases steps old now) → phased.build.taken_in ≡ [] → IsNextLoad (task_of asked store) steps file → B.dyndep content ≡ Some additions
         → IsInOrderAt store (task_of More store) → IsRun tells own (task_of asked store) steps old now → IsIdle old.events
-        → (IsTrue tells → (files : FilesAreKept own asked.graph.edges old.history now.history) → files.free file ≡ false → view_of now.history file ≡ Some content) → IsPhased tells B own More store (phases ++ ended_with phased.build.last ∷ []) steps old now
-    phased_load steps phased on is_next read order rest idle holds = record {
+        → (IsTrue tells → (files : FilesAreKept own asked.graph.edges old.history now.history) → files.free file ≡ false → view_of now.history file ≡ Some content)
+        → (IsTrue tells → HeldAt file (Some content) steps old.history now.history) → IsPhased tells B own More store (phases ++ ended_with phased.build.last ∷ []) steps old now
+    phased_load steps phased on is_next read order rest idle holds held_then = record {
       texts = with_text file content phased.texts;
       build = record {
         earlier = phased.build.earlier ++ ended_with phased.build.last ∷ [];
@@ -488,6 +542,14 @@ module _ (tells : Bool) (B : Behaviour) (own : OwnFiles) (asked : Asked) (store 
         | inr other ↦ held_before order.once steps tell idle (has_grown steps phased) p held
             (phased.held tell p held (sym (ap (λ (b : Bool). cond b (Some content) (phased.texts p)) other) ∙ is)) (loaded_of steps phased (rest_begins tells own (task_of asked store) old steps now rest))
       ];
+      read_then = λ tell. loads_push phased.texts (with_text file content phased.texts) (holds_all phased.texts file content (phased.unread is_next.due.edge file is_next.due.names))
+          [] phased.build.earlier phased.build.last (phased.read_then tell) (record {
+            file = file;
+            is_next = subst (λ (l : List Step). IsNextLoad (task_of asked store) l file) (so_far tells B own asked store old phases steps now phased on) is_next;
+            content = content;
+            read = holds_it phased.texts file content;
+            held = subst (λ (l : List Step). HeldAt file (Some content) l old.history now.history) (so_far tells B own asked store old phases steps now phased on) (held_then tell);
+          });
       before = λ tell. judged_push [] phased.build.earlier phased.build.last (phased.before tell) (phased.last tell);
       last = λ tell. tt;
     }

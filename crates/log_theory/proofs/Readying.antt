@@ -10,7 +10,7 @@ use Rattle.model.specs.Graph.{has_number, outputs, edge_at, IsCommand}
 use Rattle.model.specs.Outcome.{Behaviour}
 use Rattle.model.specs.Records.{Store, LogFormat, OwnFiles, store_in, in_force}
 use Rattle.model.specs.Schedule.{Step, started_in, out_of_date_in}
-use Rattle.model.specs.Premises.{FilesAreKept, LiesIn}
+use Rattle.model.specs.Premises.{FilesAreKept, LiesIn, IsTickedAt}
 use Rattle.model.specs.Phases.{Phase}
 use Rattle.model.specs.SingleBuild.{Asked, task_of}
 use Rattle.build_theory.specs.Run.{IsRunOrRest}
@@ -18,7 +18,6 @@ use Rattle.build_theory.proofs.Files.{file_stays}
 use Rattle.build_theory.proofs.Looks.{kept_before}
 use Rattle.build_theory.proofs.Runs.{rest_begins}
 use Rattle.build_theory.proofs.Starting.{IsPrivate, OthersRun, private_elsewhere, private_looks, private_written}
-use Rattle.log_theory.specs.Logged.{IsTickedAt}
 use Rattle.log_theory.specs.Writes.{GrewAt, WritesAt}
 use Rattle.log_theory.specs.Ledger.{IsCarried, IsTickedNow, HoldsStill, HasNoRecord, IsReadyToStart}
 use Rattle.log_theory.proofs.Calls.{within, edits, looks_stays}

@@ -9,19 +9,20 @@ use Rattle.model.specs.declared.event.Event.TheVariants.{Start, Finish}
 use Rattle.model.specs.declared.event.Moment.{Moment}
 use Rattle.model.specs.declared.event.Moment.TheVariants.{Wrote, Happened}
 use Rattle.model.specs.declared.event.Writer.{Writer}
-use Rattle.model.specs.World.{World, IsIdle}
+use Rattle.model.specs.World.{World, IsIdle, events_in}
 use Rattle.model.specs.Graph.{has_number}
 use Rattle.model.specs.Records.{OwnFiles}
 use Rattle.model.specs.Schedule.{Task, Step, Judged, Started, Ended, started_in, out_of_date_in, AreEventsOf}
 use Rattle.model.specs.Kept.{StartedUnder}
+use Rattle.model.specs.Premises.{IsTickedAt, StartsAreTicked}
 use Rattle.build_theory.specs.Order.{IsOrderly}
-use Rattle.build_theory.specs.Run.{events_in, starts_in, AreOfRun, IsToldBy, IsRunOrRest}
+use Rattle.build_theory.specs.Run.{starts_in, AreOfRun, IsToldBy, IsRunOrRest}
 use Rattle.build_theory.proofs.Lists.{same_rest, has_number-right}
 use Rattle.build_theory.proofs.Events.{HasStep, step_behind, IsCutBehind, cut_behind, starts-append, starts_of_all}
 use Rattle.build_theory.proofs.Exit.{take_events, drop_events, taken_dropped, taken_events, cut_run}
 use Rattle.build_theory.proofs.Moments.{IsMomentOf, moment_of, of_run_parts, events_in-append}
 use Rattle.build_theory.proofs.Orderly.{orderly_parts}
-use Rattle.log_theory.specs.Logged.{WasStamped, IsTickedAt, StartsAreTicked}
+use Rattle.log_theory.specs.Logged.{WasStamped}
 use Rattle.log_theory.proofs.Once.{one_stamp}
 
 -- since then this stamp was given, and then the command of edge i was started under it

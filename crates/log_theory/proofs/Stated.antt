@@ -5,7 +5,7 @@ use Rattle.model.specs.Graph.{has, has_number, edge_at, outputs, IsMadeOnce}
 use Rattle.model.specs.Outcome.{Behaviour}
 use Rattle.model.specs.Records.{OwnFiles, LogFormat, Store, Made, store_in, in_force, recorded_inputs}
 use Rattle.model.specs.Schedule.{Step, judged_in, clean_in, done_in, IsSettled, well_in}
-use Rattle.model.specs.Premises.{Premises, Matters}
+use Rattle.model.specs.Premises.{Premises, Matters, StartsAreTicked}
 use Rattle.model.specs.SingleBuild.{Asked, task_of, InCone, IsJudged, IsCleanlyBuilt}
 use Rattle.model.specs.Faithful.{IsFaithfulRecord, IsFaithfulStore}
 use Rattle.build_theory.specs.Order.{IsExplained, AreReadFirst}
@@ -14,7 +14,6 @@ use Rattle.build_theory.proofs.Orderly.{IsKept, kept_orderly}
 use Rattle.build_theory.proofs.Exit.{clean_where_explained}
 use Rattle.build_theory.proofs.Stated.{loads_come_first}
 use Rattle.log_theory.specs.Laws.{CleanWithLoads, CleanFromFaithful, FaithfulAtExit}
-use Rattle.log_theory.specs.Logged.{StartsAreTicked}
 use Rattle.model.specs.OutOfDate.{ReadsNoFree}
 use Rattle.log_theory.proofs.AsNow.{leave_as_now}
 use Rattle.log_theory.proofs.Kept as kept

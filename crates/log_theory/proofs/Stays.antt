@@ -9,7 +9,7 @@ use Rattle.model.specs.Graph.{has, has_number, edge_at, outputs, IsMadeOnce}
 use Rattle.model.specs.Outcome.{Behaviour, given, reports_of, depfile_in, listed}
 use Rattle.model.specs.Records.{Told, OwnFiles, LogFormat, Store, Made, store_in, in_force, deps_in_force, ListsOnce}
 use Rattle.model.specs.Schedule.{Step, started_in, well_in, running_in}
-use Rattle.model.specs.Premises.{KeepsFaith, EndedAt, LeftOutcome}
+use Rattle.model.specs.Premises.{KeepsFaith, EndedAt, LeftOutcome, StartsAreTicked}
 use Rattle.model.specs.SingleBuild.{Asked, task_of}
 use Rattle.model.specs.Faithful.{IsFaithfulRecord, IsFaithfulStore}
 use Rattle.build_theory.specs.Run.{starts_in, IsRunOrRest, IsToldBy, EndOf}
@@ -19,7 +19,7 @@ use Rattle.build_theory.proofs.Steps.{running_parts}
 use Rattle.build_theory.proofs.Orderly.{IsKept, kept_orderly}
 use Rattle.build_theory.proofs.Events.{starts_of_all, no_starts, runs_since, runs_never, runs_now}
 use Rattle.build_theory.proofs.Exit.{end_of, output_stays}
-use Rattle.log_theory.specs.Logged.{KeepsBoth, HasNew, HasNewDeps, IsLogged, AreReadable, StartsAreTicked}
+use Rattle.log_theory.specs.Logged.{KeepsBoth, HasNew, HasNewDeps, IsLogged, AreReadable}
 use Rattle.log_theory.proofs.Stamps.{file_was, next_later, stamp_lies}
 use Rattle.log_theory.proofs.Explained.{some_or_none}
 use Rattle.log_theory.proofs.Starts.{StartsAt, start_at, was_stamped}
@@ -109,7 +109,7 @@ module _ (tells : Bool) (B : Behaviour) (format : LogFormat) (own : OwnFiles) (a
 
     holds_now : (o : List ℕ) → has (outputs (edge_at asked.graph.edges i)) o ≡ true → view_of now.history o ≡ given B (edge_at asked.graph.edges i).act left.seen o
     holds_now o is_output =
-        ap content_of (output_stays tells own (task_of asked entry) steps old now idle rest tell once keeps.kept i o is_output end)
+        ap content_of (output_stays tells own (task_of asked entry) steps old now idle rest tell once keeps.kept i (all.judged i (all.out_of_date i (all.started i (all.ended i (all.well i well))))) o is_output end)
         ∙ (ap (λ (h : List Moment). view_of h o) same_end
         ∙ all_has (λ p. view_of at p ≡ given B (edge_at asked.graph.edges i).act left.seen p) (outputs (edge_at asked.graph.edges i)) o left.contents is_output)
 

@@ -6,7 +6,7 @@ use Rattle.model.specs.declared.event.Event.{Event}
 use Rattle.model.specs.declared.event.Event.TheVariants.{Finish}
 use Rattle.model.specs.declared.event.Moment.{Moment}
 use Rattle.model.specs.declared.event.Moment.TheVariants.{Happened}
-use Rattle.model.specs.World.{World, file_at, content_of, view_of, runs, IsRunning, IsIdle}
+use Rattle.model.specs.World.{World, file_at, content_of, view_of, runs, IsRunning, IsIdle, events_in}
 use Rattle.model.specs.Calls.{IsByOthers, OthersWrote, Adds, OnlyLooks, Sees, Finishes}
 use Rattle.model.specs.Graph.{edge_at}
 use Rattle.model.specs.Outcome.{Behaviour, read_depfile, depfile_in, is_accepted}
@@ -15,7 +15,7 @@ use Rattle.model.specs.Schedule.{Step}
 use Rattle.model.specs.Premises.{FilesAreKept, EndedAt, AllSince, IsWithinEdge, IsNoEdit}
 use Rattle.model.specs.Phases.{Phase}
 use Rattle.model.specs.SingleBuild.{Asked, task_of}
-use Rattle.build_theory.specs.Run.{events_in, IsRunOrRest}
+use Rattle.build_theory.specs.Run.{IsRunOrRest}
 use Rattle.build_theory.proofs.Lists.{same_rest, place_in, all_append, all_parts}
 use Rattle.build_theory.proofs.Events.{runs_push}
 use Rattle.build_theory.proofs.Files.{IsElsewhere, file_stays}

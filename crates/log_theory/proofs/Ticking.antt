@@ -9,13 +9,13 @@ use Rattle.model.specs.declared.event.Moment.TheVariants.{Wrote, Happened}
 use Rattle.model.specs.declared.event.Writer.TheVariants.{Program}
 use Rattle.model.specs.declared.graph.Edge.{Edge}
 use Rattle.model.specs.Records.{OwnFiles}
-use Rattle.model.specs.World.{World, file_at, IsRunning}
+use Rattle.model.specs.World.{World, file_at, IsRunning, events_in}
 use Rattle.model.specs.Calls.{Adds, Ticks, Touches, Starts, content_or_empty}
-use Rattle.build_theory.specs.Run.{events_in, starts_in}
+use Rattle.model.specs.Premises.{IsTickedAt, StartsAreTicked}
+use Rattle.build_theory.specs.Run.{starts_in}
 use Rattle.build_theory.proofs.Lists.{same_rest}
 use Rattle.build_theory.proofs.Moments.{events_in-append, no_events}
 use Rattle.build_theory.proofs.Starting.{EachStart, each_nothing, each_quiet, each_started}
-use Rattle.log_theory.specs.Logged.{IsTickedAt, StartsAreTicked}
 
 abbrev TickedAt : List Moment → ℕ → ℕ → Act → Type 0
 TickedAt before i stamp act = IsTickedAt stamp before

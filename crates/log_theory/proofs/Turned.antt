@@ -1,8 +1,8 @@
 -- Verdicts over the edges of their phase, from their moment to the exit.
-use Rattle.std.proofs.Common.{◌≡◌, ◌⊎◌, inl, inr, ℕ, cond, is_some, Bool, true, false, IsTrue, List, [], ◌∷◌, ◌++◌, Option, Some, None, refl, sym, ◌∙◌, ap, subst, append_assoc}
+use Rattle.std.proofs.Common.{◌≡◌, ◌⊎◌, inl, inr, ℕ, cond, is_some, Bool, true, false, IsTrue, List, [], ◌∷◌, ◌++◌, Option, Some, None, bytes_eq, refl, sym, ◌∙◌, ap, subst, append_assoc}
 use Rattle.std.specs.List.{AllByRecursion}
 use Rattle.std.proofs.lemmas.List.{append-nil}
-use Rattle.std.proofs.lemmas.Bool.{false≢true, cases_Bool}
+use Rattle.std.proofs.lemmas.Bool.{false≢true, cases_Bool, or_left}
 use Rattle.model.specs.declared.act.Act.{Act}
 use Rattle.model.specs.declared.event.Moment.{Moment}
 use Rattle.model.specs.declared.event.Moment.TheVariants.{Wrote, Happened}
@@ -15,12 +15,12 @@ use Rattle.model.specs.Records.{Store, OwnFiles, recorded_of, recorded_inputs}
 use Rattle.model.specs.OutOfDate.{Counted, ReadsNoFree, IsVerdict}
 use Rattle.model.specs.Schedule.{Task, Step, Judged, Started, Ended, started_in, well_in, done_in}
 use Rattle.model.specs.Phases.{Phase, steps_of, task_with, ArePhasesFrom, AreTakenIn, IsLawfulBuild}
-use Rattle.model.specs.Premises.{InputsAreKnown, FilesAreKept, RecordedApart, OwnFilesApart, SharesNone, KeepToOutputs, IsWithinEdge, Matters, DyndepOutputsAreReadBelow}
+use Rattle.model.specs.Premises.{InputsAreKnown, IsMaking, FilesAreKept, RecordedApart, OwnFilesApart, SharesNone, KeepToOutputs, IsWithinEdge, Matters, DyndepOutputsAreReadBelow}
 use Rattle.model.specs.SingleBuild.{Asked, NamesOther, IsOfBuild, task_of}
 use Rattle.build_theory.specs.Order.{AreReadFirst, IsReadAfter}
 use Rattle.build_theory.specs.Run.{starts_in, IsToldBy, IsRunOrRest}
 use Rattle.build_theory.proofs.Growth.{HasGrown, grown_same}
-use Rattle.build_theory.proofs.Lists.{same_rest}
+use Rattle.build_theory.proofs.Lists.{bytes_same, same_rest}
 use Rattle.build_theory.proofs.Loads.{rest_has_grown, declared_once}
 use Rattle.build_theory.proofs.Events.{starts_of_all}
 use Rattle.build_theory.proofs.Looks.{kept_before}
@@ -37,6 +37,17 @@ use Rattle.log_theory.proofs.Carried.{counted_on, verdict_stands}
 module _ (own : OwnFiles) (few many : List Edge) (grown : HasGrown few many) where
   command_later : (i : ℕ) → IsCommand few i → IsCommand many i
   command_later i command = grown.phony i ∙ command
+
+  -- an edge that makes what it names still does
+  pub making_later : (i : ℕ) → IsMaking few i → IsMaking many i
+  making_later i (inl command) = inl (command_later i command)
+  making_later i (inr some) = inr (λ none. some (no_inputs none (inputs (edge_at few i)) refl))
+    where
+      no_inputs : inputs (edge_at many i) ≡ [] → (ps : List (List ℕ)) → inputs (edge_at few i) ≡ ps → inputs (edge_at few i) ≡ []
+      no_inputs none [] is = is
+      no_inputs none (q ∷ qs) is =
+          let there : has (inputs (edge_at few i)) q ≡ true = ap (λ (l : List (List ℕ)). has l q) is ∙ or_left (bytes_eq q q) (has qs q) (bytes_same q) in
+          absurd (false≢true (ap (λ (l : List (List ℕ)). has l q) (sym none) ∙ grown.inputs i q there))
 
   pub apart_before : OwnFilesApart own many → OwnFilesApart own few
   apart_before apart = record {
@@ -101,7 +112,7 @@ abbrev pub kept_then : (tells : Bool) (own : OwnFiles) (few : Task) (many : List
     → FilesAreKept own many old.history now.history → FilesAreKept own few.graph.edges old.history now.history
 kept_then tells own few many grown steps old now tell idle rest loaded files = record {
   free = files.free;
-  free_apart = record { set = files.free_apart.set; outputs = λ i p h. files.free_apart.outputs i p (grown.outputs i p h) };
+  free_apart = record { set = files.free_apart.set; outputs = λ i p makes h. files.free_apart.outputs i p (making_later own few.graph.edges many grown i makes) (grown.outputs i p h) };
   commands = commands_then tells own few many grown steps old now tell idle rest loaded files.free files.commands;
   own_files = apart_before own few.graph.edges many grown files.own_files;
   edits = files.edits;
@@ -241,6 +252,5 @@ module _ (tells : Bool) (B : Behaviour) (own : OwnFiles) (texts : View) (asked :
 pub verdicts_with_loads : VerdictsWithLoads
 verdicts_with_loads tells B own texts asked store steps met old now tell idle once others build rest phases last files apart known taken_in = record {
   verdicts = verdict_now tells B own texts asked store steps old now tell idle once others build rest files apart known phases last;
-  well = taken_in.well;
-  depfiles = taken_in.depfiles;
+  ended = taken_in;
 }

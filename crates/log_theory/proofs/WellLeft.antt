@@ -24,7 +24,7 @@ use Rattle.model.specs.Records.{Told, Store, OwnFiles, Made, in_force, deps_in_f
 use Rattle.model.specs.Judgement.{OutputFacts, InputFacts, Facts, is_later, start_of, has_other_act, is_same_number, is_empty_text, is_unset, holds, all_reasons, reason_of}
 use Rattle.model.specs.OutOfDate.{deps_start, output_facts, input_facts, facts_of, ListsCounted, IsVerdict}
 use Rattle.model.specs.Schedule.{Step, judged_in, started_in, well_in, done_in, IsSettled}
-use Rattle.model.specs.Premises.{FilesAreKept, RecordedApart, StampsGrow, Increases, EndedAt, IsFromAbove, IsReported, Matters, ReportsComeFromAbove}
+use Rattle.model.specs.Premises.{FilesAreKept, RecordedApart, StampsGrow, Increases, EndedAt, IsFromAbove, IsReported, Matters, ReportsComeFromAbove, StartsAreTicked}
 use Rattle.model.specs.SingleBuild.{Asked, task_of}
 use Rattle.model.specs.Kept.{StartedUnder, IsRecorded, IsWritten, IsExcepted}
 use Rattle.build_theory.specs.Run.{IsRunOrRest, IsToldBy}
@@ -35,7 +35,7 @@ use Rattle.build_theory.proofs.Orderly.{IsKept, kept_orderly}
 use Rattle.build_theory.specs.Order.{AreReadFirst}
 use Rattle.build_theory.proofs.Nothing.{ReadsAre, reads_where_settled}
 use Rattle.build_theory.proofs.Exit.{unwritten_until}
-use Rattle.log_theory.specs.Logged.{KeepsBoth, HasNone, HasNew, HasNewDeps, IsLogged, StartsAreTicked}
+use Rattle.log_theory.specs.Logged.{KeepsBoth, HasNone, HasNew, HasNewDeps, IsLogged}
 use Rattle.log_theory.proofs.Starts.{TickedAfter, was_stamped, ticked_after}
 use Rattle.log_theory.proofs.Stamps.{stamp_lies}
 use Rattle.log_theory.proofs.Explained.{some_or_none, recorded_is}

@@ -8,7 +8,7 @@ use Rattle.model.specs.declared.event.Moment.{Moment}
 use Rattle.model.specs.declared.event.Moment.TheVariants.{Wrote, Happened}
 use Rattle.model.specs.declared.event.Writer.TheVariants.{Program, Command, Someone}
 use Rattle.model.specs.declared.graph.Edge.{Edge}
-use Rattle.model.specs.World.{World, file_at, content_of, view_of, runs, IsRunning}
+use Rattle.model.specs.World.{World, file_at, content_of, view_of, runs, IsRunning, events_in}
 use Rattle.model.specs.Calls.{IsByOthers, AllByOthers, Adds, OnlyLooks, content_or_empty, Ticks, Writes, WritesOrNot, SpoilsOrNot, Appends, AppendsOrNot}
 use Rattle.model.specs.Graph.{IsCommand}
 use Rattle.model.specs.Outcome.{Behaviour}
@@ -16,7 +16,7 @@ use Rattle.model.specs.Records.{OwnFiles, LogFormat, Store, store_in}
 use Rattle.model.specs.Schedule.{Task, Step}
 use Rattle.model.specs.Premises.{FilesAreKept, IsWithinEdge, IsNoEdit}
 use Rattle.model.specs.SingleBuild.{IsOwnWrite}
-use Rattle.build_theory.specs.Run.{events_in, steps_until, AreOfRun, IsToldBy, IsRun}
+use Rattle.build_theory.specs.Run.{steps_until, AreOfRun, IsToldBy, IsRun}
 use Rattle.build_theory.proofs.Lists.{same_bytes, all_append, all_weaker}
 use Rattle.build_theory.proofs.Files.{IsElsewhere, file_stays}
 use Rattle.build_theory.proofs.Moments.{until_all, told_on}

@@ -5,10 +5,9 @@ use Rattle.model.specs.declared.event.Moment.{Moment}
 use Rattle.model.specs.declared.event.Moment.TheVariants.{Wrote}
 use Rattle.model.specs.declared.event.Writer.TheVariants.{Program}
 use Rattle.model.specs.declared.graph.Edge.{Edge}
-use Rattle.model.specs.World.{runs}
+use Rattle.model.specs.World.{runs, events_in}
 use Rattle.model.specs.Graph.{edge_at}
 use Rattle.model.specs.Premises.{SharesNone}
-use Rattle.build_theory.specs.Run.{events_in}
 
 -- the path is neither the depfile nor the response file of edge i
 abbrev pub IsNoFileOf : List Edge → ℕ → List ℕ → Type 0

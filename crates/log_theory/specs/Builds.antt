@@ -6,12 +6,12 @@ use Rattle.model.specs.Graph.{IsMadeOnce}
 use Rattle.model.specs.Outcome.{Behaviour}
 use Rattle.model.specs.Records.{OwnFiles, LogFormat, Store}
 use Rattle.model.specs.Schedule.{Step}
-use Rattle.model.specs.Premises.{FilesAreKept}
+use Rattle.model.specs.Premises.{FilesAreKept, StartsAreTicked}
 use Rattle.model.specs.SingleBuild.{Asked, Answer, SingleBuild, task_of}
 use Rattle.model.specs.History.{IsHeadline}
 use Rattle.model.specs.Kept.{KeepsLogs}
 use Rattle.build_theory.specs.Run.{IsRunOrRest}
-use Rattle.log_theory.specs.Logged.{IsLoggedAt, StartsAreTicked}
+use Rattle.log_theory.specs.Logged.{IsLoggedAt}
 
 -- What the run of a build did, as it carries it from call to call: its schedule and history, what its logs tell, and the stamps of
 -- its starts. Where a path is made twice, the build has only looked.

@@ -1,15 +1,15 @@
 -- What a run carries of its verdicts and of the depfiles that it read: no premise is named here but where a moment needs it.
-use Rattle.std.specs.Prelude.{◌≡◌, ℕ, Bool, true, IsTrue, List, [], ◌∷◌, ◌++◌, Option, Some, None}
+use Rattle.std.specs.Prelude.{◌≡◌, ℕ, Bool, true, IsTrue, List, [], ◌∷◌, ◌++◌, Option, None}
 use Rattle.model.specs.declared.event.Moment.{Moment}
 use Rattle.model.specs.declared.graph.Edge.{Edge}
-use Rattle.model.specs.World.{World, View, view_of, IsIdle}
+use Rattle.model.specs.World.{World, View, IsIdle}
 use Rattle.model.specs.Graph.{has_number, edge_at, IsMadeOnce}
-use Rattle.model.specs.Outcome.{Behaviour, depfile_in, is_accepted}
+use Rattle.model.specs.Outcome.{Behaviour}
 use Rattle.model.specs.Records.{Store, OwnFiles, recorded_inputs}
 use Rattle.model.specs.OutOfDate.{ReadsNoFree, IsVerdict}
-use Rattle.model.specs.Schedule.{judged_in, Step, Judged, Started, Ended, IsLawful, ended_in, well_in}
-use Rattle.model.specs.Premises.{FilesAreKept, RecordedApart, EndedAt, InputsAreKnown}
-use Rattle.model.specs.SingleBuild.{Asked, NamesOther, task_of, IsJudged, AreJudgedAt, ArePhasesJudgedAt}
+use Rattle.model.specs.Schedule.{judged_in, Step, Judged, Started, Ended, IsLawful, well_in}
+use Rattle.model.specs.Premises.{FilesAreKept, RecordedApart, InputsAreKnown}
+use Rattle.model.specs.SingleBuild.{Asked, NamesOther, task_of, IsJudged, AreJudgedAt, ArePhasesJudgedAt, EndRightly}
 use Rattle.model.specs.Phases.{Phase, steps_of, task_with, IsLawfulBuild}
 use Rattle.build_theory.specs.Run.{IsRun, IsRunOrRest}
 
@@ -27,13 +27,6 @@ abbrev pub AreJudgedThen : Bool → OwnFiles → Asked → Store → List Step �
 AreJudgedThen tells own asked store steps old now =
     (before after : List Step) (i : ℕ) (out_of_date : Bool) → steps ≡ before ++ Judged i out_of_date ∷ after → JudgedThen tells own asked store before i out_of_date old now
 
--- Each command that ended by itself and was taken in ended well just where its depfile is accepted; of the one whose taking in
--- met a fault, an accepted depfile alone is said.
-pub record AreTakenIn (B : Behaviour) (edges : List Edge) (steps : List Step) (met : Option ℕ) (old new : List Moment) : Type 0 where
-  pub well : (i : ℕ) (at : List Moment) → EndedAt i old new at → has_number (well_in steps) i ≡ true → is_accepted (depfile_in B (edge_at edges i).act (view_of at)) ≡ true
-  pub depfiles : (i : ℕ) (at : List Moment) → EndedAt i old new at → has_number (ended_in steps) i ≡ true → (met ≡ Some i → ⊥)
-      → has_number (well_in steps) i ≡ is_accepted (depfile_in B (edge_at edges i).act (view_of at))
-
 -- In a build that loads no dyndep file, verdicts that were right by the files of then are right by those of the exit.
 abbrev pub VerdictsAtExit : Type 0
 VerdictsAtExit =
@@ -41,7 +34,7 @@ VerdictsAtExit =
     → IsTrue tells → IsIdle old.events → IsMadeOnce asked.graph.edges → IsLawful (task_of asked store) steps
     → IsRunOrRest tells own (task_of asked store) steps old now → AreJudgedThen tells own asked store steps old now
     → (files : FilesAreKept own asked.graph.edges old.history now.history) → RecordedApart own (recorded_inputs store asked.graph.edges)
-    → AreTakenIn B asked.graph.edges steps met old.history now.history
+    → EndRightly B asked.graph.edges steps met old.history now.history
     → IsJudged B files.free asked store steps met old.history now.history
 
 -- ---- builds that load dyndep files
@@ -90,5 +83,5 @@ VerdictsWithLoads =
     → ArePhasesJudged tells own asked store [] build.earlier old now → AreJudgedOver tells own asked store asked.graph.edges (steps_of build.earlier) build.last old now
     → (files : FilesAreKept own asked.graph.edges old.history now.history) → RecordedApart own (recorded_inputs store asked.graph.edges)
     → InputsAreKnown asked.declared asked.graph.edges (recorded_inputs store asked.graph.edges)
-    → AreTakenIn B asked.graph.edges steps met old.history now.history
+    → EndRightly B asked.graph.edges steps met old.history now.history
     → IsJudged B files.free asked store steps met old.history now.history

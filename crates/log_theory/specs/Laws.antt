@@ -9,13 +9,13 @@ use Rattle.model.specs.Records.{OwnFiles, LogFormat, Store, store_in, recorded_i
 use Rattle.model.specs.OutOfDate.{Counted, ReadsNoFree, IsVerdict}
 use Rattle.model.specs.Schedule.{Step, Judged, IsSettled, judged_in, done_in, well_in}
 use Rattle.model.specs.Phases.{IsLawfulBuild}
-use Rattle.model.specs.Premises.{Matters, Premises, KeepsFaith, FilesAndReports, FilesAreKept, RecordedApart}
+use Rattle.model.specs.Premises.{Matters, Premises, KeepsFaith, FilesAndReports, FilesAreKept, RecordedApart, StartsAreTicked}
 use Rattle.model.specs.SingleBuild.{NamesOther, Asked, task_of, InCone, IsJudged, IsCleanlyBuilt}
 use Rattle.model.specs.Faithful.{DepsHaveStarted, IsFaithfulStore}
 use Rattle.model.specs.Kept.{KeepsRecords, LeavesNothing, store_at}
 use Rattle.build_theory.specs.Run.{IsRunOrRest}
 use Rattle.build_theory.specs.Order.{AreReadFirst, IsReadAfter}
-use Rattle.log_theory.specs.Logged.{IsLogged, AreReadable, StartsAreTicked}
+use Rattle.log_theory.specs.Logged.{IsLogged, AreReadable}
 
 -- each judged edge has its dyndep file loaded
 abbrev pub AreLoaded : List Edge → List Step → Type 0

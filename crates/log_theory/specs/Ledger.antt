@@ -9,11 +9,11 @@ use Rattle.model.specs.Outcome.{Behaviour}
 use Rattle.model.specs.Records.{Store, LogFormat, OwnFiles, store_in, in_force}
 use Rattle.model.specs.Schedule.{Step, judged_in, done_in}
 use Rattle.model.specs.Phases.{Phase, steps_of, IsDueLoad, IsLawfulBuild}
-use Rattle.model.specs.Premises.{FilesAreKept}
-use Rattle.model.specs.SingleBuild.{Asked, task_of}
+use Rattle.model.specs.Premises.{FilesAreKept, IsTickedAt, StartsAreTicked}
+use Rattle.model.specs.SingleBuild.{Asked, task_of, AreCleanByOutputs, AreLoadsHeldAt, EndRightly}
 use Rattle.build_theory.specs.Run.{IsRun, IsRunOrRest, AreStartsReady}
-use Rattle.log_theory.specs.Logged.{IsLoggedAt, IsTickedAt, StartsAreTicked}
-use Rattle.log_theory.specs.Judged.{AreJudgedOver, ArePhasesJudged, AreTakenIn}
+use Rattle.log_theory.specs.Logged.{IsLoggedAt}
+use Rattle.log_theory.specs.Judged.{AreJudgedOver, ArePhasesJudged}
 use Rattle.log_theory.specs.Alone.{AreLeftAlone}
 
 -- a loaded file held this when just these steps were done, and what makes it was settled then
@@ -31,7 +31,8 @@ pub record LoadedThen (tells : Bool) (own : OwnFiles) (asked : Asked) (store : S
       → (j : ℕ) → maker asked.graph.edges file ≡ Some j → IsCommand asked.graph.edges j → has_number (done_in before) j ≡ true
 
 -- The phases so far, `phases` before the present one: `texts` are what the loaded files held, none of a file that an edge names still;
--- an edge that names one has it as an input, and was not judged; each verdict was right by the edges and files of then.
+-- an edge that names one has it as an input, and was not judged; each file held at its load what it was read as; each verdict was
+-- right by the edges and files of then.
 pub record IsPhased (tells : Bool) (B : Behaviour) (own : OwnFiles) (asked : Asked) (store : Store) (phases : List Phase) (steps : List Step) (old now : World) : Type 0 where
   pub texts : View
   pub build : IsLawfulBuild B.dyndep texts asked.declared (task_of asked store) store steps
@@ -40,6 +41,7 @@ pub record IsPhased (tells : Bool) (B : Behaviour) (own : OwnFiles) (asked : Ask
   pub inputs : (i : ℕ) (file : List ℕ) → (edge_at asked.graph.edges i).dyndep ≡ Some file → has (inputs (edge_at asked.graph.edges i)) file ≡ true
   pub loaded : (i : ℕ) → has_number (judged_in steps) i ≡ true → (edge_at asked.graph.edges i).dyndep ≡ None
   pub held : IsTrue tells → (file content : List ℕ) → texts file ≡ Some content → LoadedThen tells own asked store file content steps old now
+  pub read_then : IsTrue tells → AreLoadsHeldAt texts (task_of asked store) store [] build.earlier old.history now.history
   pub before : IsTrue tells → ArePhasesJudged tells own asked store [] build.earlier old now
   pub last : IsTrue tells → AreJudgedOver tells own asked store asked.graph.edges (steps_of build.earlier) build.last old now
 
@@ -49,7 +51,8 @@ pub record IsBeside (tells : Bool) (B : Behaviour) (format : LogFormat) (own : O
   pub idle : IsIdle old.events
   pub ready : IsTrue tells → AreStartsReady own asked.graph.edges old.history now.history
   pub ticked : IsTrue tells → StartsAreTicked old.history now.history
-  pub taken_in : IsTrue tells → FilesAreKept own asked.graph.edges old.history now.history → AreTakenIn B asked.graph.edges steps met old.history now.history
+  pub clean : IsTrue tells → FilesAreKept own asked.graph.edges old.history now.history → AreCleanByOutputs asked.graph.edges store steps old.history
+  pub taken_in : IsTrue tells → FilesAreKept own asked.graph.edges old.history now.history → EndRightly B asked.graph.edges steps met old.history now.history
   pub logged : IsTrue tells → FilesAreKept own asked.graph.edges old.history now.history → IsLoggedAt B format own asked.graph.edges steps hand store old now
   pub alone : IsTrue tells → FilesAreKept own asked.graph.edges old.history now.history → AreLeftAlone asked.graph.edges old.history now.history
 

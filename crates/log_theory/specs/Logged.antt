@@ -15,7 +15,6 @@ use Rattle.model.specs.Schedule.{Step, started_in, well_in}
 use Rattle.model.specs.Premises.{EndedAt}
 use Rattle.model.specs.Faithful.{IsReadable}
 use Rattle.model.specs.Kept.{StartedUnder, IsRecorded}
-use Rattle.build_theory.specs.Run.{events_in}
 
 -- since then a write was given this stamp, and then a command was started under it
 pub record WasStamped (stamp : ℕ) (old new : List Moment) : Type 0 where
@@ -81,21 +80,3 @@ pub record AreReadable (format : LogFormat) (own : OwnFiles) (history : List Mom
 pub record IsLoggedAt (B : Behaviour) (format : LogFormat) (own : OwnFiles) (edges : List Edge) (steps : List Step) (hand : Option ℕ) (entry : Store) (old now : World) : Type 0 where
   pub readable : AreReadable format own old.history → AreReadable format own now.history
   pub logged : IsLogged B edges steps hand entry (store_in format own (view_of now.history)) old now
-
--- ---- the stamps of starts
-
--- a write of this stamp is among these moments, and since then no command was started or ended
-pub record IsTickedAt (stamp : ℕ) (before : List Moment) : Type 0 where
-  pub earlier : List Moment
-  pub by : Writer
-  pub path : List ℕ
-  pub content : Option (List ℕ)
-  pub between : List Moment
-  pub splits : before ≡ earlier ++ Wrote by path content stamp ∷ between
-  pub quiet : events_in between ≡ []
-
--- Each command was started under a stamp that was given after the last start or end of another: so nothing that was there when the
--- command was judged is later than it. Kept by each call beside the run.
-abbrev pub StartsAreTicked : List Moment → List Moment → Type 0
-StartsAreTicked old new =
-    (before after : List Moment) (i stamp : ℕ) (act : Act) → new ≡ old ++ (before ++ Happened (Start i act stamp) ∷ after) → IsTickedAt stamp before

@@ -7,12 +7,12 @@ ghost use Rattle.log_theory.specs.Judged.{VerdictsAtExit, VerdictsAtMoments, Ver
 ghost use Rattle.log_theory.specs.Builds.{HeadlineOfRun, LogsOfRun};
 ghost use Rattle.log_theory.specs.Histories.{HistoriesAreAsClaimed, HistoriesGrow, NoLogsAreFaithful};
 
-/// A success from a faithful store leaves what the clean build gives.
+/// A success from a faithful store leaves, of quiet edges, what the clean build gives.
 pub fn clean_from_faithful()
     ensures { CleanFromFaithful }
 {}
 
-/// From a faithful store a success that loaded dyndep files leaves what the clean build gives.
+/// From a faithful store a success that loaded dyndep files leaves, of quiet edges, what the clean build gives.
 pub fn clean_with_loads()
     ensures { CleanWithLoads }
 {}
@@ -27,17 +27,17 @@ pub fn records_are_kept()
     ensures { RecordsAreKept }
 {}
 
-/// A verdict on the files of its judgement stands on those of the exit.
+/// A verdict on the files of its judgement stands on those of the exit, where others write nothing that the edge reads.
 pub fn verdict_stands()
     ensures { VerdictStands }
 {}
 
-/// Without dyndep files, verdicts that were right at their moment are right at the exit.
+/// Without dyndep files, verdicts that were right at their moment are right at the exit, of edges that read no free path.
 pub fn verdicts_at_exit()
     ensures { VerdictsAtExit }
 {}
 
-/// With dyndep files, verdicts over the edges of their phase are right over those of the end.
+/// With dyndep files, verdicts over the edges of their phase are right over those of the end, of edges that read no free path.
 pub fn verdicts_with_loads()
     ensures { VerdictsWithLoads }
 {}
@@ -47,7 +47,7 @@ pub fn verdicts_at_moments()
     ensures { VerdictsAtMoments }
 {}
 
-/// A success leaves nothing to do, but for the named exceptions.
+/// A success leaves nothing to do of quiet edges, but for the named exceptions.
 pub fn nothing_is_left()
     ensures { NothingIsLeft }
 {}
@@ -57,7 +57,7 @@ pub fn headline_of_run()
     ensures { HeadlineOfRun }
 {}
 
-/// It keeps its logs as it should, and a success leaves nothing to do.
+/// It keeps its logs as it should, and a success leaves nothing to do of quiet edges.
 pub fn logs_of_run()
     ensures { LogsOfRun }
 {}

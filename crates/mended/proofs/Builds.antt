@@ -1,18 +1,24 @@
 -- Both builds are as a single build is.
 use Rattle.std.proofs.Common.{◌≡◌, inl, inr, ℕ, ◌==◌, ◌&&◌, not, Bool, true, false, List, [], ◌∷◌, ◌++◌, Option, Some, None, is_some, refl, sym, ◌∙◌, ap, subst, bytes_eq}
-use Rattle.std.proofs.lemmas.Bool.{false≢true, cases_Bool, and_parts, eqb-true}
+use Rattle.std.proofs.lemmas.Bool.{false≢true, cases_Bool, and_parts, eqb-true, not-true}
+use Rattle.std.proofs.lemmas.List.{append_cancel_left}
+use Rattle.model.specs.declared.event.Event.TheVariants.{Start, Finish}
+use Rattle.model.specs.declared.event.Moment.TheVariants.{Wrote, Happened}
 use Rattle.std.specs.Prelude.{codes}
 use Rattle.model.specs.declared.event.Moment.{Moment}
 use Rattle.model.specs.declared.graph.Edge.{Edge}
 use Rattle.model.specs.declared.record.Record.{Record}
 use Rattle.model.specs.World.{View, view_of}
-use Rattle.model.specs.Graph.{has_number}
+use Rattle.model.specs.Graph.{has_number, edge_at}
 use Rattle.model.specs.Outcome.{is_accepted}
 use Rattle.model.specs.Reading.{IsAlias, Counts}
-use Rattle.model.specs.Records.{OwnFiles, IsOwnIn}
-use Rattle.model.specs.Schedule.{Step, Judged, Started, Ended, ended_in, well_in}
-use Rattle.model.specs.SingleBuild.{SingleBuild, Success, IsJudged, AreJudgedAt, HeldAt}
-use Rattle.mended.specs.Project.{declared, edges, asked, commands, letters, texts, dyndep_text, store_of, first_records}
+use Rattle.model.specs.Records.{Store, OwnFiles, IsOwnIn}
+use Rattle.model.specs.OutOfDate.{made_facts}
+use Rattle.model.specs.Judgement.{reason_of}
+use Rattle.model.specs.Premises.{IsTickedAt, StartsAreTicked}
+use Rattle.model.specs.Schedule.{Step, Judged, Started, Ended, clean_in, done_in, ended_in, well_in}
+use Rattle.model.specs.SingleBuild.{SingleBuild, Success, IsJudged, EndRightly, AreCleanByOutputs, AreJudgedAt, AreHeldThen, task_of}
+use Rattle.mended.specs.Project.{declared, edges, asked, commands, letters, texts, dyndep_text, reads_dyndep, store_of, first_records}
 use Rattle.mended.specs.Disk.{building, mending, first_phase, first_last, first_steps, second_phase, second_last, second_steps, first_events, second_events, first, built, edited, last}
 use Rattle.mended.specs.Rich.{no_store, first_store}
 use Rattle.mended.proofs.Lists.{none_some, some_same, same_bytes, every, every_number, at_each, at_split}
@@ -22,7 +28,8 @@ use Rattle.mended.proofs.ReadPaths.{verdict_is, verdict}
 use Rattle.mended.proofs.Framed.{frame}
 use Rattle.mended.proofs.Left.{nothing_told}
 use Rattle.mended.proofs.Project.{silent, silent_declared, no_depfile}
-use Rattle.mended.proofs.Steps.{first_lawful, second_lawful, all_settled, has_ended, in_order, was_in_order, missing_before, missing_after}
+use Rattle.mended.proofs.Lawful.{no_load, none_loads}
+use Rattle.mended.proofs.Steps.{next_load, first_lawful, second_lawful, all_settled, has_ended, in_order, was_in_order, missing_before, missing_after}
 use Rattle.mended.proofs.Kept.{a_is_free, loud}
 use Rattle.mended.proofs.Logged.{at_first, at_edited, cleanly_built}
 
@@ -39,16 +46,77 @@ held_by files here file content is =
     let are = texts_are file content is in
     subst (λ (p : List ℕ). files p ≡ Some content) are.0 (here ∙ ap Some are.1)
 
-pub held_at : (steps : List Step) (old new : List Moment) → HeldAt (codes "dd") dyndep_text steps old new → (file content : List ℕ) → texts file ≡ Some content → HeldAt file content steps old new
-held_at steps old new here file content is =
-    let are = texts_are file content is in
-    subst (λ (p : List ℕ). HeldAt p content steps old new) are.0 (subst (λ (c : List ℕ). HeldAt (codes "dd") c steps old new) are.1 here)
+-- the one file was loaded behind the first phase, when it held that, and at the end none is left to load
+pub held_then : (records : List Record) (phase steps : List Step) (old more : List Moment) → has_number (done_in phase) 1 ≡ true → is_moment phase more ≡ true
+    → view_of (old ++ so_far phase more) (codes "dd") ≡ Some dyndep_text → no_load (task_of asked (store_of records)) (done_in steps) ≡ true
+    → AreHeldThen reads_dyndep texts (task_of asked (store_of records)) (store_of records) (record { edges = declared; steps = phase } ∷ []) steps old (old ++ more)
+held_then records phase steps old more done test held none = (
+  (
+    record {
+      file = codes "dd";
+      is_next = next_load records phase done;
+      content = dyndep_text;
+      read = refl;
+      held = record { at = old ++ so_far phase more; moment = moment phase old more test; holds = held };
+    },
+    tt,
+  ),
+  λ next load. absurd (none_loads (task_of asked (store_of records)) refl steps none load.file load.is_next.due),
+)
 
 -- ---- verdicts
 
 no_content : (o : Option (List ℕ)) → not (is_some o) ≡ true → o ≡ None
 no_content None test = refl
 no_content (Some content) test = absurd (false≢true test)
+
+pub end_rightly : (steps : List Step) (old new : List Moment) → every (has_number (well_in steps)) (ended_in steps) ≡ true → EndRightly commands edges steps None old new
+end_rightly steps old new all_well = record {
+  well = λ i at ended h. ap is_accepted (nothing_told commands edges no_depfile i (view_of at));
+  depfiles = λ i at ended h other.
+      every_number (has_number (well_in steps)) (ended_in steps) i all_well h ∙ sym (ap is_accepted (nothing_told commands edges no_depfile i (view_of at)));
+}
+
+-- no edge that was judged clean is out of date by what it makes
+pub clean_by_outputs : (store : Store) (steps : List Step) (old : List Moment)
+    → every (λ i. not (is_some (reason_of (made_facts (edge_at edges i) store old)))) (clean_in steps) ≡ true → AreCleanByOutputs edges store steps old
+clean_by_outputs store steps old test i h stale =
+    false≢true (sym (not-true (is_some (reason_of (made_facts (edge_at edges i) store old)))
+    (every_number (λ i. not (is_some (reason_of (made_facts (edge_at edges i) store old)))) (clean_in steps) i test h)) ∙ stale)
+
+-- ---- ticks
+
+-- the last of these moments is a write of this stamp
+abbrev pub is_ticked : ℕ → List Moment → Bool
+is_ticked stamp [] = false
+is_ticked stamp (Wrote by path content given ∷ []) = given == stamp
+is_ticked stamp (Happened event ∷ []) = false
+is_ticked stamp (m ∷ n ∷ ms) = is_ticked stamp (n ∷ ms)
+
+ticked_by : (stamp : ℕ) (before : List Moment) → is_ticked stamp before ≡ true → IsTickedAt stamp before
+ticked_by stamp [] test = absurd (false≢true test)
+ticked_by stamp (Wrote by path content given ∷ []) test = record {
+  earlier = [];
+  by = by;
+  path = path;
+  content = content;
+  between = [];
+  splits = ap (λ (s : ℕ). Wrote by path content s ∷ []) (eqb-true given stamp test);
+  quiet = refl;
+}
+ticked_by stamp (Happened event ∷ []) test = absurd (false≢true test)
+ticked_by stamp (m ∷ n ∷ ms) test =
+    let tick = ticked_by stamp (n ∷ ms) test in
+    record { earlier = m ∷ tick.earlier; by = tick.by; path = tick.path; content = tick.content; between = tick.between; splits = ap (λ (l : List Moment). m ∷ l) tick.splits; quiet = tick.quiet }
+
+abbrev pub starts_ticked : List Moment → Moment → Bool
+starts_ticked front (Wrote by path content stamp) = true
+starts_ticked front (Happened (Start i act stamp)) = is_ticked stamp front
+starts_ticked front (Happened (Finish i ok)) = true
+
+pub ticked : (old more : List Moment) → at_each starts_ticked [] more ≡ true → StartsAreTicked old (old ++ more)
+ticked old more test before after i stamp act is =
+    ticked_by stamp before (at_split starts_ticked more before after (Happened (Start i act stamp)) (append_cancel_left old more (before ++ Happened (Start i act stamp) ∷ after) is) test)
 
 module _ (records : List Record) (old more : List Moment) where
   abbrev pub is_right : List Step → Step → Bool
@@ -62,9 +130,7 @@ module _ (records : List Record) (old more : List Moment) where
     verdicts = λ before after i out_of_date is unread.
         verdict edges refl records (well_in before) old (old ++ more) (silent (view_of (old ++ more)) absent) i out_of_date
         (at_split is_right steps before after (Judged i out_of_date) is test);
-    well = λ i at ended h. ap is_accepted (nothing_told commands edges no_depfile i (view_of at));
-    depfiles = λ i at ended h other.
-        every_number (has_number (well_in steps)) (ended_in steps) i all_well h ∙ sym (ap is_accepted (nothing_told commands edges no_depfile i (view_of at)));
+    ended = end_rightly steps old (old ++ more) all_well;
   }
 
   module _ (es : List Edge) (flat : is_flat es ≡ true) (no_file : (view : View) → view (codes "p") ≡ None → (q : List ℕ) (j : ℕ) → IsAlias es q j → Counts es view q → ⊥) (free : List ℕ → Bool) where
@@ -154,9 +220,10 @@ first_build all fits = record {
     (judged_then [] first.history building declared refl silent_declared files.free [] first_phase refl, tt),
     judged_then [] first.history building edges refl silent files.free first_phase first_last refl,
   );
-  held_then = λ tells files file content is bound.
-      held_at first_steps first.history built.history
-      (record { before = first_phase; later = first_last; splits = refl; at = first.history ++ so_far first_phase building; moment = moment first_phase first.history building refl; holds = refl }) file content is;
+  ended = λ tells files. end_rightly first_steps first.history (first.history ++ building) refl;
+  clean = λ tells files. clean_by_outputs (store_of []) first_steps first.history refl;
+  held_then = λ tells. held_then [] first_phase first_steps first.history building refl refl refl refl;
+  ticked = λ tells. ticked first.history building refl;
   answers = (
     in_order [] all (record { edges = declared; steps = first_phase } ∷ []) first built (λ tells files needed. absurd (false≢true (sym (needed.0 2 (codes "a") refl) ∙ a_is_free all files))),
     has_ended [] first_steps built (idle first_events refl) refl refl refl,
@@ -202,9 +269,10 @@ second_build all fits = record {
     (judged_then first_records edited.history mending declared refl silent_declared files.free [] second_phase refl, tt),
     judged_then first_records edited.history mending edges refl silent files.free second_phase second_last refl,
   );
-  held_then = λ tells files file content is bound.
-      held_at second_steps edited.history last.history
-      (record { before = second_phase; later = second_last; splits = refl; at = edited.history ++ so_far second_phase mending; moment = moment second_phase edited.history mending refl; holds = refl }) file content is;
+  ended = λ tells files. end_rightly second_steps edited.history (edited.history ++ mending) refl;
+  clean = λ tells files. clean_by_outputs (store_of first_records) second_steps edited.history refl;
+  held_then = λ tells. held_then first_records second_phase second_steps edited.history mending refl refl refl refl;
+  ticked = λ tells. ticked edited.history mending refl;
   answers = (
     in_order first_records all (record { edges = declared; steps = second_phase } ∷ []) edited last
         (λ tells files needed. (missing_before first_records all [] edited.history last.history refl refl, missing_after first_records all second_phase edited.history last.history refl refl)),

@@ -119,7 +119,7 @@ module _ (es : List Edge) (free : List (List ℕ)) where
     pub free_apart : FreeApart (has free) own es
     free_apart = record {
       set = λ p so. not_free own.set p apart so;
-      outputs = λ i p h. not_free (λ q. is_some (maker es q)) p unmade (ap is_some (made_by es all_made i p h));
+      outputs = λ i p making h. not_free (λ q. is_some (maker es q)) p unmade (ap is_some (made_by es all_made i p h));
     }
 
     abbrev pub kept_of : OwnFilesApart own es → (old more : List Moment) → every keeps_to more ≡ true → FilesAreKept own es old (old ++ more)

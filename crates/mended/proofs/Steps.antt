@@ -11,7 +11,7 @@ use Rattle.model.specs.Reading.{Wanted, Needed, Validating}
 use Rattle.model.specs.Records.{OwnFiles, recorded_inputs}
 use Rattle.model.specs.OutOfDate.{IsMissing, NothingIsMissing}
 use Rattle.model.specs.Schedule.{Task, Step, Done, IsSettled, judged_in, started_in, done_in}
-use Rattle.model.specs.Phases.{Phase, IsOnlyFor, IsLoad, IsLawfulPhase, IsLawfulBuild, IsInOrderAt, IsNothingMissing, WasNothingMissing, WasNothingMissingIn, NothingNeededIsFree, task_with}
+use Rattle.model.specs.Phases.{Phase, IsOnlyFor, IsNextLoad, IsLoad, IsLawfulPhase, IsLawfulBuild, IsInOrderAt, IsNothingMissing, WasNothingMissing, WasNothingMissingIn, NothingNeededIsFree, task_with}
 use Rattle.model.specs.Premises.{FilesAreKept}
 use Rattle.model.specs.SingleBuild.{NamesOther, InCone, HasNoCycle, HasEnded, IsInOrder, WasInOrder, task_of}
 use Rattle.mended.specs.Project.{declared, edges, asked, commands, texts, dyndep_text, makes_x, reads_x, reads_dyndep, store_of, first_records}
@@ -99,18 +99,21 @@ module _ (records : List Record) where
   pub acyclic : HasNoCycle asked (store_of records)
   acyclic i inside cycle = no_cycle edges (recorded_inputs (store_of records) edges) (none_recorded records edges) refl i cycle
 
+  pub next_load : (before : List Step) → has_number (done_in before) 1 ≡ true → IsNextLoad before_load before (codes "dd")
+  next_load before done = record {
+    due = record {
+      edge = 6;
+      within = six_before (recorded_inputs (store_of records) declared);
+      names = refl;
+      settled = λ j made. subst (λ (n : ℕ). IsSettled declared (done_in before) n) (some_same 1 j made) (Done 1 refl done);
+    };
+    lowest = λ other due. inl (names_dd due.edge other due.names);
+  }
+
   pub load_of : (before : List Step) → has_number (done_in before) 1 ≡ true → IsLoad reads_dyndep texts before_load before edges
   load_of before done = record {
     file = codes "dd";
-    is_next = record {
-      due = record {
-        edge = 6;
-        within = six_before (recorded_inputs (store_of records) declared);
-        names = refl;
-        settled = λ j made. subst (λ (n : ℕ). IsSettled declared (done_in before) n) (some_same 1 j made) (Done 1 refl done);
-      };
-      lowest = λ other due. inl (names_dd due.edge other due.names);
-    };
+    is_next = next_load before done;
     content = dyndep_text;
     holds = refl;
     additions = makes_x ∷ reads_x ∷ [];

@@ -8,7 +8,7 @@ use Rattle.model.specs.declared.fault.SiteFault.TheVariants.{Stopped}
 use Rattle.model.specs.World.{view_of, IsIdle}
 use Rattle.model.specs.Graph.{Addition, has_number}
 use Rattle.model.specs.Outcome.{Behaviour}
-use Rattle.model.specs.Records.{Store, LogFormat, OwnFiles, IsOwnIn, recorded_inputs}
+use Rattle.model.specs.Records.{Store, LogFormat, OwnFiles, IsOwnIn, tick_name, recorded_inputs}
 use Rattle.model.specs.OutOfDate.{IsVerdict}
 use Rattle.model.specs.Schedule.{Step, Judged, Started, Ended, IsSettled, Done, done_in}
 use Rattle.model.specs.SingleBuild.{SingleBuild, Success, Failed, Fault, InCone, IsOfBuild, MayChange}
@@ -18,7 +18,7 @@ use Rattle.met.specs.Worlds.{failing, stopping, succeeding, again, named, failed
 use Rattle.met.proofs.Lists.{none_some}
 use Rattle.met.proofs.Given.{ReadsNames}
 use Rattle.met.proofs.TwoEdges.{in_cone, counts_g, counts_all, no_load, judged_both, started_all, first_judged, first_started, first_ended, second_judged, second_started, second_ended, alone_started, alone_ended}
-use Rattle.met.proofs.TwoBuilt.{written_in, ready_cat, ready_scan, h_is, b_is, some_moment, untouched_at, untouched_still, frame_of, judged_of, in_one_phase, in_order, was_in_order}
+use Rattle.met.proofs.TwoBuilt.{written_in, ready_cat, ready_scan, h_is, b_is, some_moment, untouched_at, untouched_still, frame_of, behind_tick, ticked_of, clean_first, ends_of, judged_of, in_one_phase, in_order, was_in_order}
 use Rattle.met.proofs.Between.{no_store, failed_store, stopped_store, built_store, at_named, at_edited, at_stopped, at_edited_again, failing_steps, stopping_steps, good_steps, all_steps, failing_ends, stopping_ends, succeeding_ends, again_ends}
 
 pub some_none : {A : Type 0} (x : A) → Some x ≡ None → ⊥
@@ -125,7 +125,7 @@ module _ (reading : List ℕ → Option (List (List ℕ))) (dyndep : List ℕ �
     logs = λ tells unedited. at_named format reads_logs all fits;
     texts = λ p. None;
     held = λ tells kept file content bound is _. absurd (none_some content is);
-    held_then = λ tells kept file content is bound. absurd (none_some content is);
+    held_then = λ tells. (tt, λ next load. absurd (none_some load.content load.holds));
     steps = failing_steps;
     schedule = record {
       lawful = in_one_phase reading dyndep no_store [] refl refl tt (λ p. None) failing_steps (
@@ -151,8 +151,10 @@ module _ (reading : List ℕ → Option (List (List ℕ))) (dyndep : List ℕ �
     };
     met = None;
     met_fault = λ i is. absurd (none_some i is);
+    ended = λ tells kept. ends_of reading dyndep no_store [] refl refl tt failing_steps named.history failing (failing_ends reading dyndep reads);
     judged_then = λ tells kept apart. (tt, ((record { at = named.history ++ take 0 failing; moment = record { so_far = take 0 failing; later = drop 0 failing; is = refl; grows = refl; happened = refl }; right = λ unread. record { read = codes "g" ∷ []; counted = counts_g no_store [] refl refl tt (named.history ++ take 0 failing); verdict = refl } }), ((record { at = named.history ++ take 6 failing; moment = record { so_far = take 6 failing; later = drop 6 failing; is = refl; grows = refl; happened = refl }; right = λ unread. record { read = codes "a" ∷ []; counted = counts_all no_store [] refl refl tt (named.history ++ take 6 failing); verdict = refl } }), tt)));
     judged = λ tells kept apart known. judged_of reading dyndep no_store [] refl refl tt kept.free failing_steps named.history failing (h_absent, (tt, (tt, (b_absent, (tt, (tt, tt)))))) (failing_ends reading dyndep reads);
+    clean = λ tells kept i h stale. false≢true h;
     answers = (
       in_order reading dyndep no_store [] refl refl tt all named failed (λ none. some_none _ none) (λ none. some_none _ none),
       record {
@@ -195,6 +197,7 @@ module _ (reading : List ℕ → Option (List (List ℕ))) (dyndep : List ℕ �
             ),
           ),
         );
+    ticked = λ tells. ticked_of named.history failing (tt, (tt, (tt, (behind_tick (take 2 failing) tick_name [] 6, (tt, (tt, (tt, (tt, (tt, (tt, (behind_tick (take 9 failing) tick_name [] 11, (tt, tt))))))))))));
     from_nothing = λ tells success. absurd success;
   }
 
@@ -204,7 +207,7 @@ module _ (reading : List ℕ → Option (List (List ℕ))) (dyndep : List ℕ �
     logs = λ tells unedited. at_edited format reads_logs all fits;
     texts = λ p. None;
     held = λ tells kept file content bound is _. absurd (none_some content is);
-    held_then = λ tells kept file content is bound. absurd (none_some content is);
+    held_then = λ tells. (tt, λ next load. absurd (none_some load.content load.holds));
     steps = stopping_steps;
     schedule = record {
       lawful = in_one_phase reading dyndep failed_store [] refl refl tt (λ p. None) stopping_steps
@@ -219,8 +222,10 @@ module _ (reading : List ℕ → Option (List (List ℕ))) (dyndep : List ℕ �
     };
     met = None;
     met_fault = λ i is. absurd (none_some i is);
+    ended = λ tells kept. ends_of reading dyndep failed_store [] refl refl tt stopping_steps edited.history stopping (stopping_ends reading dyndep reads);
     judged_then = λ tells kept apart. (tt, ((record { at = edited.history ++ take 0 stopping; moment = record { so_far = take 0 stopping; later = drop 0 stopping; is = refl; grows = refl; happened = refl }; right = λ unread. record { read = codes "g" ∷ []; counted = counts_g failed_store [] refl refl tt (edited.history ++ take 0 stopping); verdict = refl } }), ((record { at = edited.history ++ take 0 stopping; moment = record { so_far = take 0 stopping; later = drop 0 stopping; is = refl; grows = refl; happened = refl }; right = λ unread. record { read = codes "a" ∷ []; counted = counts_all failed_store [] refl refl tt (edited.history ++ take 0 stopping); verdict = refl } }), tt)));
     judged = λ tells kept apart known. judged_of reading dyndep failed_store [] refl refl tt kept.free stopping_steps edited.history stopping (h_clean, (b_absent_still, (tt, tt))) (stopping_ends reading dyndep reads);
+    clean = λ tells kept i h stale. clean_first failed_store edited.history refl i h stale;
     answers = refl;
     in_order = inr (was_in_order reading dyndep failed_store [] refl refl tt all edited stopped (λ none. some_none _ none) (λ none. some_none _ none) stopping_steps);
     faults = record { refused = λ none. refl; starts = inl refl; stopped = λ stop. refl; earlier = refl };
@@ -230,6 +235,7 @@ module _ (reading : List ℕ → Option (List (List ℕ))) (dyndep : List ℕ �
         frame_of all stopping_steps edited.history stopping (stopping_writes all fits) (stopping_changes all fits)
         (tt, (tt, (tt, ((b_is edited.history (edited.history ++ take 3 stopping) refl, ready_scan _ refl), (tt, (tt, tt))))))
         (untouched_still edited.history stopping [] 1 false refl, (untouched_still edited.history stopping (Judged 1 false ∷ []) 2 true refl, (tt, tt)));
+    ticked = λ tells. ticked_of edited.history stopping (tt, (tt, (tt, (behind_tick (take 2 stopping) tick_name [] 15, (tt, (tt, tt))))));
     from_nothing = λ tells success. absurd success;
   }
 
@@ -239,7 +245,7 @@ module _ (reading : List ℕ → Option (List (List ℕ))) (dyndep : List ℕ �
     logs = λ tells unedited. at_stopped format reads_logs all fits;
     texts = λ p. None;
     held = λ tells kept file content bound is _. absurd (none_some content is);
-    held_then = λ tells kept file content is bound. absurd (none_some content is);
+    held_then = λ tells. (tt, λ next load. absurd (none_some load.content load.holds));
     steps = good_steps;
     schedule = record {
       lawful = in_one_phase reading dyndep stopped_store [] refl refl tt (λ p. None) good_steps (
@@ -259,8 +265,10 @@ module _ (reading : List ℕ → Option (List (List ℕ))) (dyndep : List ℕ �
     };
     met = None;
     met_fault = λ i is. absurd (none_some i is);
+    ended = λ tells kept. ends_of reading dyndep stopped_store [] refl refl tt good_steps restarted_world.history succeeding (succeeding_ends reading dyndep reads);
     judged_then = λ tells kept apart. (tt, ((record { at = restarted_world.history ++ take 0 succeeding; moment = record { so_far = take 0 succeeding; later = drop 0 succeeding; is = refl; grows = refl; happened = refl }; right = λ unread. record { read = codes "g" ∷ []; counted = counts_g stopped_store [] refl refl tt (restarted_world.history ++ take 0 succeeding); verdict = refl } }), ((record { at = restarted_world.history ++ take 0 succeeding; moment = record { so_far = take 0 succeeding; later = drop 0 succeeding; is = refl; grows = refl; happened = refl }; right = λ unread. record { read = codes "a" ∷ []; counted = counts_all stopped_store [] refl refl tt (restarted_world.history ++ take 0 succeeding); verdict = refl } }), tt)));
     judged = λ tells kept apart known. judged_of reading dyndep stopped_store [] refl refl tt kept.free good_steps restarted_world.history succeeding (h_clean_still, (b_unknown, (tt, (tt, tt)))) (succeeding_ends reading dyndep reads);
+    clean = λ tells kept i h stale. clean_first stopped_store restarted_world.history refl i h stale;
     answers = (
       in_order reading dyndep stopped_store [] refl refl tt all restarted_world built (λ none. some_none _ none) (λ none. some_none _ none),
       record {
@@ -281,6 +289,7 @@ module _ (reading : List ℕ → Option (List (List ℕ))) (dyndep : List ℕ �
         frame_of all good_steps restarted_world.history succeeding (succeeding_writes all fits) (succeeding_changes all fits)
         (tt, (tt, (tt, ((b_is restarted_world.history (restarted_world.history ++ take 3 succeeding) refl, ready_scan _ refl), (tt, (tt, (tt, (tt, (tt, (tt, (tt, tt)))))))))))
         (untouched_still restarted_world.history succeeding [] 1 false refl, (untouched_still restarted_world.history succeeding (Judged 1 false ∷ []) 2 true refl, (tt, (tt, tt))));
+    ticked = λ tells. ticked_of restarted_world.history succeeding (tt, (tt, (tt, (behind_tick (take 2 succeeding) tick_name [] 20, (tt, (tt, (tt, (tt, (tt, (tt, (tt, tt)))))))))));
     from_nothing = λ tells success nothing premises.
         absurd (some_none _ (subst (λ (p : List ℕ). view_of restarted_world.history p ≡ None) fits.build_log nothing.build_log));
   }
@@ -291,7 +300,7 @@ module _ (reading : List ℕ → Option (List (List ℕ))) (dyndep : List ℕ �
     logs = λ tells unedited. at_edited_again format reads_logs all fits;
     texts = λ p. None;
     held = λ tells kept file content bound is _. absurd (none_some content is);
-    held_then = λ tells kept file content is bound. absurd (none_some content is);
+    held_then = λ tells. (tt, λ next load. absurd (none_some load.content load.holds));
     steps = all_steps;
     schedule = record {
       lawful = in_one_phase reading dyndep built_store (codes "h" ∷ []) refl refl (refl, tt) (λ p. None) all_steps (
@@ -320,8 +329,10 @@ module _ (reading : List ℕ → Option (List (List ℕ))) (dyndep : List ℕ �
     };
     met = None;
     met_fault = λ i is. absurd (none_some i is);
+    ended = λ tells kept. ends_of reading dyndep built_store (codes "h" ∷ []) refl refl (refl, tt) all_steps edited_again.history again (again_ends reading dyndep reads);
     judged_then = λ tells kept apart. (tt, ((record { at = edited_again.history ++ take 0 again; moment = record { so_far = take 0 again; later = drop 0 again; is = refl; grows = refl; happened = refl }; right = λ unread. record { read = codes "g" ∷ []; counted = counts_g built_store (codes "h" ∷ []) refl refl (refl, tt) (edited_again.history ++ take 0 again); verdict = refl } }), ((record { at = edited_again.history ++ take 5 again; moment = record { so_far = take 5 again; later = drop 5 again; is = refl; grows = refl; happened = refl }; right = λ unread. record { read = codes "a" ∷ codes "h" ∷ []; counted = counts_all built_store (codes "h" ∷ []) refl refl (refl, tt) (edited_again.history ++ take 5 again); verdict = refl } }), tt)));
     judged = λ tells kept apart known. judged_of reading dyndep built_store (codes "h" ∷ []) refl refl (refl, tt) kept.free all_steps edited_again.history again (h_later, (tt, (tt, (b_changed, (tt, (tt, tt)))))) (again_ends reading dyndep reads);
+    clean = λ tells kept i h stale. false≢true h;
     answers = (
       in_order reading dyndep built_store (codes "h" ∷ []) refl refl (refl, tt) all edited_again last (λ none. some_none _ none) (λ none. some_none _ none),
       record {
@@ -383,6 +394,7 @@ module _ (reading : List ℕ → Option (List (List ℕ))) (dyndep : List ℕ �
             ),
           ),
         );
+    ticked = λ tells. ticked_of edited_again.history again (tt, (tt, (behind_tick (take 1 again) tick_name [] 29, (tt, (tt, (tt, (tt, (tt, (tt, (behind_tick (take 8 again) tick_name [] 34, (tt, (tt, (tt, (tt, (tt, (tt, tt))))))))))))))));
     from_nothing = λ tells success nothing premises.
         absurd (some_none _ (subst (λ (p : List ℕ). view_of edited_again.history p ≡ None) fits.build_log nothing.build_log));
   }

@@ -2,21 +2,23 @@
 use Rattle.std.proofs.Common.{◌≡◌, ◌≢◌, ◌⊎◌, inl, inr, ℕ, zero, suc, ◌==◌, if◌then◌else◌, Bool, true, false, List, [], ◌∷◌, ◌++◌, length, Option, Some, None, refl, sym, ◌∙◌, ap, subst, bytes_eq, append_assoc}
 use Rattle.std.proofs.lemmas.Bool.{false≢true, or_cases, or_left, or_right, cases_Bool, eqb-true}
 use Rattle.std.proofs.lemmas.List.{append-nil, append_cancel_left}
-use Rattle.std.specs.Prelude.{codes, IsTrue}
+use Rattle.std.specs.Prelude.{codes, is_some, IsTrue}
 use Rattle.std.specs.List.{AllByRecursion}
 use Rattle.model.specs.declared.event.Event.TheVariants.{Start, Finish}
 use Rattle.model.specs.declared.event.Moment.{Moment}
 use Rattle.model.specs.declared.event.Moment.TheVariants.{Wrote, Happened}
+use Rattle.model.specs.declared.event.Writer.TheVariants.{Program}
 use Rattle.model.specs.World.{World, File, View, file_after, file_from, file_at, view_of, next_stamp}
 use Rattle.model.specs.Graph.{Addition, has, has_number, edge_at, maker, inputs, outputs}
 use Rattle.model.specs.Outcome.{Behaviour, depfile_in, is_accepted, listed}
 use Rattle.model.specs.Reading.{IsAbove, Direct, needs}
 use Rattle.model.specs.Records.{Store, OwnFiles, IsOwnIn, output_name, recorded_inputs}
-use Rattle.model.specs.OutOfDate.{IsVerdict, IsMissing}
+use Rattle.model.specs.Judgement.{reason_of}
+use Rattle.model.specs.OutOfDate.{IsVerdict, IsStaleByOutputs, IsMissing, made_facts}
 use Rattle.model.specs.Schedule.{Step, Judged, Started, Ended, judged_in, started_in, ended_in, well_in, IsLawfulFrom}
 use Rattle.model.specs.Phases.{IsLawfulBuild, AreUnloadedFrom, IsPointAfter, WasNothingMissingIn, EndsInEvent, happened_in, NothingNeededIsFree}
-use Rattle.model.specs.Premises.{HasOneOutcome, LeftOutcome, EndedAt, Increases, IsWithinEdge, IsNoEdit, OwnFilesApart, LiesIn, SharesNone, FilesAreKept, IsKnownAbove, ByOne, Premises, none_free, KeepsFaith, StampsGrow, LeaveOutcomes}
-use Rattle.model.specs.SingleBuild.{IsJudged, IsInOrder, WasInOrder, IsOfBuild, MayChange, IsReadyFor, IsMadeBy, IsFrame, task_of}
+use Rattle.model.specs.Premises.{HasOneOutcome, LeftOutcome, EndedAt, Increases, IsWithinEdge, IsNoEdit, OwnFilesApart, LiesIn, SharesNone, FilesAreKept, IsKnownAbove, ByOne, Premises, none_free, KeepsFaith, StampsGrow, LeaveOutcomes, IsTickedAt, StartsAreTicked}
+use Rattle.model.specs.SingleBuild.{EndRightly, IsJudged, IsInOrder, WasInOrder, IsOfBuild, MayChange, IsReadyFor, IsMadeBy, IsFrame, task_of}
 use Rattle.met.specs.Scanning.{cat, scan, edges, asked, toys, own, own_paths, begins_with}
 use Rattle.met.proofs.Lists.{all_has, all_from_has, none_some}
 use Rattle.met.proofs.TwoEdges.{reads_these, no_dyndep, names_no_other, made_once, recorded_h, no_cycle, is_either}
@@ -133,12 +135,34 @@ frame_of all steps old more writes changes starts judged = record {
   at_start = λ kept i stamp act before after is. (at_each (StartsReady old) [] more (Happened (Start i act stamp)) before after starts is).1;
 }
 
+-- ---- the stamps of starts
+
+abbrev pub TickedIn : List Moment → Moment → Type 0
+TickedIn front (Wrote by path content stamp) = Unit {0}
+TickedIn front (Happened (Start i act stamp)) = IsTickedAt stamp front
+TickedIn front (Happened (Finish i ok)) = Unit {0}
+
+-- a tick just before
+pub behind_tick : (earlier : List Moment) (path content : List ℕ) (stamp : ℕ) → IsTickedAt stamp (earlier ++ Wrote Program path (Some content) stamp ∷ [])
+behind_tick earlier path content stamp = record { earlier = earlier; by = Program; path = path; content = Some content; between = []; splits = refl; quiet = refl }
+
+pub ticked_of : (old more : List Moment) → AtEach TickedIn [] more → StartsAreTicked old (old ++ more)
+ticked_of old more each before after i stamp act is =
+    at_each TickedIn [] more (Happened (Start i act stamp)) before after each (append_cancel_left old more (before ++ Happened (Start i act stamp) ∷ after) is)
+
 -- ---- the judgements
 
 abbrev pub VerdictAt : Store → List Moment → List Moment → List Step → Step → Type 0
 VerdictAt store old new before (Judged i out_of_date) = IsVerdict edges store (well_in before) old new i out_of_date
 VerdictAt store old new before (Started i) = Unit {0}
 VerdictAt store old new before (Ended i well) = Unit {0}
+
+-- where just the first edge was judged clean, it is so by what it makes
+pub clean_first : (store : Store) (old : List Moment) → is_some (reason_of (made_facts (edge_at edges 1) store old)) ≡ false → (i : ℕ) → has_number (1 ∷ []) i ≡ true → IsStaleByOutputs edges store old i → ⊥
+clean_first store old clean i h stale = elim (or_cases (1 == i) false h) [
+  | inl here ↦ false≢true (sym clean ∙ subst (λ (n : ℕ). IsStaleByOutputs edges store old n) (sym (eqb-true 1 i here)) stale)
+  | inr none ↦ false≢true none
+]
 
 -- of each command that ended well by itself
 abbrev pub EndsIn : (ℕ → List Moment → Type 0) → List Moment → Moment → Type 0
@@ -239,7 +263,7 @@ own_fits = record { build_log = refl; deps_log = refl; is_log = refl; is_deps = 
 abbrev pub kept_of : (old more : List Moment) → AllByRecursion (IsWithinEdge none_free edges) more → AllByRecursion (IsNoEdit none_free) more → FilesAreKept own edges old (old ++ more)
 kept_of old more within edits = record {
   free = none_free;
-  free_apart = record { set = λ p is. refl; outputs = λ i p is. refl };
+  free_apart = record { set = λ p is. refl; outputs = λ i p makes is. refl };
   commands = λ added is. subst (AllByRecursion (IsWithinEdge none_free edges)) (append_cancel_left old more added is) within;
   own_files = own_files;
   edits = λ added is. subst (AllByRecursion (IsNoEdit none_free)) (append_cancel_left old more added is) edits;
@@ -274,12 +298,17 @@ module _ (reading : List ℕ → Option (List (List ℕ))) (dyndep : List ℕ �
   pub told_at : (steps : List Step) (old more : List Moment) → AtEach (EndsIn (EndsTelling old steps)) [] more → (i : ℕ) (at : List Moment) → EndedAt i old (old ++ more) at → Tells at i
   told_at steps old more ends i at ended = subst (λ (files : List Moment). Tells files i) (sym ended.is) (ended_in_build (EndsTelling old steps) old more ends i at ended).1
 
+  pub ends_of : (steps : List Step) (old more : List Moment) → AtEach (EndsIn (EndsTelling old steps)) [] more → EndRightly B edges steps None old (old ++ more)
+  ends_of steps old more ends = record {
+    well = λ i at ended h. ap is_accepted (told_at steps old more ends i at ended);
+    depfiles = λ i at ended h unmet. (ended_in_build (EndsTelling old steps) old more ends i at ended).0 ∙ sym (ap is_accepted (told_at steps old more ends i at ended));
+  }
+
   pub judged_of : (free : List ℕ → Bool) (steps : List Step) (old more : List Moment) → AtEach (VerdictAt store old (old ++ more)) [] steps → AtEach (EndsIn (EndsTelling old steps)) [] more
       → IsJudged B free asked store steps None old (old ++ more)
   judged_of free steps old more verdicts ends = record {
     verdicts = λ before after i b is unread. at_each (VerdictAt store old (old ++ more)) [] steps (Judged i b) before after verdicts is;
-    well = λ i at ended h. ap is_accepted (told_at steps old more ends i at ended);
-    depfiles = λ i at ended h unmet. (ended_in_build (EndsTelling old steps) old more ends i at ended).0 ∙ sym (ap is_accepted (told_at steps old more ends i at ended));
+    ended = ends_of steps old more ends;
   }
 
   abbrev pub in_one_phase : (texts : View) (steps : List Step) → IsLawfulFrom (task_of asked store) [] steps → IsLawfulBuild dyndep texts edges (task_of asked store) store steps

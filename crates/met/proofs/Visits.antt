@@ -192,7 +192,7 @@ module _ (reading : List ℕ → Option (List (List ℕ))) (dyndep : List ℕ �
               (
                 (record {
                   free = none_free;
-                  free_apart = record { set = λ p is. refl; outputs = λ i p is. refl };
+                  free_apart = record { set = λ p is. refl; outputs = λ i p makes is. refl };
                   unrecorded = λ p is. absurd (false≢true is);
                   logs = (refl, refl);
                   stamps = stamps stopped.history [] tt;

@@ -67,6 +67,16 @@ pub record IsVerdict (edges : List Edge) (store : Store) (ran : List ℕ) (old n
 abbrev pub IsOutOfDate : List Edge → Store → List ℕ → List Moment → List Moment → ℕ → Type 0
 IsOutOfDate edges store ran old new i = IsVerdict edges store ran old new i true
 
+-- what the judgement reads of what the edge makes, as at the entry: its outputs with their records, and its depfile
+abbrev pub made_facts : Edge → Store → List Moment → Facts
+made_facts e store old =
+    record { act = e.act; restat = e.restat; deps = e.deps; depfile = is_some (file_at old e.act.depfile); outputs = map (output_facts store old) (outputs e); inputs = [] }
+
+-- edge i is out of date by what it makes, whatever it reads: an output is absent, or has no record or one of another act, or the command
+-- leaves a depfile, and not all is known of what it told
+abbrev pub IsStaleByOutputs : List Edge → Store → List Moment → ℕ → Type 0
+IsStaleByOutputs edges store old i = is_some (reason_of (made_facts (edge_at edges i) store old)) ≡ true
+
 -- ---- before a start
 
 -- Edge i is due: it was judged out of date in these steps; or it was not judged, and is out of date before anything ran, or reads

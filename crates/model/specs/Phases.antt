@@ -177,10 +177,12 @@ abbrev pub AreAskedApart : OwnFiles → Task → List Step → Type 0
 AreAskedApart own task before =
     (started_in before ≡ []) ⊎ (RecordedApart own task.recorded × ((p : List ℕ) → has task.targets p ≡ true → own.set p ≡ false))
 
--- no path that an edge needs, and no target, is one that others may write meanwhile
+-- no path that an edge needs or names as an output, and no target, is one that others may write meanwhile
 abbrev pub NothingNeededIsFree : (List ℕ → Bool) → Task → Type 0
 NothingNeededIsFree free task =
-    ((i : ℕ) (p : List ℕ) → has (needs task.graph.edges task.recorded i) p ≡ true → free p ≡ false) × ((p : List ℕ) → has task.targets p ≡ true → free p ≡ false)
+    ((i : ℕ) (p : List ℕ) → has (needs task.graph.edges task.recorded i) p ≡ true → free p ≡ false)
+    × ((p : List ℕ) → has task.targets p ≡ true → free p ≡ false)
+    × ((i : ℕ) (p : List ℕ) → has (outputs (edge_at task.graph.edges i)) p ≡ true → free p ≡ false)
 
 -- nothing is missing at this point, where all files that no edge makes are loaded
 abbrev pub IsNothingMissing : OwnFiles → Task → Store → List Step → List Moment → List Moment → Type 0

@@ -2,15 +2,16 @@
 -- entry of a build to its exit; none speaks of what the program writes. All are this project's own.
 -- That a read gives what the file holds, and that different canonical paths are different files, needs no premise here:
 -- a site that tells its files promises the first in its calls, and the history has one file for each path.
-use Rattle.std.specs.Prelude.{◌≡◌, ◌≢◌, ◌⊎◌, ℕ, suc, ◌≤◌, max, Bool, true, false, List, [], ◌∷◌, ◌++◌, Some, None}
+use Rattle.std.specs.Prelude.{◌≡◌, ◌≢◌, ◌⊎◌, ℕ, suc, ◌≤◌, max, Bool, true, false, List, [], ◌∷◌, ◌++◌, Option, Some, None}
 use Rattle.std.specs.List.{AllByRecursion}
 use Rattle.model.specs.declared.act.Act.{Act}
 use Rattle.model.specs.declared.event.Event.TheVariants.{Start, Finish}
 use Rattle.model.specs.declared.event.Moment.{Moment}
 use Rattle.model.specs.declared.event.Moment.TheVariants.{Wrote, Happened}
+use Rattle.model.specs.declared.event.Writer.{Writer}
 use Rattle.model.specs.declared.event.Writer.TheVariants.{Program, Command, Someone}
 use Rattle.model.specs.declared.graph.Edge.{Edge}
-use Rattle.model.specs.World.{World, View, view_of, next_stamp, IsNotAt, IsIdle}
+use Rattle.model.specs.World.{World, View, view_of, next_stamp, events_in, IsNotAt, IsIdle}
 use Rattle.model.specs.Calls.{AgreeOn}
 use Rattle.model.specs.Graph.{has, has_number, edge_at, maker, outputs, regular_inputs, inputs, IsCommand}
 use Rattle.model.specs.Outcome.{Behaviour, GivesTheSame, ends_well, given, reports_of, depfile_in, listed}
@@ -79,6 +80,25 @@ Increases next (Happened (Finish job ok) ∷ ms) = Increases next ms
 abbrev pub StampsGrow : List Moment → List Moment → Type 0
 StampsGrow old new = (more : List Moment) → new ≡ old ++ more → Increases (next_stamp old) more
 
+-- ---- the stamps of starts
+
+-- a write of this stamp is among these moments, and since then no command was started or ended
+pub record IsTickedAt (stamp : ℕ) (before : List Moment) : Type 0 where
+  pub earlier : List Moment
+  pub by : Writer
+  pub path : List ℕ
+  pub content : Option (List ℕ)
+  pub between : List Moment
+  pub splits : before ≡ earlier ++ Wrote by path content stamp ∷ between
+  pub quiet : events_in between ≡ []
+
+-- Each command was started under a stamp that was given after the last start or end of another: so nothing that was there when the
+-- command was judged is later than it. No premise, but what a build does: that stamps grow is said of the starts, too, whose stamps
+-- are the program's own.
+abbrev pub StartsAreTicked : List Moment → List Moment → Type 0
+StartsAreTicked old new =
+    (before after : List Moment) (i stamp : ℕ) (act : Act) → new ≡ old ++ (before ++ Happened (Start i act stamp) ∷ after) → IsTickedAt stamp before
+
 -- ---- only commands write outputs
 
 -- A command writes and deletes only the outputs and the depfile of its edge; and free paths, which anybody may write at any time:
@@ -135,10 +155,22 @@ none_free p = false
 abbrev pub NothingIsEdited : List Moment → List Moment → Type 0
 NothingIsEdited old new = OnlyFreeIsEdited none_free old new
 
--- a free path is none of the program's own files, no depfile, no response file, and no output
+-- Others wrote neither log between these moments: what they wrote are free paths, and no log is one. So it is where files are kept,
+-- and where nobody edits.
+pub record LogsAreLeft (own : OwnFiles) (old new : List Moment) : Type 0 where
+  pub free : List ℕ → Bool
+  pub build_log : free own.build_log ≡ false
+  pub deps_log : free own.deps_log ≡ false
+  pub edits : OnlyFreeIsEdited free old new
+
+-- The edge makes what it names as an output: it has a command, or inputs. A `phony` line without inputs only names a source.
+abbrev pub IsMaking : List Edge → ℕ → Type 0
+IsMaking edges i = IsCommand edges i ⊎ (inputs (edge_at edges i) ≢ [])
+
+-- a free path is none of the program's own files, no depfile, no response file, and no output that an edge makes
 pub record FreeApart (free : List ℕ → Bool) (own : OwnFiles) (edges : List Edge) : Type 0 where
   pub set : (p : List ℕ) → own.set p ≡ true → free p ≡ false
-  pub outputs : (i : ℕ) (p : List ℕ) → has (outputs (edge_at edges i)) p ≡ true → free p ≡ false
+  pub outputs : (i : ℕ) (p : List ℕ) → IsMaking edges i → has (outputs (edge_at edges i)) p ≡ true → free p ≡ false
 
 -- ---- reports come from above
 
@@ -205,8 +237,8 @@ HaveEnded world = IsIdle world.events
 
 -- ---- together
 
--- What the frame and the records suppose: only commands write outputs, the program's own files are apart from what the graph
--- names, and others write nothing but free paths, which are whatever these are.
+-- What the frame and the records suppose, for some set of paths that are free: only commands write outputs, the program's own files
+-- are apart from what the graph names, and others write nothing but free paths.
 pub record FilesAreKept (own : OwnFiles) (edges : List Edge) (old new : List Moment) : Type 0 where
   pub free : List ℕ → Bool
   pub free_apart : FreeApart free own edges

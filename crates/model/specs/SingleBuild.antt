@@ -13,15 +13,15 @@ use Rattle.model.specs.declared.graph.BuildGraph.{BuildGraph}
 use Rattle.model.specs.declared.graph.Edge.{Edge}
 use Rattle.model.specs.World.{World, View, file_at, view_of, IsIdle}
 use Rattle.model.specs.Calls.{OnlyLooks}
-use Rattle.model.specs.Graph.{has, has_number, edge_at, maker, outputs, inputs, first_output, is_named, targets_of, IsCommand, IsMadeOnce, IsMadeTwice}
+use Rattle.model.specs.Graph.{has, has_number, edge_at, maker, outputs, inputs, first_output, is_named, targets_of, Addition, IsCommand, IsMadeOnce, IsMadeTwice}
 use Rattle.model.specs.Outcome.{Behaviour, depfile_in, is_accepted}
 use Rattle.model.specs.Clean.{clean_build}
 use Rattle.model.specs.Reading.{IsInCone, IsCycle, needs}
 use Rattle.model.specs.Records.{Store, LogFormat, OwnFiles, store_in, recorded_inputs}
-use Rattle.model.specs.OutOfDate.{ReadsNoFree, IsVerdict, IsOutOfDate, IsMissingInput, IsFirstMissing}
-use Rattle.model.specs.Schedule.{Task, Step, Judged, Started, IsSettled, AreEventsOf, AreFinishes, NoneMayBeJudged, NoneMayStart, done_in, started_in, ended_in, out_of_date_in, well_in, failed_in, Ended, MayStart}
-use Rattle.model.specs.Phases.{Phase, steps_of, IsLawfulBuild, IsLoad, IsDueLoad, IsNextLoad, NoLoadIsDue, NothingNeededIsFree, IsMomentAfter, IsPointAfter, AreAskedApart, WasNothingMissing, WasNothingMissingIn}
-use Rattle.model.specs.Premises.{FilesAreKept, RecordedApart, Premises, EndedAt, InputsAreKnown}
+use Rattle.model.specs.OutOfDate.{ReadsNoFree, IsStaleByOutputs, IsVerdict, IsOutOfDate, IsMissingInput, IsFirstMissing}
+use Rattle.model.specs.Schedule.{Task, Step, Judged, Started, IsSettled, AreEventsOf, AreFinishes, NoneMayBeJudged, NoneMayStart, done_in, clean_in, started_in, ended_in, out_of_date_in, well_in, failed_in, Ended, MayStart}
+use Rattle.model.specs.Phases.{Phase, steps_of, task_with, IsLawfulBuild, IsLoad, IsDueLoad, IsNextLoad, NoLoadIsDue, NothingNeededIsFree, IsMomentAfter, IsPointAfter, AreAskedApart, WasNothingMissing, WasNothingMissingIn}
+use Rattle.model.specs.Premises.{LogsAreLeft, FilesAreKept, RecordedApart, Premises, EndedAt, InputsAreKnown, StartsAreTicked}
 
 -- ---- what a build was asked, and what it answers
 
@@ -153,15 +153,19 @@ pub record MetFault (task : Task) (steps : List Step) (old new : World) (answer 
   pub stale : has_number (out_of_date_in steps) i ≡ true
   pub taken_in : WasTakenIn i old new → has_number (ended_in steps) i ≡ true
 
--- Each verdict is that of the table, where others write nothing that the edge reads. A command that ended well by itself and whose depfile is not refused ended well, and no other
--- did; of the one whose taking in met the fault, whose depfile may not have been read, the second is said alone.
+-- A command that ended well by itself and whose depfile is not refused ended well, and no other did; of the one whose taking in met
+-- the fault, whose depfile may not have been read, the second is said alone.
+pub record EndRightly (B : Behaviour) (edges : List Edge) (steps : List Step) (met : Option ℕ) (old new : List Moment) : Type 0 where
+  pub well : (i : ℕ) (at : List Moment) → EndedAt i old new at → has_number (well_in steps) i ≡ true
+      → is_accepted (depfile_in B (edge_at edges i).act (view_of at)) ≡ true
+  pub depfiles : (i : ℕ) (at : List Moment) → EndedAt i old new at → has_number (ended_in steps) i ≡ true → (met ≡ Some i → ⊥)
+      → has_number (well_in steps) i ≡ is_accepted (depfile_in B (edge_at edges i).act (view_of at))
+
+-- Each verdict is that of the table, where others write nothing that the edge reads; and commands ended as is said.
 pub record IsJudged (B : Behaviour) (free : List ℕ → Bool) (asked : Asked) (store : Store) (steps : List Step) (met : Option ℕ) (old new : List Moment) : Type 0 where
   pub verdicts : (before after : List Step) (i : ℕ) (out_of_date : Bool) → steps ≡ before ++ Judged i out_of_date ∷ after
       → ReadsNoFree free asked.graph.edges store new i → IsVerdict asked.graph.edges store (well_in before) old new i out_of_date
-  pub well : (i : ℕ) (at : List Moment) → EndedAt i old new at → has_number (well_in steps) i ≡ true
-      → is_accepted (depfile_in B (edge_at asked.graph.edges i).act (view_of at)) ≡ true
-  pub depfiles : (i : ℕ) (at : List Moment) → EndedAt i old new at → has_number (ended_in steps) i ≡ true → (met ≡ Some i → ⊥)
-      → has_number (well_in steps) i ≡ is_accepted (depfile_in B (edge_at asked.graph.edges i).act (view_of at))
+  pub ended : EndRightly B asked.graph.edges steps met old new
 
 -- The verdict on edge i is that of the table at a moment when just the steps before it were done, over the edges of then, where others
 -- write nothing that the edge reads.
@@ -183,14 +187,39 @@ ArePhasesJudgedAt free store before [] old new = Unit {0}
 ArePhasesJudgedAt free store before (phase ∷ phases) old new =
     AreJudgedAt free phase.edges store before phase.steps old new × ArePhasesJudgedAt free store (before ++ phase.steps) phases old new
 
--- the file held this at a moment when a beginning of these steps was done
-pub record HeldAt (file content : List ℕ) (steps : List Step) (old new : List Moment) : Type 0 where
-  pub before : List Step
-  pub later : List Step
-  pub splits : steps ≡ before ++ later
+-- No edge that was judged clean is out of date by what it makes. That rests on its outputs and their records alone, so it is so where
+-- others write what the edge reads, too.
+abbrev pub AreCleanByOutputs : List Edge → Store → List Step → List Moment → Type 0
+AreCleanByOutputs edges store steps old = (i : ℕ) → has_number (clean_in steps) i ≡ true → IsStaleByOutputs edges store old i → ⊥
+
+-- the file held this, or was absent, at a moment when just these steps were done
+pub record HeldAt (file : List ℕ) (held : Option (List ℕ)) (before : List Step) (old new : List Moment) : Type 0 where
   pub at : List Moment
   pub moment : IsMomentAfter before old new at
-  pub holds : view_of at file ≡ Some content
+  pub holds : view_of at file ≡ held
+
+-- the file that is loaded next when just these steps are done held then what it is read as
+pub record LoadHeldAt (texts : View) (task : Task) (before : List Step) (old new : List Moment) : Type 0 where
+  pub file : List ℕ
+  pub is_next : IsNextLoad task before file
+  pub content : List ℕ
+  pub read : texts file ≡ Some content
+  pub held : HeldAt file (Some content) before old new
+
+-- so did the file with whose load each of these phases ended
+abbrev pub AreLoadsHeldAt : View → Task → Store → List Step → List Phase → List Moment → List Moment → Type 0
+AreLoadsHeldAt texts task store before [] old new = Unit {0}
+AreLoadsHeldAt texts task store before (phase ∷ phases) old new =
+    LoadHeldAt texts (task_with task store phase.edges) (before ++ phase.steps) old new × AreLoadsHeldAt texts task store (before ++ phase.steps) phases old new
+
+-- so did one that was read when just these steps were done, and refused for what it adds
+abbrev pub IsRefusedLoadHeldAt : (List ℕ → Option (List Addition)) → View → Task → List Step → List Moment → List Moment → Type 0
+IsRefusedLoadHeldAt reading texts task done old new = (next : List Edge) → (load : IsLoad reading texts task done next) → HeldAt load.file (Some load.content) done old new
+
+-- each dyndep file held at its load what it is read as: at the end of each of these phases, and where its load ended the build
+abbrev pub AreHeldThen : (List ℕ → Option (List Addition)) → View → Task → Store → List Phase → List Step → List Moment → List Moment → Type 0
+AreHeldThen reading texts task store phases done old new =
+    AreLoadsHeldAt texts task store [] phases old new × IsRefusedLoadHeldAt reading texts task done old new
 
 -- each command that was started was judged out of date before, and was so, where others write nothing that it reads
 abbrev pub StartsOnlyStale : (List ℕ → Bool) → List Edge → Store → List Step → List Moment → List Moment → Type 0
@@ -380,9 +409,9 @@ IsCleanlyBuilt B quiet asked store files =
 
 -- One build, from its entry to its exit.
 pub record SingleBuild (tells : Bool) (B : Behaviour) (format : LogFormat) (own : OwnFiles) (asked : Asked) (old new : World) (answer : Answer) : Type 0 where
-  -- the records that the build found; where the site tells its files, those of its logs
+  -- the records that the build found; where the site tells its files, and nobody else writes a log, those of its logs at the entry
   pub store : Store
-  pub logs : IsTrue tells → FilesAreKept own asked.graph.edges old.history new.history → store ≡ store_in format own (view_of old.history)
+  pub logs : IsTrue tells → LogsAreLeft own old.history new.history → store ≡ store_in format own (view_of old.history)
   -- what the loaded dyndep files held, and hold still: but for one that a dyndep file alone names as an output, whose maker may come
   -- after the load, and for a free one
   pub texts : View
@@ -394,15 +423,20 @@ pub record SingleBuild (tells : Bool) (B : Behaviour) (format : LogFormat) (own 
   -- the edge whose start or taking in met the fault, if one did
   pub met : Option ℕ
   pub met_fault : (i : ℕ) → met ≡ Some i → MetFault (task_of asked store) steps old new answer i
+  -- which commands ended well, whatever is known of inputs
+  pub ended : IsTrue tells → FilesAreKept own asked.graph.edges old.history new.history → EndRightly B asked.graph.edges steps met old.history new.history
   pub judged : IsTrue tells → (files : FilesAreKept own asked.graph.edges old.history new.history) → RecordedApart own (recorded_inputs store asked.graph.edges)
       → InputsAreKnown asked.declared asked.graph.edges (recorded_inputs store asked.graph.edges)
       → IsJudged B files.free asked store steps met old.history new.history
-  -- with dyndep files too: each verdict by the edges and files of then, and each loaded file as it was then
+  -- of each edge, whatever it reads
+  pub clean : IsTrue tells → FilesAreKept own asked.graph.edges old.history new.history → AreCleanByOutputs asked.graph.edges store steps old.history
+  -- with dyndep files too: each verdict by the edges and files of then
   pub judged_then : IsTrue tells → (files : FilesAreKept own asked.graph.edges old.history new.history) → RecordedApart own (recorded_inputs store asked.graph.edges)
       → ArePhasesJudgedAt files.free store [] schedule.lawful.earlier old.history new.history
       × AreJudgedAt files.free asked.graph.edges store (steps_of schedule.lawful.earlier) schedule.lawful.last old.history new.history
-  pub held_then : IsTrue tells → (files : FilesAreKept own asked.graph.edges old.history new.history) → (file content : List ℕ) → texts file ≡ Some content → files.free file ≡ false
-      → HeldAt file content steps old.history new.history
+  -- each dyndep file as it was when it was loaded, whatever others did
+  pub held_then : IsTrue tells
+      → AreHeldThen B.dyndep texts (task_of asked store) store schedule.lawful.earlier (steps_of schedule.lawful.earlier ++ schedule.lawful.last) old.history new.history
   pub answers : IsAnswer tells B own texts asked store schedule.lawful.earlier (steps_of schedule.lawful.earlier ++ schedule.lawful.last) steps old new answer
   pub in_order : (steps ≡ []) ⊎ WasInOrder tells own asked store schedule.lawful.earlier schedule.lawful.last old new
   pub faults : PassesNoFault old new answer
@@ -410,6 +444,8 @@ pub record SingleBuild (tells : Bool) (B : Behaviour) (format : LogFormat) (own 
   pub idle : is_fault answer ≡ false → IsIdle new.events
   pub taken_in : new.stopped ≡ false → new.wait_refused ≡ None → IsIdle new.events
   pub frame : IsTrue tells → IsFrame own asked.graph.edges steps old.history new.history
+  -- the stamp of each start is that of a tick just before it
+  pub ticked : IsTrue tells → StartsAreTicked old.history new.history
   pub from_nothing : IsTrue tells → IsSuccess answer → IsFromNothing own asked.graph.edges (view_of old.history)
       → (premises : Premises B own asked.declared asked.graph.edges (recorded_inputs store asked.graph.edges) steps old.history new.history)
       → IsCleanlyBuilt B premises.files.quiet asked store (view_of new.history)

@@ -32,9 +32,3 @@ shown DisplayHelpOnMissingArgumentOrSubcommand is = absurd (is (other DisplayHel
 shown Io is = absurd (is (other Io refl))
 shown Format is = absurd (is (other Format refl))
 shown OutOfMemory is = absurd (is (other OutOfMemory refl))
-
-pub not_shown : (kind : ErrorKind) → (kind ≢ DisplayHelp) × (kind ≢ DisplayVersion) → ¬ IsShown kind
-not_shown kind is shows = elim shows [
-  | inl help ↦ is.0 help
-  | inr version ↦ is.1 version
-]

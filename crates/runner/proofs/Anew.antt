@@ -6,7 +6,7 @@ use Rattle.model.specs.declared.event.Moment.{Moment}
 use Rattle.model.specs.declared.graph.Edge.{Edge}
 use Rattle.model.specs.World.{World, File, file_at, stamp_of}
 use Rattle.model.specs.Judgement.{is_same_number}
-use Rattle.model.specs.Graph.{has_number, edge_at, maker, IsMadeOnce}
+use Rattle.model.specs.Graph.{has_number, edge_at, maker, IsCommand, IsMadeOnce}
 use Rattle.model.specs.OutOfDate.{is_made_anew, input_facts}
 use Rattle.model.specs.Records.{OwnFiles}
 use Rattle.model.specs.Schedule.{Step as Done, well_in, failed_in, ended_in, out_of_date_in}
@@ -23,10 +23,10 @@ use Rattle.runner.proofs.Quiet.{KeepsQuiet, files_then, quiet_from}
 
 -- ---- the path of an edge that has ended
 
--- what an edge makes whose command has ended is quiet
-pub made_quiet : (own : OwnFiles) (edges : List Edge) → OwnFilesApart own edges → (free : List ℕ → Bool) → FreeApart free own edges → IsMadeOnce edges → (steps : List Done) (j : ℕ) (p : List ℕ) → maker edges p ≡ Some j → has_number (ended_in steps) j ≡ true → is_quiet free own edges steps p ≡ true
-made_quiet own edges apart free free_apart once steps j p is ended = quiet_from free own edges steps p (record {
-  bound = free_apart.outputs j p (maker_has edges p j is);
+-- what a command makes that has ended is quiet
+pub made_quiet : (own : OwnFiles) (edges : List Edge) → OwnFilesApart own edges → (free : List ℕ → Bool) → FreeApart free own edges → IsMadeOnce edges → (steps : List Done) (j : ℕ) (p : List ℕ) → maker edges p ≡ Some j → IsCommand edges j → has_number (ended_in steps) j ≡ true → is_quiet free own edges steps p ≡ true
+made_quiet own edges apart free free_apart once steps j p is ran ended = quiet_from free own edges steps p (record {
+  bound = free_apart.outputs j p (inl ran) (maker_has edges p j is);
   foreign = false_from_ne_true (own.files p) (λ mine. false≢true (sym outside ∙ apart.within p mine));
   private = λ i command named. elim named [
     | inl same ↦ false≢true (sym outside ∙ (ap own.set same ∙ (apart.depfiles i command).0))
@@ -74,7 +74,7 @@ as_new edges ran many first now new p same still = by_maker (maker edges p) refl
 
 module _ (tells : Bool) (course : Course) (graph : Graph) (steps many by : List Done) (state : State) (now new : World) (quiet : KeepsQuiet tells course.own (edges_of course) by course.entry now new) where
   -- in which no command is taken in
-  pub anew_over : IsMadeOnce (edges_of course) → ((j : ℕ) → has_number (well_in steps) j ≡ true → has_number (ended_in by) j ≡ true) → well_in many ≡ well_in steps → failed_in many ≡ failed_in steps
+  pub anew_over : IsMadeOnce (edges_of course) → ((j : ℕ) → has_number (well_in steps) j ≡ true → (has_number (ended_in by) j ≡ true) × IsCommand (edges_of course) j) → well_in many ≡ well_in steps → failed_in many ≡ failed_in steps
       → AreAnew tells course graph steps state now → AreAnew tells course graph many state new
   anew_over once ended well failed anew tell kept p lt unfailed =
       let call = quiet tell kept in
@@ -82,7 +82,7 @@ module _ (tells : Bool) (course : Course) (graph : Graph) (steps many by : List 
       ∙ as_new (edges_of course) (well_in steps) (well_in many) course.entry.history now.history new.history (text_at graph.manifest.paths p)
       (λ j is. ap (λ (l : List ℕ). has_number l j) well)
       (λ j is ran. file_still (is_quiet kept.free course.own (edges_of course) by) now.history new.history call.0.0 (text_at graph.manifest.paths p) call.0.1 call.1
-      (made_quiet course.own (edges_of course) kept.own_files kept.free kept.free_apart once by j (text_at graph.manifest.paths p) is (ended j ran)))
+      (made_quiet course.own (edges_of course) kept.own_files kept.free kept.free_apart once by j (text_at graph.manifest.paths p) is (ended j ran).1 (ended j ran).0))
 
   -- in which no edge is found to be out of date
   pub before_over : ((e : ℕ) → has_number (out_of_date_in many) e ≡ true → has_number (ended_in many) e ≡ false → (has_number (out_of_date_in steps) e ≡ true) × (has_number (ended_in steps) e ≡ false))

@@ -426,7 +426,7 @@ module _ (tells : Bool) (course : Course) (tick : List ℕ) (graph : Graph) (sui
       compared went restat asked =
           ap (λ (b : Look). not (is_same_look b (look_at after.looks.seen.items p))) (on.before tell (files_then course.own (edges_of course) course.entry now new (over_end tell kept).0 kept) e edge_here.stale (running_parts on.steps (suc e) edge_here.running).1 restat p made)
           ∙ (ap (λ (a : Look). not (is_same_look (look_of (stamp_of (file_at course.entry.history text))) a))
-          (noted_seen tell kept p asked (made_quiet course.own (edges_of course) kept.own_files kept.free kept.free_apart suits.once so_far (suc e) text maker_here (in_right ended_in ended-append on.steps (Ended (suc e) is_well ∷ []) (suc e) (has_number-one (suc e)))))
+          (noted_seen tell kept p asked (made_quiet course.own (edges_of course) kept.own_files kept.free kept.free_apart suits.once so_far (suc e) text maker_here edge_here.command (in_right ended_in ended-append on.steps (Ended (suc e) is_well ∷ []) (suc e) (has_number-one (suc e)))))
           ∙ differs_as (stamp_of (file_at course.entry.history text)) (stamp_of (file_at new.history text)))
 
       by_restat : (b : Bool) → (edge_at (edges_of course) (suc e)).restat ≡ b → flags.has after.plan.changed.items p ≡ not (b && was_same)
@@ -454,7 +454,7 @@ module _ (tells : Bool) (course : Course) (tick : List ℕ) (graph : Graph) (sui
         ∙ as_new (edges_of course) (well_in on.steps) (well_in so_far) course.entry.history now.history new.history text
         (λ j is. well_others on.steps (suc e) j is_well (λ same. false≢true (sym other ∙ made_by (edges_of course) graph suits.once stand_here e p lt (maker_has (edges_of course) text (suc e) (is ∙ ap (λ (n : ℕ). Some n) (sym same))))))
         (λ j is ran. file_still (is_quiet kept.free course.own (edges_of course) on.steps) now.history new.history call.0.0 text call.0.1 call.1
-        (made_quiet course.own (edges_of course) kept.own_files kept.free kept.free_apart suits.once on.steps j text is (well_before tells course graph on.steps None now on.carried j ran))))
+        (made_quiet course.own (edges_of course) kept.own_files kept.free kept.free_apart suits.once on.steps j text is (well_rest tells course graph on.steps None now on.carried j ran).0 (well_before tells course graph on.steps None now on.carried j ran))))
 
   noted_anew : AreAnew tells course graph so_far after new
   noted_anew tell kept p lt unfailed = by_output (has_number ((links_of graph).outputs e) p) refl

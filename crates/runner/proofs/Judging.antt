@@ -10,9 +10,9 @@ use Rattle.model.specs.declared.record.Record.{Record}
 use Rattle.model.specs.declared.record.DepsRecord.{DepsRecord}
 use Rattle.model.specs.World.{World, file_at, stamp_of, IsRunning}
 use Rattle.model.specs.Calls.{OnlyLooks}
-use Rattle.model.specs.Graph.{has, has_number, edge_at, IsCommand}
+use Rattle.model.specs.Graph.{has, has_number, edge_at, outputs, IsCommand}
 use Rattle.model.specs.Records.{recorded_inputs}
-use Rattle.model.specs.OutOfDate.{input_facts, Counted, ReadsNoFree, IsVerdict}
+use Rattle.model.specs.OutOfDate.{input_facts, Counted, ReadsNoFree, IsStaleByOutputs, IsVerdict}
 use Rattle.model.specs.Schedule.{Step as Done, Judged, MayBeJudged, out_of_date_in, started_in, ended_in, well_in, failed_in, running_in}
 use Rattle.model.specs.Premises.{FilesAreKept, RecordedApart, IsWithinEdge, IsNoEdit}
 use Rattle.model.specs.SingleBuild.{task_of}
@@ -41,7 +41,7 @@ use Rattle.plan.specs.Planned.{TakesStep}
 use Rattle.records.specs.Laws.{LogStays}
 use Rattle.records.specs.Known.{AreKnown}
 use Rattle.verdict.specs.Facts.{flag_at}
-use Rattle.verdict.specs.Judged.{IsAnswer, IsReasonBy, MayBeJudgedBy, AreUntouched, HasOldDepfile, KeepsDepfile, HasPathsOf}
+use Rattle.verdict.specs.Judged.{IsAnswer, IsReasonBy, MayBeJudgedBy, MayBeStaleBy, AreUntouched, HasOldDepfile, KeepsDepfile, HasPathsOf}
 use Rattle.runner.specs.declared.state.State.{State}
 use Rattle.runner.specs.Course.{Course, goes_on, Suits, edges_of, is_quiet, AreAnew, AreSeenBefore, AreStarted, IsOn}
 use Rattle.runner.specs.Going.{IsSaid}
@@ -49,7 +49,7 @@ use Rattle.runner.proofs.Onward.{taken_judged, since_goes}
 use Rattle.runner.proofs.Places.{phony_is}
 use Rattle.runner.proofs.Quiet.{files_then, all_kept, quiet_less}
 use Rattle.runner.proofs.Removed.{removed_steps}
-use Rattle.runner.proofs.Keeping.{Carried, grown, looks_carried, looks_leave, looks_quiet, looks_removed, logging_over, told_over, started_more, well_ended, still_anew, still_before}
+use Rattle.runner.proofs.Keeping.{Carried, grown, looks_carried, looks_leave, looks_quiet, looks_removed, logging_over, told_over, started_more, ended_command, still_anew, still_before}
 use Rattle.runner.proofs.Anew.{anew_over}
 use Rattle.runner.proofs.Finishing.{makes_it}
 use Rattle.runner.proofs.Noticed.{with_looks, before_kept}
@@ -129,7 +129,7 @@ module _ (tells : Bool) (course : Course) (graph : Graph) (stays : LogStays) (ti
     flagged : FlagsOver (edges_of course)
     flagged p lt counted =
         still_anew tells course graph stays None state now new on suits.once (looks_quiet tells course graph stays None state now new on looks) tell files p lt
-        (counted_unfailed edges on.steps kept course.own files.own_files files.free files.free_apart suits.once course.asked course.store (suc e) turn.once apart (λ q j h made. turn.ready q h j made) new.history (text_at graph.manifest.paths p) counted)
+        (counted_unfailed edges on.steps kept course.own files.own_files files.free files.free_apart suits.once course.asked course.store (suc e) turn.command turn.once apart (λ q j h made. turn.ready q h j made) new.history (text_at graph.manifest.paths p) counted)
 
     pub may_be_judged : ReadsNoFree files.free (edges_of course) course.store new.history (suc e)
         → MayBeJudgedBy graph on.told.records on.told.deps state.plan.changed.items course.store (well_in on.steps) course.entry.history new.history (suc e) (is_quiet files.free course.own (edges_of course) on.steps)
@@ -143,8 +143,24 @@ module _ (tells : Bool) (course : Course) (graph : Graph) (stays : LogStays) (ti
           (λ named. depfile_stays tells course.own (task_of course.asked course.store) on.steps course.entry new suits.idle rest tell suits.once files (suc e) turn.command named (λ out. false≢true (sym turn.once ∙ kept.out_of_date (suc e) out)));
       flagged = subst (λ (es : List Edge). FlagsOver es) same_edges flagged;
       paths = subst (λ (es : List Edge). HasPathsOf es course.store (suc e) (is_quiet files.free course.own (edges_of course) on.steps)) same_edges
-          (paths_quiet edges on.steps kept course.own files.own_files files.free files.free_apart suits.once course.asked course.store (suc e) turn.once apart (λ q j h made. turn.ready q h j made) new.history bound);
+          (paths_quiet edges on.steps kept course.own files.own_files files.free files.free_apart suits.once course.asked course.store (suc e) turn.command turn.once apart (λ q j h made. turn.ready q h j made) new.history bound);
     }
+
+  abbrev HasMade : List Edge → (List ℕ → Bool) → Type 0
+  HasMade es set = (p : List ℕ) → has (outputs (edge_at es (suc e))) p ≡ true → set p ≡ true
+
+  may_be_stale : IsTrue tells → (files : FilesAreKept course.own (edges_of course) course.entry.history new.history)
+      → MayBeStaleBy graph on.told.records on.told.deps course.store course.entry.history new.history (suc e) (is_quiet files.free course.own (edges_of course) on.steps)
+  may_be_stale tell files = record {
+    records = on.told.same.0;
+    deps = on.told.same.1;
+    untouched = subst (λ (es : List Edge). AreUntouched es course.entry.history new.history (suc e)) same_edges
+        (outputs_untouched tells course.own (task_of course.asked course.store) on.steps course.entry new suits.idle rest tell files suits.once (suc e) turn.command turn.once);
+    depfile = subst (λ (es : List Edge). HasOldDepfile es course.entry.history new.history (suc e)) same_edges
+        (λ named. depfile_stays tells course.own (task_of course.asked course.store) on.steps course.entry new suits.idle rest tell suits.once files (suc e) turn.command named (λ out. false≢true (sym turn.once ∙ kept.out_of_date (suc e) out)));
+    made = subst (λ (es : List Edge). HasMade es (is_quiet files.free course.own (edges_of course) on.steps)) same_edges
+        (outputs_quiet edges on.steps kept course.own files.own_files files.free files.free_apart suits.once (suc e) turn.command turn.once);
+  }
 
   -- ---- the verdict
 
@@ -161,13 +177,22 @@ module _ (tells : Bool) (course : Course) (graph : Graph) (stays : LogStays) (ti
     right tell files apart bound =
         let quiet = looks_quiet tells course graph stays None state now new on looks tell files in
         let keeps = subst (λ (es : List Edge). KeepsDepfile tells es now new (suc e)) same_edges (keeps_depfile files) in
-        let by = answer on.told.records on.told.deps on.told.known keeps tell (is_quiet files.free course.own (edges_of course) on.steps) quiet.1 (on.seen tell (files_then course.own (edges_of course) course.entry now new quiet.0 files)) course.store (well_in on.steps) course.entry.history
+        let by = (answer on.told.records on.told.deps on.told.known keeps tell (is_quiet files.free course.own (edges_of course) on.steps) quiet.1 (on.seen tell (files_then course.own (edges_of course) course.entry now new quiet.0 files))).0 course.store (well_in on.steps) course.entry.history
         (may_be_judged tell files apart bound) in
         let over = subst (λ (es : List Edge). IsReasonBy es course.store (well_in on.steps) course.entry.history new.history (suc e) reason) (sym same_edges) by in
         record { read = over.read; counted = over.counted; verdict = told ∙ ap (λ (r : Option Reason). is_some r) over.is }
 
+    -- it is out of date where it is by what it makes, whatever it reads
+    right_made : IsTrue tells → FilesAreKept course.own (edges_of course) course.entry.history new.history → IsStaleByOutputs (edges_of course) course.store course.entry.history (suc e) → stale ≡ true
+    right_made tell files by_outputs =
+        let quiet = looks_quiet tells course graph stays None state now new on looks tell files in
+        let keeps = subst (λ (es : List Edge). KeepsDepfile tells es now new (suc e)) same_edges (keeps_depfile files) in
+        let by = (answer on.told.records on.told.deps on.told.known keeps tell (is_quiet files.free course.own (edges_of course) on.steps) quiet.1 (on.seen tell (files_then course.own (edges_of course) course.entry now new quiet.0 files))).1 course.store course.entry.history
+        (may_be_stale tell files) in
+        told ∙ by (subst (λ (es : List Edge). IsStaleByOutputs es course.store course.entry.history (suc e)) same_edges by_outputs)
+
     pub judged_carried : Carried tells course graph more None new
-    judged_carried = carried_judged tells course.behaviour course.format course.own course.asked course.store course.entry course.phases (goes_on course) on.steps None new (suc e) stale said.goes (said.lawful stale) said.loads right carried_new
+    judged_carried = carried_judged tells course.behaviour course.format course.own course.asked course.store course.entry course.phases (goes_on course) on.steps None new (suc e) stale said.goes (said.lawful stale) said.loads right right_made carried_new
 
     pub judged_seen : IsTrue tells → (files : FilesAreKept course.own (edges_of course) course.entry.history new.history) → AreSeenOf (is_quiet files.free course.own (edges_of course) more) graph.manifest.paths new.history after.seen.items
     judged_seen tell files p asked quiet_so =
@@ -176,7 +201,7 @@ module _ (tells : Bool) (course : Course) (graph : Graph) (stays : LogStays) (ti
         (quiet_less files.free course.own (edges_of course) on.steps more (λ i runs. running_judged on.steps (suc e) stale i ∙ runs) (text_at graph.manifest.paths p) quiet_so)
 
     judged_anew : AreAnew tells course graph more state new
-    judged_anew = anew_over tells course graph on.steps more on.steps state now new (looks_quiet tells course graph stays None state now new on looks) suits.once (well_ended tells course graph on.steps None now on.carried)
+    judged_anew = anew_over tells course graph on.steps more on.steps state now new (looks_quiet tells course graph stays None state now new on looks) suits.once (ended_command tells course graph on.steps None now on.carried)
         (well_judged on.steps (suc e) stale) (failed_judged on.steps (suc e) stale) on.anew
 
     -- of its own outputs that were asked for: nobody has touched them
@@ -187,7 +212,7 @@ module _ (tells : Bool) (course : Course) (graph : Graph) (stays : LogStays) (ti
         let was = outputs_asked restat p made in
         let makes = makes_it (edges_of course) graph suits.once (subst (λ (es : List Edge). StandFor es graph.manifest.paths (links_of graph)) (sym same_edges) stand) e p made in
         looked.seen tell (is_quiet files.free course.own (edges_of course) on.steps) quiet.1 (on.seen tell (files_then course.own (edges_of course) course.entry now new quiet.0 files)) p (ap is_asked (looked.stays p was) ∙ was)
-        (outputs_quiet edges on.steps kept course.own files.own_files files.free files.free_apart suits.once (suc e) turn.once (text_at graph.manifest.paths p) makes)
+        (outputs_quiet edges on.steps kept course.own files.own_files files.free files.free_apart suits.once (suc e) turn.command turn.once (text_at graph.manifest.paths p) makes)
         ∙ ap look_of (outputs_untouched tells course.own (task_of course.asked course.store) on.steps course.entry new suits.idle rest tell files suits.once (suc e) turn.command turn.once (text_at graph.manifest.paths p) makes)
 
     judged_before : AreSeenBefore tells course graph more (with_looks tells course graph state after) new

@@ -135,6 +135,10 @@ module _ (tells : Bool) (course : Course) (graph : Graph) where
         kept : IsKept (edges_of course) steps
         kept = kept_orderly (edges_of course) steps carried.run.orderly
 
+    -- a command that ended well has ended
+    pub ended_command : (i : ℕ) → has_number (well_in steps) i ≡ true → (has_number (ended_in steps) i ≡ true) × IsCommand (edges_of course) i
+    ended_command i well = (well_ended i well, (well_rest i well).0)
+
     pub grown : IsTrue tells → (so_far : List Moment) × (now.history ≡ course.entry.history ++ so_far)
     grown tell = let told = carried.run.history tell in (told.more, told.grows)
 
@@ -180,7 +184,7 @@ module _ (tells : Bool) (course : Course) (graph : Graph) where
 
     -- what was made anew, and what was seen of outputs before
     pub still_anew : IsMadeOnce (edges_of course) → Quietly on.steps now new → AreAnew tells course graph on.steps state new
-    still_anew once quiet = anew_over tells course graph on.steps on.steps on.steps state now new quiet once (well_ended on.steps hand now on.carried) refl refl on.anew
+    still_anew once quiet = anew_over tells course graph on.steps on.steps on.steps state now new quiet once (ended_command on.steps hand now on.carried) refl refl on.anew
 
     pub still_before : Quietly on.steps now new → AreSeenBefore tells course graph on.steps state new
     still_before quiet = before_over tells course graph on.steps on.steps on.steps state now new quiet (λ e stale unended. (stale, unended)) on.before
@@ -370,7 +374,7 @@ module _ (tells : Bool) (course : Course) (graph : Graph) where
     log_quiet = quiet_own tells course.own (edges_of course) on.steps course.entry now new (grown on.steps hand now on.carried) (run_by on.steps hand now on.carried) path owned writes.history
 
     pub log_anew : IsMadeOnce (edges_of course) → AreAnew tells course graph on.steps state new
-    log_anew once = anew_over tells course graph on.steps on.steps on.steps state now new log_quiet once (well_ended on.steps hand now on.carried) refl refl on.anew
+    log_anew once = anew_over tells course graph on.steps on.steps on.steps state now new log_quiet once (ended_command on.steps hand now on.carried) refl refl on.anew
 
     abbrev pub on_log : IsMadeOnce (edges_of course) → (records : Records) → AreSameLogs state.records.logs records.logs → records.places.items ≡ state.records.places.items → records.deps_places.items ≡ state.records.deps_places.items
         → Logging on.steps next new records.logs → hand ≡ next → IsOn tells course graph next (with_records state records) new

@@ -33,7 +33,7 @@ use Rattle.runner.specs.Course.{Course, goes_on, Suits, edges_of, AreAnew, AreSe
 use Rattle.runner.specs.Removing.{AreRemoved}
 use Rattle.runner.proofs.Quiet.{RunBy, quiet_adds, quiet_less, running_started}
 use Rattle.runner.proofs.Onward.{taken_started, since_goes}
-use Rattle.runner.proofs.Keeping.{Carried, Quietly, run_by, grown, well_rest, well_ended, not_well_yet, stale_is_command, response_carried, depfile_at, on_depfile, logging_over, told_over, seen_over, started_more}
+use Rattle.runner.proofs.Keeping.{Carried, Quietly, run_by, grown, well_rest, ended_command, not_well_yet, stale_is_command, response_carried, depfile_at, on_depfile, logging_over, told_over, seen_over, started_more}
 use Rattle.runner.proofs.Anew.{anew_over, before_over}
 use Rattle.runner.proofs.Removed.{stay_adds, removed_adds}
 
@@ -142,7 +142,9 @@ module _ (tells : Bool) (course : Course) (graph : Graph) where
         under = started_under tells course.behaviour course.format course.own course.asked course.store course.entry course.phases (goes_on course) on.steps (Some (suc e)) now new (suc e) act starts on.carried
 
     pub start_anew : AreAnew tells course graph more state new
-    start_anew = anew_over tells course graph on.steps more more state now new start_quiet once (λ j well. in_left ended_in ended-append on.steps (Started (suc e) ∷ []) j (well_ended tells course graph on.steps (Some (suc e)) now on.carried j well))
+    start_anew = anew_over tells course graph on.steps more more state now new start_quiet once (λ j well.
+        let was = ended_command tells course graph on.steps (Some (suc e)) now on.carried j well in
+        (in_left ended_in ended-append on.steps (Started (suc e) ∷ []) j was.0, was.1))
         (well_started on.steps (suc e)) (failed_started on.steps (suc e)) on.anew
 
     pub start_before : AreSeenBefore tells course graph more state new

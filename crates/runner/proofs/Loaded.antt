@@ -17,7 +17,7 @@ use Rattle.model.specs.OutOfDate.{is_made_anew, input_facts}
 use Rattle.model.specs.Schedule.{Step as Done, started_in, well_in}
 use Rattle.model.specs.Phases.{IsGrownBy, IsNextLoad, IsInOrderAt}
 use Rattle.model.specs.Premises.{FilesAreKept}
-use Rattle.model.specs.SingleBuild.{asked_with, task_of}
+use Rattle.model.specs.SingleBuild.{HeldAt, asked_with, task_of}
 use Rattle.model.specs.Kept.{StartedUnder}
 use Rattle.build_theory.specs.Run.{IsRunOrRest}
 use Rattle.build_theory.proofs.Growth.{HasGrown, grown_by}
@@ -349,11 +349,12 @@ module _ (tells : Bool) (course : Course) (tick : List ℕ) (graph grown : Graph
 
   module _ (content : List ℕ) (is_next : IsNextLoad (task_of course.asked course.store) on.steps file) (read : course.behaviour.dyndep content ≡ Some additions) (order : IsInOrderAt course.store (task_of later.asked course.store))
       (holds : IsTrue tells → (files : FilesAreKept course.own few course.entry.history now.history) → files.free file ≡ false → view_of now.history file ≡ Some content)
+      (held_then : IsTrue tells → HeldAt file (Some content) on.steps course.entry.history now.history)
       (cone : Cone) (planned : GoesOn grown cone state.plan after.plan) (stated : IsTaskOf (task_of later.asked later.store) grown)
       (is_cone : IsConeOf next (recorded_inputs course.store next) (task_of later.asked later.store).targets cone.order.items cone.marks.items) where
     carried_then : IsCarried tells course.behaviour course.format course.own later.asked course.store later.phases true on.steps None course.entry now
     carried_then = carried_load tells course.behaviour course.format course.own course.asked course.store course.phases course.entry now next file content additions grown_here on.steps
-        (record { run = on.carried.run; phased = on.carried.phased; goes = λ h. on.carried.goes goes; refused = λ off. absurd (true≢false off); beside = on.carried.beside }) is_next read order holds
+        (record { run = on.carried.run; phased = on.carried.phased; goes = λ h. on.carried.goes goes; refused = λ off. absurd (true≢false off); beside = on.carried.beside }) is_next read order holds held_then
 
     pub carried_later : IsCarried tells course.behaviour course.format course.own later.asked course.store later.phases (goes_on later) on.steps None course.entry now
     carried_later = record {

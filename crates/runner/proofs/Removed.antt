@@ -8,13 +8,12 @@ use Rattle.model.specs.declared.event.Moment.{Moment}
 use Rattle.model.specs.declared.event.Moment.TheVariants.{Happened}
 use Rattle.model.specs.declared.graph.Deps.TheVariants.{Unset, Gcc}
 use Rattle.model.specs.declared.graph.Edge.{Edge}
-use Rattle.model.specs.World.{World, file_at, content_of, view_of, IsRunning}
+use Rattle.model.specs.World.{World, file_at, content_of, view_of, IsRunning, events_in}
 use Rattle.model.specs.Calls.{AllByOthers, Adds, OnlyLooks, Writes}
 use Rattle.model.specs.Graph.{has_number, edge_at, IsCommand}
 use Rattle.model.specs.Records.{OwnFiles}
 use Rattle.model.specs.Schedule.{Step as Done, well_in}
 use Rattle.model.specs.Premises.{FilesAreKept, OwnFilesApart, IsWithinEdge, IsNoEdit, EndedAt}
-use Rattle.build_theory.specs.Run.{events_in}
 use Rattle.build_theory.proofs.Lists.{all_parts, all_append}
 use Rattle.build_theory.proofs.Files.{IsElsewhere, file_stays}
 use Rattle.build_theory.proofs.Looks.{kept_before}

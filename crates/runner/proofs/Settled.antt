@@ -73,14 +73,14 @@ module _ (edges : List Edge) (steps : List Done) (kept : IsKept edges steps) whe
       rests = λ i runs made. rests i (maker_is edges p i once made) runs;
     })
 
-    -- what an edge makes that was not judged yet
-    pub outputs_quiet : (i : ℕ) → has_number (judged_in steps) i ≡ false → (p : List ℕ) → has (outputs (edge_at edges i)) p ≡ true → is_quiet free own edges steps p ≡ true
-    outputs_quiet i fresh p h = quiet_path p (free_apart.outputs i p h) (apart.outputs i p h) (λ j is runs.
+    -- what a command makes that was not judged yet
+    pub outputs_quiet : (i : ℕ) → IsCommand edges i → has_number (judged_in steps) i ≡ false → (p : List ℕ) → has (outputs (edge_at edges i)) p ≡ true → is_quiet free own edges steps p ≡ true
+    outputs_quiet i command fresh p h = quiet_path p (free_apart.outputs i p (inl command) h) (apart.outputs i p h) (λ j is runs.
         let same = same_some j i (sym is ∙ maker_is edges p i once h) in
         let judged = kept.out_of_date j (kept.started j (running_parts steps j runs).0) in
         false≢true (sym fresh ∙ subst (λ (n : ℕ). has_number (judged_in steps) n ≡ true) same judged))
 
-    module _ (asked : Asked) (store : Store) (i : ℕ) (fresh : has_number (judged_in steps) i ≡ false) (recorded_apart : RecordedApart own (recorded_inputs store edges))
+    module _ (asked : Asked) (store : Store) (i : ℕ) (command : IsCommand edges i) (fresh : has_number (judged_in steps) i ≡ false) (recorded_apart : RecordedApart own (recorded_inputs store edges))
         (ready : (p : List ℕ) (j : ℕ) → has (needs edges (recorded_inputs store edges) i) p ≡ true → maker edges p ≡ Some j → IsSettled edges (done_in steps) j) where
       input_ready : (p : List ℕ) (j : ℕ) → has (inputs (edge_at edges i)) p ≡ true → maker edges p ≡ Some j → IsSettled edges (done_in steps) j
       input_ready p j h made = ready p j (has-left (inputs (edge_at edges i)) (recorded_inputs store edges i) p h) made
@@ -96,7 +96,7 @@ module _ (edges : List Edge) (steps : List Done) (kept : IsKept edges steps) whe
       -- where nothing that counts is free, all that it may look at is quiet
       pub paths_quiet : (files : List Moment) → ReadsNoFree free edges store files i → HasPathsOf edges store i (is_quiet free own edges steps)
       paths_quiet files bound = record {
-        made = outputs_quiet i fresh;
+        made = outputs_quiet i command fresh;
         read = λ p read. quiet_path p (read_bound edges free free_apart.outputs (view_of files) everything i (λ q counts. bound q (inl counts)) p read) (read_apart edges everything (λ q. own.set q ≡ false) apart.inputs i p read)
             (λ j is runs. settled_rests j (settled_reads edges everything (done_in steps) i p read input_ready j is) runs);
         recorded = λ p h. quiet_path p (bound p (inr h)) (recorded_apart i p h) (λ j is runs. settled_rests j (recorded_ready p j h is) runs);
@@ -109,5 +109,5 @@ pub outputs_untouched : (tells : Bool) (own : OwnFiles) (task : Task) (steps : L
 outputs_untouched tells own task steps old now idle rest tell files once i command fresh o h = ap stamp_of (elim (unchanged tells own task steps old now idle rest tell files o) [
   | inl same ↦ same
   | inr (inl may) ↦ absurd (may_not own task.graph.edges steps (kept_orderly task.graph.edges steps rest.orderly) files.own_files once i command fresh o (inl h) may)
-  | inr (inr free) ↦ absurd (false≢true (sym (files.free_apart.outputs i o h) ∙ free))
+  | inr (inr free) ↦ absurd (false≢true (sym (files.free_apart.outputs i o (inl command) h) ∙ free))
 ])

@@ -31,7 +31,7 @@ use Rattle.dirty.specs.declared.inputs.Inputs.{Inputs}
 use Rattle.dirty.specs.declared.outputs.Outputs.{Outputs}
 use Rattle.dirty.specs.Summaries.{AreOutputs, AreInputs}
 use Rattle.verdict.specs.Facts.{flag_at, output_at, stamp_at, all_inputs, AreIn, HasOutputs, HasInputs, HasDepfile, IsReadBy}
-use Rattle.verdict.specs.Judged.{HasPathsOf, AreRecordedOf, MayBeJudgedBy, IsAnswer, everything}
+use Rattle.verdict.specs.Judged.{HasPathsOf, AreRecordedOf, MayBeJudgedBy, MayBeStaleBy, IsReasonFor, IsStaleFor, IsAnswer, everything}
 use Rattle.verdict.proofs.Reasons.{reason_same, outputs_same, takes, taken, taken_inputs, taken_has, has_taken, flat_has, has_flat, has_text, number_of, are_in}
 
 there : (file : Option File) → is_some (stamp_of file) ≡ true → IsSome (content_of file)
@@ -186,11 +186,43 @@ module _ (graph : Graph) (stands : StandFor (declared_by graph).edges graph.mani
     abbrev edge : Edge
     edge = edge_at (declared_by graph).edges (suc e)
 
-    pub is_answer : (rs : List Record) (ds : List DepsRecord) (flags : List Bool) (made : Outputs) (inputs : Inputs) (depfile : Bool) (reason : Option Reason) (set : List ℕ → Bool) (files : List Moment)
+    -- what the edge makes, where its outputs keep their files
+    module _ (rs : List Record) (ds : List DepsRecord) (store : Store) (old files : List Moment) (set : List ℕ → Bool) (may : MayBeStaleBy graph rs ds store old files (suc e) set) where
+      abbrev numbers : List ℕ
+      numbers = (links_of graph).outputs e
+
+      is_made : (n : ℕ) → has_number numbers n ≡ true → has (outputs edge) (text_at graph.manifest.paths n) ≡ true
+      is_made n h = ap (λ (l : List (List ℕ)). has l (text_at graph.manifest.paths n)) (sym (stands.outputs_are e)) ∙ has_text graph.manifest.paths numbers n h
+
+      made_in : AreIn set graph.manifest.paths numbers
+      made_in = are_in set graph.manifest.paths numbers (λ n h. may.made (text_at graph.manifest.paths n) (is_made n h))
+
+      made_are : map (output_at graph.manifest.paths rs ds files) numbers ≡ map (output_facts store old) (outputs edge)
+      made_are = outputs_same graph.manifest.paths rs ds store old files may.records may.deps numbers (λ n h. may.untouched (text_at graph.manifest.paths n) (is_made n h))
+          ∙ ap (map (output_facts store old)) (stands.outputs_are e)
+
+    is_stale : (rs : List Record) (ds : List DepsRecord) (made : Outputs) (depfile : Bool) (reason : Option Reason) (set : List ℕ → Bool) (files : List Moment)
+        → HasOutputs graph command.act rs ds ((links_of graph).outputs e) made set files → HasDepfile command.act command.deps depfile files
+        → ((outs : List OutputFacts) → AreOutputs command.act outs made → is_some (reason_of (with_all command.act command.restat command.deps depfile outs [])) ≡ true → is_some reason ≡ true)
+        → IsStaleFor graph rs ds e reason set files
+    is_stale rs ds made depfile reason set files of_outputs of_depfile judged store old may stale =
+        judged (map (output_at graph.manifest.paths rs ds files) ((links_of graph).outputs e)) (of_outputs (made_in rs ds store old files set may))
+        (ap (λ (r : Option Reason). is_some r)
+        (same_reason command.act edge.act (sym (ap (λ (edge : Edge). edge.act) edge_is)) command.restat edge.restat (sym (ap (λ (edge : Edge). edge.restat) edge_is))
+        command.deps edge.deps (sym (ap (λ (edge : Edge). edge.deps) edge_is)) depfile (is_some (file_at old edge.act.depfile)) there
+        (map (output_at graph.manifest.paths rs ds files) ((links_of graph).outputs e)) (map (output_facts store old) (outputs edge)) (made_are rs ds store old files set may) [] [] refl) ∙ stale)
+      where
+        seen : HasDepfile edge.act edge.deps depfile files
+        seen = subst (λ (e : Edge). HasDepfile e.act e.deps depfile files) (sym edge_is) of_depfile
+
+        there : edge.act.depfile ≢ [] → edge.deps ≡ Unset → depfile ≡ is_some (file_at old edge.act.depfile)
+        there named unset = seen named unset ∙ ap (λ (f : Option File). is_some f) (may.depfile named)
+
+    is_reason : (rs : List Record) (ds : List DepsRecord) (flags : List Bool) (made : Outputs) (inputs : Inputs) (depfile : Bool) (reason : Option Reason) (set : List ℕ → Bool) (files : List Moment)
         → HasOutputs graph command.act rs ds ((links_of graph).outputs e) made set files → HasInputs graph flags es e inputs set files → HasDepfile command.act command.deps depfile files
         → ((outs : List OutputFacts) (ins : List InputFacts) → AreOutputs command.act outs made → AreInputs ins inputs → reason ≡ reason_of (with_all command.act command.restat command.deps depfile outs ins))
-        → IsAnswer graph rs ds flags e reason set files
-    is_answer rs ds flags made inputs depfile reason set files of_outputs of_inputs of_depfile judged store ran old may = record {
+        → IsReasonFor graph rs ds flags e reason set files
+    is_reason rs ds flags made inputs depfile reason set files of_outputs of_inputs of_depfile judged store ran old may = record {
       read = texts_at graph.manifest.paths (both files);
       counted = counted files store may.recorded;
       is =
@@ -208,3 +240,12 @@ module _ (graph : Graph) (stands : StandFor (declared_by graph).edges graph.mani
 
         there : edge.act.depfile ≢ [] → edge.deps ≡ Unset → depfile ≡ is_some (file_at old edge.act.depfile)
         there named unset = seen named unset ∙ ap (λ (f : Option File). is_some f) (may.depfile named)
+
+    -- so it is of all that was taken in
+    pub is_answer : (rs : List Record) (ds : List DepsRecord) (flags : List Bool) (made : Outputs) (inputs : Inputs) (depfile : Bool) (reason : Option Reason) (set : List ℕ → Bool) (files : List Moment)
+        → HasOutputs graph command.act rs ds ((links_of graph).outputs e) made set files → HasInputs graph flags es e inputs set files → HasDepfile command.act command.deps depfile files
+        → ((outs : List OutputFacts) (ins : List InputFacts) → AreOutputs command.act outs made → AreInputs ins inputs → reason ≡ reason_of (with_all command.act command.restat command.deps depfile outs ins))
+        → ((outs : List OutputFacts) → AreOutputs command.act outs made → is_some (reason_of (with_all command.act command.restat command.deps depfile outs [])) ≡ true → is_some reason ≡ true)
+        → IsAnswer graph rs ds flags e reason set files
+    is_answer rs ds flags made inputs depfile reason set files of_outputs of_inputs of_depfile judged stale =
+        (is_reason rs ds flags made inputs depfile reason set files of_outputs of_inputs of_depfile judged, is_stale rs ds made depfile reason set files of_outputs of_depfile stale)

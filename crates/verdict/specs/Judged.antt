@@ -1,5 +1,5 @@
 -- Whether the command of an edge is out of date, by the files now and by the records of the entry.
-use Rattle.std.specs.Prelude.{◌≡◌, ◌≢◌, ◌<◌, ℕ, suc, Bool, true, IsTrue, List, [], length, Option, Some, bytes_eq}
+use Rattle.std.specs.Prelude.{◌≡◌, ◌≢◌, ◌<◌, ℕ, suc, Bool, true, IsTrue, List, [], length, Option, Some, is_some, bytes_eq}
 use Rattle.model.specs.declared.event.Moment.{Moment}
 use Rattle.model.specs.declared.graph.Edge.{Edge}
 use Rattle.model.specs.declared.reason.Reason.{Reason}
@@ -9,7 +9,7 @@ use Rattle.model.specs.World.{World, View, file_at, stamp_of}
 use Rattle.model.specs.Graph.{has, edge_at, outputs}
 use Rattle.model.specs.Reading.{IsRead}
 use Rattle.model.specs.Records.{Store, recorded_inputs}
-use Rattle.model.specs.OutOfDate.{Counted, ListsCounted, input_facts, facts_of}
+use Rattle.model.specs.OutOfDate.{Counted, ListsCounted, IsStaleByOutputs, input_facts, facts_of}
 use Rattle.model.specs.Judgement.{reason_of}
 use Rattle.paths.specs.Told.{text_at}
 use Rattle.links.specs.declared.graph.Graph.{Graph}
@@ -68,9 +68,28 @@ pub record MayBeJudgedBy (graph : Graph) (rs : List Record) (ds : List DepsRecor
   pub flagged : AreFlagsOf graph store flags ran old new i
   pub paths : HasPathsOf (declared_by graph).edges store i set
 
--- the answer for the edge that counts as e in the code, by these records and flags, for each set of paths that keep their files,
--- whatever the store, the edges that ran and the files at the entry were
-abbrev pub IsAnswer : Graph → List Record → List DepsRecord → List Bool → ℕ → Option Reason → (List ℕ → Bool) → List Moment → Type 0
-IsAnswer graph rs ds flags e reason set files =
+-- Edge i may be judged by its outputs, with these records and files, as long as these keep their files: nobody has touched them, nor its
+-- depfile.
+pub record MayBeStaleBy (graph : Graph) (rs : List Record) (ds : List DepsRecord) (store : Store) (old new : List Moment) (i : ℕ) (set : List ℕ → Bool) : Type 0 where
+  pub records : store.records ≡ rs
+  pub deps : store.deps ≡ ds
+  pub untouched : AreUntouched (declared_by graph).edges old new i
+  pub depfile : HasOldDepfile (declared_by graph).edges old new i
+  pub made : (p : List ℕ) → has (outputs (edge_at (declared_by graph).edges i)) p ≡ true → set p ≡ true
+
+-- the answer for the edge that counts as e in the code, where all that it reads keeps its file, whatever the store, the edges that ran and
+-- the files at the entry were
+abbrev pub IsReasonFor : Graph → List Record → List DepsRecord → List Bool → ℕ → Option Reason → (List ℕ → Bool) → List Moment → Type 0
+IsReasonFor graph rs ds flags e reason set files =
     (store : Store) (ran : List ℕ) (old : List Moment) → MayBeJudgedBy graph rs ds flags store ran old files (suc e) set
     → IsReasonBy (declared_by graph).edges store ran old files (suc e) reason
+
+-- and where its outputs alone do: there is a reason where one holds by these
+abbrev pub IsStaleFor : Graph → List Record → List DepsRecord → ℕ → Option Reason → (List ℕ → Bool) → List Moment → Type 0
+IsStaleFor graph rs ds e reason set files =
+    (store : Store) (old : List Moment) → MayBeStaleBy graph rs ds store old files (suc e) set
+    → IsStaleByOutputs (declared_by graph).edges store old (suc e) → is_some reason ≡ true
+
+-- so it is by these records and flags, for each set of paths that keep their files
+abbrev pub IsAnswer : Graph → List Record → List DepsRecord → List Bool → ℕ → Option Reason → (List ℕ → Bool) → List Moment → Type 0
+IsAnswer graph rs ds flags e reason set files = IsReasonFor graph rs ds flags e reason set files × IsStaleFor graph rs ds e reason set files

@@ -11,16 +11,15 @@ use Rattle.model.specs.declared.event.Moment.TheVariants.{Wrote, Happened}
 use Rattle.model.specs.declared.event.Writer.TheVariants.{Program, Command, Someone}
 use Rattle.model.specs.World.{File, IsNotAt, written, content_of, file_from, file_at, view_of}
 use Rattle.model.specs.Graph.{has, has_number, edge_at, inputs, outputs}
-use Rattle.model.specs.Reading.{Itself, Wanted}
 use Rattle.model.specs.Premises.{FilesAreKept, Increases, IsNoEdit, IsWithinEdge, KeepsFaith, LeftOutcome, LiesIn, OwnFilesApart}
 use Rattle.worked.specs.Small.{copy, edges, copies, no_records}
 use Rattle.worked.specs.Refused.{own, ran_well}
-use Rattle.worked.specs.Edited.{entry, behind, build, and_later, IsBelievedUnder, EditedRows}
+use Rattle.worked.specs.Edited.{entry, behind, build, and_later, IsBelievedUnder}
 use Rattle.worked.proofs.Lists.{all_has, same_bytes}
 use Rattle.worked.proofs.Written.{written_in, unwritten}
 use Rattle.worked.proofs.Copied.{gives, is_x, stamp_in, no_told}
 
-unmoved : (p : List ℕ) (f : Option File) (ms : List Moment) → AllByRecursion (IsNotAt p) ms → file_from p f ms ≡ f
+pub unmoved : (p : List ℕ) (f : Option File) (ms : List Moment) → AllByRecursion (IsNotAt p) ms → file_from p f ms ≡ f
 unmoved p f [] all = refl
 unmoved p f (Wrote by path content stamp ∷ ms) all =
     ap (λ (g : Option File). file_from p g ms) (cond-false (bytes_eq path p) (written content stamp) f all.0) ∙ unmoved p f ms all.1
@@ -58,10 +57,10 @@ own_files = record {
 
 -- ---- the source is free
 
-abbrev a_free : List ℕ → Bool
+abbrev pub a_free : List ℕ → Bool
 a_free p = bytes_eq p (codes "a")
 
-not_a : (set : List ℕ → Bool) (p : List ℕ) → set (codes "a") ≡ false → set p ≡ true → a_free p ≡ false
+pub not_a : (set : List ℕ → Bool) (p : List ℕ) → set (codes "a") ≡ false → set p ≡ true → a_free p ≡ false
 not_a set p none h = false_from_ne_true (bytes_eq p (codes "a")) (λ same. false≢true (sym none ∙ (ap set (sym (same_bytes p (codes "a") same)) ∙ h)))
 
 free_outputs : (i : ℕ) (p : List ℕ) → has (outputs (edge_at edges i)) p ≡ true → a_free p ≡ false
@@ -72,7 +71,7 @@ free_outputs (suc (suc i)) p h = absurd (false≢true h)
 kept : FilesAreKept own edges entry (entry ++ build)
 kept = record {
   free = a_free;
-  free_apart = record { set = λ p h. not_a own.set p refl h; outputs = free_outputs };
+  free_apart = record { set = λ p h. not_a own.set p refl h; outputs = λ i p makes h. free_outputs i p h };
   commands = λ more is. subst (AllByRecursion (IsWithinEdge a_free edges)) (append_cancel_left entry build more is) (tt, (tt, (tt, (tt, (inl refl, (tt, (tt, tt)))))));
   own_files = own_files;
   edits = λ more is. subst (AllByRecursion (IsNoEdit a_free)) (append_cancel_left entry build more is) (tt, (tt, (tt, (refl, (tt, (tt, (tt, tt)))))));
@@ -133,7 +132,7 @@ left = record {
     at_start : (p : List ℕ) → AllByRecursion (IsNotAt p) behind → view_of started p ≡ view_of (entry ++ build) p
     at_start p none = sym (ap content_of (unmoved p (file_from p None started) behind none))
 
-faith : KeepsFaith copies own edges no_records ran_well entry (entry ++ build)
+pub faith : KeepsFaith copies own edges no_records ran_well entry (entry ++ build)
 faith = record {
   kept = kept;
   unrecorded = λ p is. refl;
@@ -172,7 +171,7 @@ each_early p = elim (cases_Bool (has (written_in since_start) p)) [
   | inr none ↦ λ file is early. ap content_of (sym (unwritten p (file_from p None started) since_start none) ∙ is)
 ]
 
-by_start : IsBelievedUnder 9
+pub by_start : IsBelievedUnder 9
 by_start = record {
   seen = view_of started;
   well = refl;
@@ -186,23 +185,8 @@ by_start = record {
     soon = omega arith
 
 -- `a` holds `y`, and counts as old
-by_finish : IsBelievedUnder 10 → ⊥
+pub by_finish : IsBelievedUnder 10 → ⊥
 by_finish made =
     let seen_a = made.older (codes "a") (record { content = codes "y"; stamp = 10 }) refl (omega arith) in
     let gave = made.holds (codes "x") refl in
     false≢true (ap is_x (sym (ap gives seen_a) ∙ gave))
-
-pub edited_rows : EditedRows
-edited_rows = record {
-  faith = faith;
-  other = λ clean. let same = clean 1 (codes "b") refl (Wanted 1 (codes "b") refl refl) refl refl in differ same;
-  loud = λ files quiet alone is. false≢true (sym (alone.unread 1 (codes "a") is (inl (Itself 1 (codes "a") refl (inl (λ j alias. none_some j alias.made))))) ∙ (files.edits build refl).1.1.1.0);
-  by_start = by_start;
-  by_finish = by_finish;
-}
-  where
-    none_some : (j : ℕ) → None ≡ Some j → ⊥
-    none_some j is = cc
-
-    differ : Some (codes "x") ≡ Some (codes "y") → ⊥
-    differ is = false≢true (ap (λ (o : Option (List ℕ)). elim o [ None ↦ false | Some q ↦ bytes_eq q (codes "x") ]) (sym is))

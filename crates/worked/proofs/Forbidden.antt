@@ -1,5 +1,5 @@
 -- The rows of what others may not do.
-use Rattle.std.proofs.Common.{◌≡◌, ◌<◌, ◌≤◌, [], ◌∷◌, ◌++◌, Some, None, refl, sym, ◌∙◌, ap, arith}
+use Rattle.std.proofs.Common.{◌≡◌, inl, ◌<◌, ◌≤◌, [], ◌∷◌, ◌++◌, Some, None, refl, sym, ◌∙◌, ap, arith}
 use Rattle.std.specs.Prelude.{codes}
 use Rattle.std.proofs.lemmas.Bool.{false≢true}
 use Rattle.model.specs.declared.event.Moment.TheVariants.{Wrote}
@@ -58,7 +58,7 @@ none_some x is = cc
 pub forbidden_rows : ForbiddenRows
 forbidden_rows = record {
   believed = believed;
-  output = ((λ files. false≢true (sym (files.free_apart.outputs 1 (codes "b") refl) ∙ (files.edits (ran ++ patched) refl).1.1.1.1.0)), patched_b);
+  output = ((λ files. false≢true (sym (files.free_apart.outputs 1 (codes "b") (inl refl) refl) ∙ (files.edits (ran ++ patched) refl).1.1.1.1.0)), patched_b);
   source = ((λ faith. none_some _ (faith.unrecorded (codes "b") (faith.kept.edits patched refl).0)), patched_b);
   log = ((λ files. false≢true (sym (files.free_apart.set (codes "l") refl) ∙ (files.edits forged refl).0)), forged_log);
   depfile = ((λ files. false≢true (sym (files.free_apart.set (codes "d") refl) ∙ (files.edits (scanned ++ retold) refl).1.1.1.1.1.0)), retold_d);

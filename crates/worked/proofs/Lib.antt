@@ -2,6 +2,7 @@ pub mod Lists
 pub mod Copied
 pub mod Refused
 pub mod Edited
+pub mod Beside
 pub mod Forbidden
 pub mod Stricter
 pub mod OneVerdict

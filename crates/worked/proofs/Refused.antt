@@ -1,24 +1,28 @@
 -- The rows that are refused.
-use Rattle.std.proofs.Common.{◌≡◌, inl, inr, ℕ, zero, suc, ◌<◌, Bool, true, false, List, [], ◌∷◌, ◌++◌, Option, Some, None, refl, sym, ◌∙◌, ap, subst, bytes_eq, arith}
+use Rattle.std.proofs.Common.{◌≡◌, inl, inr, ℕ, zero, suc, ◌<◌, Bool, true, false, List, [], ◌∷◌, ◌++◌, Option, Some, None, refl, sym, ◌∙◌, ap, subst, bytes_eq, arith, append_assoc}
 use Rattle.std.proofs.lemmas.Bool.{false≢true}
 use Rattle.std.proofs.lemmas.List.{append_cancel_left}
 use Rattle.std.specs.Prelude.{codes}
 use Rattle.std.specs.List.{AllByRecursion}
+use Rattle.model.specs.declared.event.Event.TheVariants.{Start, Finish}
 use Rattle.model.specs.declared.event.Moment.{Moment}
+use Rattle.model.specs.declared.event.Moment.TheVariants.{Wrote, Happened}
+use Rattle.model.specs.declared.event.Writer.{Writer}
+use Rattle.model.specs.declared.event.Writer.TheVariants.{Program}
 use Rattle.model.specs.declared.moves.Move.{Move}
 use Rattle.model.specs.declared.moves.Move.TheVariants.{Write, Delete, Build}
-use Rattle.model.specs.World.{World, view_of}
+use Rattle.model.specs.World.{World, view_of, events_in}
 use Rattle.model.specs.Graph.{has, edge_at, inputs, outputs, IsCommand}
 use Rattle.model.specs.Outcome.{Behaviour, read_depfile, is_accepted}
 use Rattle.model.specs.Records.{LogFormat, OwnFiles, Told, in_force, deps_in_force, read_log}
 use Rattle.model.specs.Judgement.{start_of}
 use Rattle.model.specs.Schedule.{Step, Judged}
 use Rattle.model.specs.Premises.{none_free, IsWithinEdge, IsNoEdit, OwnFilesApart, LiesIn, SharesNone, FilesAreKept}
-use Rattle.model.specs.SingleBuild.{Answer, is_fault, IsFrame, IsReadyFor, PassesNoFault}
+use Rattle.model.specs.SingleBuild.{Answer, is_fault, IsFrame, IsReadyFor, HeldAt, PassesNoFault}
 use Rattle.model.specs.History.{Visit, Edited, Built, Unread, Restarted, IsHistoryFrom, IsEdit}
 use Rattle.model.specs.Driven.{CarriesOut, RestartsFrom, Does, is_restart, answers_in}
-use Rattle.worked.specs.Small.{edges, copies, words, done_under}
-use Rattle.worked.specs.Refused.{RefusedRecords, RefusedFaults, RefusedMoves, RefusedFiles, RefusedStarts, RefusedEnds, RefusedRows, refuses_depfiles, anything, own, with_both, start_of_both, response, old_depfile, starts_one, too_early}
+use Rattle.worked.specs.Small.{copy, edges, copies, words, done_under}
+use Rattle.worked.specs.Refused.{RefusedRecords, RefusedFaults, RefusedMoves, RefusedFiles, RefusedStarts, RefusedLoads, RefusedEnds, RefusedRows, naming, dd_there, refuses_depfiles, anything, own, with_both, start_of_both, response, old_depfile, starts_one, too_early}
 use Rattle.model.specs.Faithful.{IsFaithfulStore}
 use Rattle.worked.proofs.Lists.{all_has, bytes_same, none_some, no_more}
 
@@ -213,7 +217,7 @@ own_files = record {
 kept_after : (old added : List Moment) → AllByRecursion (IsWithinEdge none_free with_both) added → AllByRecursion (IsNoEdit none_free) added → FilesAreKept own with_both old (old ++ added)
 kept_after old added within edits = record {
   free = none_free;
-  free_apart = record { set = λ p is. refl; outputs = λ i p is. refl };
+  free_apart = record { set = λ p is. refl; outputs = λ i p makes is. refl };
   commands = λ more is. subst (AllByRecursion (IsWithinEdge none_free with_both)) (append_cancel_left old added more is) within;
   own_files = own_files;
   edits = λ more is. subst (AllByRecursion (IsNoEdit none_free)) (append_cancel_left old added more is) edits;
@@ -259,6 +263,23 @@ none_before : (earlier later : List Step) → [] ≡ earlier ++ Judged 1 true �
 none_before [] later is = cc
 none_before (step ∷ earlier) later is = cc
 
+-- the moments up to the second start have no tick behind the first one's end
+no_tick : (earlier between : List Moment) (by : Writer) (path : List ℕ) (content : Option (List ℕ))
+    → Wrote Program (codes "t") (Some []) 9 ∷ Happened (Start 1 copy 9) ∷ Happened (Finish 1 true) ∷ [] ≡ earlier ++ Wrote by path content 9 ∷ between → events_in between ≡ [] → ⊥
+no_tick [] between by path content is none =
+    let rest : Happened (Start 1 copy 9) ∷ Happened (Finish 1 true) ∷ [] ≡ between = cc in
+    some_first (ap events_in rest ∙ none)
+  where
+    some_first : Start 1 copy 9 ∷ Finish 1 true ∷ [] ≡ [] → ⊥
+    some_first is = cc
+no_tick (a ∷ []) between by path content is none = cc
+no_tick (a ∷ b ∷ []) between by path content is none = cc
+no_tick (a ∷ b ∷ c ∷ earlier) between by path content is none = let nothing : [] ≡ earlier ++ Wrote by path content 9 ∷ between = cc in absurd (empty earlier nothing)
+  where
+    empty : (xs : List Moment) → [] ≡ xs ++ Wrote by path content 9 ∷ between → ⊥
+    empty [] e = cc
+    empty (x ∷ xs) e = cc
+
 starts : RefusedStarts
 starts = record {
   clean = λ free store old new stale. let first = stale (Judged 1 false ∷ []) [] 1 refl in false≢true (judged_before false first.0 first.1 first.2);
@@ -266,6 +287,45 @@ starts = record {
   clean_step = λ lawful. false≢true lawful.1.0.1.stale;
   unjudged_step = λ lawful. false≢true lawful.0.1.stale;
   twice = λ lawful. false≢true (sym lawful.1.1.1.0.1.once);
+  absent_output = λ store clean. clean 1 refl refl;
+  without_tick = λ ticks.
+      let tick = ticks (Wrote Program (codes "t") (Some []) 9 ∷ Happened (Start 1 copy 9) ∷ Happened (Finish 1 true) ∷ []) [] 2 9 copy refl in
+      no_tick tick.earlier tick.between tick.by tick.path tick.content tick.splits tick.quiet;
+}
+
+-- ---- loads
+
+names_dd : (i : ℕ) (file : List ℕ) → (edge_at naming i).dyndep ≡ Some file → codes "dd" ≡ file
+names_dd zero file is = absurd (none_some file is)
+names_dd (suc zero) file is = cc
+names_dd (suc (suc i)) file is = absurd (none_some file is)
+
+no_other : Some (codes "nothing") ≡ Some (codes "other") → ⊥
+no_other is = false≢true (ap (λ (o : Option (List ℕ)). elim o [ None ↦ false | Some q ↦ bytes_eq q (codes "nothing") ]) (sym is))
+
+none_first : (xs ys : List Moment) → xs ++ ys ≡ [] → xs ≡ []
+none_first [] ys is = refl
+none_first (x ∷ xs) ys is = cc
+
+-- where nobody has written since the entry, the file holds what it held
+held_still : (content : List ℕ) → HeldAt (codes "dd") (Some content) [] dd_there dd_there → Some (codes "nothing") ≡ Some content
+held_still content held = subst (λ (h : List Moment). view_of h (codes "dd") ≡ Some content) at_entry held.holds
+  where
+    parts : held.moment.so_far ++ held.moment.later ≡ []
+    parts = append_cancel_left dd_there (held.moment.so_far ++ held.moment.later) []
+        (sym (append_assoc dd_there held.moment.so_far held.moment.later) ∙ (ap (λ (l : List Moment). l ++ held.moment.later) (sym held.moment.is) ∙ sym held.moment.grows))
+
+    at_entry : held.at ≡ dd_there
+    at_entry = held.moment.is ∙ ap (λ (l : List Moment). dd_there ++ l) (none_first held.moment.so_far held.moment.later parts)
+
+loads : RefusedLoads
+loads = record {
+  other_text = λ texts is held.
+      let load = held.0 in
+      let named = names_dd load.is_next.due.edge load.file load.is_next.due.names in
+      let content : Some (codes "other") ≡ Some load.content = sym is ∙ (ap texts named ∙ load.read) in
+      let there = subst (λ (p : List ℕ). HeldAt p (Some load.content) [] dd_there dd_there) (sym named) load.held in
+      no_other (held_still load.content there ∙ sym content);
 }
 
 -- ---- ends
@@ -275,9 +335,9 @@ refused_depfile held content is = ap (λ (h : Option (List ℕ)). is_accepted (r
 
 ends : RefusedEnds
 ends = record {
-  failed = λ free store old new at ended judged. false≢true (judged.depfiles 1 at ended refl (λ met. none_some 1 met));
-  well = λ free store old new at content ended held judged. false≢true (sym (refused_depfile _ content held) ∙ judged.well 1 at ended refl);
+  failed = λ old new at ended right. false≢true (right.depfiles 1 at ended refl (λ met. none_some 1 met));
+  well = λ old new at content ended held right. false≢true (sym (refused_depfile _ content held) ∙ right.well 1 at ended refl);
 }
 
 pub refused_rows : RefusedRows
-refused_rows = record { records = records; faults = faults; moves = moves; files = files; starts = starts; ends = ends }
+refused_rows = record { records = records; faults = faults; moves = moves; files = files; starts = starts; loads = loads; ends = ends }

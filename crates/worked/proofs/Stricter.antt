@@ -13,7 +13,8 @@ use Rattle.model.specs.Records.{OwnFiles}
 use Rattle.model.specs.Graph.{edge_at, outputs}
 use Rattle.build_theory.specs.Order.{LeftAsNow}
 use Rattle.build_theory.proofs.Lists.{all_has, all_from_has}
-use Rattle.worked.specs.Stricter.{AreLater, AreOfWrites, StricterSuffice}
+use Rattle.build_theory.proofs.Looks.{logs_left, logs_unedited}
+use Rattle.worked.specs.Stricter.{AreLater, AreOfWrites, StricterSuffice, LogsAreLeftByBoth}
 
 below_or : (a b : ℕ) → (a < b) ⊎ (b ≤ a)
 below_or zero zero = inr (omega arith)
@@ -88,7 +89,7 @@ own_view B edges since new at i one left =
 abbrev kept_by : (own : OwnFiles) (edges : List Edge) (old new : List Moment) → KeepToOutputs none_free edges old new → OwnFilesApart own edges → NothingIsEdited old new → FilesAreKept own edges old new
 kept_by own edges old new commands own_files edits = record {
   free = none_free;
-  free_apart = record { set = λ p h. refl; outputs = λ i p h. refl };
+  free_apart = record { set = λ p h. refl; outputs = λ i p makes h. refl };
   commands = commands;
   own_files = own_files;
   edits = edits;
@@ -119,3 +120,7 @@ stricter_suffice B own declared edges recorded store steps old new judged ticked
 
     left : LeaveOutcomes B edges steps old new
     left i at ended well before since act stamp splits = own_view B edges since new at i (strict.one_outcome i refl (judged i well)) (strict.left i at refl ended well)
+
+pub left_by_both : LogsAreLeftByBoth
+left_by_both own edges old new (inl kept) = logs_left own edges old new kept
+left_by_both own edges old new (inr edits) = logs_unedited own old new edits

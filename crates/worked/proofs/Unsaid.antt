@@ -170,7 +170,7 @@ not_by_exit judged =
 
 of_loads : UnsaidOfLoads
 of_loads = record {
-  held = record { before = []; later = []; splits = refl; at = with_dd; moment = record { so_far = []; later = rewritten; is = refl; grows = refl; happened = refl }; holds = refl };
+  held = record { at = with_dd; moment = record { so_far = []; later = rewritten; is = refl; grows = refl; happened = refl }; holds = refl };
   not_held = λ is. false≢true (ap (is_held text) is);
   unknown = inputs_beside;
   all_clean = λ new judged. false≢true (judged.0.right (λ p counted. refl)).verdict;

@@ -1,25 +1,25 @@
 -- What the definitions refuse.
 use Rattle.std.specs.Prelude.{◌≡◌, ◌≢◌, ℕ, ◌≤◌, ◌<◌, Bool, true, false, List, [], ◌∷◌, ◌++◌, Some, None, codes}
-use Rattle.model.specs.declared.event.Event.TheVariants.{Start}
+use Rattle.model.specs.declared.event.Event.TheVariants.{Start, Finish}
 use Rattle.model.specs.declared.event.Moment.{Moment}
 use Rattle.model.specs.declared.event.Moment.TheVariants.{Wrote, Happened}
-use Rattle.model.specs.declared.event.Writer.TheVariants.{Program}
+use Rattle.model.specs.declared.event.Writer.TheVariants.{Program, Someone}
 use Rattle.model.specs.declared.fault.SiteFault.TheVariants.{Stopped, Memory}
 use Rattle.model.specs.declared.graph.Edge.{Edge}
 use Rattle.model.specs.declared.moves.Move.{Move}
 use Rattle.model.specs.declared.moves.Move.TheVariants.{Write, Build}
-use Rattle.model.specs.World.{World, view_of, runs}
+use Rattle.model.specs.World.{World, View, view_of, runs}
 use Rattle.model.specs.Graph.{has}
 use Rattle.model.specs.Outcome.{Behaviour}
 use Rattle.model.specs.Records.{Store, LogFormat, OwnFiles}
 use Rattle.model.specs.Schedule.{Step, Judged, Started, Ended, IsLawful}
-use Rattle.model.specs.Premises.{EndedAt, OwnFilesApart, FilesAreKept, RecordedApart}
+use Rattle.model.specs.Premises.{EndedAt, OwnFilesApart, FilesAreKept, RecordedApart, StartsAreTicked}
 use Rattle.model.specs.Kept.{KeepsRecords, StartedUnder}
-use Rattle.model.specs.SingleBuild.{Asked, Answer, Fault, SingleBuild, IsJudged, IsFrame, StartsOnlyStale, is_fault}
+use Rattle.model.specs.SingleBuild.{Asked, Answer, Fault, SingleBuild, EndRightly, IsFrame, StartsOnlyStale, AreCleanByOutputs, AreLoadsHeldAt, is_fault}
 use Rattle.model.specs.Faithful.{IsFaithfulStore}
 use Rattle.model.specs.History.{Visit, IsNotRead}
 use Rattle.model.specs.Driven.{Reader, IsDriven, CarriesOut, RestartsFrom, is_restart, asks_restart}
-use Rattle.worked.specs.Small.{act_with, edge_with, edges, asked, copies, words, no_records, done_under, world_with, task}
+use Rattle.worked.specs.Small.{act_with, copy, edge_with, edges, asked, copies, words, no_records, done_under, world_with, task}
 
 -- ---- records
 
@@ -148,6 +148,10 @@ pub record RefusedFiles : Type 0 where
 
 -- ---- starts
 
+-- the second start is under a stamp of before the first one's end
+abbrev pub unticked : List Moment
+unticked = Wrote Program (codes "t") (Some []) 9 ∷ Happened (Start 1 copy 9) ∷ Happened (Finish 1 true) ∷ Happened (Start 2 copy 9) ∷ []
+
 pub record RefusedStarts : Type 0 where
   -- a command that was judged clean, or not judged, is started
   pub clean : (free : List ℕ → Bool) (store : Store) (old new : List Moment) → StartsOnlyStale free edges store (Judged 1 false ∷ Started 1 ∷ []) old new → ⊥
@@ -156,14 +160,28 @@ pub record RefusedStarts : Type 0 where
   pub unjudged_step : IsLawful task (Started 1 ∷ []) → ⊥
   -- it is started twice
   pub twice : IsLawful task (Judged 1 true ∷ Started 1 ∷ Ended 1 true ∷ Started 1 ∷ []) → ⊥
+  -- an edge whose output is absent is judged clean, whatever it reads and the logs tell
+  pub absent_output : (store : Store) → AreCleanByOutputs edges store (Judged 1 false ∷ []) [] → ⊥
+  -- it has no stamp of its own
+  pub without_tick : StartsAreTicked [] unticked → ⊥
+
+-- ---- loads
+
+-- `build b: copy a || dd`, with `dyndep = dd`
+abbrev pub naming : List Edge
+naming = record (edge_with copy) { order_only_inputs = codes "dd" ∷ []; dyndep = Some (codes "dd") } ∷ []
+
+abbrev pub dd_there : List Moment
+dd_there = Wrote Someone (codes "dd") (Some (codes "nothing")) 9 ∷ []
+
+pub record RefusedLoads : Type 0 where
+  -- a dyndep file is read as what it does not hold, and nobody has written since the entry: whatever follows by what is read
+  pub other_text : (texts : View) → texts (codes "dd") ≡ Some (codes "other") → AreLoadsHeldAt texts task no_records [] (record { edges = naming; steps = [] } ∷ []) dd_there dd_there → ⊥
 
 -- ---- ends
 
 abbrev pub with_depfile : List Edge
 with_depfile = edge_with (act_with (codes "copy") (codes "d") []) ∷ []
-
-abbrev pub asked_with_depfile : Asked
-asked_with_depfile = record { graph = record { edges = with_depfile; pools = []; defaults = []; builddir = [] }; declared = with_depfile; targets = []; folder = []; jobs = 1; keep = 1 }
 
 -- no depfile can be read
 abbrev pub refuses_depfiles : Behaviour
@@ -171,11 +189,11 @@ refuses_depfiles = record { outcome = copies.outcome; depfile = λ content. None
 
 pub record RefusedEnds : Type 0 where
   -- a command ended well by itself and has no depfile, and is said to have failed
-  pub failed : (free : List ℕ → Bool) (store : Store) (old new at : List Moment) → EndedAt 1 old new at
-      → IsJudged copies free asked store (Judged 1 true ∷ Started 1 ∷ Ended 1 false ∷ []) None old new → ⊥
+  pub failed : (old new at : List Moment) → EndedAt 1 old new at
+      → EndRightly copies edges (Judged 1 true ∷ Started 1 ∷ Ended 1 false ∷ []) None old new → ⊥
   -- it left a depfile that is refused, and is said to have ended well
-  pub well : (free : List ℕ → Bool) (store : Store) (old new at : List Moment) (content : List ℕ) → EndedAt 1 old new at → view_of at (codes "d") ≡ Some content
-      → IsJudged refuses_depfiles free asked_with_depfile store ran_well None old new → ⊥
+  pub well : (old new at : List Moment) (content : List ℕ) → EndedAt 1 old new at → view_of at (codes "d") ≡ Some content
+      → EndRightly refuses_depfiles with_depfile ran_well None old new → ⊥
 
 -- All of it.
 pub record RefusedRows : Type 0 where
@@ -184,4 +202,5 @@ pub record RefusedRows : Type 0 where
   pub moves : RefusedMoves
   pub files : RefusedFiles
   pub starts : RefusedStarts
+  pub loads : RefusedLoads
   pub ends : RefusedEnds

@@ -1,6 +1,6 @@
 -- The premises of builds in stricter words, as they stood before: each write is stamped later than all before, nobody else writes,
 -- commands write their outputs and depfiles alone and leave what they give from the files of the exit.
-use Rattle.std.specs.Prelude.{◌≡◌, ◌<◌, ◌≤◌, max, ℕ, Bool, true, false, List, [], ◌∷◌, ◌++◌}
+use Rattle.std.specs.Prelude.{◌≡◌, ◌⊎◌, ◌<◌, ◌≤◌, max, ℕ, Bool, true, false, List, [], ◌∷◌, ◌++◌}
 use Rattle.model.specs.declared.event.Event.TheVariants.{Start, Finish}
 use Rattle.model.specs.declared.event.Moment.{Moment}
 use Rattle.model.specs.declared.event.Moment.TheVariants.{Wrote, Happened}
@@ -8,7 +8,7 @@ use Rattle.model.specs.declared.graph.Edge.{Edge}
 use Rattle.model.specs.World.{view_of, latest}
 use Rattle.model.specs.Graph.{has_number}
 use Rattle.model.specs.Outcome.{Behaviour}
-use Rattle.model.specs.Premises.{OneOutcome, KeepToOutputs, OwnFilesApart, NothingIsEdited, none_free, RecordedApart, ReportsComeFromAbove, DyndepOutputsAreReadBelow, Premises, KeepsFaith}
+use Rattle.model.specs.Premises.{LogsAreLeft, FilesAreKept, OneOutcome, KeepToOutputs, OwnFilesApart, NothingIsEdited, none_free, RecordedApart, ReportsComeFromAbove, DyndepOutputsAreReadBelow, Premises, KeepsFaith}
 use Rattle.model.specs.Records.{OwnFiles, Store}
 use Rattle.model.specs.Schedule.{Step, judged_in, well_in}
 use Rattle.build_theory.specs.Order.{LeaveAsNow}
@@ -55,3 +55,7 @@ StricterSuffice =
     (B : Behaviour) (own : OwnFiles) (declared edges : List Edge) (recorded : ℕ → List (List ℕ)) (store : Store) (steps : List Step) (old new : List Moment)
     → ((i : ℕ) → has_number (well_in steps) i ≡ true → has_number (judged_in steps) i ≡ true) → AreOfWrites 0 new
     → StricterPremises B own declared edges recorded steps old new → MeetsAll B own declared edges recorded store steps old new
+
+-- Where files are kept, others have left the logs; and where nobody else has written anything, whatever commands did.
+abbrev pub LogsAreLeftByBoth : Type 0
+LogsAreLeftByBoth = (own : OwnFiles) (edges : List Edge) (old new : List Moment) → FilesAreKept own edges old new ⊎ NothingIsEdited old new → LogsAreLeft own old new

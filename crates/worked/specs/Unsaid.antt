@@ -156,7 +156,7 @@ at_first = Judged 1 true ∷ []
 
 pub record UnsaidOfLoads : Type 0 where
   -- a dyndep file that is edited behind its load does not hold what it held then
-  pub held : HeldAt (codes "dd") text [] with_dd (with_dd ++ rewritten)
+  pub held : HeldAt (codes "dd") (Some text) [] with_dd (with_dd ++ rewritten)
   pub not_held : view_of (with_dd ++ rewritten) (codes "dd") ≡ Some text → ⊥
   -- A build that judges every edge clean, where one reads `x` without standing below `dd`: who makes that is not known, so nothing is
   -- said of verdicts by the files of the exit; those of then refuse it.

@@ -6,7 +6,7 @@ ghost use Rattle.worked.specs.Refused.{RefusedRows};
 ghost use Rattle.worked.specs.Dyndep.{DyndepRows};
 ghost use Rattle.worked.specs.Edited.{EditedRows};
 ghost use Rattle.worked.specs.Forbidden.{ForbiddenRows};
-ghost use Rattle.worked.specs.Stricter.{StricterSuffice};
+ghost use Rattle.worked.specs.Stricter.{LogsAreLeftByBoth, StricterSuffice};
 ghost use Rattle.worked.specs.Unsaid.{UnsaidRows};
 
 /// The definitions refuse these: records made up or dropped, a fault passed over, moves skipped, restarts that are missing or
@@ -26,7 +26,8 @@ pub fn dyndep_rows()
 
 /// A build during which a source is edited while its command runs, a write before a tick has the tick's stamp, and two files have
 /// one: it meets the premises of faithful records, and not those of contents. Its record is true under the stamp of the start, and
-/// not under that of the finish.
+/// not under that of the finish. Beside another command, which reads another source, it meets those of contents, too, with that one's
+/// edge quiet; and the edited source may be named by a phony line.
 pub fn edited_rows()
     ensures { EditedRows }
 {}
@@ -41,6 +42,11 @@ pub fn forbidden_rows()
 /// stamps of ticks: so what is promised by today's words holds by those, too.
 pub fn stricter_premises()
     ensures { StricterSuffice }
+{}
+
+/// Each of the premises that the records of a build stood on before implies that others leave the logs.
+pub fn logs_are_left()
+    ensures { LogsAreLeftByBoth }
 {}
 
 /// What a build says less of where others edit meanwhile: of each such clause the smallest history in which more would be false; an

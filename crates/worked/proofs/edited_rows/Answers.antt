@@ -1,4 +1,4 @@
-use Rattle.worked.proofs.Edited.{edited_rows}
+use Rattle.worked.proofs.Beside.{edited_rows}
 use Rattle.worked.proofs.edited_rows.Goals as goal
 
 pub returns : goal.returns

@@ -24,7 +24,7 @@ returns-clause-due g c store targets before known_by orderly unjudged keeps told
     let steps = kept_orderly (declared_by graph).edges before orderly in
     let paths = paths_of_clean graph c.lists_stand.ensures store before steps files c.args.due.now c.args.edge (known_by.in_use (suc c.args.edge)) command unjudged known none targets set has in
     let answer =
-    c.in_ok-found.ensures.reason store.records store.deps known_by.known (keeps (suc c.args.edge) command unjudged) told set kept seen store [] files
+    (c.in_ok-found.ensures.reason store.records store.deps known_by.known (keeps (suc c.args.edge) command unjudged) told set kept seen).0 store [] files
     (may_be_judged graph store known_by.in_use before set now files alike (suc c.args.edge) command unjudged paths) in
     let by_files = reason_then graph store known_by.in_use before set now files alike (suc c.args.edge) command unjudged paths c.in_ok-found.found answer in
     let decided = due_by_reason graph c.lists_stand.ensures store before steps files c.args.due.now c.args.edge (known_by.in_use (suc c.args.edge)) command unjudged known none c.in_ok-found.found by_files in

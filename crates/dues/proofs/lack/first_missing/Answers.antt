@@ -1,10 +1,12 @@
-use Rattle.std.proofs.Common.{ℕ, List, subst, arith}
+use Rattle.std.proofs.Common.{◌≡◌, ◌<◌, ℕ, true, List, length, sym, subst, arith}
 use Rattle.std.proofs.lemmas.List.{take_all}
+use Rattle.model.specs.Graph.{has_number}
 use Rattle.model.specs.OutOfDate.{NoneIsMissing}
 use Rattle.build_theory.proofs.Calls.{unrefused_call, unrefused_then}
 use Rattle.paths.specs.Told.{texts_at}
 use Rattle.links.specs.Told.{declared_by}
 use Rattle.dues.proofs.Lacking.{missing_passed, missing_found}
+use Rattle.dues.proofs.Slices.{at_has}
 use Rattle.dues.proofs.Stays.{looked_then}
 use Rattle.dues.proofs.lack.first_missing.Goals as goal
 
@@ -33,3 +35,10 @@ pub returns-clause-first : goal.returns-clause-first
 returns-clause-first g c told set kept seen files same fit =
     subst (λ (l : List ℕ). NoneIsMissing (declared_by c.args.graph.now).edges files (texts_at c.args.graph.now.manifest.paths l)) (take_all c.loop-path.path-index c.args.paths.now (omega arith))
     (c.loop-path.invariant.none told set kept seen files same fit)
+
+pub returns-then-branch-clause-within : goal.returns-then-branch-clause-within
+returns-then-branch-clause-within g c = record {
+  within = subst (λ (p : ℕ). p < length c.args.graph.now.manifest.paths) (sym {A = ℕ} c.path-item.is) (c.requires.within c.loop-path.path-index c.path-item.result c.loop-path-test.true);
+  listed = subst (λ (p : ℕ). has_number c.args.paths.now p ≡ true) (sym {A = ℕ} c.path-item.is) (at_has c.args.paths.now c.loop-path.path-index c.path-item.result c.loop-path-test.true);
+  source = c.in_ok-is_missing.ensures.source (cc);
+}

@@ -1,5 +1,6 @@
-use Rattle.std.proofs.Common.{arith}
+use Rattle.std.proofs.Common.{◌≡◌, ℕ, Option, Some, IfSome, subst, arith}
 use Rattle.build_theory.proofs.Calls.{unrefused_call, unrefused_then}
+use Rattle.dues.specs.Lacks.{IsSourceFor}
 use Rattle.dues.proofs.Lacking.{edge_passed, edge_found}
 use Rattle.dues.proofs.Stays.{looked_then}
 use Rattle.dues.proofs.lack.lack_of_due.Goals as goal
@@ -27,3 +28,9 @@ loop-place-preserved g c = record {
 
 pub returns-clause-found : goal.returns-clause-found
 returns-clause-found g c told set kept seen files same all e lt due = c.loop-place.invariant.none told set kept seen files same all e (omega (arith, lt, c.loop-place-test.false, c.edges-place-end.ensures)) due
+
+pub returns-in-Some-clause-within : goal.returns-in-Some-clause-within
+returns-in-Some-clause-within g c =
+    let is : c.in_ok-path.field-0 ≡ Some c.in-Some.path = cc in
+    let named = subst (λ (o : Option ℕ). IfSome o (IsSourceFor c.args.graph.now c.edge-edge.result)) is c.in_ok-path.ensures.within in
+    record { path = named.within; edge = omega (arith, c.edge-edge.ensures, c.loop-place-test.true, c.edges-place-end.ensures); source = named.source; input = named.input }

@@ -1,9 +1,9 @@
-use Rattle.std.proofs.Common.{◌≡◌, List, ℕ, true, length, sym, subst, rules}
+use Rattle.std.proofs.Common.{◌≡◌, List, ℕ, true, length, IfSome, sym, subst, rules}
 use Rattle.links.specs.Links.{links_of}
 use Rattle.dues.specs.Dues.{due_at, AreSourcesIn}
-use Rattle.dues.specs.Lacks.{IsFirstIn}
+use Rattle.dues.specs.Lacks.{IsFirstIn, IsSourceOf}
 use Rattle.dues.proofs.Slices.{within_by, if_ok_then}
-use Rattle.dues.proofs.Lacking.{first_for}
+use Rattle.dues.proofs.Lacking.{first_for, source_for}
 use Rattle.dues.proofs.lack.missing_of_edge.Goals as goal
 
 pub first_missing-requires-clause-within : goal.first_missing-requires-clause-within
@@ -17,3 +17,9 @@ returns-then-due-index-clause-first g c =
     if_ok_then c.first_missing.result c.first_missing.ensures.first (λ found said told set kept seen files same fit.
     first_for c.args.graph.now c.args.due.now files c.lists_stand.ensures c.args.edge marked found
     (subst (λ (l : List ℕ). IsFirstIn c.args.graph.now l files found) c.inputs.ensures (said told set kept seen files same (subst (AreSourcesIn set c.args.graph.now) (sym {A = List ℕ} c.inputs.ensures) fit))))
+
+pub returns-then-due-index-clause-within : goal.returns-then-due-index-clause-within
+returns-then-due-index-clause-within g c =
+    let graph = c.args.graph.now in
+    if_ok_then c.first_missing.result c.first_missing.ensures.within (λ found named. source_for graph c.lists_stand.ensures c.args.edge found
+    (subst (λ (l : List ℕ). IfSome found (IsSourceOf graph l)) c.inputs.ensures named))

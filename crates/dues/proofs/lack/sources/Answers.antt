@@ -1,6 +1,7 @@
-use Rattle.std.proofs.Common.{List, ℕ, Bool, Some, None, sym, subst}
+use Rattle.std.proofs.Common.{List, ℕ, Bool, Option, Some, None, IfSome, sym, subst}
 use Rattle.dues.specs.Dues.{AreSourcesIn}
-use Rattle.dues.specs.Lacks.{IsFirstIn, IsFoundOfDue}
+use Rattle.dues.specs.declared.lack.Lack.{Lack}
+use Rattle.dues.specs.Lacks.{IsFirstIn, IsFoundOfDue, IsSourceOf, IsLackOf}
 use Rattle.dues.proofs.Finding.{target_found, due_told, all_found}
 use Rattle.dues.proofs.Stays.{looked_then}
 use Rattle.dues.proofs.lack.sources.Goals as goal
@@ -50,3 +51,11 @@ returns-in-None-2-clause-due g c = record {
       let graph = c.args.graph.now in
       due_told c.looks_follow.ensures.follow c.looks_follow.ensures.stay g.S.Texts.tells graph c.lists_stand.ensures c.args.records.now c.args.cone.now c.args.plan.now store targets before way c.requires.targets (g.S.Texts.world c.args.site.now) (g.S.Texts.world c.first_missing.new.site) c.args.looks.now (g.S.Texts.world c.due_edges.new.site) (g.S.Texts.world c.lack_of_due.new.site) c.first_missing.new.looks c.due_edges.new.looks c.lack_of_due.new.looks c.first_missing.ensures.looked c.due_edges.ensures.looked c.lack_of_due.ensures.looked c.in_ok-due-in-None.due.items (c.in_ok-due-in-None.ensures.due store targets before way);
 }
+
+pub returns-in-Some-clause-within : goal.returns-in-Some-clause-within
+returns-in-Some-clause-within g c =
+    let named = subst (λ (o : Option ℕ). IfSome o (IsSourceOf c.args.graph.now c.as_slice-targets.result.now)) c.in-Some.is c.in_ok-path.ensures.within in
+    record { path = named.within; edge = tt; source = named.source; input = tt }
+
+pub returns-in-Some-2-clause-within : goal.returns-in-Some-2-clause-within
+returns-in-Some-2-clause-within g c = subst (λ (o : Option Lack). IfSome o (IsLackOf c.args.graph.now)) c.in-Some-2.is c.in_ok-lack-in-None.ensures.within

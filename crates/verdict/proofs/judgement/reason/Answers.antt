@@ -105,4 +105,4 @@ returns-clause-reason g c rs ds known keeps told set kept seen =
     (subst (λ (x : Act). x.depfile ≢ [] → AreKept (bytes_eq x.depfile) a.history d.history) act_is (keeps told))
     (c.in_ok-depfile.ensures.there told) in
     is_answer graph c.lists_stand.ensures e taken.edges taken.read line command c.command_of-command.ensures rs ds c.args.changed.now
-    c.in_ok-outputs.outputs c.in_ok-inputs.inputs c.in_ok-depfile.depfile c.judge.result set d.history whole.0 whole.1 depfile c.judge.ensures
+    c.in_ok-outputs.outputs c.in_ok-inputs.inputs c.in_ok-depfile.depfile c.judge.result set d.history whole.0 whole.1 depfile c.judge.ensures.reason c.judge.ensures.stale
