@@ -1,6 +1,7 @@
 //! Steps of a build, as rows tell them.
 
 use std::alloc::{AllocError, Global};
+use std::mem;
 use tables::unescaped;
 use terminal::{Live, Look, Names};
 
@@ -46,7 +47,7 @@ impl Steps {
 
     /// Hands the names over.
     fn hand_over(&mut self, alloc: Global) {
-        let names = std::mem::replace(&mut self.names, Names::new(alloc));
+        let names = mem::replace(&mut self.names, Names::new(alloc));
         self.live.take_names(names);
     }
 }

@@ -262,6 +262,12 @@ impl Live {
         }
     }
 
+    /// The line that tells of a failed output.
+    pub fn failure(&self, output: &str) -> Result<Vec<u8>, AllocError> {
+        let line = format!(in self.alloc; "FAILED: {output}\n")?;
+        self.coloured(line.as_bytes())
+    }
+
     /// The text as it is to be shown: with failures in red, where colours are wanted.
     pub fn coloured(&self, text: &[u8]) -> Result<Vec<u8>, AllocError>
         ensures { IfOk result (λ coloured. IsColoured text.now coloured.items) }

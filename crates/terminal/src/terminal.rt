@@ -142,6 +142,15 @@ impl<W: Write> Terminal<W> {
         self.put_drawn(told);
     }
 
+    /// Tells once more that this output failed, where rows were drawn. To be called when they were taken away.
+    pub fn recall(&mut self, output: &str) {
+        let told = match &self.drawn {
+            Some(drawn) => drawn.live.failure(output),
+            None => return,
+        };
+        self.put_drawn(told);
+    }
+
     /// Writes what is to be drawn. Where that cannot be, or there was no memory for it, texts go out as they are from now on.
     fn put_drawn(&mut self, told: Result<Vec<u8>, AllocError>) {
         let is_put = match told {
