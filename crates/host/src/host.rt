@@ -347,16 +347,12 @@ impl<'a, W: Write> Site for Host<'a, W> {
         ensures unstarted { OnErr result (OnlyLooks false (world_of self.old) (world_of self.new)) }
     {
         let mut opened = self.open_printed(console)?;
-        if console {
-            self.screen.hand_over(self.rt, job);
-        }
+        self.screen.prepare(self.rt, job, console);
         let started = self.jobs.start(job, act, self.ticked, &mut opened);
         self.files.take_back(self.rt, opened);
         self.noted(SHELL, started)?;
         self.failures_at_start = self.failures;
-        if !console {
-            self.screen.start(self.rt, job);
-        }
+        self.screen.start(self.rt, job, console);
         Ok(())
     }
 

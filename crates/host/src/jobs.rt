@@ -113,10 +113,7 @@ impl Jobs {
         let command = self.commands.swap_remove(place);
         let End { job, ok, signal } = command.end();
         screen.end(rt, job);
-        if signal.is_some() {
-            screen.step_aside();
-            tell_signal(self.alloc, rt, signal);
-        }
+        tell_signal(self.alloc, rt, signal, screen);
         files.take_in(rt, command.into_printed(), is_unused);
         push_reserved(&mut self.events, Event::Finish { job, ok });
         Ok(Finished { job, ok, output })

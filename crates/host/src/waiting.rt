@@ -58,9 +58,7 @@ pub fn wait_first<W: Write>(
             screen.step_aside();
             watch.has_waited_long(commands.as_slice());
         }
-        if round.some_held {
-            round.some_held = tells_held(commands.as_slice(), watch, screen);
-        }
+        round.some_held = round.some_held && tells_held(commands.as_slice(), watch, screen);
         screen.pass(rt);
         round.left = in_a_round(running);
     }

@@ -1,7 +1,7 @@
 //! Drawings, as they are written.
 
-ghost use Rattle.std.specs.Prelude.{◌≡◌, ◌++◌, ◌∷◌, [], IfOk, OnOk};
-ghost use Rattle.terminal.specs.Screen.{Over, drawing, piece_text, up, written};
+ghost use Rattle.std.specs.Prelude.{◌≡◌, ℕ, List, ◌++◌, [], IfOk, OnOk};
+ghost use Rattle.terminal.specs.Screen.{Over, Shows, drawing, piece_text, up, written};
 
 use std::alloc::{AllocError, Global};
 
@@ -17,8 +17,38 @@ const UP: &[u8] = b"\x1b[A";
 /// To the first column, and all from there on is erased.
 const ERASE: &[u8] = b"\r\x1b[J";
 
+/// What is written to show the new rows in the place of the old ones, with what stays above them. Where there are neither, what stays is
+/// written as it is.
+pub fn shown(
+    alloc: Global,
+    old_rows: &[u8],
+    stays: &[u8],
+    new_rows: &[u8],
+) -> Result<Vec<u8>, AllocError>
+    ensures { IfOk result (λ bytes. Shows old_rows.now bytes.items stays.now new_rows.now) }
+{
+    if old_rows.is_empty() && new_rows.is_empty() {
+        return as_it_is(alloc, stays);
+    }
+    drawing(alloc, old_rows, stays, new_rows)
+}
+
+/// What is written so that all is as it was.
+pub fn nothing(alloc: Global) -> Vec<u8>
+    ensures { (rows : List ℕ) → Shows rows result.items [] rows }
+{
+    Vec::new(alloc)
+}
+
+/// What is written to show a text where no rows are drawn.
+pub fn as_it_is(alloc: Global, text: &[u8]) -> Result<Vec<u8>, AllocError>
+    ensures { IfOk result (λ bytes. Shows [] bytes.items text.now []) }
+{
+    Vec::from_slice(alloc, text)
+}
+
 /// The bytes of a drawing: over the old rows, then what stays, then the new rows.
-pub fn drawing(
+fn drawing(
     alloc: Global,
     old_rows: &[u8],
     stays: &[u8],

@@ -6,7 +6,7 @@ ghost use Rattle.terminal.specs.Shown.{ShowsText, drawn_of, last_line, whole_lin
 ghost use Rattle.terminal.specs.Texts.{IsColoured};
 
 use crate::counts::total_in;
-use crate::drawing::drawing;
+use crate::drawing::{as_it_is, nothing, shown};
 use crate::look::Look;
 use crate::names::Names;
 use crate::rows::{Known, rows};
@@ -106,7 +106,7 @@ impl Live {
         ensures line { self.new.line ≡ self.old.line }
     {
         if !self.is_due(now) {
-            return Ok(Vec::new(self.alloc));
+            return Ok(nothing(self.alloc));
         }
         self.looked = now;
         let rows = rows(self.alloc, self.known(), now)?;
@@ -129,12 +129,12 @@ impl Live {
         ensures line { self.new.line ≡ self.old.line }
     {
         let Some(area) = &self.area else {
-            return Ok(Vec::new(self.alloc));
+            return Ok(nothing(self.alloc));
         };
         if area.as_slice() == rows.as_slice() {
-            return Ok(Vec::new(self.alloc));
+            return Ok(nothing(self.alloc));
         }
-        let bytes = drawing(self.alloc, area.as_slice(), b"", rows.as_slice())?;
+        let bytes = shown(self.alloc, area.as_slice(), b"", rows.as_slice())?;
         self.area = Some(rows);
         Ok(bytes)
     }
@@ -166,7 +166,7 @@ impl Live {
         requires { IsNone self.old.area }
         ensures { IfOk result (λ bytes. Shows (drawn_of self.old) bytes.items text.now (drawn_of self.new)) }
     {
-        let bytes = Vec::from_slice(self.alloc, text)?;
+        let bytes = as_it_is(self.alloc, text)?;
         if may_draw && self.console.is_none() {
             self.area = Some(Vec::new(self.alloc));
         }
@@ -202,9 +202,9 @@ impl Live {
         self.line.clear();
         let rows = self.rows_if_due(now)?;
         let Some(area) = &self.area else {
-            return Vec::from_slice(self.alloc, text);
+            return as_it_is(self.alloc, text);
         };
-        let bytes = drawing(self.alloc, area.as_slice(), text, rows.as_slice())?;
+        let bytes = shown(self.alloc, area.as_slice(), text, rows.as_slice())?;
         self.area = Some(rows);
         Ok(bytes)
     }
@@ -237,12 +237,9 @@ impl Live {
         let stays = whole_line(self.alloc, self.line.as_slice())?;
         self.line.clear();
         let Some(area) = &self.area else {
-            return Ok(Vec::new(self.alloc));
+            return Ok(nothing(self.alloc));
         };
-        if area.is_empty() && stays.is_empty() {
-            return Ok(stays);
-        }
-        let bytes = drawing(self.alloc, area.as_slice(), stays.as_slice(), b"")?;
+        let bytes = shown(self.alloc, area.as_slice(), stays.as_slice(), b"")?;
         self.area = Some(Vec::new(self.alloc));
         Ok(bytes)
     }

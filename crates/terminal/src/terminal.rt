@@ -90,8 +90,12 @@ impl<W: Write> Terminal<W> {
         }
     }
 
-    /// The command of a job gets the terminal, which is about to be started.
-    pub fn hand_over(&mut self, rt: &HostRuntime, job: usize) {
+    /// The command of a job is about to be started. Where it gets the terminal, rows are taken away until it has ended, and a text is shown
+    /// behind it.
+    pub fn prepare(&mut self, rt: &HostRuntime, job: usize, console: bool) {
+        if !console {
+            return;
+        }
         let told = match &mut self.drawn {
             Some(drawn) => drawn.hand_over(rt, job),
             None => return,
@@ -99,8 +103,11 @@ impl<W: Write> Terminal<W> {
         self.put_drawn(told);
     }
 
-    /// The command of a job was started, not at the terminal.
-    pub fn start(&mut self, rt: &HostRuntime, job: usize) {
+    /// The command of a job was started.
+    pub fn start(&mut self, rt: &HostRuntime, job: usize, console: bool) {
+        if console {
+            return;
+        }
         let told = match &mut self.drawn {
             Some(drawn) => drawn.start(rt, job),
             None => return,
