@@ -19,5 +19,6 @@ use std::io;
 
 fn main(rt: HostRuntime) -> io::Result<()> {
     let alloc = rt.alloc();
-    tables::run(alloc, &mut Rows, &mut rt.reader(), &mut io::writer(&rt))
+    let mut rows = Rows;
+    tables::run(alloc, &mut rows, &mut rt.reader(), &mut io::writer(&rt))
 }

@@ -6,6 +6,7 @@ use std::alloc::{AllocError, Global};
 use tables::{Table, word};
 
 /// The rows of the table, each of which stands alone.
+#[derive(Drop)]
 pub struct Rows;
 
 impl Table for Rows {

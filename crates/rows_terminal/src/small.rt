@@ -78,7 +78,7 @@ impl Small {
     fn erase(&mut self) {
         self.rows.truncate(self.row.saturating_add(1));
         let column = self.column;
-        if let Some(row) = self.rows.last_mut() {
+        if let Some(row) = self.rows.as_mut_slice().get_mut(self.row) {
             row.truncate(column);
         }
     }

@@ -59,7 +59,10 @@ pub fn written(alloc: Global, steps: &mut Steps, step: &str) -> Result<Vec<u8>, 
     let number = given.parse::<usize>().unwrap_or(0);
     match word {
         "look" => set_look(alloc, steps, given)?,
-        "pattern" => steps.begin(alloc, steps.look, given)?,
+        "pattern" => {
+            let look = steps.look;
+            steps.begin(alloc, look, given)?;
+        }
         "name" => steps.name(alloc, text.as_slice())?,
         "names" => steps.hand_over(alloc),
         "at" => steps.now = number as u64,

@@ -84,7 +84,7 @@ impl<'a> Along<'a> {
         let digits = self
             .line
             .iter()
-            .take_while(|byte| byte.is_ascii_digit())
+            .take_while(|byte| (**byte).is_ascii_digit())
             .count();
         let (number, line) = self.line.split_at_checked(digits)?;
         let number = str::from_utf8(number).ok()?.parse::<u64>().ok()?;
