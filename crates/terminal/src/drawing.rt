@@ -30,7 +30,8 @@ pub fn shown(
     if old_rows.is_empty() && new_rows.is_empty() {
         return as_it_is(alloc, stays);
     }
-    drawing(alloc, old_rows, stays, new_rows)
+    let bytes = drawing(alloc, old_rows, stays, new_rows)?;
+    Ok(bytes)
 }
 
 /// What is written so that all is as it was.
@@ -44,7 +45,8 @@ pub fn nothing(alloc: Global) -> Vec<u8>
 pub fn as_it_is(alloc: Global, text: &[u8]) -> Result<Vec<u8>, AllocError>
     ensures { IfOk result (λ bytes. Shows [] bytes.items text.now []) }
 {
-    Vec::from_slice(alloc, text)
+    let bytes = Vec::from_slice(alloc, text)?;
+    Ok(bytes)
 }
 
 /// The bytes of a drawing: over the old rows, then what stays, then the new rows.
@@ -80,7 +82,8 @@ fn push_over(bytes: &mut Vec<u8>, rows: &[u8]) -> Result<(), AllocError>
     for byte in rows {
         push_up(bytes, *byte)?;
     }
-    bytes.extend_from_slice(ERASE)
+    bytes.extend_from_slice(ERASE)?;
+    Ok(())
 }
 
 /// One row up where a line ends.

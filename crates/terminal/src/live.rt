@@ -1,9 +1,9 @@
 //! What is known and drawn of a build that runs.
 
-ghost use Rattle.std.specs.Prelude.{◌≡◌, [], IfOk, IsNone, OnOk};
+ghost use Rattle.std.specs.Prelude.{◌≡◌, [], IfOk, IfSome, IsNone, OnOk};
 ghost use Rattle.terminal.specs.Screen.{Shows};
 ghost use Rattle.terminal.specs.Shown.{ShowsText, drawn_of, last_line, whole_line};
-ghost use Rattle.terminal.specs.Texts.{IsColoured};
+ghost use Rattle.terminal.specs.Texts.{IsColoured, IsLine};
 
 use crate::counts::total_in;
 use crate::drawing::{as_it_is, nothing, shown};
@@ -141,7 +141,7 @@ impl Live {
 
     /// Whether something is written at once where this text is shown, or rows may be drawn again.
     pub fn writes(&self, text: &[u8], now: u64) -> bool {
-        self.area.is_none() || self.is_due(now) || self.look.keeps_lines || passing(text).is_none()
+        self.area.is_none() || self.is_due(now) || self.passing(text).is_none()
     }
 
     /// A text is shown. Where it is a line that may pass, it takes the place of the one before. If not, it stays, in the place of the line
@@ -150,15 +150,30 @@ impl Live {
         ensures { IfOk result (λ bytes. ShowsText text.now bytes.items self.old self.new) }
     {
         if self.area.is_none() {
-            return self.show_as_it_is(text, may_draw);
+            let bytes = self.show_as_it_is(text, may_draw)?;
+            return Ok(bytes);
         }
-        match passing(text) {
-            Some(line) if !self.look.keeps_lines => {
+        match self.passing(text) {
+            Some(line) => {
                 self.take_line(line)?;
-                self.pass(now)
+                let bytes = self.pass(now)?;
+                Ok(bytes)
             }
-            _ => self.show_staying(text, now),
+            None => {
+                let bytes = self.show_staying(text, now)?;
+                Ok(bytes)
+            }
         }
+    }
+
+    /// The line of a text that passes, if it is one and lines may pass.
+    fn passing<'t>(&self, text: &'t [u8]) -> Option<&'t [u8]>
+        ensures { IfSome result (λ line. IsLine text.now line.now) }
+    {
+        if self.look.keeps_lines {
+            return None;
+        }
+        passing(text)
     }
 
     /// A text is shown where no rows may be drawn. Behind a console command they may be again.
@@ -270,10 +285,10 @@ impl Live {
         ensures { IfOk result (λ coloured. IsColoured text.now coloured.items) }
     {
         if self.look.colours {
-            coloured(self.alloc, text)
-        } else {
-            Vec::from_slice(self.alloc, text)
+            return coloured(self.alloc, text);
         }
+        let same = Vec::from_slice(self.alloc, text)?;
+        Ok(same)
     }
 }
 

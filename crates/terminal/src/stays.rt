@@ -45,8 +45,14 @@ pub fn coloured(alloc: Global, text: &[u8]) -> Result<Vec<u8>, AllocError>
     ensures { IfOk result (λ coloured. IsColoured text.now coloured.items) }
 {
     match split_at_failure(text) {
-        Some((front, rest)) => red(alloc, front, rest),
-        None => Vec::from_slice(alloc, text),
+        Some((front, rest)) => {
+            let coloured = red(alloc, front, rest)?;
+            Ok(coloured)
+        }
+        None => {
+            let same = Vec::from_slice(alloc, text)?;
+            Ok(same)
+        }
     }
 }
 

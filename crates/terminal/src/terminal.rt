@@ -231,7 +231,8 @@ fn put<W: Write>(out: &mut W, bytes: &[u8]) -> io::Result<()>
         return Ok(());
     }
     out.write_all(bytes)?;
-    out.flush()
+    out.flush()?;
+    Ok(())
 }
 
 /// Whether no other process group has the terminal of the standard output. Where that is not told, as where the terminal is not the
