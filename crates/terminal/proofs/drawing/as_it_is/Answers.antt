@@ -1,4 +1,4 @@
-use Rattle.terminal.proofs.Drawing.{as_it_is}
+use Rattle.terminal.proofs.Pieces.{as_it_is}
 use Rattle.terminal.proofs.drawing.as_it_is.Goals as goal
 
 pub returns : goal.returns

@@ -1,4 +1,4 @@
-use Rattle.terminal.proofs.Drawing.{nothing}
+use Rattle.terminal.proofs.Pieces.{nothing}
 use Rattle.terminal.proofs.drawing.nothing.Goals as goal
 
 pub returns : goal.returns

@@ -1,6 +1,6 @@
 use Rattle.std.proofs.lemmas.Bool.Decides.{Decides-eqb}
 use Rattle.std.proofs.lemmas.Slice.Eq.{strip_prefix_is}
-use Rattle.terminal.proofs.Drawing.{match_some}
+use Rattle.terminal.proofs.Pieces.{match_some}
 use Rattle.terminal.proofs.stays.rest_after.Goals as goal
 
 pub returns : goal.returns
