@@ -1,6 +1,7 @@
 //! What is known and drawn of a build that runs.
 
-ghost use Rattle.std.specs.Prelude.{◌≡◌, [], IfOk, IfSome, IsNone, OnOk};
+ghost use Rattle.std.specs.Prelude.{◌≡◌, [], IfOk, IfSome, IsNone, OnOk, unwrap_or, vec_items};
+ghost use Rattle.std.specs.Option.{option_map};
 ghost use Rattle.terminal.specs.Screen.{Shows};
 ghost use Rattle.terminal.specs.Shown.{ShowsText, drawn_of, last_line, whole_line};
 ghost use Rattle.terminal.specs.Texts.{IsColoured, IsLine};
@@ -182,10 +183,18 @@ impl Live {
         ensures { IfOk result (λ bytes. Shows (drawn_of self.old) bytes.items text.now (drawn_of self.new)) }
     {
         let bytes = as_it_is(self.alloc, text)?;
-        if may_draw && self.console.is_none() {
-            self.area = Some(Vec::new(self.alloc));
-        }
+        self.area = self.area_behind(may_draw);
         Ok(bytes)
+    }
+
+    /// The rows that are drawn behind a text that was shown as it is: none, and none may be where a console command runs.
+    fn area_behind(&self, may_draw: bool) -> Option<Vec<u8>>
+        ensures { unwrap_or (option_map vec_items result) [] ≡ [] }
+    {
+        if may_draw && self.console.is_none() {
+            return Some(Vec::new(self.alloc));
+        }
+        None
     }
 
     /// A line passes from now on, in the place of the one before.
