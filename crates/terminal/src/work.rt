@@ -5,6 +5,9 @@ use std::alloc::{AllocError, Global};
 /// So long a build has to run before it is told how long it may take, in milliseconds.
 const EARLY: u64 = 500;
 
+/// Less than this is not told.
+const SECOND: u64 = 1000;
+
 /// A command that runs.
 #[derive(Clone, Copy)]
 pub struct Run {
@@ -54,7 +57,7 @@ impl Work {
     }
 
     /// How long the rest of so many commands may take, by the time that those took which have ended. Nothing is said before one has ended
-    /// that half a second ran out for, nor where the time that was told is over.
+    /// half a second behind the first start, nor where it is less than a second.
     pub fn left(&self, total: u64, now: u64) -> Option<u64> {
         let elapsed = self.ended.saturating_sub(self.begun?);
         if elapsed < EARLY {
@@ -63,6 +66,6 @@ impl Work {
         let rest = total.saturating_sub(self.done);
         let whole = elapsed.checked_mul(rest)?.checked_div(self.done)?;
         let left = whole.saturating_sub(now.saturating_sub(self.ended));
-        if left == 0 { None } else { Some(left) }
+        if left < SECOND { None } else { Some(left) }
     }
 }
