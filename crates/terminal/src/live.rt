@@ -250,7 +250,12 @@ impl Live {
         ensures none { OnOk result (drawn_of self.new ≡ []) }
         ensures line { self.new.line ≡ self.old.line }
     {
-        self.redraw(Vec::new(self.alloc))
+        let Some(area) = &self.area else {
+            return Ok(nothing(self.alloc));
+        };
+        let bytes = shown(self.alloc, area.as_slice(), b"", b"")?;
+        self.area = Some(Vec::new(self.alloc));
+        Ok(bytes)
     }
 
     /// Takes the rows away; the line that passed stays, whole. To be called at the end.

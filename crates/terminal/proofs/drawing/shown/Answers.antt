@@ -1,4 +1,4 @@
-use Rattle.terminal.proofs.Pieces.{drawn, none}
+use Rattle.terminal.proofs.Pieces.{drawn}
 use Rattle.terminal.proofs.drawing.shown.Goals as goal
 
 pub returns : goal.returns
