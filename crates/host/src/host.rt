@@ -19,6 +19,7 @@ use site::{Site, Texts};
 use std::alloc::{AllocError, Global};
 use std::io::{ErrorKind, Write};
 use std::{fmt, io};
+use terminal::{Look, Names, Terminal};
 use text::Bytes;
 
 /// What is told where the clock did not go on.
@@ -55,7 +56,7 @@ pub struct Host<'a, W> {
     /// How many calls had been refused before the last wait that was refused, since the last restart.
     wait_refused: Option<u64>,
     /// Where texts are shown.
-    screen: W,
+    screen: Terminal<W>,
     trouble: Option<Trouble>,
 }
 
@@ -76,9 +77,44 @@ impl<'a, W: Write> Host<'a, W> {
             failures: 0,
             failures_at_start: 0,
             wait_refused: None,
-            screen,
+            screen: Terminal::plain(screen),
             trouble: None,
         }
+    }
+
+    /// What is shown goes to a terminal, if it has a look: from now on rows are drawn below it, of lines that are made by this pattern.
+    pub fn draw(&mut self, look: Option<Look>, pattern: &str)
+        ensures { world_of self.new ≡ world_of self.old }
+    {
+        if let Some(look) = look {
+            self.screen.draw(self.alloc, self.rt, look, pattern);
+        }
+    }
+
+    /// Whether rows are drawn below what is shown.
+    pub fn is_drawn(&self) -> bool {
+        self.screen.is_drawn()
+    }
+
+    /// From now on jobs have these names where they are drawn.
+    pub fn take_names(&mut self, names: Names)
+        ensures { world_of self.new ≡ world_of self.old }
+    {
+        self.screen.take_names(names);
+    }
+
+    /// Nothing runs any more, and nothing is drawn from now on: what others write then stands behind what was shown.
+    pub fn finish_screen(&mut self)
+        ensures { world_of self.new ≡ world_of self.old }
+    {
+        self.screen.finish();
+    }
+
+    /// Tells once more that this output failed, where rows were drawn.
+    pub fn recall(&mut self, output: &str)
+        ensures { world_of self.new ≡ world_of self.old }
+    {
+        self.screen.recall(output);
     }
 
     /// The answer of a call about this path: what was done, or the fault, which is counted where the device refused.
@@ -218,12 +254,6 @@ impl fmt::Display for StandingClock {
     }
 }
 
-/// Shows a text at once.
-fn show<W: Write>(screen: &mut W, text: &[u8]) -> io::Result<()> {
-    screen.write_all(text)?;
-    screen.flush()
-}
-
 /// What was refused at this path, unless there is no memory for it.
 fn trouble_at(alloc: Global, path: &str, reason: io::Error) -> Option<Trouble> {
     let path = String::from_str(alloc, path).ok()?;
@@ -317,23 +347,28 @@ impl<'a, W: Write> Site for Host<'a, W> {
         ensures unstarted { OnErr result (OnlyLooks false (world_of self.old) (world_of self.new)) }
     {
         let mut opened = self.open_printed(console)?;
+        self.screen.prepare(self.rt, job, console);
         let started = self.jobs.start(job, act, self.ticked, &mut opened);
         self.files.take_back(self.rt, opened);
         self.noted(SHELL, started)?;
         self.failures_at_start = self.failures;
+        self.screen.start(self.rt, job, console);
         Ok(())
     }
 
     /// Which of several finished commands is taken in is open.
     fn wait_any(&mut self) -> Result<Finished, SiteFault> {
-        let finished = self
-            .jobs
-            .wait_any(self.rt, &mut self.files, &mut self.watch);
+        let finished = self.jobs.wait_any(
+            self.rt,
+            &mut self.files,
+            &mut self.watch,
+            &mut self.screen,
+        );
         self.noted_wait(finished)
     }
 
     fn show(&mut self, text: &[u8]) -> Result<(), SiteFault> {
-        let shown = show(&mut self.screen, text);
+        let shown = self.screen.show(self.rt, text);
         self.noted(OUTPUT, shown)
     }
 

@@ -13,8 +13,10 @@ use crate::waiting::{Round, wait_all, wait_first};
 use crate::watch::Watch;
 use model::{Act, Event, Finished};
 use std::alloc::{AllocError, Global};
+use std::io::Write;
 use std::marker::Model;
 use std::{io, mem};
+use terminal::Terminal;
 
 /// All starts and ends of commands, where the last restart was among them, and the commands that run.
 #[derive(Drop)]
@@ -92,23 +94,26 @@ impl Jobs {
         Ok(())
     }
 
-    /// Waits until a command has ended, and takes it in. Where it fails, none is taken in.
-    pub fn wait_any(
+    /// Waits until a command has ended, and takes it in. Where it fails, none is taken in. The screen is told of the end, and that time
+    /// passes.
+    pub fn wait_any<W: Write>(
         &mut self,
         rt: &HostRuntime,
         files: &mut Files,
         watch: &mut Watch<'_>,
+        screen: &mut Terminal<W>,
     ) -> io::Result<Finished>
         requires { (job : ℕ) × (runs job self.old.events ≡ true) }
         ensures ran { IfOk result (λ finished. runs finished.job self.old.events ≡ true) }
         ensures ok { IfOk result (λ finished. self.new ≡ with_finish finished.job finished.ok self.old) }
         ensures err { OnErr result (self.new ≡ self.old) }
     {
-        let place = wait_first(rt, &mut self.commands, &mut self.round, watch)?;
+        let place = wait_first(rt, &mut self.commands, &mut self.round, watch, screen)?;
         let Taken { output, is_unused } = self.commands[place].take_printed(self.alloc)?;
         let command = self.commands.swap_remove(place);
         let End { job, ok, signal } = command.end();
-        tell_signal(self.alloc, rt, signal);
+        screen.end(rt, job);
+        tell_signal(self.alloc, rt, signal, screen);
         files.take_in(rt, command.into_printed(), is_unused);
         push_reserved(&mut self.events, Event::Finish { job, ok });
         Ok(Finished { job, ok, output })

@@ -1,11 +1,17 @@
 //! That a signal ended a command.
 
 use std::alloc::Global;
-use std::io::IsTerminal;
+use std::io::{IsTerminal, Write};
+use terminal::Terminal;
 
 /// Tells which signal ended a command, where one did: on the standard error, and only where that is a terminal. That it cannot be told is no
-/// fault.
-pub fn tell_signal(alloc: Global, rt: &HostRuntime, signal: Option<i32>) {
+/// fault. Rows that are drawn are taken away before that.
+pub fn tell_signal<W: Write>(
+    alloc: Global,
+    rt: &HostRuntime,
+    signal: Option<i32>,
+    screen: &mut Terminal<W>,
+) {
     let Some(signal) = signal else {
         return;
     };
@@ -14,6 +20,7 @@ pub fn tell_signal(alloc: Global, rt: &HostRuntime, signal: Option<i32>) {
         return;
     }
     if let Ok(line) = format!(in alloc; "nj: ended by signal {signal}\n") {
+        screen.step_aside();
         let _ = Print::write_all(&errors, line.as_bytes());
     }
 }

@@ -6,8 +6,9 @@ ghost use Rattle.host.specs.Process.{HasEndedAt, jobs_of};
 use crate::commands::Running;
 use crate::rests::Rests;
 use crate::watch::Watch;
-use std::io::ErrorKind;
+use std::io::{ErrorKind, Write};
 use std::{io, slice};
+use terminal::Terminal;
 
 /// Up to so many commands are asked in each round.
 const FEW: usize = 64;
@@ -28,12 +29,13 @@ pub struct Round {
 
 /// Waits until one of the commands has ended, and answers its place. They are asked in turn, with rests that grow with the time waited.
 /// Each round goes on where the one before stopped, so that no command is asked more often than another. Up to 64 are asked in each round,
-/// and at once; of more 256 in each, from one wait to the next, with rests in proportion.
-pub fn wait_first(
+/// and at once; of more 256 in each, from one wait to the next, with rests in proportion. The screen is told of each rest.
+pub fn wait_first<W: Write>(
     rt: &HostRuntime,
     commands: &mut Vec<Running>,
     round: &mut Round,
     watch: &mut Watch<'_>,
+    screen: &mut Terminal<W>,
 ) -> io::Result<usize>
     requires { 0 < vec_len commands.old }
     ensures jobs { jobs_of commands.new.items ≡ jobs_of commands.old.items }
@@ -53,12 +55,32 @@ pub fn wait_first(
             return Ok(round.place);
         }
         if rests.rest(rt) {
+            screen.step_aside();
             watch.has_waited_long(commands.as_slice());
         }
-        round.some_held = round.some_held && watch.tells_held(commands.as_slice());
+        round.some_held = round.some_held && tells_held(commands.as_slice(), watch, screen);
+        screen.pass(rt);
         round.left = in_a_round(running);
     }
     Err(io::Error::from(ErrorKind::TimedOut))
+}
+
+/// Tells that commands are held, where it is due; rows that are drawn are taken away before that. Whether one is held.
+fn tells_held<W: Write>(
+    commands: &[Running],
+    watch: &mut Watch<'_>,
+    screen: &mut Terminal<W>,
+) -> bool {
+    match watch.held(commands) {
+        Some(is_due) => {
+            if is_due {
+                screen.step_aside();
+                watch.tell_held(commands);
+            }
+            true
+        }
+        None => false,
+    }
 }
 
 /// How many of so many commands are asked in a round.
@@ -120,7 +142,9 @@ fn wait_for(rt: &HostRuntime, command: &mut Running, watch: &mut Watch<'_>) {
                 if rests.rest(rt) {
                     watch.has_waited_long(slice::from_ref(command));
                 }
-                watch.tells_held(slice::from_ref(command));
+                if watch.held(slice::from_ref(command)) == Some(true) {
+                    watch.tell_held(slice::from_ref(command));
+                }
             }
             _ => return,
         }

@@ -60,19 +60,20 @@ impl<'a> Watch<'a> {
         }
     }
 
-    /// To be called where a command is held, which has ended but for a process that has its output open: tells that, where it is due, by one
-    /// line for all of these commands. Answers whether one of them is held.
-    pub fn tells_held(&mut self, commands: &[Running]) -> bool {
-        let Some(ended) = first_end(commands) else {
-            return false;
-        };
-        if let Ok(now) = Instant::now(self.rt) {
-            if self.behind.is_due(ended, now) {
-                let held = held_files(self.alloc, commands);
-                self.behind.tell(self.alloc, self.rt, held.as_slice());
-            }
+    /// To be called where a command may be held, which has ended but for a process that has its output open: whether it is due to tell that
+    /// of these commands. Nothing where none of them is held.
+    pub fn held(&mut self, commands: &[Running]) -> Option<bool> {
+        let ended = first_end(commands)?;
+        match Instant::now(self.rt) {
+            Ok(now) => Some(self.behind.is_due(ended, now)),
+            Err(_) => Some(false),
         }
-        true
+    }
+
+    /// Tells it, by one line for all of these commands.
+    pub fn tell_held(&self, commands: &[Running]) {
+        let held = held_files(self.alloc, commands);
+        self.behind.tell(self.alloc, self.rt, held.as_slice());
     }
 
     /// To be called when no command has ended for ten seconds, and each ten seconds again: gives the folder back where a process that a

@@ -1,7 +1,7 @@
 //! The program: builds what build files describe, with real files and real commands.
 #![tactic(auto)]
 
-use nj_run::{run, run_noted};
+use nj_run::{Noted, run, run_watched};
 use std::env::VarError;
 use std::io::{BufWriter, ErrorKind, IsTerminal};
 use std::process::ExitCode;
@@ -20,27 +20,53 @@ fn main(rt: HostRuntime) -> ExitCode {
     }
 }
 
-/// Runs the program on the words of its command line, with notes where somebody may read them: a program that reads the standard error, as
-/// an editor does, knows the lines of [`run`].
+/// Runs the program on the words of its command line. Notes come where somebody may read them: a program that reads the standard error, as
+/// an editor does, knows the lines of [`run`]. Rows are drawn where the standard output is a terminal.
 fn run_words(rt: &HostRuntime) -> io::Result<u8> {
     let alloc = rt.alloc();
     let words: Vec<String> = env::args(rt)?.skip(1).collect(alloc)?;
-    let pattern = pattern(rt)?;
+    let pattern = variable(rt, "NINJA_STATUS")?;
+    let is_drawn = is_drawn(rt)?;
     let mut out = BufWriter::new(alloc, rt.stdout())?;
     let mut err = BufWriter::new(alloc, rt.stderr())?;
     let pattern = pattern.as_ref().map(|pattern| pattern.as_str());
     let words = words.as_slice();
-    if rt.stderr().is_terminal() {
-        Ok(run_noted(rt, words, pattern, &mut out, &mut err))
+    let mut noted = if rt.stderr().is_terminal() {
+        Noted::wanted(rt)
+    } else if is_drawn {
+        Noted::unwanted(rt)
     } else {
-        Ok(run(rt, words, pattern, &mut out, &mut err))
+        return Ok(run(rt, words, pattern, &mut out, &mut err));
+    };
+    if is_drawn {
+        noted.draw(has_colours(rt)?);
+    }
+    Ok(run_watched(noted, words, pattern, &mut out, &mut err))
+}
+
+/// Whether rows are drawn: the standard output is a terminal, and one that can do it.
+fn is_drawn(rt: &HostRuntime) -> io::Result<bool> {
+    if !rt.stdout().is_terminal() {
+        return Ok(false);
+    }
+    match variable(rt, "TERM")? {
+        Some(terminal) => Ok(terminal.as_str() != "dumb"),
+        None => Ok(true),
     }
 }
 
-/// What `NINJA_STATUS` is set to, where that is a text.
-fn pattern(rt: &HostRuntime) -> io::Result<Option<String>> {
-    match env::var(rt, "NINJA_STATUS") {
-        Ok(pattern) => Ok(Some(pattern)),
+/// Whether colours are wanted: `NO_COLOR` is not set, or empty.
+fn has_colours(rt: &HostRuntime) -> io::Result<bool> {
+    match variable(rt, "NO_COLOR")? {
+        Some(no) => Ok(no.is_empty()),
+        None => Ok(true),
+    }
+}
+
+/// What a variable of the environment is set to, where that is a text.
+fn variable(rt: &HostRuntime, name: &str) -> io::Result<Option<String>> {
+    match env::var(rt, name) {
+        Ok(value) => Ok(Some(value)),
         Err(VarError::OutOfMemory) => Err(ErrorKind::OutOfMemory.into()),
         Err(_) => Ok(None),
     }

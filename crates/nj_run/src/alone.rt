@@ -4,12 +4,14 @@ ghost use Rattle.std.specs.Prelude.{◌≡◌, false, IfOk, IfErr};
 ghost use Rattle.model.specs.World.{IsIdle};
 ghost use Rattle.nj_run.specs.Alone.{IsBuiltAlone, Passes, WasReadAlone, WasUnreadAlone};
 
+use crate::named::names;
 use crate::noted::Noted;
 use builder::{Options, Reading, Report, build_read, read};
 use depfile::has_reading;
 use deps_log::has_format;
 use dyndep_law::has_reading as has_dyndeps;
 use host::Host;
+use paths::Manifest;
 use site::Site;
 use std::alloc::Global;
 use std::io::Write;
@@ -31,6 +33,11 @@ pub trait Alone: Site {
     /// there meanwhile, so everything is to be read anew.
     fn has_waited(&mut self, folder: &str) -> bool
         ensures { Passes Self.tells (Self.world self.old) (Self.world self.new) };
+
+    /// What these build files declare is about to be built. A site that shows which commands run takes their names from there: commands in
+    /// place of descriptions where `verbose` asks for these.
+    fn learn(&mut self, alloc: Global, manifest: &Manifest, verbose: bool)
+        ensures { Self.world self.new ≡ Self.world self.old };
 }
 
 impl<'a, W: Write> Alone for Host<'a, W> {
@@ -40,6 +47,15 @@ impl<'a, W: Write> Alone for Host<'a, W> {
 
     fn has_waited(&mut self, folder: &str) -> bool {
         self.waits_for_left(folder)
+    }
+
+    fn learn(&mut self, alloc: Global, manifest: &Manifest, verbose: bool) {
+        if !self.is_drawn() {
+            return;
+        }
+        if let Ok(names) = names(alloc, manifest, verbose) {
+            self.take_names(names);
+        }
     }
 }
 
@@ -61,6 +77,7 @@ pub fn build_alone<S: Alone>(
     match read_alone(alloc, site, options, targets) {
         Ok(reading) => {
             noted.reads(options.file.as_str(), &reading);
+            site.learn(alloc, &reading.manifest, options.verbose);
             build_read(alloc, site, reading, options)
         }
         Err(report) => report,

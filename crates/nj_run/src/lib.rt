@@ -2,10 +2,11 @@
 #![tactic(auto)]
 
 mod alone;
+mod named;
 mod noted;
 mod program;
 mod told;
 
 pub use alone::{Alone, build_alone};
 pub use noted::Noted;
-pub use program::{build_on, run, run_noted};
+pub use program::{build_on, run, run_watched};

@@ -10,14 +10,17 @@ use notes::{
 use std::alloc::{AllocError, Global};
 use std::io;
 use std::io::Write;
+use terminal::Look;
 use text::Path;
 
-/// The notes of a run, where somebody watches it. Where nobody does, nothing is looked for. They are found as well as it goes: one for which
-/// there is no memory, or that would need a file which cannot be read, is left out.
+/// How a run looks to somebody who watches it, and the notes of it. Where nobody reads notes, nothing is looked for. They are found as well
+/// as it goes: one for which there is no memory, or that would need a file which cannot be read, is left out.
 #[derive(Drop)]
 pub struct Noted<'a> {
     rt: &'a HostRuntime,
     is_wanted: bool,
+    /// How the screen looks, where rows are drawn on it.
+    look: Option<Look>,
     notes: Vec<Note>,
     /// What was later than the build file when that was read. The build may write it anew.
     older: Option<Older>,
@@ -28,11 +31,12 @@ pub struct Noted<'a> {
 }
 
 impl<'a> Noted<'a> {
-    /// No notes yet, and whether somebody watches. This takes no memory.
+    /// No notes yet, and whether somebody reads them. This takes no memory.
     fn new(rt: &'a HostRuntime, is_wanted: bool) -> Noted<'a> {
         Noted {
             rt,
             is_wanted,
+            look: None,
             notes: Vec::new(rt.alloc()),
             older: None,
             nearest: None,
@@ -40,14 +44,31 @@ impl<'a> Noted<'a> {
         }
     }
 
-    /// Nobody watches. This takes no memory.
+    /// Nobody reads notes. This takes no memory.
     pub fn unwanted(rt: &'a HostRuntime) -> Noted<'a> {
         Noted::new(rt, false)
     }
 
-    /// Somebody watches. This takes no memory.
+    /// Somebody reads notes. This takes no memory.
     pub fn wanted(rt: &'a HostRuntime) -> Noted<'a> {
         Noted::new(rt, true)
+    }
+
+    /// What the build shows goes to a terminal, on which rows are to be drawn; failures in red, where colours are wanted.
+    pub fn draw(&mut self, colours: bool) {
+        self.look = Some(Look {
+            colours,
+            keeps_lines: false,
+        });
+    }
+
+    /// How the screen looks, where rows are drawn on it. Lines that show commands stay.
+    pub fn look(&self, verbose: bool) -> Option<Look> {
+        let Look { colours, .. } = self.look?;
+        Some(Look {
+            colours,
+            keeps_lines: verbose,
+        })
     }
 
     /// The system on which it runs.

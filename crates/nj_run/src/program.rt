@@ -43,9 +43,9 @@ pub fn run<S: AsStr, W: Write, E: Write>(
 }
 
 /// The same for somebody who watches: after all that [`run`] tells, on the standard error, one line for each note that may help. They are
-/// found beside the build, which is the same.
-pub fn run_noted<S: AsStr, W: Write, E: Write>(
-    rt: &HostRuntime,
+/// found beside the build, which is the same; and rows may be drawn below what it shows.
+pub fn run_watched<S: AsStr, W: Write, E: Write>(
+    mut noted: Noted<'_>,
     words: &[S],
     pattern: Option<&str>,
     out: &mut W,
@@ -56,7 +56,6 @@ pub fn run_noted<S: AsStr, W: Write, E: Write>(
     ensures well { result ≡ 0 → EndsWell (map S.text words.entry.now) }
     ensures ends { EndsNoted (map S.text words.entry.now) W.contents E.contents out.old out.new err.old result }
 {
-    let mut noted = Noted::wanted(rt);
     let status = run_words(words, pattern, out, err, &mut noted);
     // who does not see the notes has seen what was built
     let _ = noted.tell(err);
@@ -116,11 +115,29 @@ fn build_here<W: Write>(
     let rt = noted.rt();
     let alloc = rt.alloc();
     let mut host = Host::new(alloc, rt, out);
+    host.draw(
+        noted.look(asked.verbose),
+        pattern.unwrap_or(Pattern::DEFAULT),
+    );
     let report = build_on(alloc, &mut host, asked, pattern, noted);
+    host.finish_screen();
+    recall(&mut host, asked.keep, &report);
     // where the clock stands still for seconds there is nothing more to do about it but to say so
     noted.waited(host.wait_for_clock());
     noted.built(&mut host, asked.file, &report);
     (report, host.into_trouble())
+}
+
+/// Tells once more which outputs failed, where rows are drawn and more than one command may fail.
+fn recall<W: Write>(host: &mut Host<'_, W>, keep: u32, report: &Report) {
+    if keep == 1 {
+        return;
+    }
+    if let Report::Failed { outputs } = report {
+        for output in outputs.as_slice() {
+            host.recall(output.as_str());
+        }
+    }
 }
 
 /// Builds what is asked for on a site, whatever folder is asked for, once nobody else is at work there. Where no pattern is given,

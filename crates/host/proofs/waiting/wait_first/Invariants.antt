@@ -3,4 +3,4 @@ use Rattle.host.specs.Process.{jobs_of}
 use Rattle.host.proofs.waiting.wait_first.Given as goal
 
 abbrev pub invariant-loop : goal.invariant-loop
-invariant-loop l = jobs_of l.commands.items ≡ jobs_of l.fn.commands.items
+invariant-loop g l = jobs_of l.commands.items ≡ jobs_of l.fn.commands.items
