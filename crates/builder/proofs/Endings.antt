@@ -16,7 +16,7 @@ use Rattle.model.specs.Records.{Store, recorded_inputs}
 use Rattle.model.specs.Schedule.{Task, Step as Done, failed_in, done_in}
 use Rattle.model.specs.Phases.{IsPointAfter, Phase, steps_of, next_edges, IsNextLoad, IsLoad, ArePhasesFrom, IsLawfulBuild, AreAskedApart, NothingNeededIsFree, WasNothingMissing, WasNothingMissingIn, task_with}
 use Rattle.model.specs.SingleBuild as answer
-use Rattle.model.specs.SingleBuild.{HeldAt, IsRefusedLoadHeldAt, AreHeldThen, AreJudgedAt, ArePhasesJudgedAt, Asked, Answer, IsSuccess, IsAnswer, IsAsked, IsShownCycle, WentOn, WasInOrder, PassesNoFault, NamesOther, asked_with, task_of}
+use Rattle.model.specs.SingleBuild.{HeldAt, IsRefusedLoadHeldAt, AreHeldThen, AreJudgedAt, ArePhasesJudgedAt, Asked, Answer, IsSuccess, IsAnswer, IsAsked, IsNamedMissing, IsShownCycle, WentOn, WasInOrder, PassesNoFault, NamesOther, asked_with, task_of}
 use Rattle.build_theory.specs.Seen.{IsSeen}
 use Rattle.build_theory.proofs.Lists.{same_bytes, same_some}
 use Rattle.links.specs.declared.cone.Cone.{Cone}
@@ -305,7 +305,7 @@ module _ (tells : Bool) (course : Course) (grown : List Edge) (now : World) (fou
     -- a source is missing where a phase begins
     stopped_lacking : RefusesFile tells course.own asked_now course.store (steps_of build.earlier ++ build.last) course.entry now (Refused refusal) → (missing : Lacking) → IsLacking tells course grown stopped.phases stopped.done stopped.there missing
         → Built tells course.behaviour course.format course.own asked_now course.entry now (missing_answer missing.path missing.needed_by) (Refused refusal)
-    stopped_lacking refused missing lacks = by_needed missing.needed_by (lacks_now missing.needed_by (λ tell kept needed apart. lacks.is tell (kept_then tell kept) needed apart))
+    stopped_lacking refused missing lacks = by_needed missing.needed_by lacks.needed (lacks_now missing.needed_by (λ tell kept needed apart. lacks.is tell (kept_then tell kept) needed apart))
       where
         asked_at : IsAsked task build.earlier (steps_of build.earlier ++ build.last)
         asked_at =
@@ -325,13 +325,13 @@ module _ (tells : Bool) (course : Course) (grown : List Edge) (now : World) (fou
         lacks_then : (needed : Option (List ℕ)) → Lacks missing.path needed stopped.done → Lacks missing.path needed (steps_of build.earlier ++ build.last)
         lacks_then needed is = subst (λ (l : List Done). Lacks missing.path needed l) (sym done_is) is
 
-        by_needed : (needed : Option (List ℕ)) → Lacks missing.path needed stopped.done → Built tells course.behaviour course.format course.own asked_now course.entry now (missing_answer missing.path needed) (Refused refusal)
-        by_needed None is =
+        by_needed : (needed : Option (List ℕ)) → IsNamedMissing grown course.store task.targets missing.path needed → Lacks missing.path needed stopped.done → Built tells course.behaviour course.format course.own asked_now course.entry now (missing_answer missing.path needed) (Refused refusal)
+        by_needed None named_so is =
             stopped_with stopped.phased.texts build held_still held_then right_then ordered (answer.MissingTarget missing.path) refused (λ h. h) (λ h. h)
-            (stopped.untouched, named, stopped.acyclic, asked_at, λ tell kept nothing apart. lacks_then None is tell kept nothing apart)
-        by_needed (Some output) is =
+            (stopped.untouched, named, stopped.acyclic, asked_at, named_so, λ tell kept nothing apart. lacks_then None is tell kept nothing apart)
+        by_needed (Some output) named_so is =
             stopped_with stopped.phased.texts build held_still held_then right_then ordered (answer.MissingInput missing.path output) refused (λ h. h) (λ h. h)
-            (stopped.untouched, named, stopped.acyclic, asked_at, λ tell kept nothing apart. lacks_then (Some output) is tell kept nothing apart)
+            (stopped.untouched, named, stopped.acyclic, asked_at, named_so, λ tell kept nothing apart. lacks_then (Some output) is tell kept nothing apart)
 
     -- a dyndep file was read, and what it adds makes no build
     module _ (next : List Edge) (load : IsHeldLoad tells course grown stopped.done stopped.there next) where

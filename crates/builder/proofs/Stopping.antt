@@ -7,7 +7,7 @@ use Rattle.model.specs.Calls.{OnlyLooks}
 use Rattle.model.specs.Graph.{maker, later_number}
 use Rattle.model.specs.Phases.{Phase, IsNextLoad, GoesBefore, BySource, ByNamer, IsPointAfter}
 use Rattle.model.specs.Schedule.{Task, Step as Done}
-use Rattle.model.specs.SingleBuild.{asked_with}
+use Rattle.model.specs.SingleBuild.{IsNamedMissing, asked_with}
 use Rattle.log_theory.specs.Ledger.{IsCutOff}
 use Rattle.log_theory.proofs.Phased.{phased_on}
 use Rattle.links.specs.declared.cone.Cone.{Cone}
@@ -151,6 +151,8 @@ module _ (tells : Bool) (tick : List ℕ) (course : Course) (edges : List Edge) 
             loaded = λ file due source. made task stands.on.steps stands.on.planned stands.on.taken file due source;
           };
           named = subst (λ (es : List Edge). NamesSource es lack.missing.path lack.missing.needed_by) (sym (same_edges tells tick course edges phases graph cone state now stands)) lack.named;
+          needed = subst (λ (es : List Edge). IsNamedMissing es course.store task.targets lack.missing.path lack.missing.needed_by) (sym (same_edges tells tick course edges phases graph cone state now stands))
+              (lack.needed course.store task.targets stands.on.steps (under tells tick course edges phases graph cone state now stands));
           is = λ tell files needed apart.
               let last = point_now tells course.own task stands.on.steps course.entry new (run_new tells tick course edges phases graph cone state now stands stays new looked.looks tell files) tell in
               missing_after course edges stands.on.steps new lack.missing.path lack.missing.needed_by last.0 last.1

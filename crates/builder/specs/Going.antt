@@ -13,7 +13,7 @@ use Rattle.model.specs.Premises.{FilesAreKept, OnlyFreeIsEdited}
 use Rattle.model.specs.Records.{recorded_inputs}
 use Rattle.model.specs.Schedule.{Task, Step as Done, started_in}
 use Rattle.model.specs.SingleBuild as answer
-use Rattle.model.specs.SingleBuild.{Answer, HeldAt, IsAsked, IsShownCycle, HasNoCycle, NamesOther, PassesNoFault, asked_with, declared_graph, task_of}
+use Rattle.model.specs.SingleBuild.{Answer, HeldAt, IsAsked, IsNamedMissing, IsShownCycle, HasNoCycle, NamesOther, PassesNoFault, asked_with, declared_graph, task_of}
 use Rattle.build_theory.specs.Run.{IsRun}
 use Rattle.build_theory.specs.Seen.{IsSeen, Unrefused, StartsUnrefused}
 use Rattle.paths.specs.Told.{text_at, texts_at}
@@ -151,6 +151,7 @@ IsMissingAfter course edges done now path (Some output) =
 pub record IsLacking (tells : Bool) (course : Course) (edges : List Edge) (phases : List Phase) (done : List Done) (now : World) (missing : Lacking) : Type 0 where
   pub asked : IsAsked (task_over course edges) phases done
   pub named : NamesSource edges missing.path missing.needed_by
+  pub needed : IsNamedMissing edges course.store (task_over course edges).targets missing.path missing.needed_by
   pub is : IsTrue tells → (files : FilesAreKept course.own edges course.entry.history now.history) → NothingNeededIsFree files.free (task_over course edges) → AreAskedApart course.own (task_over course edges) done
       → IsMissingAfter course edges done now missing.path missing.needed_by
 

@@ -314,6 +314,14 @@ IsWanted B texts asked store done wanted =
     ((wanted ≡ asked) × (done ≡ []))
     ⊎ ((edges : List Edge) × (wanted ≡ asked_with asked edges) × IsLoad B.dyndep texts (task_of asked store) done edges)
 
+-- What is named as missing is made by no edge, and is a target; or, where an output is named beside it, an input of an edge of the cone with
+-- that first output. So it is whatever others write.
+abbrev pub IsNamedMissing : List Edge → Store → List (List ℕ) → List ℕ → Option (List ℕ) → Type 0
+IsNamedMissing edges store targets path None = (has targets path ≡ true) × (maker edges path ≡ None)
+IsNamedMissing edges store targets path (Some output) =
+    (i : ℕ) × IsInCone edges (recorded_inputs store edges) targets i × (output ≡ first_output (edge_at edges i))
+    × (has (inputs (edge_at edges i)) path ≡ true) × (maker edges path ≡ None)
+
 -- a missing source is told of where a phase begins, once the files that no edge makes are loaded
 pub record IsAsked (task : Task) (phases : List Phase) (done : List Step) : Type 0 where
   pub at_once : done ≡ steps_of phases
@@ -339,10 +347,12 @@ IsAnswer tells B own texts asked store phases done steps old new (Cyclic paths) 
     IsUntouched tells steps old new × AllNamed asked × ((wanted : Asked) × IsWanted B texts asked store done wanted × IsShownCycle wanted store paths)
 IsAnswer tells B own texts asked store phases done steps old new (MissingTarget path) =
     IsUntouched tells steps old new × AllNamed asked × HasNoCycle asked store × IsAsked (task_of asked store) phases done
+    × IsNamedMissing asked.graph.edges store (targets_of (declared_graph asked) asked.targets) path None
     × (IsTrue tells → (files : FilesAreKept own asked.graph.edges old.history new.history) → NothingNeededIsFree files.free (task_of asked store) → AreAskedApart own (task_of asked store) done
     → (at : List Moment) × IsPointAfter done old.history new.history at × IsFirstMissing asked.graph.edges at (targets_of (declared_graph asked) asked.targets) path)
 IsAnswer tells B own texts asked store phases done steps old new (MissingInput path output) =
     IsUntouched tells steps old new × AllNamed asked × HasNoCycle asked store × IsAsked (task_of asked store) phases done
+    × IsNamedMissing asked.graph.edges store (targets_of (declared_graph asked) asked.targets) path (Some output)
     × (IsTrue tells → (files : FilesAreKept own asked.graph.edges old.history new.history) → NothingNeededIsFree files.free (task_of asked store) → AreAskedApart own (task_of asked store) done
     → (i : ℕ) × (output ≡ first_output (edge_at asked.graph.edges i))
     × ((at : List Moment) × IsPointAfter done old.history new.history at × IsMissingInput asked.graph.edges store done at (targets_of (declared_graph asked) asked.targets) i path))
