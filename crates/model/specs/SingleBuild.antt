@@ -20,7 +20,7 @@ use Rattle.model.specs.Reading.{IsInCone, IsCycle, needs}
 use Rattle.model.specs.Records.{Store, LogFormat, OwnFiles, store_in, recorded_inputs}
 use Rattle.model.specs.OutOfDate.{ReadsNoFree, IsStaleByOutputs, IsVerdict, IsOutOfDate, IsMissingInput, IsFirstMissing}
 use Rattle.model.specs.Schedule.{Task, Step, Judged, Started, IsSettled, AreEventsOf, AreFinishes, NoneMayBeJudged, NoneMayStart, done_in, clean_in, started_in, ended_in, out_of_date_in, well_in, failed_in, Ended, MayStart}
-use Rattle.model.specs.Phases.{Phase, steps_of, task_with, IsLawfulBuild, IsLoad, IsDueLoad, IsNextLoad, NoLoadIsDue, NothingNeededIsFree, IsMomentAfter, IsPointAfter, AreAskedApart, WasNothingMissing, WasNothingMissingIn}
+use Rattle.model.specs.Phases.{Phase, steps_of, task_with, IsLawfulBuild, IsLoad, IsDueLoad, IsNextLoad, NoLoadIsDue, NothingNeededIsFree, IfUnstarted, IsMomentAfter, IsPointAfter, AreAskedApart, WasNothingMissing, WasNothingMissingIn}
 use Rattle.model.specs.Premises.{LogsAreLeft, KeepToOutputs, OnlyFreeIsEdited, FilesAreKept, OutputsAreKept, RecordedApart, Premises, EndedAt, InputsAreKnown, StartsAreTicked}
 
 -- ---- what a build was asked, and what it answers
@@ -348,11 +348,14 @@ IsAnswer tells B own texts asked store phases done steps old new (Cyclic paths) 
 IsAnswer tells B own texts asked store phases done steps old new (MissingTarget path) =
     IsUntouched tells steps old new × AllNamed asked × HasNoCycle asked store × IsAsked (task_of asked store) phases done
     × IsNamedMissing asked.graph.edges store (targets_of (declared_graph asked) asked.targets) path None
+    × IfUnstarted tells (task_of asked store) done old.history new.history (IsFirstMissing asked.graph.edges old.history (targets_of (declared_graph asked) asked.targets) path)
     × (IsTrue tells → (files : FilesAreKept own asked.graph.edges old.history new.history) → NothingNeededIsFree files.free (task_of asked store) → AreAskedApart own (task_of asked store) done
     → (at : List Moment) × IsPointAfter done old.history new.history at × IsFirstMissing asked.graph.edges at (targets_of (declared_graph asked) asked.targets) path)
 IsAnswer tells B own texts asked store phases done steps old new (MissingInput path output) =
     IsUntouched tells steps old new × AllNamed asked × HasNoCycle asked store × IsAsked (task_of asked store) phases done
     × IsNamedMissing asked.graph.edges store (targets_of (declared_graph asked) asked.targets) path (Some output)
+    × IfUnstarted tells (task_of asked store) done old.history new.history
+    ((i : ℕ) × (output ≡ first_output (edge_at asked.graph.edges i)) × IsMissingInput asked.graph.edges store done old.history (targets_of (declared_graph asked) asked.targets) i path)
     × (IsTrue tells → (files : FilesAreKept own asked.graph.edges old.history new.history) → NothingNeededIsFree files.free (task_of asked store) → AreAskedApart own (task_of asked store) done
     → (i : ℕ) × (output ≡ first_output (edge_at asked.graph.edges i))
     × ((at : List Moment) × IsPointAfter done old.history new.history at × IsMissingInput asked.graph.edges store done at (targets_of (declared_graph asked) asked.targets) i path))
