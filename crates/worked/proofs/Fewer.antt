@@ -36,7 +36,7 @@ of_outputs (suc zero) p h = all_has (λ q. own.set q ≡ false) (codes "b" ∷ [
 of_outputs (suc (suc zero)) p h = all_has (λ q. own.set q ≡ false) (codes "c" ∷ []) p (refl, tt) h
 of_outputs (suc (suc (suc i))) p h = absurd (false≢true h)
 
-one_two : 1 ≡ 2 → ⊥
+one_two : ◌≡◌ {A = ℕ} 1 2 → ⊥
 one_two same = omega (arith, same)
 
 -- ---- a depfile that is written behind the end
