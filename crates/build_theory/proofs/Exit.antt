@@ -17,7 +17,7 @@ use Rattle.model.specs.Clean.{clean_build}
 use Rattle.model.specs.Graph.{has, has_number, edge_at, outputs, IsMadeOnce, IsCommand}
 use Rattle.model.specs.Records.{OwnFiles}
 use Rattle.model.specs.Schedule.{Task, Step, Judged, Started, Ended, judged_in, clean_in, started_in, ended_in, out_of_date_in, well_in, done_in, IsSettled, AreEventsOf}
-use Rattle.model.specs.Premises.{FilesAreKept, OwnFilesApart, LiesIn, Premises, EndedAt, Matters, IsWithinEdge, IsNoEdit}
+use Rattle.model.specs.Premises.{FilesAreKept, OutputsAreKept, KeepToOutputs, OnlyFreeIsEdited, OwnFilesApart, LiesIn, Premises, EndedAt, Matters, IsWithinEdge, IsNoEdit}
 use Rattle.model.specs.SingleBuild.{IsOwnWrite, IsOfBuild, MayChange, IsMadeBy, IsFrame}
 use Rattle.model.specs.Phases.{happened_in, EndsInEvent, IsPointAfter}
 use Rattle.build_theory.specs.Order.{settled_in, LeftAsNow, LeaveAsNow, IsExplained, IsOrderlyFrom, IsOrderly, AreReadFirst}
@@ -31,7 +31,7 @@ use Rattle.build_theory.proofs.Makers.{maker_is, one_maker}
 use Rattle.build_theory.proofs.Settled.{settled_command}
 use Rattle.build_theory.proofs.Only.{only, only_has, has_only, only_order}
 use Rattle.build_theory.proofs.Rounds.{clean_by_order}
-use Rattle.build_theory.proofs.Files.{IsElsewhere, file_stays, all_elsewhere, stays_or_may_change}
+use Rattle.build_theory.proofs.Files.{IsElsewhere, file_stays, outputs_apart, all_elsewhere, stays_or_may_change}
 
 -- ---- a start comes once
 
@@ -213,7 +213,7 @@ module _ (tells : Bool) (own : OwnFiles) (task : Task) (steps : List Step) (old 
   pub output_unwritten : (once : IsMadeOnce task.graph.edges) → FilesAreKept own task.graph.edges old.history now.history → (i : ℕ) → IsCommand task.graph.edges i → (o : List ℕ) → has (outputs (edge_at task.graph.edges i)) o ≡ true
       → (end : EndOf own task.graph.edges steps i old.history now.history) → AllByRecursion (IsElsewhere o) end.after
   output_unwritten once files i command o is_output end =
-      all_elsewhere own task.graph.edges steps files.own_files files.free files.free_apart commands kept.started once i command o is_output end.after end.others
+      all_elsewhere own task.graph.edges steps files.free (outputs_apart own task.graph.edges files.free files.own_files files.free_apart) commands kept.started once i command o is_output end.after end.others
       (all_parts (IsWithinEdge files.free task.graph.edges) end.before (Happened (Finish i true) ∷ end.after) (files.commands (end.before ++ Happened (Finish i true) ∷ end.after) end.grows)).1.1
       (all_parts (IsNoEdit files.free) end.before (Happened (Finish i true) ∷ end.after) (files.edits (end.before ++ Happened (Finish i true) ∷ end.after) end.grows)).1.1
 
@@ -347,7 +347,7 @@ module _ (tells : Bool) (own : OwnFiles) (task : Task) (steps : List Step) (old 
           from_zero n = omega arith
 
       elsewhere : (p : List ℕ) → IsMadeBy (edge_at task.graph.edges i) p → AllByRecursion (IsElsewhere p) so_far
-      elsewhere p made = elim (stays_or_may_change own task.graph.edges before files.own_files files.free files.free_apart (λ j h. kept_by_then.judged j (kept_by_then.out_of_date j h)) kept_by_then.started p so_far of_build_by_then
+      elsewhere p made = elim (stays_or_may_change own task.graph.edges before files.free kept_by_then.started p so_far of_build_by_then
           (all_parts (IsWithinEdge files.free task.graph.edges) so_far (drop_events (length cut.before) told.more) (files.commands (so_far ++ drop_events (length cut.before) told.more) whole)).0
           (all_parts (IsNoEdit files.free) so_far (drop_events (length cut.before) told.more) (files.edits (so_far ++ drop_events (length cut.before) told.more) whole)).0) [
             | inl stays ↦ stays
@@ -363,21 +363,22 @@ module _ (tells : Bool) (own : OwnFiles) (task : Task) (steps : List Step) (old 
           whole = told.grows ∙ ap (λ (l : List Moment). old.history ++ l) (sym (taken_dropped (length cut.before) told.more))
 
   -- a file that changes is one that the build may change
-  pub unwritten_or : (files : FilesAreKept own task.graph.edges old.history now.history) → (p : List ℕ) → AllByRecursion (IsElsewhere p) told.more ⊎ MayChange own task.graph.edges steps p ⊎ (files.free p ≡ true)
-  unwritten_or files p =
-      stays_or_may_change own task.graph.edges steps files.own_files files.free files.free_apart commands kept.started p told.more all_of_build (files.commands told.more told.grows) (files.edits told.more told.grows)
+  pub unwritten_or : (free : List ℕ → Bool) → KeepToOutputs free task.graph.edges old.history now.history → OnlyFreeIsEdited free old.history now.history
+      → (p : List ℕ) → AllByRecursion (IsElsewhere p) told.more ⊎ MayChange own task.graph.edges steps p ⊎ (free p ≡ true)
+  unwritten_or free within edits p = stays_or_may_change own task.graph.edges steps free kept.started p told.more all_of_build (within told.more told.grows) (edits told.more told.grows)
 
-  pub unchanged : (files : FilesAreKept own task.graph.edges old.history now.history) → (p : List ℕ) → (file_at now.history p ≡ file_at old.history p) ⊎ MayChange own task.graph.edges steps p ⊎ (files.free p ≡ true)
-  unchanged files p = elim (unwritten_or files p) [
+  pub unchanged : (free : List ℕ → Bool) → KeepToOutputs free task.graph.edges old.history now.history → OnlyFreeIsEdited free old.history now.history
+      → (p : List ℕ) → (file_at now.history p ≡ file_at old.history p) ⊎ MayChange own task.graph.edges steps p ⊎ (free p ≡ true)
+  unchanged free within edits p = elim (unwritten_or free within edits p) [
     | inl stays ↦ inl (ap (λ (h : List Moment). file_at h p) told.grows ∙ file_stays p old.history told.more stays)
     | inr may ↦ inr may
   ]
 
   -- nothing writes an edge's outputs until its start
-  pub unwritten_until : IsMadeOnce task.graph.edges → FilesAreKept own task.graph.edges old.history now.history → (i stamp : ℕ) (act : Act) (o : List ℕ) (before after : List Moment)
+  pub unwritten_until : IsMadeOnce task.graph.edges → OutputsAreKept own task.graph.edges old.history now.history → (i stamp : ℕ) (act : Act) (o : List ℕ) (before after : List Moment)
       → now.history ≡ old.history ++ (before ++ Happened (Start i act stamp) ∷ after) → has (outputs (edge_at task.graph.edges i)) o ≡ true → AllByRecursion (IsElsewhere o) before
   unwritten_until once files i stamp act o before after grows is_output =
-      all_elsewhere own task.graph.edges steps files.own_files files.free files.free_apart commands kept.started once i (commands i (kept.started i was_started)) o is_output before
+      all_elsewhere own task.graph.edges steps files.free files.apart commands kept.started once i (commands i (kept.started i was_started)) o is_output before
       (quiet own task.graph.edges steps i old.events [] before (ap (λ (l : List Event). runs i l) (append-nil old.events) ∙ idle i) none
       (of_run_parts own task.graph.edges steps old.events [] before (Happened (Start i act stamp) ∷ after) (subst (λ (l : List Moment). AreOfRun own task.graph.edges steps old.events [] l) splits told.all)).0
       (all_parts (IsOfBuild own task.graph.edges steps) before (Happened (Start i act stamp) ∷ after) (subst (λ (l : List Moment). AllByRecursion (IsOfBuild own task.graph.edges steps) l) splits all_of_build)).0)
@@ -401,7 +402,7 @@ module _ (tells : Bool) (own : OwnFiles) (task : Task) (steps : List Step) (old 
       none = distinct_from task.graph.edges [] steps rest.orderly (starts_in (events_in before)) (starts_in (events_in after)) i starts
 
   -- an edge's outputs are as at the entry until its start
-  pub until_start : IsMadeOnce task.graph.edges → FilesAreKept own task.graph.edges old.history now.history → (i stamp : ℕ) (act : Act) (o : List ℕ) (before after : List Moment)
+  pub until_start : IsMadeOnce task.graph.edges → OutputsAreKept own task.graph.edges old.history now.history → (i stamp : ℕ) (act : Act) (o : List ℕ) (before after : List Moment)
       → now.history ≡ old.history ++ (before ++ Happened (Start i act stamp) ∷ after) → has (outputs (edge_at task.graph.edges i)) o ≡ true → file_at (old.history ++ before) o ≡ file_at old.history o
   until_start once files i stamp act o before after grows is_output = file_stays o old.history before (unwritten_until once files i stamp act o before after grows is_output)
 

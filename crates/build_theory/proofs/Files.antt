@@ -12,7 +12,7 @@ use Rattle.model.specs.World.{File, written, file_after, file_from, file_at, IsN
 use Rattle.model.specs.Graph.{has, has_number, edge_at, outputs, IsMadeOnce, IsCommand}
 use Rattle.model.specs.Records.{OwnFiles}
 use Rattle.model.specs.Schedule.{Step, started_in, out_of_date_in}
-use Rattle.model.specs.Premises.{OwnFilesApart, FreeApart, IsWithinEdge, IsNoEdit, LiesIn}
+use Rattle.model.specs.Premises.{OwnFilesApart, FreeApart, OutputsApart, OutputsAreKept, FilesAreKept, IsWithinEdge, IsNoEdit}
 use Rattle.model.specs.SingleBuild.{IsOwnWrite, IsOfBuild, MayChange}
 use Rattle.build_theory.specs.Run.{IsByOthersThan}
 use Rattle.build_theory.proofs.Lists.{same_bytes, bytes_same}
@@ -63,13 +63,26 @@ write_stands p by content stamp old earlier later new grows others =
     ∙ (ap (λ (f : Option File). file_from p f later) (cond-true (bytes_eq p p) (written content stamp) (file_from p (file_at old p) earlier) (bytes_same p))
     ∙ unmoved p (written content stamp) later others)))
 
-module _ (own : OwnFiles) (edges : List Edge) (steps : List Step) (apart : OwnFilesApart own edges) (free : List ℕ → Bool) (free_apart : FreeApart free own edges)
+-- where files are kept, outputs are
+abbrev pub outputs_apart : (own : OwnFiles) (edges : List Edge) (free : List ℕ → Bool) → OwnFilesApart own edges → FreeApart free own edges → OutputsApart free own edges
+outputs_apart own edges free apart free_apart = record {
+  bound = λ i p makes h. free_apart.outputs i p makes h;
+  within = λ p h. apart.within p h;
+  depfiles = λ i command. (apart.depfiles i command).0;
+  responses = λ i command. (apart.responses i command).0;
+  outputs = λ i p h. apart.outputs i p h;
+}
+
+abbrev pub outputs_kept : (own : OwnFiles) (edges : List Edge) (old new : List Moment) → FilesAreKept own edges old new → OutputsAreKept own edges old new
+outputs_kept own edges old new files = record { free = files.free; apart = outputs_apart own edges files.free files.own_files files.free_apart; commands = files.commands; edits = files.edits }
+
+module _ (own : OwnFiles) (edges : List Edge) (steps : List Step) (free : List ℕ → Bool) (apart : OutputsApart free own edges)
     (commands : (i : ℕ) → has_number (out_of_date_in steps) i ≡ true → IsCommand edges i)
     (judged : (i : ℕ) → has_number (started_in steps) i ≡ true → has_number (out_of_date_in steps) i ≡ true) where
   -- ---- outputs of an edge whose command writes nothing
 
-  lies_in_set : (p q : List ℕ) → LiesIn own q → p ≡ q → own.set p ≡ true
-  lies_in_set p q lies same = ap own.set same ∙ lies.0
+  lies_in_set : (p q : List ℕ) → own.set q ≡ true → p ≡ q → own.set p ≡ true
+  lies_in_set p q lies same = ap own.set same ∙ lies
 
   -- the program's writes lie in its set
   program_in_set : (path : List ℕ) (content : Option (List ℕ)) → IsOwnWrite own edges steps path content → own.set path ≡ true
@@ -83,7 +96,7 @@ module _ (own : OwnFiles) (edges : List Edge) (steps : List Step) (apart : OwnFi
         false≢true (sym (apart.outputs i o is_output) ∙ (ap own.set (sym same) ∙ in_set))
 
     not_free : (path : List ℕ) → path ≡ o → free path ≡ true → ⊥
-    not_free path same is_free = false≢true (sym (free_apart.outputs i o (inl command) is_output) ∙ (ap free (sym same) ∙ is_free))
+    not_free path same is_free = false≢true (sym (apart.bound i o (inl command) is_output) ∙ (ap free (sym same) ∙ is_free))
 
     elsewhere : (m : Moment) → IsByOthersThan own edges steps i m → IsWithinEdge free edges m × IsNoEdit free m → IsElsewhere o m
     elsewhere (Wrote Program path content stamp) others kept =
@@ -104,8 +117,10 @@ module _ (own : OwnFiles) (edges : List Edge) (steps : List Step) (apart : OwnFi
     all_elsewhere [] others within edits = tt
     all_elsewhere (m ∷ ms) others within edits = (elsewhere m others.0 (within.0, edits.0), all_elsewhere ms others.1 within.1 edits.1)
 
-  -- ---- a file that changes is one that the build may change
+-- ---- a file that changes is one that the build may change
 
+module _ (own : OwnFiles) (edges : List Edge) (steps : List Step) (free : List ℕ → Bool)
+    (judged : (i : ℕ) → has_number (started_in steps) i ≡ true → has_number (out_of_date_in steps) i ≡ true) where
   may_change : (p : List ℕ) (m : Moment) → IsOfBuild own edges steps m → IsWithinEdge free edges m → IsNoEdit free m → IsElsewhere p m ⊎ MayChange own edges steps p ⊎ (free p ≡ true)
   may_change p (Wrote Program path content stamp) build within edits = elim (cases_Bool (bytes_eq path p)) [
     | inl same ↦ inr (inl (by_write build (same_bytes path p same)))

@@ -71,9 +71,9 @@ module _ (tells : Bool) (own : OwnFiles) (edges : List Edge) (old new : World) (
     more = call.more;
     grows = call.grows;
     writes = by_someone call.more call.all;
-    unchanged = λ files p. elim (cases_Bool (files.free p)) [
+    unchanged = λ free within edits p. elim (cases_Bool (free p)) [
       | inl is_free ↦ inr (inr is_free)
-      | inr bound ↦ inl (ap (λ (h : List Moment). file_at h p) call.grows ∙ file_stays p old.history call.more (untouched files.free p bound call.more call.all (files.edits call.more call.grows)))
+      | inr bound ↦ inl (ap (λ (h : List Moment). file_at h p) call.grows ∙ file_stays p old.history call.more (untouched free p bound call.more call.all (edits call.more call.grows)))
     ];
     until_start = λ files i stamp act o before after splits is_output. absurd (none_happened call.more call.all before (Start i act stamp) after splits);
     until_judged = λ files before after i out_of_date splits. absurd (none_judged before (Judged i out_of_date) after splits);

@@ -12,8 +12,8 @@ use Rattle.model.specs.World.{World, file_at, IsRunning}
 use Rattle.model.specs.Calls.{OnlyLooks}
 use Rattle.model.specs.Graph.{has, has_number, edge_at, inputs, IsCommand}
 use Rattle.model.specs.OutOfDate.{NothingIsMissing}
-use Rattle.model.specs.Phases.{Phase, steps_of, IsPointAfter, AreAskedApart, NothingNeededIsFree, IsNothingMissing, WasNothingMissing, WasNothingMissingIn}
-use Rattle.model.specs.Premises.{FilesAreKept, IsWithinEdge, IsNoEdit}
+use Rattle.model.specs.Phases.{Phase, steps_of, IsPointAfter, AreAskedApart, NothingNeededIsFree, NoDepfileIsFree, IsNothingMissing, WasNothingMissing, WasNothingMissingIn}
+use Rattle.model.specs.Premises.{FilesAreKept, OnlyFreeIsEdited, IsWithinEdge, IsNoEdit}
 use Rattle.model.specs.Records.{OwnFiles, Store, recorded_inputs}
 use Rattle.model.specs.SingleBuild.{asked_with}
 use Rattle.model.specs.Schedule.{Task, Step as Done, judged_in, started_in}
@@ -134,6 +134,49 @@ module _ (tells : Bool) (tick : List ℕ) (course : Course) (edges : List Edge) 
       under_way graph state.records cone state.plan course.store known (task_over course edges).targets (task_over course edges) same_edges (ap (λ (es : List Edge). recorded_inputs course.store es) same_edges) refl steps stands.on.planned stands.on.taken
       (subst (λ (es : List Edge). IsConeOf es (recorded_inputs course.store es) (task_over course edges).targets cone.order.items cone.marks.items) same_edges stands.listed) stands.numbers
 
+  -- ---- where nothing was started, whatever the program's own files are named like
+
+  module _ (new : World) (looks : OnlyLooks tells now new) (tell : IsTrue tells) (none : started_in steps ≡ []) (free : List ℕ → Bool) (edits : OnlyFreeIsEdited free course.entry.history new.history) where
+    untouched : IsUnstarted tells course graph state now
+    untouched = stands.unstarted none
+
+    -- paths that are not free keep their files from the entry on
+    bound_still : AreKept (is_bound free) now.history new.history
+    bound_still = bound_kept tells course.own course.entry now new stands.suits.idle untouched.looks looks tell free edits
+
+    bound_seen : AreSeenOf (is_bound free) graph.manifest.paths now.history state.looks.seen.items
+    bound_seen = let call = looks.history tell in untouched.seen tell free (edits_before free course.entry.history now.history new.history call.more call.grows edits)
+
+    bound_same : (p : List ℕ) → free p ≡ false → file_at course.entry.history p ≡ file_at new.history p
+    bound_same p bound = sym (looks_keep_file tells course.own edges course.entry new stands.suits.idle (looks_then tells course.entry now new untouched.looks looks) tell free edits p bound)
+
+    bound_paths : NothingNeededIsFree free (task_over course edges) → HasPathsFor edges course.store (task_over course edges).targets steps (is_bound free)
+    bound_paths needed = record {
+      made = λ i p fresh h. not_from_false (free p) (needed.2 i p h);
+      named = λ i p h unmade. not_from_false (free p) (needed.0 i p (has-left (inputs (edge_at edges i)) (recorded_inputs course.store edges i) p h));
+      recorded = λ i p h unmade. not_from_false (free p) (needed.0 i p (has-right (inputs (edge_at edges i)) (recorded_inputs course.store edges i) p h));
+      requested = λ p h source. not_from_false (free p) (needed.1 p h);
+    }
+
+    bound_depfiles : NoDepfileIsFree free edges → KeepsDepfiles tells edges steps now new
+    bound_depfiles apart i command fresh told named p is earlier later splits =
+        subst (λ (q : List ℕ). file_at (now.history ++ earlier) q ≡ file_at now.history q) (same_bytes (edge_at edges i).act.depfile p is)
+        (bound_still (edge_at edges i).act.depfile (not_from_false (free (edge_at edges i).act.depfile) (apart i command named)) earlier later splits)
+
+    bound_alike : NoDepfileIsFree free edges → AreAlike edges steps (is_bound free) new.history course.entry.history
+    bound_alike apart = record {
+      paths = λ p is. bound_same p (not-true (free p) is);
+      depfiles = λ i command fresh named. bound_same (edge_at edges i).act.depfile (apart i command named);
+    }
+
+    -- what was found is so of the entry
+    pub found_at_entry : (So : List Moment → Type 0) → IfQuiet tells graph course.store (task_over course edges).targets steps now new state.looks So
+        → NothingNeededIsFree free (task_over course edges) → NoDepfileIsFree free edges → So course.entry.history
+    found_at_entry So found needed apart =
+        found (subst (λ (es : List Edge). KeepsDepfiles tells es steps now new) same_edges (bound_depfiles apart)) tell (is_bound free) bound_still bound_seen
+        (subst (λ (es : List Edge). HasPathsFor es course.store (task_over course edges).targets steps (is_bound free)) same_edges (bound_paths needed)) course.entry.history
+        (subst (λ (es : List Edge). AreAlike es steps (is_bound free) new.history course.entry.history) same_edges (bound_alike apart))
+
   module _ (stays : LogStays) (new : World) (looks : OnlyLooks tells now new) (tell : IsTrue tells) (files : FilesAreKept course.own edges course.entry.history new.history) where
     kept : IsKept edges steps
     kept = kept_orderly edges steps stands.on.carried.run.orderly
@@ -180,38 +223,6 @@ module _ (tells : Bool) (tick : List ℕ) (course : Course) (edges : List Edge) 
         let parts = quiet_parts files.free course.own edges steps p quiet in
         record { bound = parts.bound; foreign = parts.foreign; private = λ j out is. parts.private j (kept.judged j (kept.out_of_date j out)) is; rests = parts.rests }
 
-    -- ---- where nothing was started
-
-    module _ (none : started_in steps ≡ []) where
-      untouched : IsUnstarted tells course graph state now
-      untouched = stands.unstarted none
-
-      -- paths that are not free keep their files from the entry on
-      bound_still : AreKept (is_bound files.free) now.history new.history
-      bound_still = bound_kept tells course.own course.entry now new stands.suits.idle untouched.looks looks tell files.free files.edits
-
-      bound_seen : AreSeenOf (is_bound files.free) graph.manifest.paths now.history state.looks.seen.items
-      bound_seen = let call = looks.history tell in untouched.seen tell files.free (edits_before files.free course.entry.history now.history new.history call.more call.grows files.edits)
-
-      bound_same : (p : List ℕ) → files.free p ≡ false → (at : List Moment) → IsPointAfter steps course.entry.history new.history at → file_at at p ≡ file_at new.history p
-      bound_same p bound at point =
-          ap (λ (h : List Moment). file_at h p) (point.entry none)
-          ∙ sym (looks_keep_file tells course.own edges course.entry new stands.suits.idle (looks_then tells course.entry now new untouched.looks looks) tell files.free files.edits p bound)
-
-      bound_paths : NothingNeededIsFree files.free (task_over course edges) → HasPathsFor edges course.store (task_over course edges).targets steps (is_bound files.free)
-      bound_paths needed = record {
-        made = λ i p fresh h. not_from_false (files.free p) (needed.2 i p h);
-        named = λ i p h unmade. not_from_false (files.free p) (needed.0 i p (has-left (inputs (edge_at edges i)) (recorded_inputs course.store edges i) p h));
-        recorded = λ i p h unmade. not_from_false (files.free p) (needed.0 i p (has-right (inputs (edge_at edges i)) (recorded_inputs course.store edges i) p h));
-        requested = λ p h source. not_from_false (files.free p) (needed.1 p h);
-      }
-
-      bound_alike : (at : List Moment) → IsPointAfter steps course.entry.history new.history at → AreAlike edges steps (is_bound files.free) new.history at
-      bound_alike at point = record {
-        paths = λ p is. bound_same p (not-true (files.free p) is) at point;
-        depfiles = λ i command fresh named. bound_same (edge_at edges i).act.depfile (files.free_apart.set (edge_at edges i).act.depfile (files.own_files.depfiles i command).0) at point;
-      }
-
     -- ---- what was found is so of each point
 
     module _ (So : List Moment → Type 0) (found : IfQuiet tells graph course.store (task_over course edges).targets steps now new state.looks So) where
@@ -222,7 +233,8 @@ module _ (tells : Bool) (tick : List ℕ) (course : Course) (edges : List Edge) 
           (subst (λ (es : List Edge). AreAlike es steps set new.history at) same_edges alike)
 
       pub found_at : NothingNeededIsFree files.free (task_over course edges) → AreAskedApart course.own (task_over course edges) steps → (at : List Moment) → IsPointAfter steps course.entry.history new.history at → So at
-      found_at needed (inl none) at point = found_over keeps_depfile (is_bound files.free) (bound_still none) (bound_seen none) (bound_paths none needed) at (bound_alike none at point)
+      found_at needed (inl none) at point = subst So (sym (point.entry none)) (found_at_entry new looks tell none files.free files.edits So found needed
+          (λ i command named. files.free_apart.set (edge_at edges i).act.depfile (files.own_files.depfiles i command).0))
       found_at needed (inr apart) at point =
           found_over keeps_depfile (is_quiet files.free course.own edges steps) quietly.1 (stands.on.seen tell (files_then course.own edges course.entry now new quietly.0 files))
           (paths_for course.own edges course.store (task_over course edges).targets steps kept files.own_files apart.0 stands.suits.once (λ p h source. apart.1 p h) files.free needed.2 needed.0 needed.1

@@ -3,7 +3,7 @@ use Rattle.std.specs.Prelude.{IfErr}
 use Rattle.std.proofs.Common.{◌≡◌, ◌⊎◌, inl, inr, ℕ, suc, Bool, true, false, cond, IsTrue, List, [], ◌∷◌, ◌++◌, map, Option, Some, None, bytes_eq, Vec, Global, Result, Ok, Err, refl, sym, ◌∙◌, ap, subst, append_assoc}
 use Rattle.std.proofs.lemmas.Bool.{cases_Bool}
 use Rattle.build_theory.proofs.Builds.{idle_at_end}
-use Rattle.build_theory.proofs.Looks.{kept_before}
+use Rattle.build_theory.proofs.Looks.{kept_before, edits_before}
 use Rattle.build_theory.proofs.Settled.{settled_command}
 use Rattle.model.specs.declared.event.Moment.{Moment}
 use Rattle.model.specs.declared.fault.SiteFault.{SiteFault}
@@ -14,9 +14,9 @@ use Rattle.model.specs.Graph.{Addition, edge_at, first_output, maker, IsMadeOnce
 use Rattle.model.specs.Premises.{FilesAreKept, RecordedApart}
 use Rattle.model.specs.Records.{Store, recorded_inputs}
 use Rattle.model.specs.Schedule.{Task, Step as Done, failed_in, done_in}
-use Rattle.model.specs.Phases.{IsPointAfter, Phase, steps_of, next_edges, IsNextLoad, IsLoad, ArePhasesFrom, IsLawfulBuild, AreAskedApart, NothingNeededIsFree, WasNothingMissing, WasNothingMissingIn, task_with}
+use Rattle.model.specs.Phases.{IsPointAfter, Phase, steps_of, next_edges, IsNextLoad, IsLoad, ArePhasesFrom, IsLawfulBuild, AreAskedApart, NothingNeededIsFree, IfUnstarted, WasNothingMissing, WasNothingMissingIn, task_with}
 use Rattle.model.specs.SingleBuild as answer
-use Rattle.model.specs.SingleBuild.{HeldAt, IsRefusedLoadHeldAt, AreHeldThen, AreJudgedAt, ArePhasesJudgedAt, Asked, Answer, IsSuccess, IsAnswer, IsAsked, IsShownCycle, WentOn, WasInOrder, PassesNoFault, NamesOther, asked_with, task_of}
+use Rattle.model.specs.SingleBuild.{HeldAt, IsRefusedLoadHeldAt, AreHeldThen, AreJudgedAt, ArePhasesJudgedAt, Asked, Answer, IsSuccess, IsAnswer, IsAsked, IsNamedMissing, IsShownCycle, WentOn, WasInOrder, PassesNoFault, NamesOther, asked_with, task_of}
 use Rattle.build_theory.specs.Seen.{IsSeen}
 use Rattle.build_theory.proofs.Lists.{same_bytes, same_some}
 use Rattle.links.specs.declared.cone.Cone.{Cone}
@@ -43,7 +43,7 @@ use Rattle.builder.specs.Reported.{IsReportOf, IsReported}
 use Rattle.builder.specs.Going.{BeginsAt, task_over, IsHeldLoad, IsLacking, IsMissingAfter, IfFault, HasDone, HasStopped, WasCut, HasEndedSo, stop_answer}
 use Rattle.builder.specs.Loads.{IsRefusedFile, RefusesFile}
 use Rattle.builder.specs.declared.asked.Asked.{Asked as Request}
-use Rattle.builder.specs.Reports.{first_output_of, HasRead, IsConeRecorded, SaysEnd, report_of}
+use Rattle.builder.specs.Reports.{first_output_of, IsMissingFor, HasRead, IsConeRecorded, SaysEnd, report_of}
 use Rattle.builder.proofs.Beginning.{found_later}
 use Rattle.builder.proofs.Builds.{any_own, names_inputs, builds_over}
 use Rattle.builder.proofs.Faults.{idle_left}
@@ -302,15 +302,25 @@ module _ (tells : Bool) (course : Course) (grown : List Edge) (now : World) (fou
     Lacks path needed done =
         IsTrue tells → (files : Kept) → NothingNeededIsFree files.free task → AreAskedApart course.own task done → IsMissingAfter course grown done now path needed
 
+    abbrev AtEntry : List ℕ → Option (List ℕ) → List Done → Type 0
+    AtEntry path needed done = IfUnstarted tells task done course.entry.history now.history (IsMissingFor grown course.store done task.targets course.entry.history path needed)
+
     -- a source is missing where a phase begins
     stopped_lacking : RefusesFile tells course.own asked_now course.store (steps_of build.earlier ++ build.last) course.entry now (Refused refusal) → (missing : Lacking) → IsLacking tells course grown stopped.phases stopped.done stopped.there missing
         → Built tells course.behaviour course.format course.own asked_now course.entry now (missing_answer missing.path missing.needed_by) (Refused refusal)
-    stopped_lacking refused missing lacks = by_needed missing.needed_by (lacks_now missing.needed_by (λ tell kept needed apart. lacks.is tell (kept_then tell kept) needed apart))
+    stopped_lacking refused missing lacks =
+        by_needed missing.needed_by lacks.needed (subst (λ (l : List Done). AtEntry missing.path missing.needed_by l) (sym done_is) entry_now)
+        (lacks_now missing.needed_by (λ tell kept needed apart. lacks.is tell (kept_then tell kept) needed apart))
       where
         asked_at : IsAsked task build.earlier (steps_of build.earlier ++ build.last)
         asked_at =
             subst (λ (l : List Done). IsAsked task build.earlier l) (sym done_is)
             (subst (λ (ps : List Phase). IsAsked task ps stopped.done) (sym {A = List Phase} stopped.phased.so) lacks.asked)
+
+        entry_now : AtEntry missing.path missing.needed_by stopped.done
+        entry_now tell none free edits needed apart =
+            let more = stopped.after.history tell in
+            lacks.at_entry tell none free (edits_before free course.entry.history stopped.there.history now.history more.0 more.1 edits) needed apart
 
         lacks_now : (needed : Option (List ℕ))
             → (IsTrue tells → (files : Kept) → NothingNeededIsFree files.free task → AreAskedApart course.own task stopped.done → IsMissingAfter course grown stopped.done stopped.there missing.path needed) → Lacks missing.path needed stopped.done
@@ -325,13 +335,13 @@ module _ (tells : Bool) (course : Course) (grown : List Edge) (now : World) (fou
         lacks_then : (needed : Option (List ℕ)) → Lacks missing.path needed stopped.done → Lacks missing.path needed (steps_of build.earlier ++ build.last)
         lacks_then needed is = subst (λ (l : List Done). Lacks missing.path needed l) (sym done_is) is
 
-        by_needed : (needed : Option (List ℕ)) → Lacks missing.path needed stopped.done → Built tells course.behaviour course.format course.own asked_now course.entry now (missing_answer missing.path needed) (Refused refusal)
-        by_needed None is =
+        by_needed : (needed : Option (List ℕ)) → IsNamedMissing grown course.store task.targets missing.path needed → AtEntry missing.path needed (steps_of build.earlier ++ build.last) → Lacks missing.path needed stopped.done → Built tells course.behaviour course.format course.own asked_now course.entry now (missing_answer missing.path needed) (Refused refusal)
+        by_needed None named_so at_entry is =
             stopped_with stopped.phased.texts build held_still held_then right_then ordered (answer.MissingTarget missing.path) refused (λ h. h) (λ h. h)
-            (stopped.untouched, named, stopped.acyclic, asked_at, λ tell kept nothing apart. lacks_then None is tell kept nothing apart)
-        by_needed (Some output) is =
+            (stopped.untouched, named, stopped.acyclic, asked_at, named_so, at_entry, λ tell kept nothing apart. lacks_then None is tell kept nothing apart)
+        by_needed (Some output) named_so at_entry is =
             stopped_with stopped.phased.texts build held_still held_then right_then ordered (answer.MissingInput missing.path output) refused (λ h. h) (λ h. h)
-            (stopped.untouched, named, stopped.acyclic, asked_at, λ tell kept nothing apart. lacks_then (Some output) is tell kept nothing apart)
+            (stopped.untouched, named, stopped.acyclic, asked_at, named_so, at_entry, λ tell kept nothing apart. lacks_then (Some output) is tell kept nothing apart)
 
     -- a dyndep file was read, and what it adds makes no build
     module _ (next : List Edge) (load : IsHeldLoad tells course grown stopped.done stopped.there next) where

@@ -28,6 +28,7 @@ use Rattle.log_theory.specs.Logged.{IsLoggedAt}
 use Rattle.log_theory.proofs.Alone.{alone_nothing}
 use Rattle.log_theory.proofs.Builds.{headline_of_run, logs_of_run}
 use Rattle.log_theory.proofs.Calls.{entry_logged}
+use Rattle.log_theory.proofs.AsRead.{read_nothing}
 use Rattle.log_theory.proofs.Judged.{taken_nothing}
 use Rattle.log_theory.proofs.Ledger.{beside_looks}
 use Rattle.log_theory.proofs.Ticking.{ticked_nothing}
@@ -148,6 +149,7 @@ module _ (tells : Bool) (B : Behaviour) (format : LogFormat) (own : OwnFiles) (a
     ticked = λ tell. ticked_nothing entry.history;
     clean = λ tell kept i h stale. false≢true h;
     taken_in = λ tell kept. taken_nothing B asked.graph.edges entry.history None entry.history;
+    read = λ tell. read_nothing B asked.graph.edges entry.history None entry.history;
     logged = λ tell kept. entry_logged B format own asked.graph.edges entry;
     alone = λ tell kept. alone_nothing asked.graph.edges entry.history;
   }
@@ -191,6 +193,7 @@ module _ (tells : Bool) (B : Behaviour) (format : LogFormat) (own : OwnFiles) (a
       schedule = nothing_scheduled said;
       met = None;
       met_fault = λ i is. absurd (none_met i is);
+      ended_then = beside_now.read;
       ended = beside_now.taken_in;
       judged = λ tell kept apart known. record {
         verdicts = λ before after i stale is. absurd (none_before before after (Judged i stale) is);

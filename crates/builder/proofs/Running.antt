@@ -122,6 +122,7 @@ module _ (tells : Bool) (B : Behaviour) (format : LogFormat) (own : OwnFiles) (a
         schedule = scheduled;
         met = met;
         met_fault = met_fault;
+        ended_then = cut.beside.read;
         ended = cut.beside.taken_in;
         judged = λ tell kept apart known. judged_of tells B format own asked store entry phases steps met now cut once others tell kept apart known;
         clean = cut.beside.clean;

@@ -7,7 +7,7 @@ use Rattle.model.specs.Calls.{OnlyLooks}
 use Rattle.model.specs.Graph.{maker, later_number}
 use Rattle.model.specs.Phases.{Phase, IsNextLoad, GoesBefore, BySource, ByNamer, IsPointAfter}
 use Rattle.model.specs.Schedule.{Task, Step as Done}
-use Rattle.model.specs.SingleBuild.{asked_with}
+use Rattle.model.specs.SingleBuild.{IsNamedMissing, asked_with}
 use Rattle.log_theory.specs.Ledger.{IsCutOff}
 use Rattle.log_theory.proofs.Phased.{phased_on}
 use Rattle.links.specs.declared.cone.Cone.{Cone}
@@ -38,7 +38,7 @@ use Rattle.builder.specs.Going.{grown_course, task_over, StandsAt, HadAsked, Beg
 use Rattle.builder.specs.Loads.{NamesSource}
 use Rattle.builder.specs.Reports.{IsMissingFor}
 use Rattle.builder.specs.Sources.{HasSources, LacksSource}
-use Rattle.builder.proofs.Asking.{fresh_steps, asked_on, had_asked_on, asked_in, asked_also, under, same_edges, run_new, found_at, nothing_missing_now}
+use Rattle.builder.proofs.Asking.{fresh_steps, asked_on, had_asked_on, asked_in, asked_also, under, same_edges, run_new, found_at, found_at_entry, nothing_missing_now}
 use Rattle.builder.proofs.Halting.{with_sources, stands_looked, cut_looked}
 use Rattle.builder.proofs.Faults.{faulted_call, well_looks}
 use Rattle.builder.proofs.Points.{point_now}
@@ -151,6 +151,13 @@ module _ (tells : Bool) (tick : List ℕ) (course : Course) (edges : List Edge) 
             loaded = λ file due source. made task stands.on.steps stands.on.planned stands.on.taken file due source;
           };
           named = subst (λ (es : List Edge). NamesSource es lack.missing.path lack.missing.needed_by) (sym (same_edges tells tick course edges phases graph cone state now stands)) lack.named;
+          needed = subst (λ (es : List Edge). IsNamedMissing es course.store task.targets lack.missing.path lack.missing.needed_by) (sym (same_edges tells tick course edges phases graph cone state now stands))
+              (lack.needed course.store task.targets stands.on.steps (under tells tick course edges phases graph cone state now stands));
+          at_entry = λ tell none free edits needed apart.
+              subst (λ (es : List Edge). IsMissingFor es course.store stands.on.steps task.targets course.entry.history lack.missing.path lack.missing.needed_by) (sym (same_edges tells tick course edges phases graph cone state now stands))
+              (found_at_entry tells tick course edges phases graph cone state now stands new looked.looks tell none free edits
+              (λ at. IsMissingFor (declared_by graph).edges course.store stands.on.steps task.targets at lack.missing.path lack.missing.needed_by)
+              (lack.is course.store task.targets stands.on.steps (under tells tick course edges phases graph cone state now stands)) needed apart);
           is = λ tell files needed apart.
               let last = point_now tells course.own task stands.on.steps course.entry new (run_new tells tick course edges phases graph cone state now stands stays new looked.looks tell files) tell in
               missing_after course edges stands.on.steps new lack.missing.path lack.missing.needed_by last.0 last.1

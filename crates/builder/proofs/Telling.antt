@@ -7,10 +7,14 @@ use Rattle.model.specs.declared.graph.Edge.{Edge}
 use Rattle.model.specs.Graph.{edge_at, first_output, maker, no_edge, inputs, outputs, has}
 use Rattle.build_theory.proofs.Lists.{bytes_same}
 use Rattle.std.proofs.lemmas.Bool.{false≢true, or_left}
+use Rattle.links.specs.declared.cone.Cone.{Cone}
 use Rattle.links.specs.declared.graph.Graph.{Graph}
+use Rattle.links.specs.Linked.{IsConeOf}
 use Rattle.links.specs.Told.{declared_by, recorded_by}
-use Rattle.model.specs.Records.{Store, recorded_of}
+use Rattle.links.proofs.Texts.{has_text}
+use Rattle.model.specs.Records.{Store, recorded_of, recorded_inputs}
 use Rattle.model.specs.Schedule.{Step}
+use Rattle.model.specs.SingleBuild.{IsNamedMissing}
 use Rattle.paths.specs.declared.line.Line.{Line}
 use Rattle.paths.specs.declared.manifest.Action.{Action}
 use Rattle.paths.specs.declared.manifest.Action.TheVariants.{Alias, Command}
@@ -18,7 +22,7 @@ use Rattle.paths.specs.declared.manifest.Manifest.{Manifest}
 use Rattle.paths.specs.Commands.{no_action}
 use Rattle.paths.specs.Lists.{line_at, line_outputs}
 use Rattle.paths.specs.Told.{text_at, texts_at, edge_of, edges_of, graph_of}
-use Rattle.dues.specs.Lacks.{IsLackedBy}
+use Rattle.dues.specs.Lacks.{IsLackedBy, IsAskedFor}
 use Rattle.builder.specs.Loads.{NamesSource}
 use Rattle.builder.specs.Reports.{IsMissingFor, first_output_of}
 use Rattle.builder.specs.Recorded.{IsRecordedBy}
@@ -108,6 +112,21 @@ source_told edges text path needed needed_by same by source input = subst (λ (p
     by_needed : (needed : Option ℕ) → needed_by ≡ option_map (λ e. first_output (edge_at edges (suc e))) needed → HasInput edges text needed → NamesSource edges text needed_by
     by_needed None is input = subst (λ (n : Option (List ℕ)). NamesSource edges text n) (sym is) source
     by_needed (Some e) is input = subst (λ (n : Option (List ℕ)). NamesSource edges text n) (sym is) (suc e, refl, input, source)
+
+-- it is a target, or the edge is in the cone
+pub needed_told : (graph : Graph) (cone : Cone) (store : Store) (targets : List (List ℕ)) (number : ℕ) (path : List ℕ) (needed : Option ℕ) (needed_by : Option (List ℕ)) → path ≡ text_at graph.manifest.paths number
+    → needed_by ≡ option_map (λ e. first_output (edge_at (declared_by graph).edges (suc e))) needed → maker (declared_by graph).edges (text_at graph.manifest.paths number) ≡ None
+    → HasInput (declared_by graph).edges (text_at graph.manifest.paths number) needed → IsAskedFor cone number needed
+    → IsConeOf (declared_by graph).edges (recorded_inputs store (declared_by graph).edges) targets cone.order.items cone.marks.items → texts_at graph.manifest.paths cone.targets.items ≡ targets
+    → IsNamedMissing (declared_by graph).edges store targets path needed_by
+needed_told graph cone store targets number path needed needed_by same by source input asked listed numbers =
+    subst (λ (p : List ℕ). IsNamedMissing (declared_by graph).edges store targets p needed_by) (sym same) (by_needed needed by input asked)
+  where
+    by_needed : (needed : Option ℕ) → needed_by ≡ option_map (λ e. first_output (edge_at (declared_by graph).edges (suc e))) needed → HasInput (declared_by graph).edges (text_at graph.manifest.paths number) needed → IsAskedFor cone number needed
+        → IsNamedMissing (declared_by graph).edges store targets (text_at graph.manifest.paths number) needed_by
+    by_needed None is input asked = subst (λ (n : Option (List ℕ)). IsNamedMissing (declared_by graph).edges store targets (text_at graph.manifest.paths number) n) (sym is)
+        (subst (λ (l : List (List ℕ)). has l (text_at graph.manifest.paths number) ≡ true) numbers (has_text graph.manifest.paths cone.targets.items number asked), source)
+    by_needed (Some e) is input asked = subst (λ (n : Option (List ℕ)). IsNamedMissing (declared_by graph).edges store targets (text_at graph.manifest.paths number) n) (sym is) (suc e, listed.within e asked, refl, input, source)
 
 pub missing_told : (edges : List Edge) (store : Store) (before : List Step) (requested : List (List ℕ)) (files : List Moment) (text path : List ℕ) (needed : Option ℕ) (needed_by : Option (List ℕ)) → path ≡ text
     → needed_by ≡ option_map (λ e. first_output (edge_at edges (suc e))) needed → IsLackedBy edges store before requested files text needed → IsMissingFor edges store before requested files path needed_by

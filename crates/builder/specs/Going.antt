@@ -8,12 +8,12 @@ use Rattle.model.specs.World.{World, view_of}
 use Rattle.model.specs.Calls.{OnlyLooks}
 use Rattle.model.specs.Graph.{Addition, first_output, edge_at, has_number, maker, IsMadeOnce, IsMadeTwice}
 use Rattle.model.specs.OutOfDate.{IsFirstMissing, IsMissingInput}
-use Rattle.model.specs.Phases.{Phase, steps_of, IsGrownBy, IsDueLoad, IsNextLoad, IsPointAfter, AreAskedApart, NothingNeededIsFree, WasNothingMissing, WasNothingMissingIn}
+use Rattle.model.specs.Phases.{Phase, steps_of, IsGrownBy, IsDueLoad, IsNextLoad, IsPointAfter, AreAskedApart, NothingNeededIsFree, IfUnstarted, WasNothingMissing, WasNothingMissingIn}
 use Rattle.model.specs.Premises.{FilesAreKept, OnlyFreeIsEdited}
 use Rattle.model.specs.Records.{recorded_inputs}
 use Rattle.model.specs.Schedule.{Task, Step as Done, started_in}
 use Rattle.model.specs.SingleBuild as answer
-use Rattle.model.specs.SingleBuild.{Answer, HeldAt, IsAsked, IsShownCycle, HasNoCycle, NamesOther, PassesNoFault, asked_with, declared_graph, task_of}
+use Rattle.model.specs.SingleBuild.{Answer, HeldAt, IsAsked, IsNamedMissing, IsShownCycle, HasNoCycle, NamesOther, PassesNoFault, asked_with, declared_graph, task_of}
 use Rattle.build_theory.specs.Run.{IsRun}
 use Rattle.build_theory.specs.Seen.{IsSeen, Unrefused, StartsUnrefused}
 use Rattle.paths.specs.Told.{text_at, texts_at}
@@ -43,6 +43,7 @@ use Rattle.builder.specs.declared.report.Report.TheVariants.{Refused}
 use Rattle.builder.specs.declared.stop.Stop.{Stop}
 use Rattle.builder.specs.declared.stop.Stop.TheVariants as stop
 use Rattle.builder.specs.Loads.{ReadsDyndeps, NamesSource, RefusesFile}
+use Rattle.builder.specs.Reports.{IsMissingFor}
 
 -- ---- where it stands
 
@@ -151,6 +152,9 @@ IsMissingAfter course edges done now path (Some output) =
 pub record IsLacking (tells : Bool) (course : Course) (edges : List Edge) (phases : List Phase) (done : List Done) (now : World) (missing : Lacking) : Type 0 where
   pub asked : IsAsked (task_over course edges) phases done
   pub named : NamesSource edges missing.path missing.needed_by
+  pub needed : IsNamedMissing edges course.store (task_over course edges).targets missing.path missing.needed_by
+  pub at_entry : IfUnstarted tells (task_over course edges) done course.entry.history now.history
+      (IsMissingFor edges course.store done (task_over course edges).targets course.entry.history missing.path missing.needed_by)
   pub is : IsTrue tells → (files : FilesAreKept course.own edges course.entry.history now.history) → NothingNeededIsFree files.free (task_over course edges) → AreAskedApart course.own (task_over course edges) done
       → IsMissingAfter course edges done now missing.path missing.needed_by
 

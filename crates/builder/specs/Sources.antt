@@ -6,6 +6,7 @@ use Rattle.model.specs.Calls.{HasCause}
 use Rattle.model.specs.OutOfDate.{NothingIsMissing}
 use Rattle.model.specs.Schedule.{Step}
 use Rattle.model.specs.Records.{Store}
+use Rattle.model.specs.SingleBuild.{IsNamedMissing}
 use Rattle.build_theory.specs.Seen.{Unrefused}
 use Rattle.links.specs.declared.cone.Cone.{Cone}
 use Rattle.links.specs.declared.graph.Graph.{Graph}
@@ -34,6 +35,8 @@ pub record SaysMissing (tells : Bool) (graph : Graph) (records : Records) (cone 
   pub says : stopped ≡ stop.Refused (Missing missing)
   pub unrefused : Unrefused old new
   pub named : NamesSource (declared_by graph).edges missing.path missing.needed_by
+  pub needed : (store : Store) (targets : List (List ℕ)) (before : List Step) → IsUnderWay graph records cone plan store targets before
+      → IsNamedMissing (declared_by graph).edges store targets missing.path missing.needed_by
   pub is : (store : Store) (targets : List (List ℕ)) (before : List Step) → IsUnderWay graph records cone plan store targets before
       → IfQuiet tells graph store targets before old new seen (λ files. IsMissingFor (declared_by graph).edges store before targets files missing.path missing.needed_by)
 

@@ -15,7 +15,7 @@ use Rattle.build_theory.specs.Order.{AreMakersFirst}
 use Rattle.build_theory.proofs.Lists.{has-left, has-right, has-cases, has_number-push, has_number-push_other}
 use Rattle.build_theory.proofs.Nothing.{ReadsAre, reads_where_settled}
 use Rattle.build_theory.proofs.Turns.{settled_by_order, makers_within}
-use Rattle.dues.specs.Dues.{AreDue, AreMakersKnown, due_at}
+use Rattle.dues.specs.Dues.{AreDue, AreListed, AreMakersKnown, due_at}
 use Rattle.dues.proofs.Slices.{same_or_other, at_has, has_suc, suc_has}
 
 -- ---- the makers of what an edge needs stand before it
@@ -96,10 +96,21 @@ module _ (edges : List Edge) (store : Store) (before : List Step) (files : List 
             let same : has_number (take (k + 1) order) x ≡ has_number (take k order) x = ap (λ (l : List ℕ). has_number l x) longer ∙ has_number-push_other (take k order) edge x (λ h. other (sym h)) in
             ((λ h. let was = (so_far x).0 (sym kept ∙ h) in (same ∙ was.0, was.1)), (λ both. kept ∙ (so_far x).1 (sym same ∙ both.0, both.1)))
 
+never : (n x : ℕ) → due_at (replicate n false) x ≡ false
+never zero x = refl
+never (suc n) zero = refl
+never (suc n) (suc x) = never n x
+
 pub none_due : (edges : List Edge) (store : Store) (before : List Step) (files : List Moment) (n : ℕ) → AreDue edges store before files [] (replicate n false)
 none_due edges store before files n x = ((λ h. absurd (false≢true (sym (never n x) ∙ h))), (λ both. absurd (false≢true both.0)))
-  where
-    never : (n x : ℕ) → due_at (replicate n false) x ≡ false
-    never zero x = refl
-    never (suc n) zero = refl
-    never (suc n) (suc x) = never n x
+
+-- ---- none but listed edges
+
+pub none_listed : (listed : List ℕ) (n : ℕ) → AreListed listed (replicate n false)
+none_listed listed n e is = absurd (false≢true (sym (never n e) ∙ is))
+
+pub listed_one_more : (listed : List ℕ) (due : List Bool) (edge : ℕ) (is : Bool) → has_number listed edge ≡ true → AreListed listed due → AreListed listed (set due edge is)
+listed_one_more listed due edge is here so_far e marked = elim (same_or_other edge e) [
+  | inl same ↦ subst (λ (k : ℕ). has_number listed k ≡ true) (sym same) here
+  | inr other ↦ so_far e (sym (get_or-set_other due edge e is false other) ∙ marked)
+]

@@ -19,11 +19,19 @@ use Rattle.records.specs.declared.records.Records.{Records}
 use Rattle.dues.specs.declared.lack.Lack.{Lack}
 use Rattle.dues.specs.Quiet.{IfStill, IfQuiet}
 use Rattle.dues.specs.UnderWay.{IsUnderWay}
-use Rattle.dues.specs.Dues.{AreDue, AreSourcesIn, HasAllSources}
-use Rattle.dues.specs.Lacks.{IsFound, IsFirstIn, IsFoundOfDue}
+use Rattle.dues.specs.Dues.{AreDue, AreListed, AreSourcesIn, HasAllSources}
+use Rattle.dues.specs.Lacks.{IsFound, IsFirstIn, IsFoundOfDue, IsAskedFor, NamesDue}
 use Rattle.dues.proofs.Lacking.{inputs_known, requested_known, found_of}
 use Rattle.dues.proofs.Slices.{all_of}
 use Rattle.dues.proofs.Stays.{Follow, Stay, looked_then, quiet_of, quiet_both, quiet_first, quiet_second}
+
+-- an edge that is due is in the cone
+pub asked_by : (cone : Cone) (due : List Bool) → AreListed cone.order.items due → (lack : Lack) → NamesDue due lack.needed_by → IsAskedFor cone lack.path lack.needed_by
+asked_by cone due listed lack named = by_needed lack.needed_by named
+  where
+    by_needed : (needed : Option ℕ) → NamesDue due needed → IsAskedFor cone lack.path needed
+    by_needed None named = absurd named
+    by_needed (Some e) named = listed e named
 
 module _ (follow : Follow) (stay : Stay) (tells : Bool) (graph : Graph) (stands : StandFor (declared_by graph).edges graph.manifest.paths (links_of graph)) (records : Records) (cone : Cone) (plan : Plan)
     (store : Store) (targets : List (List ℕ)) (before : List Step) (way : IsUnderWay graph records cone plan store targets before) (within : All (λ p. p < length graph.manifest.paths) cone.targets.items) (a b : World) (looks : Looks)

@@ -1,5 +1,5 @@
 -- Lists of numbers, and the texts that they stand for.
-use Rattle.std.proofs.Common.{◌≡◌, ◌⊎◌, inl, inr, ℕ, zero, suc, ◌<◌, ◌==◌, Bool, true, List, [], ◌∷◌, Result, Ok, Err, IfOk, bytes_eq, map, get_or, length, refl, sym, ◌∙◌, ap, arith, subst}
+use Rattle.std.proofs.Common.{◌≡◌, ◌⊎◌, inl, inr, ℕ, zero, suc, ◌<◌, ◌==◌, Bool, true, List, [], ◌∷◌, Option, Some, None, IfSome, Result, Ok, Err, IfOk, bytes_eq, map, get_or, length, refl, sym, ◌∙◌, ap, arith, subst}
 use Rattle.std.specs.List.{list_any}
 use Rattle.std.proofs.lemmas.Bool.{eqb-true, eq-eqb, or_cases, or_left, or_right, false≢true, cases_Bool}
 use Rattle.model.specs.Graph.{has, has_number}
@@ -9,6 +9,10 @@ use Rattle.paths.specs.Told.{text_at, texts_at}
 pub if_ok_then : {T E : Type 0} {P Q : T → Type 0} (r : Result T E) → IfOk r P → ((x : T) → P x → Q x) → IfOk r Q
 if_ok_then (Ok x) p f = f x p
 if_ok_then (Err e) p f = tt
+
+pub if_some_so : {A : Type 0} {P : Type 0} → (o : Option A) → P → IfSome o (λ x. P)
+if_some_so None p = tt
+if_some_so (Some x) p = p
 
 pub same_or_other : (i j : ℕ) → (j ≡ i) ⊎ (j ≡ i → ⊥)
 same_or_other i j = elim (cases_Bool (j == i)) [

@@ -90,6 +90,10 @@ abbrev pub IsDueEdge : Graph → Store → List Step → List Bool → ℕ → L
 IsDueEdge graph store before due e files is =
     AreMakersKnown (declared_by graph).edges store before files due (suc e) → (is ≡ true) ↔ IsDue (declared_by graph).edges store before files (suc e)
 
+-- none but the listed edges
+abbrev pub AreListed : List ℕ → List Bool → Type 0
+AreListed listed due = (e : ℕ) → due_at due e ≡ true → has_number listed e ≡ true
+
 -- just the listed edges that are due
 abbrev pub AreDue : List Edge → Store → List Step → List Moment → List ℕ → List Bool → Type 0
 AreDue edges store before files listed due = (e : ℕ) → (due_at due e ≡ true) ↔ ((has_number listed e ≡ true) × IsDue edges store before files (suc e))

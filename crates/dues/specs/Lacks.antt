@@ -79,6 +79,16 @@ pub record IsLackOf (graph : Graph) (lack : Lack) : Type 0 where
   pub source : maker (declared_by graph).edges (text_at graph.manifest.paths lack.path) ≡ None
   pub input : IsInputOf graph lack.path lack.needed_by
 
+-- the edge, if one is named, is in the cone; else the path is one of its targets
+abbrev pub IsAskedFor : Cone → ℕ → Option ℕ → Type 0
+IsAskedFor cone p None = has_number cone.targets.items p ≡ true
+IsAskedFor cone p (Some e) = has_number cone.order.items e ≡ true
+
+-- an edge is named, and is due by these flags
+abbrev pub NamesDue : List Bool → Option ℕ → Type 0
+NamesDue due None = ⊥
+NamesDue due (Some e) = due_at due e ≡ true
+
 -- ---- what calls answer, where the files are these, and are known at the paths of a set
 
 abbrev pub IsMissingAt : Graph → ℕ → Bool → (List ℕ → Bool) → List Moment → Type 0

@@ -10,7 +10,7 @@ ghost use Rattle.looks.specs.Looking.{HasLooked};
 ghost use Rattle.dues.specs.Stores.{IsStoreOf};
 ghost use Rattle.dues.specs.Quiet.{IfQuiet};
 ghost use Rattle.dues.specs.UnderWay.{was_due, StandsIn, IsUnderWay};
-ghost use Rattle.dues.specs.Dues.{AreDue, IsDueEdge};
+ghost use Rattle.dues.specs.Dues.{AreDue, AreListed, IsDueEdge};
 ghost use Rattle.verdict.specs.Summed.{AreSums};
 
 use crate::aliases::is_alias_due;
@@ -43,6 +43,7 @@ pub fn due_edges<S: Site>(
     ensures looked { HasLooked S.tells graph.now (S.world site.old) (S.world site.new) looks.old looks.new }
     ensures cause { HasCause (S.world site.old) (S.world site.new) result }
     ensures fits { IfOk result (λ due. length due.items ≡ length graph.now.manifest.lines) }
+    ensures listed { IfOk result (λ due. AreListed cone.now.order.items due.items) }
     ensures due { IfOk result (λ due. (store : Store) (targets : List (List ℕ)) (before : List Step) → IsUnderWay graph.now records.now cone.now plan.now store targets before → IfQuiet S.tells graph.now store targets before (S.world site.old) (S.world site.new) looks.old (λ files. AreDue (declared_by graph.now).edges store before files cone.now.order.items due.items)) }
 {
     looks_follow();

@@ -11,8 +11,8 @@ ghost use Rattle.links.specs.Told.{declared_by};
 ghost use Rattle.looks.specs.Looking.{HasLooked};
 ghost use Rattle.dues.specs.Quiet.{IfStill, IfQuiet};
 ghost use Rattle.dues.specs.UnderWay.{IsUnderWay};
-ghost use Rattle.dues.specs.Dues.{AreSourcesIn, HasAllSources};
-ghost use Rattle.dues.specs.Lacks.{IsFound, lack_in, IfPresent, HasDue, IsLackOf, IsSourceOf, IsSourceFor, IsMissingAt, IsFirstIn, IsFirstFor, IsFoundOfDue};
+ghost use Rattle.dues.specs.Dues.{due_at, AreSourcesIn, HasAllSources};
+ghost use Rattle.dues.specs.Lacks.{IsFound, lack_in, IfPresent, HasDue, IsLackOf, IsSourceOf, IsSourceFor, IsMissingAt, IsFirstIn, IsFirstFor, IsFoundOfDue, IsAskedFor, NamesDue};
 
 use crate::aliases::is_absent;
 use crate::due::due_edges;
@@ -44,7 +44,7 @@ pub enum Found {
 /// The first requested path that is missing, else the first missing input of the lowest due edge of the cone, in the order
 /// of its lists; where none is missing, which edges are due. A command that the plan has judged is due where it was judged out of
 /// date. Which others are due the records of the logs say, with the files and what due edges make. A recorded input that is
-/// missing is no missing source.
+/// missing is no missing source. Whatever others write, what is named is a target, or an input of an edge of the cone.
 ///
 /// Commands may run meanwhile: what a due edge makes is not looked at. What was found is so at each point of the same steps
 /// whose files are those of now at the paths that may be looked at.
@@ -72,6 +72,7 @@ pub fn sources<S: Site>(
     ensures found { IfOk result (λ found. (store : Store) (targets : List (List ℕ)) (before : List Step) → IsUnderWay graph.now records.now cone.now plan.now store targets before → IfQuiet S.tells graph.now store targets before (S.world site.old) (S.world site.new) looks.old (λ files. IsFound graph.now store before targets files (lack_in found))) }
     ensures due { IfOk result (λ found. IfPresent found (λ due. HasDue S.tells graph.now records.now cone.now plan.now (S.world site.old) (S.world site.new) looks.old due)) }
     ensures within { IfOk result (λ found. IfSome (lack_in found) (IsLackOf graph.now)) }
+    ensures asked { IfOk result (λ found. IfSome (lack_in found) (λ lack. IsAskedFor cone.now lack.path lack.needed_by)) }
 {
     looks_follow();
     lists_stand(graph);
@@ -105,6 +106,7 @@ fn lack_of_due<S: Site>(
     ensures cause { HasCause (S.world site.old) (S.world site.new) result }
     ensures found { IfOk result (λ found. IfStill S.tells graph.now (S.world site.old) (S.world site.new) looks.old (λ set files. HasAllSources set graph.now → IsFoundOfDue graph.now due.now files found)) }
     ensures within { IfOk result (λ found. IfSome found (IsLackOf graph.now)) }
+    ensures named { IfOk result (λ found. IfSome found (λ lack. NamesDue due.now lack.needed_by)) }
 {
     looks_follow();
     for place in 0..graph.edges() {
@@ -135,6 +137,7 @@ fn missing_of_edge<S: Site>(
     ensures cause { HasCause (S.world site.old) (S.world site.new) result }
     ensures first { IfOk result (λ found. IfStill S.tells graph.now (S.world site.old) (S.world site.new) looks.old (λ set files. AreSourcesIn set graph.now ((links_of graph.now).inputs edge) → IsFirstFor graph.now due.now edge files found)) }
     ensures within { IfOk result (λ found. IfSome found (IsSourceFor graph.now edge)) }
+    ensures marked { IfOk result (λ found. IfSome found (λ path. due_at due.now edge ≡ true)) }
 {
     lists_stand(graph);
     if due[edge.index()] {

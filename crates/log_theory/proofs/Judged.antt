@@ -124,6 +124,35 @@ module _ (tells : Bool) (own : OwnFiles) (asked : Asked) (store : Store) (old : 
 
 -- ---- so are depfiles that were read
 
+-- which steps are ends, with one more
+module _ (steps : List Step) (i : ℕ) (w : Bool) where
+  last_well : (b : Bool) → has_number (well_in (Ended i b ∷ [])) i ≡ b
+  last_well true = has_number-one i
+  last_well false = refl
+
+  last_other : (b : Bool) (k : ℕ) → (i == k) ≡ false → has_number (well_in (Ended i b ∷ [])) k ≡ false
+  last_other true k other = ap (λ (c : Bool). c || false) other
+  last_other false k other = refl
+
+  parts : (k : ℕ) → has_number (well_in (steps ++ Ended i w ∷ [])) k ≡ (has_number (well_in steps) k || has_number (well_in (Ended i w ∷ [])) k)
+  parts k = ap (λ (l : List ℕ). has_number l k) (well-append steps (Ended i w ∷ [])) ∙ has_number-append (well_in steps) (well_in (Ended i w ∷ [])) k
+
+  or_none : (b : Bool) → (b || false) ≡ b
+  or_none true = refl
+  or_none false = refl
+
+  pub well_this : has_number (well_in steps) i ≡ false → (k : ℕ) → i ≡ k → has_number (well_in (steps ++ Ended i w ∷ [])) k ≡ w
+  well_this fresh k this = subst (λ (n : ℕ). has_number (well_in (steps ++ Ended i w ∷ [])) n ≡ w) this
+      (parts i ∙ (ap (λ (b : Bool). b || has_number (well_in (Ended i w ∷ [])) i) fresh ∙ last_well w))
+
+  pub well_other : (k : ℕ) → (i == k) ≡ false → has_number (well_in (steps ++ Ended i w ∷ [])) k ≡ has_number (well_in steps) k
+  well_other k other = parts k ∙ (ap (λ (b : Bool). has_number (well_in steps) k || b) (last_other w k other) ∙ or_none (has_number (well_in steps) k))
+
+  pub ended_before : (k : ℕ) → (i == k) ≡ false → has_number (ended_in (steps ++ Ended i w ∷ [])) k ≡ true → has_number (ended_in steps) k ≡ true
+  ended_before k other has =
+      sym (ap (λ (l : List ℕ). has_number l k) (ended-append steps (Ended i w ∷ []))
+      ∙ (has_number-append (ended_in steps) (i ∷ []) k ∙ (ap (λ (b : Bool). has_number (ended_in steps) k || (b || false)) other ∙ or_none (has_number (ended_in steps) k)))) ∙ has
+
 -- an end of the longer history is one of the shorter, or among what came since then
 pub ended_back : (i : ℕ) (at old so_far now ms new : List Moment) → now ≡ old ++ so_far → new ≡ now ++ ms → EndedAt i old new at
     → EndedAt i old now at ⊎ ((before : List Moment) × (after : List Moment) × (at ≡ now ++ before) × (ms ≡ before ++ Happened (Finish i true) ∷ after))
@@ -182,44 +211,17 @@ module _ (B : Behaviour) (edges : List Edge) (old : List Moment) where
     well = λ k at ended well. elim (cases_Bool (i == k)) [
       | inl same ↦
           let this : i ≡ k = eqb-true i k same in
-          by_read k at this (subst (λ (n : ℕ). EndedAt n old now at) (sym this) ended) (sym (well_this k this) ∙ well)
-      | inr other ↦ taken.well k at ended (sym (well_other k other) ∙ well)
+          by_read k at this (subst (λ (n : ℕ). EndedAt n old now at) (sym this) ended) (sym (well_this steps i w fresh k this) ∙ well)
+      | inr other ↦ taken.well k at ended (sym (well_other steps i w k other) ∙ well)
     ];
     depfiles = λ k at ended has unmet. elim (cases_Bool (i == k)) [
       | inl same ↦
           let this : i ≡ k = eqb-true i k same in
-          well_this k this ∙ accepted k at this (read at (subst (λ (n : ℕ). EndedAt n old now at) (sym this) ended)) unmet
-      | inr other ↦ well_other k other ∙ taken.depfiles k at ended (ended_before k other has) (λ is_met. unmet (keeps k is_met))
+          well_this steps i w fresh k this ∙ accepted k at this (read at (subst (λ (n : ℕ). EndedAt n old now at) (sym this) ended)) unmet
+      | inr other ↦ well_other steps i w k other ∙ taken.depfiles k at ended (ended_before steps i w k other has) (λ is_met. unmet (keeps k is_met))
     ];
   }
     where
-      last_well : (b : Bool) → has_number (well_in (Ended i b ∷ [])) i ≡ b
-      last_well true = has_number-one i
-      last_well false = refl
-
-      last_other : (b : Bool) (k : ℕ) → (i == k) ≡ false → has_number (well_in (Ended i b ∷ [])) k ≡ false
-      last_other true k other = ap (λ (c : Bool). c || false) other
-      last_other false k other = refl
-
-      parts : (k : ℕ) → has_number (well_in (steps ++ Ended i w ∷ [])) k ≡ (has_number (well_in steps) k || has_number (well_in (Ended i w ∷ [])) k)
-      parts k = ap (λ (l : List ℕ). has_number l k) (well-append steps (Ended i w ∷ [])) ∙ has_number-append (well_in steps) (well_in (Ended i w ∷ [])) k
-
-      or_none : (b : Bool) → (b || false) ≡ b
-      or_none true = refl
-      or_none false = refl
-
-      well_this : (k : ℕ) → i ≡ k → has_number (well_in (steps ++ Ended i w ∷ [])) k ≡ w
-      well_this k this = subst (λ (n : ℕ). has_number (well_in (steps ++ Ended i w ∷ [])) n ≡ w) this
-          (parts i ∙ (ap (λ (b : Bool). b || has_number (well_in (Ended i w ∷ [])) i) fresh ∙ last_well w))
-
-      well_other : (k : ℕ) → (i == k) ≡ false → has_number (well_in (steps ++ Ended i w ∷ [])) k ≡ has_number (well_in steps) k
-      well_other k other = parts k ∙ (ap (λ (b : Bool). has_number (well_in steps) k || b) (last_other w k other) ∙ or_none (has_number (well_in steps) k))
-
-      ended_before : (k : ℕ) → (i == k) ≡ false → has_number (ended_in (steps ++ Ended i w ∷ [])) k ≡ true → has_number (ended_in steps) k ≡ true
-      ended_before k other has =
-          sym (ap (λ (l : List ℕ). has_number l k) (ended-append steps (Ended i w ∷ []))
-          ∙ (has_number-append (ended_in steps) (i ∷ []) k ∙ (ap (λ (b : Bool). has_number (ended_in steps) k || (b || false)) other ∙ or_none (has_number (ended_in steps) k)))) ∙ has
-
       by_read : (k : ℕ) (at : List Moment) → i ≡ k → EndedAt i old now at → w ≡ true → is_accepted (depfile_in B (edge_at edges k).act (view_of at)) ≡ true
       by_read k at this ended well = subst (λ (n : ℕ). is_accepted (depfile_in B (edge_at edges n).act (view_of at)) ≡ true) this (elim (read at ended) [
         | inl is ↦ sym is ∙ well

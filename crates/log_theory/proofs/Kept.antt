@@ -46,7 +46,7 @@ module _ (tells : Bool) (own : OwnFiles) (task : Task) (steps : List Step) (old 
   -- a path outside the set that no started command makes is as it was
   pub path_unwritten : (o : List ℕ) → own.set o ≡ false → files.free o ≡ false → ((i : ℕ) → has_number (started_in steps) i ≡ true → has (outputs (edge_at task.graph.edges i)) o ≡ true → ⊥)
       → (more : List Moment) → now.history ≡ old.history ++ more → AllByRecursion (IsElsewhere o) more
-  path_unwritten o outside bound unstarted more grows = elim (unwritten_or tells own task steps old now idle rest tell files o) [
+  path_unwritten o outside bound unstarted more grows = elim (unwritten_or tells own task steps old now idle rest tell files.free files.commands files.edits o) [
     | inl same ↦ subst (λ (l : List Moment). AllByRecursion (IsElsewhere o) l) (same_rest old.history (told tells own task steps old now idle rest tell).more more (sym (told tells own task steps old now idle rest tell).grows ∙ grows)) same
     | inr (inl may) ↦ absurd (no_change may)
     | inr (inr is_free) ↦ absurd (false≢true (sym bound ∙ is_free))
@@ -75,7 +75,7 @@ module _ (tells : Bool) (own : OwnFiles) (task : Task) (steps : List Step) (old 
   -- the depfile of an edge that was not judged out of date is as it was
   pub depfile_stays : (i : ℕ) → IsCommand task.graph.edges i → (edge_at task.graph.edges i).act.depfile ≢ [] → (has_number (out_of_date_in steps) i ≡ true → ⊥)
       → file_at now.history (edge_at task.graph.edges i).act.depfile ≡ file_at old.history (edge_at task.graph.edges i).act.depfile
-  depfile_stays i command some not_out = elim (unchanged tells own task steps old now idle rest tell files (edge_at task.graph.edges i).act.depfile) [
+  depfile_stays i command some not_out = elim (unchanged tells own task steps old now idle rest tell files.free files.commands files.edits (edge_at task.graph.edges i).act.depfile) [
     | inl same ↦ same
     | inr (inl may) ↦ absurd (no_change may)
     | inr (inr is_free) ↦ absurd (false≢true (sym (files.free_apart.set (edge_at task.graph.edges i).act.depfile (files.own_files.depfiles i command).0) ∙ is_free))

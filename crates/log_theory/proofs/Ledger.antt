@@ -17,7 +17,7 @@ use Rattle.model.specs.OutOfDate.{ReadsNoFree, IsStaleByOutputs, IsVerdict}
 use Rattle.model.specs.Schedule.{Step, Judged, Started, Ended, IsLawfulStep, IsEndOf, NoneMayBeJudged, NoneMayStart, clean_in, started_in, out_of_date_in, ended_in, well_in, running_in}
 use Rattle.model.specs.Phases.{steps_of, Phase, NoLoadIsDue}
 use Rattle.model.specs.Premises.{FilesAreKept, RecordedApart, EndedAt, InputsAreKnown, LiesIn}
-use Rattle.model.specs.SingleBuild.{AreCleanByOutputs, AreJudgedAt, ArePhasesJudgedAt, WasTakenIn, NamesOther, Asked, task_of, IsJudged, IsFrame, EndRightly}
+use Rattle.model.specs.SingleBuild.{AreCleanByOutputs, AreJudgedAt, ArePhasesJudgedAt, WasTakenIn, NamesOther, Asked, task_of, IsJudged, IsFrame, EndRightly, EndAsRead, IsReadBehind}
 use Rattle.model.specs.Kept.{StartedUnder, KeepsRecords, store_at}
 use Rattle.build_theory.specs.Run.{starts_in, IsRun, IsRunOrRest}
 use Rattle.build_theory.proofs.Lists.{has_number-is}
@@ -38,6 +38,7 @@ use Rattle.log_theory.proofs.AtMoments.{verdicts_at_moments}
 use Rattle.log_theory.proofs.Alone.{runs_idle, alone_nothing, alone_looks, alone_adds, alone_at, own_apart, response_apart, depfile_apart}
 use Rattle.log_theory.proofs.Calls.{entry_logged, looks_logged, start_logged, rest_logged}
 use Rattle.log_theory.proofs.Growing.{logged_hand, logged_judged, logged_as_failed, logged_as_well}
+use Rattle.log_theory.proofs.AsRead.{read_nothing, read_on, read_other, read_ended}
 use Rattle.log_theory.proofs.Judged.{taken_nothing, taken_on, taken_other, taken_ended}
 use Rattle.log_theory.proofs.Phased.{phased_entry, phased_on, phased_step, phased_taken_in, over_now}
 use Rattle.log_theory.proofs.Turned.{verdicts_with_loads}
@@ -188,6 +189,11 @@ module _ (tells : Bool) (B : Behaviour) (format : LogFormat) (own : OwnFiles) (a
         (λ before after i splits. ends (events_in before) (events_in after) i (sym (grew tell).happened ∙ (ap events_in splits ∙ events_in-append before (Happened (Finish i true) ∷ after))))
         (λ i well. (kept_orderly asked.graph.edges steps rest.orderly).well i well) taken
 
+    read_then : (met : Option ℕ) → EndsOf es steps → (tell : IsTrue tells) → EndAsRead B asked.graph.edges steps met old.history now.history → EndAsRead B asked.graph.edges steps met old.history new.history
+    read_then met ends tell read = read_on B asked.graph.edges old.history steps met met (rest.history tell).more now.history (grew tell).more new.history (rest.history tell).grows (grew tell).grows (λ i h. h)
+        (λ before after i splits. ends (events_in before) (events_in after) i (sym (grew tell).happened ∙ (ap events_in splits ∙ events_in-append before (Happened (Finish i true) ∷ after))))
+        (λ i well. (kept_orderly asked.graph.edges steps rest.orderly).well i well) read
+
     pub beside_on : (met hand next : Option ℕ) → starts_in es ≡ [] → EndsOf es steps → (IsTrue tells → Kept new → Logged steps hand now → Logged steps next new) → (IsTrue tells → Kept new → LeftAlone now → LeftAlone new)
         → Beside steps met hand now → Beside steps met next new
     beside_on met hand next none ends logs alone beside = record {
@@ -196,6 +202,7 @@ module _ (tells : Bool) (B : Behaviour) (format : LogFormat) (own : OwnFiles) (a
       ticked = λ tell. ticked_quiet old.history now.history (rest.history tell).more (grew tell).more new.history (rest.history tell).grows (grew tell).grows (ap starts_in (grew tell).happened ∙ none) (beside.ticked tell);
       clean = λ tell files. beside.clean tell (files_before tell files);
       taken_in = λ tell files. taken_in_on met ends tell (beside.taken_in tell (files_before tell files));
+      read = λ tell. read_then met ends tell (beside.read tell);
       logged = λ tell files. logs tell files (beside.logged tell (files_before tell files));
       alone = λ tell files. alone tell files (beside.alone tell (files_before tell files));
     }
@@ -227,8 +234,12 @@ module _ (tells : Bool) (B : Behaviour) (format : LogFormat) (own : OwnFiles) (a
   abbrev pub SaysAtEnd : ℕ → Bool → World → Type 0
   SaysAtEnd i well now = IsTrue tells → Kept now → (at : List Moment) → EndedAt i old.history now.history at → well ≡ is_accepted (depfile_in B (edge_at asked.graph.edges i).act (view_of at))
 
+  -- and as it was when it was read
+  abbrev pub ReadAtEnd : ℕ → Bool → World → Type 0
+  ReadAtEnd i well now = IsTrue tells → (at : List Moment) → EndedAt i old.history now.history at → IsReadBehind B (edge_at asked.graph.edges i).act i at now.history well
+
   -- it becomes a step: what its depfile said was read, or the reading met a fault
-  beside_ended : (steps : List Step) (i : ℕ) (w : Bool) (met next : Option ℕ) (now : World) → has_number (well_in steps) i ≡ false → SaysAtEnd i w now ⊎ ((w ≡ false) × (met ≡ Some i))
+  beside_ended : (steps : List Step) (i : ℕ) (w : Bool) (met next : Option ℕ) (now : World) → has_number (well_in steps) i ≡ false → (SaysAtEnd i w now × ReadAtEnd i w now) ⊎ ((w ≡ false) × (met ≡ Some i))
       → (IsTrue tells → Kept now → Logged steps None now → Logged (steps ++ Ended i w ∷ []) next now) → Beside steps None None now → Beside (steps ++ Ended i w ∷ []) met next now
   beside_ended steps i w met next now fresh read logs beside = record {
     idle = beside.idle;
@@ -236,7 +247,9 @@ module _ (tells : Bool) (B : Behaviour) (format : LogFormat) (own : OwnFiles) (a
     ticked = beside.ticked;
     clean = λ tell files k h stale. beside.clean tell files k (clean_other steps (Ended i w) k refl h) stale;
     taken_in = λ tell files. taken_ended B asked.graph.edges old.history steps i w None met now.history fresh (λ k is. absurd (none_some k is))
-        (λ at ended. elim read [ inl says ↦ inl (says tell files at ended) | inr met_it ↦ inr met_it ]) (beside.taken_in tell files);
+        (λ at ended. elim read [ inl says ↦ inl (says.0 tell files at ended) | inr met_it ↦ inr met_it ]) (beside.taken_in tell files);
+    read = λ tell. read_ended B asked.graph.edges old.history steps i w None met now.history fresh (λ k is. absurd (none_some k is))
+        (λ at ended. elim read [ inl says ↦ inl (says.1 tell at ended) | inr met_it ↦ inr met_it ]) (beside.read tell);
     logged = λ tell files. logs tell files (beside.logged tell files);
     alone = beside.alone;
   }
@@ -259,6 +272,7 @@ module _ (tells : Bool) (B : Behaviour) (format : LogFormat) (own : OwnFiles) (a
       ticked = λ tell. ticked_nothing old.history;
       clean = λ tell files k h stale. false≢true h;
       taken_in = λ tell files. taken_nothing B asked.graph.edges old.history None old.history;
+      read = λ tell. read_nothing B asked.graph.edges old.history None old.history;
       logged = λ tell files. subst (λ (s : Store). IsLoggedAt B format own asked.graph.edges [] None s old old) (sym found) (entry_logged B format own asked.graph.edges old);
       alone = λ tell files. alone_nothing asked.graph.edges old.history;
     };
@@ -278,6 +292,7 @@ module _ (tells : Bool) (B : Behaviour) (format : LogFormat) (own : OwnFiles) (a
       ticked = carried.beside.ticked;
       clean = λ tell files k h stale. false≢true h;
       taken_in = carried.beside.taken_in;
+      read = carried.beside.read;
       logged = λ tell files. subst (λ (s : Store). IsLoggedAt B format own asked.graph.edges [] hand s old now) (sym (same tell files)) (carried.beside.logged tell files);
       alone = carried.beside.alone;
     };
@@ -321,6 +336,7 @@ module _ (tells : Bool) (B : Behaviour) (format : LogFormat) (own : OwnFiles) (a
         ticked = carried.beside.ticked;
         clean = λ tell files. clean_push asked.graph.edges store old.history steps i b (sound tell files) (carried.beside.clean tell files);
         taken_in = λ tell files. taken_other B asked.graph.edges old.history steps (Judged i b) None now.history refl refl (carried.beside.taken_in tell files);
+        read = λ tell. read_other B asked.graph.edges old.history steps (Judged i b) None now.history refl refl (carried.beside.read tell);
         logged = λ tell files.
             let was = carried.beside.logged tell files in
             record { readable = was.readable; logged = logged_judged B asked.graph.edges store old steps hand (store_in format own (view_of now.history)) now i b was.logged };
@@ -341,6 +357,7 @@ module _ (tells : Bool) (B : Behaviour) (format : LogFormat) (own : OwnFiles) (a
         ticked = carried.beside.ticked;
         clean = carried.beside.clean;
         taken_in = carried.beside.taken_in;
+        read = carried.beside.read;
         logged = λ tell files.
             let was = carried.beside.logged tell files in
             record { readable = was.readable; logged = logged_hand B asked.graph.edges store old steps (store_in format own (view_of now.history)) now i was.logged };
@@ -473,6 +490,8 @@ module _ (tells : Bool) (B : Behaviour) (format : LogFormat) (own : OwnFiles) (a
         clean = λ tell files k h stale. carried.beside.clean tell (before tell files) k (clean_other steps (Started i) k refl h) stale;
         taken_in = λ tell files. taken_other B asked.graph.edges old.history steps (Started i) None new.history refl refl
             (taken_in_on steps now new rest (Start i act now.ticked ∷ []) grew None (start_no_end steps i now.ticked act) tell (carried.beside.taken_in tell (before tell files)));
+        read = λ tell. read_other B asked.graph.edges old.history steps (Started i) None new.history refl refl
+            (read_then steps now new rest (Start i act now.ticked ∷ []) grew None (start_no_end steps i now.ticked act) tell (carried.beside.read tell));
         logged = λ tell files. start_logged B format own asked.graph.edges store old now new (rest.history tell).more (rest.history tell).grows files (command_of steps now idle rest) steps tells tell i act starts
             (command_of (steps ++ Started i ∷ []) new idle (rest_begins tells own (task_of asked store) old (steps ++ Started i ∷ []) new run)) (ready.begun tell (before tell files)) not_well_yet (carried.beside.logged tell (before tell files));
         alone = λ tell files. alone_adds asked.graph.edges old.history now.history (rest.history tell).more new.history (rest.history tell).grows (IsRunning now.events) (IsRunning new.events) (Start i act now.ticked)
@@ -566,7 +585,7 @@ module _ (tells : Bool) (B : Behaviour) (format : LogFormat) (own : OwnFiles) (a
         refused = λ h. carried.refused off;
       }
 
-      pub carried_well : ok ≡ true → SaysAtEnd i true new → Carried (steps ++ Ended i true ∷ []) (Some i) new
+      pub carried_well : ok ≡ true → SaysAtEnd i true new × ReadAtEnd i true new → Carried (steps ++ Ended i true ∷ []) (Some i) new
       carried_well went says = record {
         run = run_taken true ((λ h. went), (λ none. sym went));
         phased = these.phased;
@@ -580,7 +599,7 @@ module _ (tells : Bool) (B : Behaviour) (format : LogFormat) (own : OwnFiles) (a
           these = ended_phases true goes_on refl
 
       -- It failed, or its depfile is refused.
-      pub carried_failed : ((edge_at asked.graph.edges i).act.depfile ≡ [] → ok ≡ false) → SaysAtEnd i false new → Carried (steps ++ Ended i false ∷ []) None new
+      pub carried_failed : ((edge_at asked.graph.edges i).act.depfile ≡ [] → ok ≡ false) → SaysAtEnd i false new × ReadAtEnd i false new → Carried (steps ++ Ended i false ∷ []) None new
       carried_failed went says = record {
         run = run_taken false ((λ h. absurd (false≢true h)), (λ none. sym (went none)));
         phased = these.phased;
@@ -620,6 +639,9 @@ module _ (tells : Bool) (B : Behaviour) (format : LogFormat) (own : OwnFiles) (a
         taken_in = λ tell files.
             let taken = carried.beside.taken_in tell files in
             record { well = taken.well; depfiles = λ i at ended has unmet. taken.depfiles i at ended has (λ is. absurd (nothing i is)) };
+        read = λ tell.
+            let read = carried.beside.read tell in
+            record { well = read.well; depfiles = λ i at ended has unmet. read.depfiles i at ended has (λ is. absurd (nothing i is)) };
         logged = carried.beside.logged;
         alone = carried.beside.alone;
       };

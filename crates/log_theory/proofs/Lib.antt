@@ -15,6 +15,7 @@ pub mod Ticking
 pub mod Recorded
 pub mod Carried
 pub mod Judged
+pub mod AsRead
 pub mod Turned
 pub mod Ticked
 pub mod Left

@@ -13,7 +13,7 @@ use Rattle.model.specs.Records.{Store, LogFormat, OwnFiles}
 use Rattle.model.specs.Schedule.{Step, started_in, well_in}
 use Rattle.model.specs.Phases.{Phase, IsGrownBy, IsNextLoad, IsInOrderAt}
 use Rattle.model.specs.Premises.{FilesAreKept, SharesNone}
-use Rattle.model.specs.SingleBuild.{HeldAt, Asked, asked_with, task_of, EndRightly}
+use Rattle.model.specs.SingleBuild.{HeldAt, Asked, asked_with, task_of, EndRightly, EndAsRead, IsReadBehind}
 use Rattle.model.specs.Kept.{store_at}
 use Rattle.build_theory.specs.Run.{IsRunOrRest}
 use Rattle.build_theory.proofs.Growth.{HasGrown, grown_by}
@@ -31,6 +31,12 @@ module _ (few many : List Edge) (grown : HasGrown few many) where
   taken_moved B steps met old now taken = record {
     well = λ i at ended well. subst (λ (a : Act). is_accepted (depfile_in B a (view_of at)) ≡ true) (sym (grown.act i)) (taken.well i at ended well);
     depfiles = λ i at ended has unmet. subst (λ (a : Act). has_number (well_in steps) i ≡ is_accepted (depfile_in B a (view_of at))) (sym (grown.act i)) (taken.depfiles i at ended has unmet);
+  }
+
+  read_moved : (B : Behaviour) (steps : List Step) (met : Option ℕ) (old now : List Moment) → EndAsRead B few steps met old now → EndAsRead B many steps met old now
+  read_moved B steps met old now read = record {
+    well = λ i at ended well. subst (λ (a : Act). IsReadBehind B a i at now true) (sym (grown.act i)) (read.well i at ended well);
+    depfiles = λ i at ended has unmet. subst (λ (a : Act). IsReadBehind B a i at now (has_number (well_in steps) i)) (sym (grown.act i)) (read.depfiles i at ended has unmet);
   }
 
   alone_moved : (old now : List Moment) → AreLeftAlone few old now → AreLeftAlone many old now
@@ -58,6 +64,7 @@ module _ (tells : Bool) (B : Behaviour) (format : LogFormat) (own : OwnFiles) (a
       ticked = carried.beside.ticked;
       clean = λ tell files k h stale. carried.beside.clean tell (before tell files) k h (stale_before k (carried.phased.loaded k (kept.clean k h)) stale);
       taken_in = λ tell files. taken_moved asked.graph.edges next more B steps None old.history now.history (carried.beside.taken_in tell (before tell files));
+      read = λ tell. read_moved asked.graph.edges next more B steps None old.history now.history (carried.beside.read tell);
       logged = λ tell files.
           let was = carried.beside.logged tell (before tell files) in
           record { readable = was.readable; logged = logged_moved B asked.graph.edges next more steps loaded (λ i well. kept.ended i (kept.well i well)) None store (store_at format own now) old now was.logged };

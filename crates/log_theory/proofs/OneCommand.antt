@@ -109,8 +109,10 @@ one tells B format own asked store old a b c d e f g h j k l m i stamp tick seen
     looks_hk = looks_then tells h j k looks_j looks_k
 
     at_k : IsCarried tells B format own asked store [] true (Judged i true ∷ Started i ∷ Ended i true ∷ []) (Some i) old k
-    at_k = ledger.carried_well tells B format own asked store old [] true (Judged i true ∷ Started i ∷ []) g h k i true (λ on. (no_judge, no_start, no_load S)) finish looks_hk at_g refl
-        (taken.says_seen tells B format own asked store old [] true (Judged i true ∷ Started i ∷ []) g h k i true finish looks_hk at_g refl dep seen h j (looks_nothing tells h) sees looks_k true says)
+    at_k = ledger.carried_well tells B format own asked store old [] true (Judged i true ∷ Started i ∷ []) g h k i true (λ on. (no_judge, no_start, no_load S)) finish looks_hk at_g refl (
+      taken.says_seen tells B format own asked store old [] true (Judged i true ∷ Started i ∷ []) g h k i true finish looks_hk at_g refl dep seen h j (looks_nothing tells h) sees looks_k true says,
+      taken.read_seen tells B format own asked store old [] true (Judged i true ∷ Started i ∷ []) g h k i true finish looks_hk at_g refl seen h j (looks_nothing tells h) sees looks_k true says,
+    )
 
     at_l : IsCarried tells B format own asked store [] true (Judged i true ∷ Started i ∷ Ended i true ∷ []) None old l
     at_l = ledger.carried_log tells B format own asked store old [] true (Judged i true ∷ Started i ∷ Ended i true ∷ []) (Some i) None k l own.build_log log_mine done done_log at_k

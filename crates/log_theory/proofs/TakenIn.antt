@@ -6,15 +6,15 @@ use Rattle.model.specs.declared.event.Event.{Event}
 use Rattle.model.specs.declared.event.Event.TheVariants.{Finish}
 use Rattle.model.specs.declared.event.Moment.{Moment}
 use Rattle.model.specs.declared.event.Moment.TheVariants.{Happened}
-use Rattle.model.specs.World.{World, file_at, content_of, view_of, runs, IsRunning, IsIdle, events_in}
-use Rattle.model.specs.Calls.{IsByOthers, OthersWrote, Adds, OnlyLooks, Sees, Finishes}
+use Rattle.model.specs.World.{World, View, file_at, content_of, view_of, runs, IsRunning, IsIdle, events_in}
+use Rattle.model.specs.Calls.{IsByOthers, AllByOthers, OthersWrote, Adds, OnlyLooks, Sees, Finishes}
 use Rattle.model.specs.Graph.{edge_at}
 use Rattle.model.specs.Outcome.{Behaviour, read_depfile, depfile_in, is_accepted}
 use Rattle.model.specs.Records.{Store, LogFormat, OwnFiles}
 use Rattle.model.specs.Schedule.{Step}
 use Rattle.model.specs.Premises.{FilesAreKept, EndedAt, AllSince, IsWithinEdge, IsNoEdit}
 use Rattle.model.specs.Phases.{Phase}
-use Rattle.model.specs.SingleBuild.{Asked, task_of}
+use Rattle.model.specs.SingleBuild.{Asked, task_of, IsByOther, IsReadBehind}
 use Rattle.build_theory.specs.Run.{IsRunOrRest}
 use Rattle.build_theory.proofs.Lists.{same_rest, place_in, all_append, all_parts}
 use Rattle.build_theory.proofs.Events.{runs_push}
@@ -24,7 +24,8 @@ use Rattle.build_theory.proofs.Runs.{rest_begins, rest_looks, rest_finishes}
 use Rattle.build_theory.proofs.Starting.{OthersRun, private_elsewhere}
 use Rattle.log_theory.specs.Ledger.{IsCarried}
 use Rattle.log_theory.proofs.Growing.{longer}
-use Rattle.log_theory.proofs.Ledger.{SaysAtEnd, command_of}
+use Rattle.log_theory.proofs.AsRead.{by_other}
+use Rattle.log_theory.proofs.Ledger.{SaysAtEnd, ReadAtEnd, command_of}
 use Rattle.log_theory.proofs.Once.{not_ended_again, one_end}
 
 module _ (tells : Bool) (B : Behaviour) (format : LogFormat) (own : OwnFiles) (asked : Asked) (store : Store) (old : World) (phases : List Phase) (goes_on : Bool) (steps : List Step) (now mid new : World) (i : ℕ) (ok : Bool)
@@ -73,9 +74,24 @@ module _ (tells : Bool) (B : Behaviour) (format : LogFormat) (own : OwnFiles) (a
   pub says_failed : (w : Bool) → ok ≡ false → SaysAtEnd tells B format own asked store old i w new
   says_failed w failed tell files at ended = absurd (no_good_end failed tell at ended)
 
+  pub read_failed : (w : Bool) → ok ≡ false → ReadAtEnd tells B format own asked store old i w new
+  read_failed w failed tell at ended = absurd (no_good_end failed tell at ended)
+
+  none_refused : (edge_at asked.graph.edges i).act.depfile ≡ [] → (files : View) → true ≡ is_accepted (depfile_in B (edge_at asked.graph.edges i).act files)
+  none_refused none files =
+      sym (ap (λ (d : List ℕ). is_accepted (elim d [ [] ↦ Some [] | q ∷ qs ↦ read_depfile B.depfile (files (edge_at asked.graph.edges i).act.depfile) ])) none)
+
   pub says_nothing : (edge_at asked.graph.edges i).act.depfile ≡ [] → SaysAtEnd tells B format own asked store old i true new
-  says_nothing none tell files at ended =
-      sym (ap (λ (d : List ℕ). is_accepted (elim d [ [] ↦ Some [] | q ∷ qs ↦ read_depfile B.depfile (view_of at (edge_at asked.graph.edges i).act.depfile) ])) none)
+  says_nothing none tell files at ended = none_refused none (view_of at)
+
+  pub read_nothing : (edge_at asked.graph.edges i).act.depfile ≡ [] → ReadAtEnd tells B format own asked store old i true new
+  read_nothing none tell at ended = record {
+    between = [];
+    later = ended.after;
+    grows = ended.splits ∙ (sym (append_assoc old.history ended.before (Happened (Finish i true) ∷ ended.after)) ∙ ap (λ (l : List Moment). l ++ Happened (Finish i true) ∷ ended.after) (sym ended.is));
+    others = tt;
+    is = none_refused none (view_of (at ++ Happened (Finish i true) ∷ []));
+  }
 
   -- ---- the moment of its end
 
@@ -146,6 +162,62 @@ module _ (tells : Bool) (B : Behaviour) (format : LogFormat) (own : OwnFiles) (a
         first : AllByRecursion (IsElsewhere depfile) ((adds tell).later ++ before)
         first = (all_parts (IsElsewhere depfile) ((adds tell).later ++ before) after
             (subst (λ (l : List Moment). AllByRecursion (IsElsewhere depfile) l) (ap (λ (l : List Moment). (adds tell).later ++ l) more ∙ sym (append_assoc (adds tell).later before after)) elsewhere)).0
+
+  -- A read of the depfile since then saw it at a moment behind the end.
+  pub read_seen : ok ≡ true → (content : Option (List ℕ)) (first last : World) → OnlyLooks tells mid first
+      → (IsTrue tells → Sees (λ history. content_of (file_at history (edge_at asked.graph.edges i).act.depfile)) content first.history last.history) → OnlyLooks tells last new
+      → (w : Bool) → w ≡ is_accepted (depfile_in B (edge_at asked.graph.edges i).act (λ p. content)) → ReadAtEnd tells B format own asked store old i w new
+  read_seen went content first last before sees after w says tell at ended =
+      subst (λ (l : List Moment). IsReadBehind B (edge_at asked.graph.edges i).act i l new.history w) (one_end tells own (task_of asked store) steps old new idle rest_new tell i (at_end tell) at (ended_here tell went) ended) (record {
+        between = between;
+        later = later;
+        grows = whole;
+        others = (all_parts IsByOther between later (by_other (IsRunning mid.events) (between ++ later) by_others)).0;
+        is = says ∙ ap is_accepted (ap (λ (held : Option (List ℕ)). elim (edge_at asked.graph.edges i).act.depfile [ [] ↦ Some [] | q ∷ qs ↦ read_depfile B.depfile held ])
+            (seen.is ∙ ap (λ (h : List Moment). view_of h (edge_at asked.graph.edges i).act.depfile) here));
+      })
+    where
+      seen : Sees (λ history. content_of (file_at history (edge_at asked.graph.edges i).act.depfile)) content first.history last.history
+      seen = sees tell
+
+      early : OthersWrote (IsRunning mid.events) mid.history first.history
+      early = before.history tell
+
+      late : OthersWrote (IsRunning last.events) last.history new.history
+      late = after.history tell
+
+      between : List Moment
+      between = (adds tell).later ++ (early.more ++ seen.earlier)
+
+      later : List Moment
+      later = seen.later ++ late.more
+
+      -- the history at the end, and the end
+      behind : mid.history ≡ at_end tell ++ Happened (Finish i true) ∷ (adds tell).later
+      behind =
+          mid_splits tell ∙ (ap (λ (b : Bool). old.history ++ ((so_far tell ++ (adds tell).earlier) ++ Happened (Finish i b) ∷ (adds tell).later)) went
+          ∙ sym (append_assoc old.history (so_far tell ++ (adds tell).earlier) (Happened (Finish i true) ∷ (adds tell).later)))
+
+      here : first.history ++ seen.earlier ≡ at_end tell ++ Happened (Finish i true) ∷ between
+      here =
+          ap (λ (l : List Moment). l ++ seen.earlier) early.grows ∙ (append_assoc mid.history early.more seen.earlier
+          ∙ (ap (λ (l : List Moment). l ++ (early.more ++ seen.earlier)) behind ∙ append_assoc (at_end tell) (Happened (Finish i true) ∷ (adds tell).later) (early.more ++ seen.earlier)))
+
+      whole : new.history ≡ at_end tell ++ Happened (Finish i true) ∷ (between ++ later)
+      whole =
+          late.grows ∙ (ap (λ (l : List Moment). l ++ late.more) (seen.grows ∙ sym (append_assoc first.history seen.earlier seen.later))
+          ∙ (append_assoc (first.history ++ seen.earlier) seen.later late.more
+          ∙ (ap (λ (l : List Moment). l ++ later) here ∙ append_assoc (at_end tell) (Happened (Finish i true) ∷ between) later)))
+
+      -- all that was written since then was written by others
+      rest_is : (adds tell).later ++ (wrote tell).more ≡ between ++ later
+      rest_is = same_rest (at_end tell ++ Happened (Finish i true) ∷ []) ((adds tell).later ++ (wrote tell).more) (between ++ later)
+          (append_assoc (at_end tell) (Happened (Finish i true) ∷ []) ((adds tell).later ++ (wrote tell).more)
+          ∙ (sym (append_assoc (at_end tell) (Happened (Finish i true) ∷ (adds tell).later) (wrote tell).more)
+          ∙ (ap (λ (l : List Moment). l ++ (wrote tell).more) (sym behind) ∙ (sym (wrote tell).grows ∙ (whole ∙ sym (append_assoc (at_end tell) (Happened (Finish i true) ∷ []) (between ++ later)))))))
+
+      by_others : AllByOthers (IsRunning mid.events) (between ++ later)
+      by_others = subst (λ (l : List Moment). AllByOthers (IsRunning mid.events) l) rest_is (all_append (IsByOthers (IsRunning mid.events)) (adds tell).later (wrote tell).more (adds tell).all_later (wrote tell).all)
 
   -- A read of the depfile since then saw what it held at the end.
   pub depfile_seen : ok ≡ true → (edge_at asked.graph.edges i).act.depfile ≢ [] → (content : Option (List ℕ)) (first last : World) → OnlyLooks tells mid first

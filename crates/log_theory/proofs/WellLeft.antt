@@ -30,7 +30,7 @@ use Rattle.model.specs.Kept.{StartedUnder, IsRecorded, IsWritten, IsExcepted}
 use Rattle.build_theory.specs.Run.{IsRunOrRest, IsToldBy}
 use Rattle.build_theory.proofs.Lists.{same_rest, all_has, bytes_same, has-left, has-right, has-cases, same_some}
 use Rattle.build_theory.proofs.Makers.{one_maker}
-use Rattle.build_theory.proofs.Files.{IsElsewhere, file_from-append}
+use Rattle.build_theory.proofs.Files.{IsElsewhere, file_from-append, outputs_kept}
 use Rattle.build_theory.proofs.Orderly.{IsKept, kept_orderly}
 use Rattle.build_theory.specs.Order.{AreReadFirst}
 use Rattle.build_theory.proofs.Nothing.{ReadsAre, reads_where_settled}
@@ -319,7 +319,7 @@ module _ (tells : Bool) (B : Behaviour) (own : OwnFiles) (asked : Asked) (entry 
 
           none_before : AllByRecursion (IsElsewhere o) first
           none_before =
-              unwritten_until tells own (task_of asked entry) steps old now idle rest tell once files i stamp st_act o first st_after grows makes
+              unwritten_until tells own (task_of asked entry) steps old now idle rest tell once (outputs_kept own asked.graph.edges old.history now.history files) i stamp st_act o first st_after grows makes
 
   -- an output that the command wrote, and that is there, is stamped later than it was at the entry: so one whose stamp is as it was
   -- (`restat`) was not written, or is gone

@@ -10,7 +10,7 @@ use Rattle.model.specs.Records.{Store, LogFormat, OwnFiles, store_in, in_force}
 use Rattle.model.specs.Schedule.{Step, judged_in, done_in}
 use Rattle.model.specs.Phases.{Phase, steps_of, IsDueLoad, IsLawfulBuild}
 use Rattle.model.specs.Premises.{FilesAreKept, IsTickedAt, StartsAreTicked}
-use Rattle.model.specs.SingleBuild.{Asked, task_of, AreCleanByOutputs, AreLoadsHeldAt, EndRightly}
+use Rattle.model.specs.SingleBuild.{Asked, task_of, AreCleanByOutputs, AreLoadsHeldAt, EndRightly, EndAsRead}
 use Rattle.build_theory.specs.Run.{IsRun, IsRunOrRest, AreStartsReady}
 use Rattle.log_theory.specs.Logged.{IsLoggedAt}
 use Rattle.log_theory.specs.Judged.{AreJudgedOver, ArePhasesJudged}
@@ -53,6 +53,7 @@ pub record IsBeside (tells : Bool) (B : Behaviour) (format : LogFormat) (own : O
   pub ticked : IsTrue tells → StartsAreTicked old.history now.history
   pub clean : IsTrue tells → FilesAreKept own asked.graph.edges old.history now.history → AreCleanByOutputs asked.graph.edges store steps old.history
   pub taken_in : IsTrue tells → FilesAreKept own asked.graph.edges old.history now.history → EndRightly B asked.graph.edges steps met old.history now.history
+  pub read : IsTrue tells → EndAsRead B asked.graph.edges steps met old.history now.history
   pub logged : IsTrue tells → FilesAreKept own asked.graph.edges old.history now.history → IsLoggedAt B format own asked.graph.edges steps hand store old now
   pub alone : IsTrue tells → FilesAreKept own asked.graph.edges old.history now.history → AreLeftAlone asked.graph.edges old.history now.history
 

@@ -1,5 +1,5 @@
 -- Both builds are as a single build is.
-use Rattle.std.proofs.Common.{◌≡◌, inl, inr, ℕ, ◌==◌, ◌&&◌, not, Bool, true, false, List, [], ◌∷◌, ◌++◌, Option, Some, None, is_some, refl, sym, ◌∙◌, ap, subst, bytes_eq}
+use Rattle.std.proofs.Common.{◌≡◌, inl, inr, ℕ, ◌==◌, ◌&&◌, not, Bool, true, false, List, [], ◌∷◌, ◌++◌, Option, Some, None, is_some, refl, sym, ◌∙◌, ap, subst, bytes_eq, append_assoc}
 use Rattle.std.proofs.lemmas.Bool.{false≢true, cases_Bool, and_parts, eqb-true, not-true}
 use Rattle.std.proofs.lemmas.List.{append_cancel_left}
 use Rattle.model.specs.declared.event.Event.TheVariants.{Start, Finish}
@@ -10,14 +10,14 @@ use Rattle.model.specs.declared.graph.Edge.{Edge}
 use Rattle.model.specs.declared.record.Record.{Record}
 use Rattle.model.specs.World.{View, view_of}
 use Rattle.model.specs.Graph.{has_number, edge_at}
-use Rattle.model.specs.Outcome.{is_accepted}
+use Rattle.model.specs.Outcome.{depfile_in, is_accepted}
 use Rattle.model.specs.Reading.{IsAlias, Counts}
 use Rattle.model.specs.Records.{Store, OwnFiles, IsOwnIn}
 use Rattle.model.specs.OutOfDate.{made_facts}
 use Rattle.model.specs.Judgement.{reason_of}
-use Rattle.model.specs.Premises.{IsTickedAt, StartsAreTicked}
+use Rattle.model.specs.Premises.{EndedAt, IsTickedAt, StartsAreTicked}
 use Rattle.model.specs.Schedule.{Step, Judged, Started, Ended, clean_in, done_in, ended_in, well_in}
-use Rattle.model.specs.SingleBuild.{SingleBuild, Success, IsJudged, EndRightly, AreCleanByOutputs, AreJudgedAt, AreHeldThen, task_of}
+use Rattle.model.specs.SingleBuild.{SingleBuild, Success, IsJudged, EndRightly, AreCleanByOutputs, AreJudgedAt, AreHeldThen, IsReadBehind, EndAsRead, task_of}
 use Rattle.mended.specs.Project.{declared, edges, asked, commands, letters, texts, dyndep_text, reads_dyndep, store_of, first_records}
 use Rattle.mended.specs.Disk.{building, mending, first_phase, first_last, first_steps, second_phase, second_last, second_steps, first_events, second_events, first, built, edited, last}
 use Rattle.mended.specs.Rich.{no_store, first_store}
@@ -76,6 +76,26 @@ end_rightly steps old new all_well = record {
   depfiles = λ i at ended h other.
       every_number (has_number (well_in steps)) (ended_in steps) i all_well h ∙ sym (ap is_accepted (nothing_told commands edges no_depfile i (view_of at)));
 }
+
+-- each depfile as it was right behind the end: none is named
+pub end_as_read : (steps : List Step) (old new : List Moment) → every (has_number (well_in steps)) (ended_in steps) ≡ true → EndAsRead commands edges steps None old new
+end_as_read steps old new all_well = record {
+  well = λ i at ended h. behind i at ended true (sym (none_refused i (at ++ Happened (Finish i true) ∷ [])));
+  depfiles = λ i at ended h other. behind i at ended (has_number (well_in steps) i) (every_number (has_number (well_in steps)) (ended_in steps) i all_well h ∙ sym (none_refused i (at ++ Happened (Finish i true) ∷ [])));
+}
+  where
+    none_refused : (i : ℕ) (files : List Moment) → is_accepted (depfile_in commands (edge_at edges i).act (view_of files)) ≡ true
+    none_refused i files = ap is_accepted (nothing_told commands edges no_depfile i (view_of files))
+
+    behind : (i : ℕ) (at : List Moment) → EndedAt i old new at → (w : Bool) → w ≡ is_accepted (depfile_in commands (edge_at edges i).act (view_of (at ++ Happened (Finish i true) ∷ [])))
+        → IsReadBehind commands (edge_at edges i).act i at new w
+    behind i at ended w is = record {
+      between = [];
+      later = ended.after;
+      grows = ended.splits ∙ (sym (append_assoc old ended.before (Happened (Finish i true) ∷ ended.after)) ∙ ap (λ (l : List Moment). l ++ Happened (Finish i true) ∷ ended.after) (sym ended.is));
+      others = tt;
+      is = is;
+    }
 
 -- no edge that was judged clean is out of date by what it makes
 pub clean_by_outputs : (store : Store) (steps : List Step) (old : List Moment)
@@ -220,6 +240,7 @@ first_build all fits = record {
     (judged_then [] first.history building declared refl silent_declared files.free [] first_phase refl, tt),
     judged_then [] first.history building edges refl silent files.free first_phase first_last refl,
   );
+  ended_then = λ tells. end_as_read first_steps first.history (first.history ++ building) refl;
   ended = λ tells files. end_rightly first_steps first.history (first.history ++ building) refl;
   clean = λ tells files. clean_by_outputs (store_of []) first_steps first.history refl;
   held_then = λ tells. held_then [] first_phase first_steps first.history building refl refl refl refl;
@@ -269,6 +290,7 @@ second_build all fits = record {
     (judged_then first_records edited.history mending declared refl silent_declared files.free [] second_phase refl, tt),
     judged_then first_records edited.history mending edges refl silent files.free second_phase second_last refl,
   );
+  ended_then = λ tells. end_as_read second_steps edited.history (edited.history ++ mending) refl;
   ended = λ tells files. end_rightly second_steps edited.history (edited.history ++ mending) refl;
   clean = λ tells files. clean_by_outputs (store_of first_records) second_steps edited.history refl;
   held_then = λ tells. held_then first_records second_phase second_steps edited.history mending refl refl refl refl;

@@ -153,8 +153,8 @@ module _ (es : List Edge) (steps : List Step) where
         more = more;
         grows = refl;
         writes = of_build more writes;
-        unchanged = λ files p. elim (cases_Bool (has (written_in more) p)) [
-          | inl here ↦ inr (changes files.free more writes (files.commands more refl) (files.edits more refl) p here)
+        unchanged = λ free within edits p. elim (cases_Bool (has (written_in more) p)) [
+          | inl here ↦ inr (changes free more writes (within more refl) (edits more refl) p here)
           | inr none ↦ inl (still p old more none)
         ];
         until_start = λ files i stamp act o before after is h. unwritten i old before (ready i stamp act before after starts is).0 o h;

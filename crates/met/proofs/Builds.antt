@@ -18,7 +18,7 @@ use Rattle.met.specs.Worlds.{failing, stopping, succeeding, again, named, failed
 use Rattle.met.proofs.Lists.{none_some}
 use Rattle.met.proofs.Given.{ReadsNames}
 use Rattle.met.proofs.TwoEdges.{in_cone, counts_g, counts_all, no_load, judged_both, started_all, first_judged, first_started, first_ended, second_judged, second_started, second_ended, alone_started, alone_ended}
-use Rattle.met.proofs.TwoBuilt.{written_in, ready_cat, ready_scan, h_is, b_is, some_moment, untouched_at, untouched_still, frame_of, behind_tick, ticked_of, clean_first, ends_of, judged_of, in_one_phase, in_order, was_in_order}
+use Rattle.met.proofs.TwoBuilt.{written_in, ready_cat, ready_scan, h_is, b_is, some_moment, untouched_at, untouched_still, frame_of, behind_tick, ticked_of, clean_first, ends_of, read_of, judged_of, in_one_phase, in_order, was_in_order}
 use Rattle.met.proofs.Between.{no_store, failed_store, stopped_store, built_store, at_named, at_edited, at_stopped, at_edited_again, failing_steps, stopping_steps, good_steps, all_steps, failing_ends, stopping_ends, succeeding_ends, again_ends}
 
 pub some_none : {A : Type 0} (x : A) → Some x ≡ None → ⊥
@@ -151,6 +151,7 @@ module _ (reading : List ℕ → Option (List (List ℕ))) (dyndep : List ℕ �
     };
     met = None;
     met_fault = λ i is. absurd (none_some i is);
+    ended_then = λ tells. read_of reading dyndep no_store [] refl refl tt failing_steps named.history failing (failing_ends reading dyndep reads);
     ended = λ tells kept. ends_of reading dyndep no_store [] refl refl tt failing_steps named.history failing (failing_ends reading dyndep reads);
     judged_then = λ tells kept apart. (tt, ((record { at = named.history ++ take 0 failing; moment = record { so_far = take 0 failing; later = drop 0 failing; is = refl; grows = refl; happened = refl }; right = λ unread. record { read = codes "g" ∷ []; counted = counts_g no_store [] refl refl tt (named.history ++ take 0 failing); verdict = refl } }), ((record { at = named.history ++ take 6 failing; moment = record { so_far = take 6 failing; later = drop 6 failing; is = refl; grows = refl; happened = refl }; right = λ unread. record { read = codes "a" ∷ []; counted = counts_all no_store [] refl refl tt (named.history ++ take 6 failing); verdict = refl } }), tt)));
     judged = λ tells kept apart known. judged_of reading dyndep no_store [] refl refl tt kept.free failing_steps named.history failing (h_absent, (tt, (tt, (b_absent, (tt, (tt, tt)))))) (failing_ends reading dyndep reads);
@@ -222,6 +223,7 @@ module _ (reading : List ℕ → Option (List (List ℕ))) (dyndep : List ℕ �
     };
     met = None;
     met_fault = λ i is. absurd (none_some i is);
+    ended_then = λ tells. read_of reading dyndep failed_store [] refl refl tt stopping_steps edited.history stopping (stopping_ends reading dyndep reads);
     ended = λ tells kept. ends_of reading dyndep failed_store [] refl refl tt stopping_steps edited.history stopping (stopping_ends reading dyndep reads);
     judged_then = λ tells kept apart. (tt, ((record { at = edited.history ++ take 0 stopping; moment = record { so_far = take 0 stopping; later = drop 0 stopping; is = refl; grows = refl; happened = refl }; right = λ unread. record { read = codes "g" ∷ []; counted = counts_g failed_store [] refl refl tt (edited.history ++ take 0 stopping); verdict = refl } }), ((record { at = edited.history ++ take 0 stopping; moment = record { so_far = take 0 stopping; later = drop 0 stopping; is = refl; grows = refl; happened = refl }; right = λ unread. record { read = codes "a" ∷ []; counted = counts_all failed_store [] refl refl tt (edited.history ++ take 0 stopping); verdict = refl } }), tt)));
     judged = λ tells kept apart known. judged_of reading dyndep failed_store [] refl refl tt kept.free stopping_steps edited.history stopping (h_clean, (b_absent_still, (tt, tt))) (stopping_ends reading dyndep reads);
@@ -265,6 +267,7 @@ module _ (reading : List ℕ → Option (List (List ℕ))) (dyndep : List ℕ �
     };
     met = None;
     met_fault = λ i is. absurd (none_some i is);
+    ended_then = λ tells. read_of reading dyndep stopped_store [] refl refl tt good_steps restarted_world.history succeeding (succeeding_ends reading dyndep reads);
     ended = λ tells kept. ends_of reading dyndep stopped_store [] refl refl tt good_steps restarted_world.history succeeding (succeeding_ends reading dyndep reads);
     judged_then = λ tells kept apart. (tt, ((record { at = restarted_world.history ++ take 0 succeeding; moment = record { so_far = take 0 succeeding; later = drop 0 succeeding; is = refl; grows = refl; happened = refl }; right = λ unread. record { read = codes "g" ∷ []; counted = counts_g stopped_store [] refl refl tt (restarted_world.history ++ take 0 succeeding); verdict = refl } }), ((record { at = restarted_world.history ++ take 0 succeeding; moment = record { so_far = take 0 succeeding; later = drop 0 succeeding; is = refl; grows = refl; happened = refl }; right = λ unread. record { read = codes "a" ∷ []; counted = counts_all stopped_store [] refl refl tt (restarted_world.history ++ take 0 succeeding); verdict = refl } }), tt)));
     judged = λ tells kept apart known. judged_of reading dyndep stopped_store [] refl refl tt kept.free good_steps restarted_world.history succeeding (h_clean_still, (b_unknown, (tt, (tt, tt)))) (succeeding_ends reading dyndep reads);
@@ -329,6 +332,7 @@ module _ (reading : List ℕ → Option (List (List ℕ))) (dyndep : List ℕ �
     };
     met = None;
     met_fault = λ i is. absurd (none_some i is);
+    ended_then = λ tells. read_of reading dyndep built_store (codes "h" ∷ []) refl refl (refl, tt) all_steps edited_again.history again (again_ends reading dyndep reads);
     ended = λ tells kept. ends_of reading dyndep built_store (codes "h" ∷ []) refl refl (refl, tt) all_steps edited_again.history again (again_ends reading dyndep reads);
     judged_then = λ tells kept apart. (tt, ((record { at = edited_again.history ++ take 0 again; moment = record { so_far = take 0 again; later = drop 0 again; is = refl; grows = refl; happened = refl }; right = λ unread. record { read = codes "g" ∷ []; counted = counts_g built_store (codes "h" ∷ []) refl refl (refl, tt) (edited_again.history ++ take 0 again); verdict = refl } }), ((record { at = edited_again.history ++ take 5 again; moment = record { so_far = take 5 again; later = drop 5 again; is = refl; grows = refl; happened = refl }; right = λ unread. record { read = codes "a" ∷ codes "h" ∷ []; counted = counts_all built_store (codes "h" ∷ []) refl refl (refl, tt) (edited_again.history ++ take 5 again); verdict = refl } }), tt)));
     judged = λ tells kept apart known. judged_of reading dyndep built_store (codes "h" ∷ []) refl refl (refl, tt) kept.free all_steps edited_again.history again (h_later, (tt, (tt, (b_changed, (tt, (tt, tt)))))) (again_ends reading dyndep reads);

@@ -8,9 +8,9 @@ use Rattle.model.specs.declared.event.Event.TheVariants.{Start, Finish}
 use Rattle.model.specs.declared.event.Moment.{Moment}
 use Rattle.model.specs.declared.event.Moment.TheVariants.{Wrote, Happened}
 use Rattle.model.specs.declared.event.Writer.TheVariants.{Program}
-use Rattle.model.specs.World.{World, File, View, file_after, file_from, file_at, view_of, next_stamp}
+use Rattle.model.specs.World.{World, File, View, content_of, file_after, file_from, file_at, view_of, next_stamp}
 use Rattle.model.specs.Graph.{Addition, has, has_number, edge_at, maker, inputs, outputs}
-use Rattle.model.specs.Outcome.{Behaviour, depfile_in, is_accepted, listed}
+use Rattle.model.specs.Outcome.{Behaviour, read_depfile, depfile_in, is_accepted, listed}
 use Rattle.model.specs.Reading.{IsAbove, Direct, needs}
 use Rattle.model.specs.Records.{Store, OwnFiles, IsOwnIn, output_name, recorded_inputs}
 use Rattle.model.specs.Judgement.{reason_of}
@@ -18,7 +18,7 @@ use Rattle.model.specs.OutOfDate.{IsVerdict, IsStaleByOutputs, IsMissing, made_f
 use Rattle.model.specs.Schedule.{Step, Judged, Started, Ended, judged_in, started_in, ended_in, well_in, IsLawfulFrom}
 use Rattle.model.specs.Phases.{IsLawfulBuild, AreUnloadedFrom, IsPointAfter, WasNothingMissingIn, EndsInEvent, happened_in, NothingNeededIsFree}
 use Rattle.model.specs.Premises.{HasOneOutcome, LeftOutcome, EndedAt, Increases, IsWithinEdge, IsNoEdit, OwnFilesApart, LiesIn, SharesNone, FilesAreKept, IsKnownAbove, ByOne, Premises, none_free, KeepsFaith, StampsGrow, LeaveOutcomes, IsTickedAt, StartsAreTicked}
-use Rattle.model.specs.SingleBuild.{EndRightly, IsJudged, IsInOrder, WasInOrder, IsOfBuild, MayChange, IsReadyFor, IsMadeBy, IsFrame, task_of}
+use Rattle.model.specs.SingleBuild.{IsReadBehind, EndAsRead, EndRightly, IsJudged, IsInOrder, WasInOrder, IsOfBuild, MayChange, IsReadyFor, IsMadeBy, IsFrame, task_of}
 use Rattle.met.specs.Scanning.{cat, scan, edges, asked, toys, own, own_paths, begins_with}
 use Rattle.met.proofs.Lists.{all_has, all_from_has, none_some}
 use Rattle.met.proofs.TwoEdges.{reads_these, no_dyndep, names_no_other, made_once, recorded_h, no_cycle, is_either}
@@ -126,7 +126,7 @@ frame_of all steps old more writes changes starts judged = record {
   more = more;
   grows = refl;
   writes = writes;
-  unchanged = λ kept p. elim (cases_Bool (has (written_in more) p)) [
+  unchanged = λ free within edits p. elim (cases_Bool (has (written_in more) p)) [
     | inl here ↦ inr (inl (all_has (MayChange all edges steps) (written_in more) p changes here))
     | inr other ↦ inl (from_append p None old more ∙ unwritten p (file_at old p) more other)
   ];
@@ -302,6 +302,27 @@ module _ (reading : List ℕ → Option (List (List ℕ))) (dyndep : List ℕ �
     well = λ i at ended h. ap is_accepted (told_at steps old more ends i at ended);
     depfiles = λ i at ended h unmet. (ended_in_build (EndsTelling old steps) old more ends i at ended).0 ∙ sym (ap is_accepted (told_at steps old more ends i at ended));
   }
+
+  -- nothing is written by an end
+  same_told : (i : ℕ) (at : List Moment) → depfile_in B (edge_at edges i).act (view_of (at ++ Happened (Finish i true) ∷ [])) ≡ depfile_in B (edge_at edges i).act (view_of at)
+  same_told i at = ap (λ (held : Option (List ℕ)). elim (edge_at edges i).act.depfile [ [] ↦ Some [] | q ∷ qs ↦ read_depfile B.depfile held ])
+      (ap content_of (from_append (edge_at edges i).act.depfile None at (Happened (Finish i true) ∷ [])))
+
+  -- each depfile as it was right behind the end
+  pub read_of : (steps : List Step) (old more : List Moment) → AtEach (EndsIn (EndsTelling old steps)) [] more → EndAsRead B edges steps None old (old ++ more)
+  read_of steps old more ends = record {
+    well = λ i at ended h. behind i at ended true (sym (ap is_accepted (told_at steps old more ends i at ended)));
+    depfiles = λ i at ended h unmet. behind i at ended (has_number (well_in steps) i) ((ended_in_build (EndsTelling old steps) old more ends i at ended).0 ∙ sym (ap is_accepted (told_at steps old more ends i at ended)));
+  }
+    where
+      behind : (i : ℕ) (at : List Moment) → EndedAt i old (old ++ more) at → (w : Bool) → w ≡ is_accepted (depfile_in B (edge_at edges i).act (view_of at)) → IsReadBehind B (edge_at edges i).act i at (old ++ more) w
+      behind i at ended w is = record {
+        between = [];
+        later = ended.after;
+        grows = ended.splits ∙ (sym (append_assoc old ended.before (Happened (Finish i true) ∷ ended.after)) ∙ ap (λ (l : List Moment). l ++ Happened (Finish i true) ∷ ended.after) (sym ended.is));
+        others = tt;
+        is = is ∙ sym (ap is_accepted (same_told i at));
+      }
 
   pub judged_of : (free : List ℕ → Bool) (steps : List Step) (old more : List Moment) → AtEach (VerdictAt store old (old ++ more)) [] steps → AtEach (EndsIn (EndsTelling old steps)) [] more
       → IsJudged B free asked store steps None old (old ++ more)

@@ -1,15 +1,15 @@
 -- Dyndep files: what they add to the edges, and builds that load them. Where an edge's dyndep file is loaded, it names none any more.
-use Rattle.std.specs.Prelude.{◌≡◌, ◌≢◌, ◌⊎◌, ℕ, suc, ◌<◌, Bool, true, false, List, [], ◌∷◌, ◌++◌, length, Option, Some, None}
+use Rattle.std.specs.Prelude.{◌≡◌, ◌≢◌, ◌⊎◌, ℕ, suc, ◌<◌, Bool, true, false, IsTrue, List, [], ◌∷◌, ◌++◌, length, Option, Some, None}
 use Rattle.std.specs.List.{AllByRecursion}
 use Rattle.model.specs.declared.graph.Edge.{Edge}
-use Rattle.model.specs.Graph.{has, has_number, edge_at, maker, outputs, IsMadeOnce, Addition, grown_edge}
+use Rattle.model.specs.Graph.{has, has_number, edge_at, maker, outputs, IsCommand, IsMadeOnce, Addition, grown_edge}
 use Rattle.model.specs.declared.event.Moment.{Moment}
 use Rattle.model.specs.declared.event.Moment.TheVariants.{Wrote, Happened}
 use Rattle.model.specs.World.{View}
 use Rattle.model.specs.OutOfDate.{NothingIsMissing}
 use Rattle.model.specs.Reading.{needs, IsInCone, IsCycle}
 use Rattle.model.specs.Records.{Store, OwnFiles, recorded_inputs}
-use Rattle.model.specs.Premises.{RecordedApart}
+use Rattle.model.specs.Premises.{OnlyFreeIsEdited, RecordedApart}
 use Rattle.model.specs.Schedule.{Task, Step, Judged, Started, Ended, started_in, ended_in, running_in, IsLawfulFrom, IsSettledPath}
 
 -- ---- what a file adds
@@ -183,6 +183,15 @@ NothingNeededIsFree free task =
     ((i : ℕ) (p : List ℕ) → has (needs task.graph.edges task.recorded i) p ≡ true → free p ≡ false)
     × ((p : List ℕ) → has task.targets p ≡ true → free p ≡ false)
     × ((i : ℕ) (p : List ℕ) → has (outputs (edge_at task.graph.edges i)) p ≡ true → free p ≡ false)
+
+-- nor is a depfile that a command names
+abbrev pub NoDepfileIsFree : (List ℕ → Bool) → List Edge → Type 0
+NoDepfileIsFree free edges = (i : ℕ) → IsCommand edges i → (edge_at edges i).act.depfile ≢ [] → free (edge_at edges i).act.depfile ≡ false
+
+-- So it is where nothing was started yet, and others write nothing that is needed, whatever the program's own files are named like.
+abbrev pub IfUnstarted : Bool → Task → List Step → List Moment → List Moment → Type 0 → Type 0
+IfUnstarted tells task before old new So =
+    IsTrue tells → started_in before ≡ [] → (free : List ℕ → Bool) → OnlyFreeIsEdited free old new → NothingNeededIsFree free task → NoDepfileIsFree free task.graph.edges → So
 
 -- nothing is missing at this point, where all files that no edge makes are loaded
 abbrev pub IsNothingMissing : OwnFiles → Task → Store → List Step → List Moment → List Moment → Type 0

@@ -245,6 +245,22 @@ pub record FilesAreKept (own : OwnFiles) (edges : List Edge) (old new : List Mom
   pub own_files : OwnFilesApart own edges
   pub edits : OnlyFreeIsEdited free old new
 
+-- No output is free, or lies in the set of the program's own files, depfiles and response files.
+pub record OutputsApart (free : List ℕ → Bool) (own : OwnFiles) (edges : List Edge) : Type 0 where
+  pub bound : (i : ℕ) (p : List ℕ) → IsMaking edges i → has (outputs (edge_at edges i)) p ≡ true → free p ≡ false
+  pub within : (p : List ℕ) → own.files p ≡ true → own.set p ≡ true
+  pub depfiles : (i : ℕ) → IsCommand edges i → own.set (edge_at edges i).act.depfile ≡ true
+  pub responses : (i : ℕ) → IsCommand edges i → own.set (edge_at edges i).act.response_path ≡ true
+  pub outputs : (i : ℕ) (p : List ℕ) → has (outputs (edge_at edges i)) p ≡ true → own.set p ≡ false
+
+-- What is supposed of outputs up to the starts of their commands, and so wherever files are kept: of depfiles and response files no
+-- more than that none is an output, and nothing of inputs.
+pub record OutputsAreKept (own : OwnFiles) (edges : List Edge) (old new : List Moment) : Type 0 where
+  pub free : List ℕ → Bool
+  pub apart : OutputsApart free own edges
+  pub commands : KeepToOutputs free edges old new
+  pub edits : OnlyFreeIsEdited free old new
+
 -- The set that holds the program's own files, depfiles and response files holds no recorded input in use: what an earlier
 -- build recorded was a report.
 abbrev pub RecordedApart : OwnFiles → (ℕ → List (List ℕ)) → Type 0

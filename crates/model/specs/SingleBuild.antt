@@ -20,8 +20,8 @@ use Rattle.model.specs.Reading.{IsInCone, IsCycle, needs}
 use Rattle.model.specs.Records.{Store, LogFormat, OwnFiles, store_in, recorded_inputs}
 use Rattle.model.specs.OutOfDate.{ReadsNoFree, IsStaleByOutputs, IsVerdict, IsOutOfDate, IsMissingInput, IsFirstMissing}
 use Rattle.model.specs.Schedule.{Task, Step, Judged, Started, IsSettled, AreEventsOf, AreFinishes, NoneMayBeJudged, NoneMayStart, done_in, clean_in, started_in, ended_in, out_of_date_in, well_in, failed_in, Ended, MayStart}
-use Rattle.model.specs.Phases.{Phase, steps_of, task_with, IsLawfulBuild, IsLoad, IsDueLoad, IsNextLoad, NoLoadIsDue, NothingNeededIsFree, IsMomentAfter, IsPointAfter, AreAskedApart, WasNothingMissing, WasNothingMissingIn}
-use Rattle.model.specs.Premises.{LogsAreLeft, FilesAreKept, RecordedApart, Premises, EndedAt, InputsAreKnown, StartsAreTicked}
+use Rattle.model.specs.Phases.{Phase, steps_of, task_with, IsLawfulBuild, IsLoad, IsDueLoad, IsNextLoad, NoLoadIsDue, NothingNeededIsFree, IfUnstarted, IsMomentAfter, IsPointAfter, AreAskedApart, WasNothingMissing, WasNothingMissingIn}
+use Rattle.model.specs.Premises.{LogsAreLeft, KeepToOutputs, OnlyFreeIsEdited, FilesAreKept, OutputsAreKept, RecordedApart, Premises, EndedAt, InputsAreKnown, StartsAreTicked}
 
 -- ---- what a build was asked, and what it answers
 
@@ -161,6 +161,28 @@ pub record EndRightly (B : Behaviour) (edges : List Edge) (steps : List Step) (m
   pub depfiles : (i : ℕ) (at : List Moment) → EndedAt i old new at → has_number (ended_in steps) i ≡ true → (met ≡ Some i → ⊥)
       → has_number (well_in steps) i ≡ is_accepted (depfile_in B (edge_at edges i).act (view_of at))
 
+-- written by a command, or by somebody else
+abbrev pub IsByOther : Moment → Type 0
+IsByOther (Wrote Program path content stamp) = ⊥
+IsByOther (Wrote (Command job) path content stamp) = Unit {0}
+IsByOther (Wrote Someone path content stamp) = Unit {0}
+IsByOther (Happened event) = ⊥
+
+-- whether the depfile that the act names is accepted, as it was at a moment behind the end of the command of edge i: since then the program
+-- had written nothing, and nothing was started or ended; `at` is the history at which the command ended
+pub record IsReadBehind (B : Behaviour) (act : Act) (i : ℕ) (at new : List Moment) (accepted : Bool) : Type 0 where
+  pub between : List Moment
+  pub later : List Moment
+  pub grows : new ≡ at ++ Happened (Finish i true) ∷ (between ++ later)
+  pub others : AllByRecursion IsByOther between
+  pub is : accepted ≡ is_accepted (depfile_in B act (view_of (at ++ Happened (Finish i true) ∷ between)))
+
+-- The same whatever others write: of a depfile as it was when it was read, at such a moment.
+pub record EndAsRead (B : Behaviour) (edges : List Edge) (steps : List Step) (met : Option ℕ) (old new : List Moment) : Type 0 where
+  pub well : (i : ℕ) (at : List Moment) → EndedAt i old new at → has_number (well_in steps) i ≡ true → IsReadBehind B (edge_at edges i).act i at new true
+  pub depfiles : (i : ℕ) (at : List Moment) → EndedAt i old new at → has_number (ended_in steps) i ≡ true → (met ≡ Some i → ⊥)
+      → IsReadBehind B (edge_at edges i).act i at new (has_number (well_in steps) i)
+
 -- Each verdict is that of the table, where others write nothing that the edge reads; and commands ended as is said.
 pub record IsJudged (B : Behaviour) (free : List ℕ → Bool) (asked : Asked) (store : Store) (steps : List Step) (met : Option ℕ) (old new : List Moment) : Type 0 where
   pub verdicts : (before after : List Step) (i : ℕ) (out_of_date : Bool) → steps ≡ before ++ Judged i out_of_date ∷ after
@@ -292,6 +314,14 @@ IsWanted B texts asked store done wanted =
     ((wanted ≡ asked) × (done ≡ []))
     ⊎ ((edges : List Edge) × (wanted ≡ asked_with asked edges) × IsLoad B.dyndep texts (task_of asked store) done edges)
 
+-- What is named as missing is made by no edge, and is a target; or, where an output is named beside it, an input of an edge of the cone with
+-- that first output. So it is whatever others write.
+abbrev pub IsNamedMissing : List Edge → Store → List (List ℕ) → List ℕ → Option (List ℕ) → Type 0
+IsNamedMissing edges store targets path None = (has targets path ≡ true) × (maker edges path ≡ None)
+IsNamedMissing edges store targets path (Some output) =
+    (i : ℕ) × IsInCone edges (recorded_inputs store edges) targets i × (output ≡ first_output (edge_at edges i))
+    × (has (inputs (edge_at edges i)) path ≡ true) × (maker edges path ≡ None)
+
 -- a missing source is told of where a phase begins, once the files that no edge makes are loaded
 pub record IsAsked (task : Task) (phases : List Phase) (done : List Step) : Type 0 where
   pub at_once : done ≡ steps_of phases
@@ -317,10 +347,15 @@ IsAnswer tells B own texts asked store phases done steps old new (Cyclic paths) 
     IsUntouched tells steps old new × AllNamed asked × ((wanted : Asked) × IsWanted B texts asked store done wanted × IsShownCycle wanted store paths)
 IsAnswer tells B own texts asked store phases done steps old new (MissingTarget path) =
     IsUntouched tells steps old new × AllNamed asked × HasNoCycle asked store × IsAsked (task_of asked store) phases done
+    × IsNamedMissing asked.graph.edges store (targets_of (declared_graph asked) asked.targets) path None
+    × IfUnstarted tells (task_of asked store) done old.history new.history (IsFirstMissing asked.graph.edges old.history (targets_of (declared_graph asked) asked.targets) path)
     × (IsTrue tells → (files : FilesAreKept own asked.graph.edges old.history new.history) → NothingNeededIsFree files.free (task_of asked store) → AreAskedApart own (task_of asked store) done
     → (at : List Moment) × IsPointAfter done old.history new.history at × IsFirstMissing asked.graph.edges at (targets_of (declared_graph asked) asked.targets) path)
 IsAnswer tells B own texts asked store phases done steps old new (MissingInput path output) =
     IsUntouched tells steps old new × AllNamed asked × HasNoCycle asked store × IsAsked (task_of asked store) phases done
+    × IsNamedMissing asked.graph.edges store (targets_of (declared_graph asked) asked.targets) path (Some output)
+    × IfUnstarted tells (task_of asked store) done old.history new.history
+    ((i : ℕ) × (output ≡ first_output (edge_at asked.graph.edges i)) × IsMissingInput asked.graph.edges store done old.history (targets_of (declared_graph asked) asked.targets) i path)
     × (IsTrue tells → (files : FilesAreKept own asked.graph.edges old.history new.history) → NothingNeededIsFree files.free (task_of asked store) → AreAskedApart own (task_of asked store) done
     → (i : ℕ) × (output ≡ first_output (edge_at asked.graph.edges i))
     × ((at : List Moment) × IsPointAfter done old.history new.history at × IsMissingInput asked.graph.edges store done at (targets_of (declared_graph asked) asked.targets) i path))
@@ -378,13 +413,15 @@ IsMadeBy e p = (has (outputs e) p ≡ true) ⊎ ((p ≢ []) × (p ≡ e.act.depf
 
 -- No file changes but outputs of started commands, depfiles and response files of edges judged out of date, the
 -- program's own files, and free paths; up to its judgement an edge's outputs and its depfile are as at the entry, up to its start its outputs;
--- and at its start the response file is written, and no old depfile is there.
+-- and at its start the response file is written, and no old depfile is there. Each clause supposes what it needs, which is so wherever files
+-- are kept.
 pub record IsFrame (own : OwnFiles) (edges : List Edge) (steps : List Step) (old new : List Moment) : Type 0 where
   pub more : List Moment
   pub grows : new ≡ old ++ more
   pub writes : AllByRecursion (IsOfBuild own edges steps) more
-  pub unchanged : (files : FilesAreKept own edges old new) → (p : List ℕ) → (file_at new p ≡ file_at old p) ⊎ MayChange own edges steps p ⊎ (files.free p ≡ true)
-  pub until_start : FilesAreKept own edges old new → (i stamp : ℕ) (act : Act) (o : List ℕ) (before after : List Moment)
+  pub unchanged : (free : List ℕ → Bool) → KeepToOutputs free edges old new → OnlyFreeIsEdited free old new
+      → (p : List ℕ) → (file_at new p ≡ file_at old p) ⊎ MayChange own edges steps p ⊎ (free p ≡ true)
+  pub until_start : OutputsAreKept own edges old new → (i stamp : ℕ) (act : Act) (o : List ℕ) (before after : List Moment)
       → more ≡ before ++ Happened (Start i act stamp) ∷ after → has (outputs (edge_at edges i)) o ≡ true
       → file_at (old ++ before) o ≡ file_at old o
   pub until_judged : FilesAreKept own edges old new → (before after : List Step) (i : ℕ) (out_of_date : Bool) → steps ≡ before ++ Judged i out_of_date ∷ after
@@ -424,7 +461,9 @@ pub record SingleBuild (tells : Bool) (B : Behaviour) (format : LogFormat) (own 
   -- the edge whose start or taking in met the fault, if one did
   pub met : Option ℕ
   pub met_fault : (i : ℕ) → met ≡ Some i → MetFault (task_of asked store) steps old new answer i
-  -- which commands ended well, whatever is known of inputs
+  -- which commands ended well, whatever others write and is known of inputs
+  pub ended_then : IsTrue tells → EndAsRead B asked.graph.edges steps met old.history new.history
+  -- and by the depfiles as commands left them
   pub ended : IsTrue tells → FilesAreKept own asked.graph.edges old.history new.history → EndRightly B asked.graph.edges steps met old.history new.history
   pub judged : IsTrue tells → (files : FilesAreKept own asked.graph.edges old.history new.history) → RecordedApart own (recorded_inputs store asked.graph.edges)
       → InputsAreKnown asked.declared asked.graph.edges (recorded_inputs store asked.graph.edges)

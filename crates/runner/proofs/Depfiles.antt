@@ -14,8 +14,8 @@ use Rattle.model.specs.Records.{ListsOnce}
 use Rattle.model.specs.Premises.{FilesAreKept, EndedAt}
 use Rattle.build_theory.proofs.Calls.{looks_none}
 use Rattle.build_log.proofs.Distinct.{AreOnce, same_bytes, bytes_same, distinct_of_once}
-use Rattle.log_theory.proofs.Ledger.{SaysAtEnd}
-use Rattle.log_theory.proofs.TakenIn.{says_failed, says_nothing, depfile_seen}
+use Rattle.log_theory.proofs.Ledger.{SaysAtEnd, ReadAtEnd}
+use Rattle.log_theory.proofs.TakenIn.{says_failed, says_nothing, read_failed, read_nothing, read_seen, depfile_seen}
 use Rattle.links.specs.declared.graph.Graph.{Graph}
 use Rattle.depfile.specs.declared.fault.DepFault.{DepFault}
 use Rattle.depfile.specs.Depfile.{IsRead, IsReading, accepted, firsts}
@@ -160,6 +160,24 @@ module _ (tells : Bool) (course : Course) (tick : List ℕ) (graph : Graph) (sui
       by_end false failed = says_failed tells course.behaviour course.format course.own course.asked course.store course.entry course.phases (goes_on course) on.steps now mid new i ok finish looks on.carried false failed
   said_by (Inputs paths) read = λ tell files at ended. ap (λ (b : Bool). b && true) read.0 ∙ sym (ap is_accepted (end_says read.0 read.1 (Inputs paths) (read.2 tell) tell files at ended))
   said_by (Refused fault) read = λ tell files at ended. ap (λ (b : Bool). b && false) read.0 ∙ sym (ap is_accepted (end_says read.0 read.1 (Refused fault) (read.2 tell) tell files at ended))
+
+  -- and so it was when it was read
+  abbrev pub ReadSo : Bool → Type 0
+  ReadSo well = ReadAtEnd tells course.behaviour course.format course.own course.asked course.store course.entry i well new
+
+  seen_so : ok ≡ true → (told : Told) (read : Read told) → ended_well ok told ≡ is_accepted (depfile_in course.behaviour act (λ p. read.0)) → ReadSo (ended_well ok told)
+  seen_so went told read says =
+      read_seen tells course.behaviour course.format course.own course.asked course.store course.entry course.phases (goes_on course) on.steps now mid new i ok finish looks on.carried went read.0 mid new (looks_none tells mid) (λ t. read.1)
+      (looks_none tells new) (ended_well ok told) says
+
+  pub read_by : (told : Told) → WasRead tells act ok mid new told → ReadSo (ended_well ok told)
+  read_by Nothing read = by_end ok refl
+    where
+      by_end : (b : Bool) → ok ≡ b → ReadSo (b && true)
+      by_end true went = read_nothing tells course.behaviour course.format course.own course.asked course.store course.entry course.phases (goes_on course) on.steps now mid new i ok finish looks on.carried (read went)
+      by_end false failed = read_failed tells course.behaviour course.format course.own course.asked course.store course.entry course.phases (goes_on course) on.steps now mid new i ok finish looks on.carried false failed
+  read_by (Inputs paths) read = λ tell. seen_so read.0 (Inputs paths) (read.2 tell) (ap (λ (b : Bool). b && true) read.0 ∙ sym (ap is_accepted (held_says read.1 (Inputs paths) (read.2 tell)))) tell
+  read_by (Refused fault) read = λ tell. seen_so read.0 (Refused fault) (read.2 tell) (ap (λ (b : Bool). b && false) read.0 ∙ sym (ap is_accepted (held_says read.1 (Refused fault) (read.2 tell)))) tell
 
   -- a command that names no depfile ended as it was told
   pub unnamed_end : (told : Told) → WasRead tells act ok mid new told → act.depfile ≡ [] → ended_well ok told ≡ false → ok ≡ false

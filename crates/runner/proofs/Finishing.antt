@@ -26,7 +26,7 @@ use Rattle.build_theory.proofs.Orderly.{IsKept, kept_orderly}
 use Rattle.build_theory.proofs.Steps.{running_is, running_parts, started-append, ended-append, well-append, failed-append, out_of_date-append, in_left, in_right, in_either}
 use Rattle.build_theory.proofs.Runs.{run_looks, run_takes_in}
 use Rattle.log_theory.specs.Ledger.{IsCutOff}
-use Rattle.log_theory.proofs.Ledger.{SaysAtEnd, command_of, running_of, carried_well, carried_failed, cut_in_reading, cut_off, cut_looks, cut_finishes}
+use Rattle.log_theory.proofs.Ledger.{SaysAtEnd, ReadAtEnd, command_of, running_of, carried_well, carried_failed, cut_in_reading, cut_off, cut_looks, cut_finishes}
 use Rattle.log_theory.proofs.TakenIn.{ended_here, depfile_since}
 use Rattle.lowest.specs.Flags as flags
 use Rattle.paths.specs.Told.{text_at}
@@ -54,7 +54,7 @@ use Rattle.runner.specs.Restat.{is_same_look, IsFlagged}
 use Rattle.runner.specs.Starting.{in_hand_after, IsTakenIn}
 use Rattle.runner.specs.Telling.{WasRead, IsEnding, ended_well}
 use Rattle.runner.proofs.Onward.{taken_ended, since_ended}
-use Rattle.runner.proofs.Depfiles.{OneAnswer, went_well, said_by, unnamed_end, has_told, was_read_before}
+use Rattle.runner.proofs.Depfiles.{OneAnswer, went_well, said_by, read_by, unnamed_end, has_told, was_read_before}
 use Rattle.runner.proofs.Quiet.{files_then, RunBy, quiet_parts, quiet_from, quiet_adds, quiet_looks}
 use Rattle.runner.proofs.Anew.{as_new, file_still, made_quiet}
 use Rattle.runner.proofs.Noticed.{differs_as}
@@ -270,12 +270,16 @@ module _ (tells : Bool) (course : Course) (tick : List ℕ) (graph : Graph) (sui
       where
         by_end : (b : Bool) → ended_well ok told ≡ b → Carried tells course graph (After b) (in_hand_after (suc e) b) new
         by_end true went =
-            carried_well tells course.behaviour course.format course.own course.asked course.store course.entry course.phases (goes_on course) on.steps now mid new (suc e) ok turn.lawful finish looks on.carried (went_well ok told went)
-            (subst (λ (w : Bool). SaysAtEnd tells course.behaviour course.format course.own course.asked course.store course.entry (suc e) w new) went (said_by tells course tick graph suits one state now mid new (suc e) ok on finish looks told read))
+            carried_well tells course.behaviour course.format course.own course.asked course.store course.entry course.phases (goes_on course) on.steps now mid new (suc e) ok turn.lawful finish looks on.carried (went_well ok told went) (
+              subst (λ (w : Bool). SaysAtEnd tells course.behaviour course.format course.own course.asked course.store course.entry (suc e) w new) went (said_by tells course tick graph suits one state now mid new (suc e) ok on finish looks told read),
+              subst (λ (w : Bool). ReadAtEnd tells course.behaviour course.format course.own course.asked course.store course.entry (suc e) w new) went (read_by tells course tick graph suits one state now mid new (suc e) ok on finish looks told read),
+            )
         by_end false failed =
             carried_failed tells course.behaviour course.format course.own course.asked course.store course.entry course.phases (goes_on course) on.steps now mid new (suc e) ok turn.lawful finish looks on.carried
-            (λ none. unnamed_end tells course tick graph suits one state now mid new (suc e) ok on finish looks told read none failed)
-            (subst (λ (w : Bool). SaysAtEnd tells course.behaviour course.format course.own course.asked course.store course.entry (suc e) w new) failed (said_by tells course tick graph suits one state now mid new (suc e) ok on finish looks told read))
+            (λ none. unnamed_end tells course tick graph suits one state now mid new (suc e) ok on finish looks told read none failed) (
+              subst (λ (w : Bool). SaysAtEnd tells course.behaviour course.format course.own course.asked course.store course.entry (suc e) w new) failed (said_by tells course tick graph suits one state now mid new (suc e) ok on finish looks told read),
+              subst (λ (w : Bool). ReadAtEnd tells course.behaviour course.format course.own course.asked course.store course.entry (suc e) w new) failed (read_by tells course tick graph suits one state now mid new (suc e) ok on finish looks told read),
+            )
 
     -- where noting it met a fault
     pub end_cut : (plan : Plan) → TakesStep graph state.plan plan (Ended (suc e) well) → IsCut tells course graph plan new

@@ -7,6 +7,7 @@ pub mod Forbidden
 pub mod Stricter
 pub mod OneVerdict
 pub mod Unsaid
+pub mod Fewer
 pub mod Written
 pub mod ReadTooEarly
 pub mod ThreeEdges

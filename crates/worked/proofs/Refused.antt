@@ -289,7 +289,7 @@ frame_over = record {
   more = over_depfile ∷ start_of_one ∷ [];
   grows = refl;
   writes = (inr (inr (1, refl, refl)), (tt, tt));
-  unchanged = λ files p. elim (cases_Bool (bytes_eq (codes "d") p)) [
+  unchanged = λ free within edits p. elim (cases_Bool (bytes_eq (codes "d") p)) [
     | inl same ↦ inr (inl (inr (inr (inr (1, refl, sym (same_bytes (codes "d") p same))))))
     | inr other ↦ inl (file_stays p [] (over_depfile ∷ start_of_one ∷ []) (other, (tt, tt)))
   ];
@@ -399,9 +399,16 @@ loads = record {
 refused_depfile : (held : Option (List ℕ)) (content : List ℕ) → held ≡ Some content → is_accepted (read_depfile refuses_depfiles.depfile held) ≡ false
 refused_depfile held content is = ap (λ (h : Option (List ℕ)). is_accepted (read_depfile refuses_depfiles.depfile h)) is
 
+none_refused : (held : Option (List ℕ)) → is_accepted (read_depfile copies.depfile held) ≡ true
+none_refused None = refl
+none_refused (Some content) = refl
+
 ends : RefusedEnds
 ends = record {
   failed = λ old new at ended right. false≢true (right.depfiles 1 at ended refl (λ met. none_some 1 met));
+  unread = λ old new at ended read.
+      let seen = read.depfiles 1 at ended refl (λ met. none_some 1 met) in
+      false≢true (seen.is ∙ none_refused (view_of (at ++ Happened (Finish 1 true) ∷ seen.between) (codes "d")));
   well = λ old new at content ended held right. false≢true (sym (refused_depfile _ content held) ∙ right.well 1 at ended refl);
 }
 

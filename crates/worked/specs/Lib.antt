@@ -5,3 +5,4 @@ pub mod Forbidden
 pub mod Stricter
 pub mod Dyndep
 pub mod Unsaid
+pub mod Fewer

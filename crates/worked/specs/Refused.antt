@@ -15,7 +15,7 @@ use Rattle.model.specs.Records.{Store, LogFormat, OwnFiles}
 use Rattle.model.specs.Schedule.{Step, Judged, Started, Ended, IsLawful}
 use Rattle.model.specs.Premises.{EndedAt, OwnFilesApart, FilesAreKept, RecordedApart, StartsAreTicked}
 use Rattle.model.specs.Kept.{KeepsRecords, StartedUnder}
-use Rattle.model.specs.SingleBuild.{Asked, Answer, Fault, SingleBuild, EndRightly, IsFrame, StartsOnlyStale, AreCleanByOutputs, AreLoadsHeldAt, is_fault}
+use Rattle.model.specs.SingleBuild.{Asked, Answer, Fault, SingleBuild, EndRightly, EndAsRead, IsFrame, StartsOnlyStale, AreCleanByOutputs, AreLoadsHeldAt, is_fault}
 use Rattle.model.specs.Faithful.{IsFaithfulStore}
 use Rattle.model.specs.History.{Visit, IsNotRead}
 use Rattle.model.specs.Driven.{Reader, IsDriven, CarriesOut, RestartsFrom, is_restart, asks_restart}
@@ -200,6 +200,9 @@ pub record RefusedEnds : Type 0 where
   -- a command ended well by itself and has no depfile, and is said to have failed
   pub failed : (old new at : List Moment) → EndedAt 1 old new at
       → EndRightly copies edges (Judged 1 true ∷ Started 1 ∷ Ended 1 false ∷ []) None old new → ⊥
+  -- no depfile can be refused, and it is said to have failed, whatever others write
+  pub unread : (old new at : List Moment) → EndedAt 1 old new at
+      → EndAsRead copies with_depfile (Judged 1 true ∷ Started 1 ∷ Ended 1 false ∷ []) None old new → ⊥
   -- it left a depfile that is refused, and is said to have ended well
   pub well : (old new at : List Moment) (content : List ℕ) → EndedAt 1 old new at → view_of at (codes "d") ≡ Some content
       → EndRightly refuses_depfiles with_depfile ran_well None old new → ⊥

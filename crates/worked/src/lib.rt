@@ -8,6 +8,7 @@ ghost use Rattle.worked.specs.Edited.{EditedRows};
 ghost use Rattle.worked.specs.Forbidden.{ForbiddenRows};
 ghost use Rattle.worked.specs.Stricter.{LogsAreLeftByBoth, StricterSuffice};
 ghost use Rattle.worked.specs.Unsaid.{UnsaidRows};
+ghost use Rattle.worked.specs.Fewer.{FewerPremises};
 
 /// The definitions refuse these: records made up or dropped, a fault passed over, moves skipped, restarts that are missing or
 /// needless, answers that no build gave, a deps record of a start to come, a start that is not prepared (where one path is depfile
@@ -53,4 +54,10 @@ pub fn logs_are_left()
 /// edge has one verdict; and where an edge reads too early what only a dyndep file makes, verdicts are those of their moments.
 pub fn unsaid_rows()
     ensures { UnsaidRows }
+{}
+
+/// What holds of a build though files are not kept: where two edges have one depfile, outputs are left alone up to the starts of their
+/// commands; where somebody writes a depfile before it is read, a command ended as that says.
+pub fn fewer_premises()
+    ensures { FewerPremises }
 {}

@@ -3,8 +3,8 @@ use Rattle.build_theory.proofs.Calls.{unrefused_call}
 use Rattle.links.specs.Told.{declared_by}
 use Rattle.paths.specs.Told.{text_at}
 use Rattle.dues.specs.declared.lack.Found.{Found}
-use Rattle.dues.specs.Lacks.{IsFound, lack_in, IfPresent, HasDue, IsLackOf}
-use Rattle.builder.proofs.Telling.{missing_told, source_told}
+use Rattle.dues.specs.Lacks.{IsFound, lack_in, IfPresent, HasDue, IsLackOf, IsAskedFor}
+use Rattle.builder.proofs.Telling.{missing_told, source_told, needed_told}
 use Rattle.builder.proofs.sources.check_sources.Goals as goal
 
 pub returns-in_ok-missing-in-Missing-clause-lacking : goal.returns-in_ok-missing-in-Missing-clause-lacking
@@ -19,6 +19,10 @@ returns-in_ok-missing-in-Missing-clause-lacking g c =
       unrefused = unrefused_call (g.S.Texts.world c.args.site.now) (g.S.Texts.world c.sources.new.site) _ c.in_ok-lack.ensures.cause;
       named = source_told (declared_by graph).edges (text_at graph.manifest.paths lack.path) missing.path lack.needed_by missing.needed_by
           c.in_ok-missing-in-Missing.ensures.path c.in_ok-missing-in-Missing.ensures.needed_by named.source named.input;
+      needed = λ store targets before under_way.
+          needed_told graph c.args.cone.now store targets lack.path missing.path lack.needed_by missing.needed_by
+          c.in_ok-missing-in-Missing.ensures.path c.in_ok-missing-in-Missing.ensures.needed_by named.source named.input
+          (subst (λ (f : Found). IfSome (lack_in f) (λ l. IsAskedFor c.args.cone.now l.path l.needed_by)) c.in-Missing.is c.in_ok-lack.ensures.asked) under_way.listed under_way.numbers;
       is = λ store targets before under_way keeps tell set kept seen has files alike.
           missing_told (declared_by graph).edges store before targets files (text_at graph.manifest.paths lack.path) missing.path lack.needed_by missing.needed_by
           c.in_ok-missing-in-Missing.ensures.path c.in_ok-missing-in-Missing.ensures.needed_by

@@ -7,9 +7,9 @@ use Rattle.model.specs.Records.{recorded_inputs}
 use Rattle.build_theory.specs.Order.{AreMakersFirst}
 use Rattle.build_theory.proofs.Calls.{unrefused_none, unrefused_call, unrefused_then}
 use Rattle.links.specs.Told.{declared_by}
-use Rattle.dues.specs.Dues.{AreDue, AreMakersKnown, IsDueEdge}
+use Rattle.dues.specs.Dues.{AreDue, AreListed, AreMakersKnown, IsDueEdge}
 use Rattle.looks.proofs.Stays.{looked_none}
-use Rattle.dues.proofs.DueEdges.{makers_known, due_one_more, none_due}
+use Rattle.dues.proofs.DueEdges.{makers_known, due_one_more, none_due, none_listed, listed_one_more}
 use Rattle.dues.proofs.Slices.{at_has}
 use Rattle.dues.proofs.Stays.{looked_then, quiet_both, quiet_first, quiet_second}
 use Rattle.dues.proofs.due.due_edges.Goals as goal
@@ -22,6 +22,7 @@ loop-edge-init g c =
       unrefused = unrefused_none (g.S.Texts.world c.args.site.now) c.requires.running;
       summed = c.new-sums.ensures.summed c.args.graph.now [] c.args.looks.now.seen.items;
       fits = search rules;
+      listed = subst (λ (l : List Bool). AreListed c.args.cone.now.order.items l) (sym none) (none_listed c.args.cone.now.order.items c.edges.result);
       due = λ store targets before way keeps told set kept seen has files alike.
           subst (λ (l : List Bool). AreDue (declared_by c.args.graph.now).edges store before files [] l) (sym none) (none_due (declared_by c.args.graph.now).edges store before files c.edges.result);
     }
@@ -57,6 +58,9 @@ loop-edge-preserved g c =
       unrefused = unrefused_then (g.S.Texts.world c.args.site.now) (g.S.Texts.world c.loop-edge.site) (g.S.Texts.world c.is_due.new.site) c.loop-edge.invariant.unrefused (unrefused_call (g.S.Texts.world c.loop-edge.site) (g.S.Texts.world c.is_due.new.site) _ c.in_ok-due-2.ensures.cause);
       summed = c.is_due.ensures.summed;
       fits = length-set due c.index.result c.in_ok-due-2.field-0 ∙ c.loop-edge.invariant.fits;
+      listed = subst (λ (e : ℕ). AreListed c.args.cone.now.order.items (set due e c.in_ok-due-2.field-0)) (sym {A = ℕ} (c.index.ensures.place ∙ at))
+          (listed_one_more c.args.cone.now.order.items due (get_or order place 0) c.in_ok-due-2.field-0
+          (subst (λ (l : List ℕ). has_number l (get_or order place 0) ≡ true) c.as_slice-order.ensures.value (at_has order place 0 c.loop-edge-test.true)) c.loop-edge.invariant.listed);
       due = λ store targets before way.
           let first = subst (λ (l : List ℕ). AreMakersFirst edges (recorded_inputs store edges) [] (map suc l)) (sym {A = List ℕ} c.as_slice-order.ensures.value) way.listed.ordered in
           let stands = way.stands c.edge-item.result (subst (λ (l : List ℕ). has_number l c.edge-item.result ≡ true) c.as_slice-order.ensures.value (subst (λ (e : ℕ). has_number order e ≡ true) (sym at) (at_has order place 0 c.loop-edge-test.true))) in
@@ -80,3 +84,6 @@ returns-clause-due g c store targets before way keeps told set kept seen has fil
     let order = c.as_slice-order.result.now in
     let whole : take c.loop-edge.edge-index order ≡ c.args.cone.now.order.items = take_all c.loop-edge.edge-index order (omega arith) ∙ c.as_slice-order.ensures.value in
     subst (λ (l : List ℕ). AreDue (declared_by c.args.graph.now).edges store before files l c.loop-edge.due.items) whole (c.loop-edge.invariant.due store targets before way keeps told set kept seen has files alike)
+
+pub returns-clause-listed : goal.returns-clause-listed
+returns-clause-listed g c = c.loop-edge.invariant.listed

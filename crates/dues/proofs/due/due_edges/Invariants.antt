@@ -7,7 +7,7 @@ use Rattle.looks.specs.Looking.{HasLooked}
 use Rattle.verdict.specs.Summed.{AreSums}
 use Rattle.dues.specs.Quiet.{IfQuiet}
 use Rattle.dues.specs.UnderWay.{IsUnderWay}
-use Rattle.dues.specs.Dues.{AreDue}
+use Rattle.dues.specs.Dues.{AreDue, AreListed}
 use Rattle.dues.proofs.due.due_edges.Given as goal
 
 abbrev pub invariant-loop-edge : goal.invariant-loop-edge
@@ -16,6 +16,7 @@ invariant-loop-edge g l = record {
   unrefused : Unrefused (g.S.Texts.world l.fn.site) (g.S.Texts.world l.site);
   summed : AreSums l.graph [] l.looks.seen.items l.sums;
   fits : length l.due.items ≡ length l.graph.manifest.lines;
+  listed : AreListed l.cone.order.items l.due.items;
   due : (store : Store) (targets : List (List ℕ)) (before : List Step) → IsUnderWay l.graph l.records l.cone l.plan store targets before
       → IfQuiet g.S.Texts.tells l.graph store targets before (g.S.Texts.world l.fn.site) (g.S.Texts.world l.site) l.fn.looks (λ files. AreDue (declared_by l.graph).edges store before files (take l.edge-index l.order) l.due.items);
 }

@@ -1,5 +1,6 @@
-use Rattle.std.proofs.Common.{◌≡◌, ℕ, Option, Some, IfSome, subst, arith}
+use Rattle.std.proofs.Common.{◌≡◌, ℕ, true, Option, Some, IfSome, subst, arith}
 use Rattle.build_theory.proofs.Calls.{unrefused_call, unrefused_then}
+use Rattle.dues.specs.Dues.{due_at}
 use Rattle.dues.specs.Lacks.{IsSourceFor}
 use Rattle.dues.proofs.Lacking.{edge_passed, edge_found}
 use Rattle.dues.proofs.Stays.{looked_then}
@@ -28,6 +29,11 @@ loop-place-preserved g c = record {
 
 pub returns-clause-found : goal.returns-clause-found
 returns-clause-found g c told set kept seen files same all e lt due = c.loop-place.invariant.none told set kept seen files same all e (omega (arith, lt, c.loop-place-test.false, c.edges-place-end.ensures)) due
+
+pub returns-in-Some-clause-named : goal.returns-in-Some-clause-named
+returns-in-Some-clause-named g c =
+    let is : c.in_ok-path.field-0 ≡ Some c.in-Some.path = cc in
+    subst (λ (o : Option ℕ). IfSome o (λ path. due_at c.args.due.now c.edge-edge.result ≡ true)) is c.in_ok-path.ensures.marked
 
 pub returns-in-Some-clause-within : goal.returns-in-Some-clause-within
 returns-in-Some-clause-within g c =

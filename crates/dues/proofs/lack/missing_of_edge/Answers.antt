@@ -2,7 +2,7 @@ use Rattle.std.proofs.Common.{◌≡◌, List, ℕ, true, length, IfSome, sym, s
 use Rattle.links.specs.Links.{links_of}
 use Rattle.dues.specs.Dues.{due_at, AreSourcesIn}
 use Rattle.dues.specs.Lacks.{IsFirstIn, IsSourceOf}
-use Rattle.dues.proofs.Slices.{within_by, if_ok_then}
+use Rattle.dues.proofs.Slices.{within_by, if_ok_then, if_some_so}
 use Rattle.dues.proofs.Lacking.{first_for, source_for}
 use Rattle.dues.proofs.lack.missing_of_edge.Goals as goal
 
@@ -17,6 +17,11 @@ returns-then-due-index-clause-first g c =
     if_ok_then c.first_missing.result c.first_missing.ensures.first (λ found said told set kept seen files same fit.
     first_for c.args.graph.now c.args.due.now files c.lists_stand.ensures c.args.edge marked found
     (subst (λ (l : List ℕ). IsFirstIn c.args.graph.now l files found) c.inputs.ensures (said told set kept seen files same (subst (AreSourcesIn set c.args.graph.now) (sym {A = List ℕ} c.inputs.ensures) fit))))
+
+pub returns-then-due-index-clause-marked : goal.returns-then-due-index-clause-marked
+returns-then-due-index-clause-marked g c =
+    let marked : due_at c.args.due.now c.args.edge ≡ true = search rules in
+    if_ok_then c.first_missing.result c.first_missing.ensures.within (λ found named. if_some_so found marked)
 
 pub returns-then-due-index-clause-within : goal.returns-then-due-index-clause-within
 returns-then-due-index-clause-within g c =

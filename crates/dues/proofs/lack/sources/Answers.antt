@@ -1,8 +1,9 @@
-use Rattle.std.proofs.Common.{List, ℕ, Bool, Option, Some, None, IfSome, sym, subst}
+use Rattle.std.proofs.Common.{◌≡◌, List, ℕ, Bool, true, Option, Some, None, IfSome, sym, subst}
+use Rattle.model.specs.Graph.{has_number}
 use Rattle.dues.specs.Dues.{AreSourcesIn}
 use Rattle.dues.specs.declared.lack.Lack.{Lack}
-use Rattle.dues.specs.Lacks.{IsFirstIn, IsFoundOfDue, IsSourceOf, IsLackOf}
-use Rattle.dues.proofs.Finding.{target_found, due_told, all_found}
+use Rattle.dues.specs.Lacks.{IsFirstIn, IsFoundOfDue, IsSourceOf, IsLackOf, NamesDue}
+use Rattle.dues.proofs.Finding.{target_found, due_told, all_found, asked_by}
 use Rattle.dues.proofs.Stays.{looked_then}
 use Rattle.dues.proofs.lack.sources.Goals as goal
 
@@ -56,6 +57,17 @@ pub returns-in-Some-clause-within : goal.returns-in-Some-clause-within
 returns-in-Some-clause-within g c =
     let named = subst (λ (o : Option ℕ). IfSome o (IsSourceOf c.args.graph.now c.as_slice-targets.result.now)) c.in-Some.is c.in_ok-path.ensures.within in
     record { path = named.within; edge = tt; source = named.source; input = tt }
+
+pub returns-in-Some-clause-asked : goal.returns-in-Some-clause-asked
+returns-in-Some-clause-asked g c =
+    let named = subst (λ (o : Option ℕ). IfSome o (IsSourceOf c.args.graph.now c.as_slice-targets.result.now)) c.in-Some.is c.in_ok-path.ensures.within in
+    subst (λ (l : List ℕ). has_number l c.in-Some.path ≡ true) c.as_slice-targets.ensures.value named.listed
+
+pub returns-in-Some-2-clause-asked : goal.returns-in-Some-2-clause-asked
+returns-in-Some-2-clause-asked g c =
+    let named = subst (λ (o : Option Lack). IfSome o (λ lack. NamesDue c.deref.result.now lack.needed_by)) c.in-Some-2.is c.in_ok-lack-in-None.ensures.named in
+    asked_by c.args.cone.now c.in_ok-due-in-None.due.items c.in_ok-due-in-None.ensures.listed c.in-Some-2.lack
+    (subst (λ (l : List Bool). NamesDue l c.in-Some-2.lack.needed_by) c.deref.ensures.value named)
 
 pub returns-in-Some-2-clause-within : goal.returns-in-Some-2-clause-within
 returns-in-Some-2-clause-within g c = subst (λ (o : Option Lack). IfSome o (IsLackOf c.args.graph.now)) c.in-Some-2.is c.in_ok-lack-in-None.ensures.within
