@@ -1,0 +1,3 @@
+pub mod Firsts
+pub mod Taking
+pub mod Telling

@@ -1,0 +1,44 @@
+//! The first reason that holds, where due commands make anew what they make.
+
+ghost use Rattle.std.specs.Prelude.{◌≡◌};
+ghost use Rattle.reasons.specs.Why.{told_reason};
+
+use dirty::Reason;
+
+/// The first reason of the table that holds: `found` is what holds by the files as they are, of which none was made anew, and `anew`
+/// says whether a due command makes what is read. Where neither is so, that stands for it all the same: somebody wrote meanwhile.
+pub(crate) fn told_reason(found: Option<Reason>, anew: bool) -> Reason
+    ensures { result ≡ told_reason found anew }
+{
+    match found {
+        None => Reason::InputChanged,
+        Some(reason) => earlier(reason, anew),
+    }
+}
+
+/// This reason, or that what is read is made anew, where that is so and stands before it in the table.
+fn earlier(reason: Reason, anew: bool) -> Reason
+    ensures { result ≡ (if anew && is_behind reason then Reason.InputChanged else reason) }
+{
+    if anew && is_behind(reason) {
+        Reason::InputChanged
+    } else {
+        reason
+    }
+}
+
+/// Whether the reason stands behind that one in the table.
+fn is_behind(reason: Reason) -> bool
+    ensures { result ≡ is_behind reason }
+{
+    match reason {
+        Reason::InputLater => true,
+        Reason::OutputOlder => true,
+        Reason::DepsUnknown => true,
+        Reason::OutputAbsent => false,
+        Reason::NoRecord => false,
+        Reason::OtherAct => false,
+        Reason::InputAbsent => false,
+        Reason::InputChanged => false,
+    }
+}
