@@ -7,7 +7,6 @@ use Rattle.std.proofs.lemmas.Bool.{eq-eqb, or_left, or_right, false≢true}
 use Rattle.std.proofs.lemmas.List.{drop_more}
 use Rattle.std.proofs.lemmas.List.Folds.{find-append}
 use Rattle.model.specs.Graph.{has_number}
-use Rattle.reasons.specs.Why.{or_else}
 
 -- ---- the numbers of a list
 
@@ -44,6 +43,3 @@ none_first (Some x) p is = absurd (false≢true (sym is))
 pub first_step : {X A : Type 0} (f : A → Bool) (list : X → List A) (xs : List X) (k : ℕ) (d : X) → k < length xs
     → find f (flat_map list (drop k xs)) ≡ option_or (find f (list (get_or xs k d))) (find f (flat_map list (drop (k + 1) xs)))
 first_step f list xs k d lt = ap (λ l. find f (flat_map list l)) (drop_more xs k d lt) ∙ find-append f (list (get_or xs k d)) (flat_map list (drop (k + 1) xs))
-
-pub or_else_of : (o p q : Option ℕ) → o ≡ q → or_else o p ≡ or_else q p
-or_else_of o p q is = ap (λ (x : Option ℕ). or_else x p) is

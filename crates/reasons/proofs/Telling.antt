@@ -1,12 +1,15 @@
 -- What is told of due commands, one after another.
 use Rattle.std.proofs.Common.{◌≡◌, ◌⊎◌, inl, inr, ℕ, zero, suc, ◌+◌, ◌<◌, ◌==◌, ◌&&◌, ◌||◌, not, Bool, true, false, List, [], ◌∷◌, ◌++◌, Option, map, filter, cond, get_or, take, length, refl, sym, ◌∙◌, ap, arith, subst}
 use Rattle.std.specs.List.{AllByRecursion, flat_map}
-use Rattle.std.proofs.lemmas.Bool.{false≢true}
+use Rattle.std.specs.Option.{option_or}
+use Rattle.std.proofs.lemmas.Bool.{false≢true, and_parts}
 use Rattle.std.proofs.lemmas.List.{take_more, map-append, append-nil}
 use Rattle.std.proofs.lemmas.List.Elements.{filter-append}
 use Rattle.std.proofs.lemmas.Grind.{flat_map-append}
 use Rattle.std.proofs.Math.Seq.{get_or-append_seam}
 use Rattle.std.proofs.Math.ListN.{get_or-append}
+use Rattle.model.specs.declared.act.Act.{Act}
+use Rattle.model.specs.declared.reason.Reason.{Reason}
 use Rattle.model.specs.World.{World}
 use Rattle.model.specs.Graph.{has_number}
 use Rattle.build_theory.proofs.Lists.{all_append, has_number-cases}
@@ -17,9 +20,11 @@ use Rattle.looks.specs.declared.table.Looks.{Looks}
 use Rattle.looks.specs.Looking.{HasLooked, LooksFollow}
 use Rattle.looks.specs.Seen.{look_at, is_asked}
 use Rattle.records.specs.declared.records.Records.{Records}
+use Rattle.dirty.specs.declared.outputs.Outputs.{Outputs}
+use Rattle.dirty.specs.Summaries.{AreOutputs}
 use Rattle.dues.specs.Dues.{due_at}
 use Rattle.reasons.specs.declared.told.DueCommand.{DueCommand}
-use Rattle.reasons.specs.Why.{HaveAsked, AreCommands, AreWhy, IsWhy, edge_in}
+use Rattle.reasons.specs.Why.{OfRecords, HaveAsked, AreCommands, AreNotPhony, AreWhy, IsWhy, IsPath, TellsOne, act_of, edge_in, first_input, first_output, seen_output}
 
 -- the laws of `looks`
 abbrev pub Follow : Type 0
@@ -68,6 +73,19 @@ commands_more graph due flags k flag fits before is e lt = elim (before_or_last 
       | inr here ↦ inr (ap suc here)
     ]
 
+not_true : (b : Bool) → not b ≡ true → b ≡ false
+not_true true is = absurd (false≢true is)
+not_true false is = refl
+
+-- an edge that is due and has a command is not phony
+pub not_phony : (graph : Graph) (due flags : List Bool) (n : ℕ) → length flags ≡ n → AreCommands graph due n flags → AreNotPhony graph flags
+not_phony graph due flags n fits all e flag = not_true ((links_of graph).phony e) ((and_parts (due_at due e) (not ((links_of graph).phony e)) (sym (all e (subst (λ (k : ℕ). e < k) fits (below flags e flag))) ∙ flag)).1)
+  where
+    below : (flags : List Bool) (e : ℕ) → due_at flags e ≡ true → e < length flags
+    below [] e is = absurd (false≢true is)
+    below (x ∷ flags) zero is = omega arith
+    below (x ∷ flags) (suc e) is = omega (arith, below flags e is)
+
 -- a command with its flag more
 pub listed_more : (flags : List Bool) (order : List ℕ) (k d : ℕ) → k < length order → (told : List DueCommand) (command : DueCommand) → map edge_in told ≡ filter (due_at flags) (take k order)
     → command.edge ≡ get_or order k d → due_at flags (get_or order k d) ≡ true → map edge_in (told ++ command ∷ []) ≡ filter (due_at flags) (take (k + 1) order)
@@ -94,8 +112,8 @@ listed_same flags order k d lt told before flag =
 
 module _ (follow : Follow) (tells : Bool) (graph : Graph) (records : Records) (flags : List Bool) (old mid new : World) (before during after : Looks) where
   -- what was told by a point of the call is so in the whole
-  pub why_later : HasLooked tells graph mid new during after → (command : DueCommand) → IsWhy tells graph records flags old mid before during command → IsWhy tells graph records flags old new before after command
-  why_later more command why = record {
+  pub why_later : HasLooked tells graph mid new during after → (e : ℕ) (command : DueCommand) → IsWhy tells graph records flags old mid before during e command → IsWhy tells graph records flags old new before after e command
+  why_later more e command why = record {
     found = why.found;
     judged = record {
       from = why.judged.from;
@@ -122,11 +140,11 @@ module _ (follow : Follow) (tells : Bool) (graph : Graph) (records : Records) (f
 
   pub all_later : HasLooked tells graph mid new during after → (told : List DueCommand) → AreWhy tells graph records flags old mid before during told → AreWhy tells graph records flags old new before after told
   all_later more [] all = tt
-  all_later more (command ∷ told) all = (why_later more command all.0, all_later more told all.1)
+  all_later more (command ∷ told) all = (why_later more command.edge command all.0, all_later more told all.1)
 
   -- what is told behind that
-  pub why_behind : HasLooked tells graph old mid before during → (command : DueCommand) → IsWhy tells graph records flags mid new during after command → IsWhy tells graph records flags old new before after command
-  why_behind first command why = record {
+  pub why_behind : HasLooked tells graph old mid before during → (e : ℕ) (command : DueCommand) → IsWhy tells graph records flags mid new during after e command → IsWhy tells graph records flags old new before after e command
+  why_behind first e command why = record {
     found = why.found;
     judged = record {
       from = why.judged.from;
@@ -151,8 +169,51 @@ module _ (follow : Follow) (tells : Bool) (graph : Graph) (records : Records) (f
     told = why.told;
   }
 
-  pub all_more : HasLooked tells graph old mid before during → HasLooked tells graph mid new during after → (told : List DueCommand) (command : DueCommand)
-      → AreWhy tells graph records flags old mid before during told → IsWhy tells graph records flags mid new during after command
+  pub all_more : HasLooked tells graph old mid before during → HasLooked tells graph mid new during after → (told : List DueCommand) (e : ℕ) (command : DueCommand) → command.edge ≡ e
+      → AreWhy tells graph records flags old mid before during told → IsWhy tells graph records flags mid new during after e command
       → AreWhy tells graph records flags old new before after (told ++ command ∷ [])
-  all_more first more told command all why =
-      all_append (λ it. IsWhy tells graph records flags old new before after it) told (command ∷ []) (all_later more told all) (why_behind first command why, tt)
+  all_more first more told e command is all why =
+      all_append (λ it. IsWhy tells graph records flags old new before after it.edge it) told (command ∷ []) (all_later more told all)
+      (subst (λ (n : ℕ). IsWhy tells graph records flags old new before after n command) (sym is) (why_behind first e command why), tt)
+
+-- ---- one edge
+
+module _ (graph : Graph) (records : Records) (seen : List Look) (e : ℕ) (act : Act) (is_act : act ≡ act_of graph e) (numbers : List ℕ) (are : numbers ≡ (links_of graph).outputs e) (outputs : Outputs) where
+  -- what was taken in of the outputs of an edge, by what it does
+  pub outputs_as : OfRecords records numbers (λ paths rs ds. AreOutputs act (map (seen_output paths rs ds seen) numbers) outputs)
+      → OfRecords records ((links_of graph).outputs e) (λ paths rs ds. AreOutputs (act_of graph e) (map (seen_output paths rs ds seen) ((links_of graph).outputs e)) outputs)
+  outputs_as taken =
+      subst (λ (l : List ℕ). OfRecords records l (λ paths rs ds. AreOutputs (act_of graph e) (map (seen_output paths rs ds seen) l) outputs)) are
+      (subst (λ (a : Act). OfRecords records numbers (λ paths rs ds. AreOutputs a (map (seen_output paths rs ds seen) numbers) outputs)) is_act taken)
+
+  pub path_as : (flags : List Bool) (reason : Reason) (edges : List ℕ) (made read path : Option ℕ) → OfRecords records numbers (λ paths rs ds. made ≡ first_output paths rs ds seen act reason numbers)
+      → read ≡ first_input (links_of graph) flags seen outputs reason edges e → path ≡ option_or made read → OfRecords records ((links_of graph).outputs e) (IsPath graph flags seen outputs reason edges e path)
+  path_as flags reason edges made read path is_made is_read is paths rs ds of told within =
+      is ∙ (ap (λ (o : Option ℕ). option_or o read) here ∙ ap (option_or (first_output paths rs ds seen (act_of graph e) reason ((links_of graph).outputs e))) is_read)
+    where
+      here : made ≡ first_output paths rs ds seen (act_of graph e) reason ((links_of graph).outputs e)
+      here =
+          is_made paths rs ds of told (λ p h. within p (subst (λ (l : List ℕ). has_number l p ≡ true) are h))
+          ∙ (ap (λ (a : Act). first_output paths rs ds seen a reason numbers) is_act ∙ ap (first_output paths rs ds seen (act_of graph e) reason) are)
+
+-- ---- all edges
+
+module _ (follow : Follow) (tells : Bool) (graph : Graph) (records : Records) (flags : List Bool) (old mid new : World) (before during after : Looks) (first : HasLooked tells graph old mid before during) (more : HasLooked tells graph mid new during after)
+    (order : List ℕ) (k e : ℕ) (lt : k < length order) (is : e ≡ get_or order k e) (told then_told : List DueCommand) (one : TellsOne tells graph records flags mid new during after e told then_told)
+  where
+    pub listed_then : map edge_in told ≡ filter (due_at flags) (take k order) → map edge_in then_told ≡ filter (due_at flags) (take (k + 1) order)
+    listed_then listed = elim one [
+      | inl none ↦ ap (map edge_in) none.1 ∙ listed_same flags order k e lt told listed (ap (due_at flags) (sym is) ∙ none.0)
+      | inr some ↦
+          let it = some.1 in
+          ap (map edge_in) it.1 ∙ listed_more flags order k e lt told it.0 listed (it.2 ∙ is) (ap (due_at flags) (sym is) ∙ some.0)
+    ]
+
+    pub all_then : AreWhy tells graph records flags old mid before during told → AreWhy tells graph records flags old new before after then_told
+    all_then all = elim one [
+      | inl none ↦ subst (AreWhy tells graph records flags old new before after) (sym none.1) (all_later follow tells graph records flags old mid new before during after more told all)
+      | inr some ↦
+          let it = some.1 in
+          subst (AreWhy tells graph records flags old new before after) (sym it.1)
+          (all_more follow tells graph records flags old mid new before during after first more told e it.0 it.2 all it.3)
+    ]

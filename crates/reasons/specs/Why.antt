@@ -1,6 +1,7 @@
 -- Why commands are due, by what was seen of files and by the records of the logs.
-use Rattle.std.specs.Prelude.{◌≡◌, ◌<◌, ℕ, suc, Bool, true, false, ◌&&◌, ◌||◌, not, List, [], map, filter, find, length, Option, Some, None, is_some, is_none, if◌then◌else◌}
+use Rattle.std.specs.Prelude.{◌≡◌, ◌<◌, ℕ, suc, Bool, true, false, ◌&&◌, ◌||◌, ◌⊎◌, ◌++◌, ◌∷◌, not, List, [], map, filter, find, length, Option, Some, None, is_some, is_none, if◌then◌else◌}
 use Rattle.std.specs.List.{AllByRecursion, flat_map}
+use Rattle.std.specs.Option.{option_or}
 use Rattle.model.specs.declared.act.Act.{Act}
 use Rattle.model.specs.declared.reason.Reason.{Reason}
 use Rattle.model.specs.declared.reason.Reason.TheVariants.{OutputAbsent, NoRecord, OtherAct, InputAbsent, InputChanged, InputLater, OutputOlder, DepsUnknown}
@@ -90,14 +91,10 @@ is_sought links anew seen outputs reason always p =
 abbrev pub first_of : Links → List Bool → List Look → Outputs → Reason → Bool → List ℕ → Option ℕ
 first_of links anew seen outputs reason always paths = find (λ p. is_sought links anew seen outputs reason always p) paths
 
-abbrev pub or_else : Option ℕ → Option ℕ → Option ℕ
-or_else None other = other
-or_else (Some p) other = Some p
-
 -- the first of the regular inputs of these edges that count, then of the recorded inputs of the edge
 abbrev pub first_input : Links → List Bool → List Look → Outputs → Reason → List ℕ → ℕ → Option ℕ
 first_input links anew seen outputs reason edges e =
-    or_else (first_of links anew seen outputs reason false (flat_map links.regular edges)) (first_of links anew seen outputs reason true (links.recorded e))
+    option_or (first_of links anew seen outputs reason false (flat_map links.regular edges)) (first_of links anew seen outputs reason true (links.recorded e))
 
 -- the reason holds of the output; one that is about what is read holds of none
 abbrev pub holds_of_output : Act → Reason → OutputFacts → Bool
@@ -139,17 +136,19 @@ told_reason (Some reason) anew = if anew && is_behind reason then InputChanged e
 abbrev pub act_of : Graph → ℕ → Act
 act_of graph e = (edge_at (declared_by graph).edges (suc e)).act
 
+-- the first path of which the reason holds, of the outputs of the edge, else of what it reads
+abbrev pub IsPath : Graph → List Bool → List Look → Outputs → Reason → List ℕ → ℕ → Option ℕ → List (List ℕ) → List Record → List DepsRecord → Type 0
+IsPath graph flags seen outputs reason edges e path paths rs ds =
+    path ≡ option_or (first_output paths rs ds seen (act_of graph e) reason ((links_of graph).outputs e)) (first_input (links_of graph) flags seen outputs reason edges e)
+
 -- What is told of an edge that the judgement found so, by what was seen: it reads the regular inputs of these edges; the flags say which
 -- edges are due and have commands, and which of these make something anew whatever those before them leave.
-pub record IsTold (graph : Graph) (records : Records) (flags firm : List Bool) (seen : List Look) (found : Option Reason) (edges : List ℕ) (command : DueCommand) : Type 0 where
+pub record IsTold (graph : Graph) (records : Records) (flags firm : List Bool) (seen : List Look) (found : Option Reason) (edges : List ℕ) (e : ℕ) (command : DueCommand) : Type 0 where
   pub outputs : Outputs
-  pub are : OfRecords records ((links_of graph).outputs command.edge) (λ paths rs ds.
-      AreOutputs (act_of graph command.edge) (map (seen_output paths rs ds seen) ((links_of graph).outputs command.edge)) outputs)
-  pub reason : command.reason ≡ told_reason found (is_some (first_input (links_of graph) flags seen outputs InputChanged edges command.edge))
-  pub path : OfRecords records ((links_of graph).outputs command.edge) (λ paths rs ds.
-      command.path ≡ or_else (first_output paths rs ds seen (act_of graph command.edge) command.reason ((links_of graph).outputs command.edge))
-      (first_input (links_of graph) flags seen outputs command.reason edges command.edge))
-  pub sure : command.is_sure ≡ (is_some found || is_some (first_input (links_of graph) firm seen outputs InputChanged edges command.edge))
+  pub are : OfRecords records ((links_of graph).outputs e) (λ paths rs ds. AreOutputs (act_of graph e) (map (seen_output paths rs ds seen) ((links_of graph).outputs e)) outputs)
+  pub reason : command.reason ≡ told_reason found (is_some (first_input (links_of graph) flags seen outputs InputChanged edges e))
+  pub path : OfRecords records ((links_of graph).outputs e) (IsPath graph flags seen outputs command.reason edges e command.path)
+  pub sure : command.is_sure ≡ (is_some found || is_some (first_input (links_of graph) firm seen outputs InputChanged edges e))
 
 -- the judgement found this of the edge in a part of the call
 pub record WasFound (tells : Bool) (graph : Graph) (records : Records) (old new : World) (before after : Looks) (e : ℕ) (found : Option Reason) : Type 0 where
@@ -163,21 +162,21 @@ pub record WasFound (tells : Bool) (graph : Graph) (records : Records) (old new 
   pub answer : (rs : List Record) (ds : List DepsRecord) → AreKnown graph rs ds records → KeepsDepfile tells (declared_by graph).edges from to (suc e)
       → IfKept tells graph.manifest.paths from to first.seen.items (IsAnswer graph rs ds [] e found)
 
--- All that the command makes and reads was asked for by some point of the call, and it is told why it is due.
-pub record IsWhy (tells : Bool) (graph : Graph) (records : Records) (flags : List Bool) (old new : World) (before after : Looks) (command : DueCommand) : Type 0 where
+-- All that the edge makes and reads was asked for by some point of the call, and it is told why its command is due.
+pub record IsWhy (tells : Bool) (graph : Graph) (records : Records) (flags : List Bool) (old new : World) (before after : Looks) (e : ℕ) (command : DueCommand) : Type 0 where
   pub found : Option Reason
-  pub judged : WasFound tells graph records old new before after command.edge found
+  pub judged : WasFound tells graph records old new before after e found
   pub there : World
   pub seen : Looks
   pub earlier : HasLooked tells graph old there before seen
   pub later : HasLooked tells graph there new seen after
   pub edges : List ℕ
-  pub read : IsReadingOf graph command.edge edges
-  pub outputs : HaveAsked seen.seen.items ((links_of graph).outputs command.edge)
+  pub read : IsReadingOf graph e edges
+  pub outputs : HaveAsked seen.seen.items ((links_of graph).outputs e)
   pub regular : HaveAsked seen.seen.items (flat_map (links_of graph).regular edges)
-  pub recorded : HaveAsked seen.seen.items ((links_of graph).recorded command.edge)
+  pub recorded : HaveAsked seen.seen.items ((links_of graph).recorded e)
   pub firm : List Bool
-  pub told : IsTold graph records flags firm seen.seen.items found edges command
+  pub told : IsTold graph records flags firm seen.seen.items found edges e command
 
 -- ---- all of them
 
@@ -185,12 +184,22 @@ pub record IsWhy (tells : Bool) (graph : Graph) (records : Records) (flags : Lis
 abbrev pub AreCommands : Graph → List Bool → ℕ → List Bool → Type 0
 AreCommands graph due count flags = (e : ℕ) → e < count → due_at flags e ≡ (due_at due e && not ((links_of graph).phony e))
 
+-- no edge with a flag is phony
+abbrev pub AreNotPhony : Graph → List Bool → Type 0
+AreNotPhony graph flags = (e : ℕ) → due_at flags e ≡ true → (links_of graph).phony e ≡ false
+
 abbrev pub edge_in : DueCommand → ℕ
 edge_in command = command.edge
 
 -- of each it is told why it is due
 abbrev pub AreWhy : Bool → Graph → Records → List Bool → World → World → Looks → Looks → List DueCommand → Type 0
-AreWhy tells graph records flags old new before after told = AllByRecursion (λ command. IsWhy tells graph records flags old new before after command) told
+AreWhy tells graph records flags old new before after told = AllByRecursion (λ command. IsWhy tells graph records flags old new before after command.edge command) told
+
+-- the command of the edge was told behind these, if the edge has a flag
+abbrev pub TellsOne : Bool → Graph → Records → List Bool → World → World → Looks → Looks → ℕ → List DueCommand → List DueCommand → Type 0
+TellsOne tells graph records flags old new before after e told_before told =
+    ((due_at flags e ≡ false) × (told ≡ told_before))
+    ⊎ ((due_at flags e ≡ true) × ((command : DueCommand) × (told ≡ told_before ++ command ∷ []) × (command.edge ≡ e) × IsWhy tells graph records flags old new before after e command))
 
 -- just the due commands of this order, in this order, with what is told of each
 pub record HasTold (tells : Bool) (graph : Graph) (records : Records) (due : List Bool) (order : List ℕ) (old new : World) (before after : Looks) (told : List DueCommand) : Type 0 where

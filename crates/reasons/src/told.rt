@@ -15,7 +15,7 @@ ghost use Rattle.looks.specs.declared.table.Looks.{Looks as LooksOf};
 ghost use Rattle.looks.specs.Looking.{HasLooked};
 ghost use Rattle.dues.specs.Dues.{due_at};
 ghost use Rattle.verdict.specs.Summed.{AreSums};
-ghost use Rattle.reasons.specs.Why.{AreWhy, IsWhy, IsTold, HasTold, edge_in};
+ghost use Rattle.reasons.specs.Why.{AreNotPhony, AreWhy, IsWhy, IsTold, HasTold, TellsOne, edge_in};
 
 use crate::asked::ask_for;
 use crate::flags::commands_due;
@@ -92,7 +92,7 @@ fn tell_all<S: Site>(
     requires fits { length looks.old.seen.items ≡ length graph.now.manifest.paths }
     requires order { All (λ e. e < length graph.now.manifest.lines) order.now }
     requires flags { length flags.now ≡ length graph.now.manifest.lines }
-    requires commands { (e : ℕ) → due_at flags.now e ≡ true → (links_of graph.now).phony e ≡ false }
+    requires commands { AreNotPhony graph.now flags.now }
     requires none { told.old.items ≡ [] }
     ensures looked { HasLooked S.tells graph.now (S.world site.old) (S.world site.new) looks.old looks.new }
     ensures cause { HasCause (S.world site.old) (S.world site.new) result }
@@ -103,14 +103,46 @@ fn tell_all<S: Site>(
     let mut sums = Sums::new(alloc);
     let mut firm = vec![in alloc; false; graph.edges()]?;
     for edge in order {
-        if flags[edge.index()] {
-            let command = due_command(
-                alloc, site, graph, looks, &mut sums, records, flags, &firm, *edge,
-            )?;
-            firm[edge.index()] = command.is_sure && !has_restat(graph, *edge);
-            told.push(command)?;
-        }
+        tell_one(
+            alloc, site, graph, looks, &mut sums, records, flags, &mut firm, told, *edge,
+        )?;
     }
+    Ok(())
+}
+
+/// Tells of the edge, where it has a flag.
+fn tell_one<S: Site>(
+    alloc: Global,
+    site: &mut S,
+    graph: &Graph,
+    looks: &mut Looks,
+    sums: &mut Sums,
+    records: &Records,
+    flags: &[bool],
+    firm: &mut Vec<bool>,
+    told: &mut Vec<DueCommand>,
+    edge: EdgeId,
+) -> Result<(), SiteFault>
+    requires running { (S.world site.old).stopped ≡ false }
+    requires fits { length looks.old.seen.items ≡ length graph.now.manifest.paths }
+    requires within { edge < length graph.now.manifest.lines }
+    requires flags { length flags.now ≡ length graph.now.manifest.lines }
+    requires commands { AreNotPhony graph.now flags.now }
+    requires firm { length firm.old.items ≡ length graph.now.manifest.lines }
+    requires summed { AreSums graph.now [] looks.old.seen.items sums.old }
+    ensures looked { HasLooked S.tells graph.now (S.world site.old) (S.world site.new) looks.old looks.new }
+    ensures cause { HasCause (S.world site.old) (S.world site.new) result }
+    ensures summed { AreSums graph.now [] looks.new.seen.items sums.new }
+    ensures firm { length firm.new.items ≡ length graph.now.manifest.lines }
+    ensures told { OnOk result (TellsOne S.tells graph.now records.now flags.now (S.world site.old) (S.world site.new) looks.old looks.new edge told.old.items told.new.items) }
+{
+    looks_follow();
+    if !flags[edge.index()] {
+        return Ok(());
+    }
+    let command = due_command(alloc, site, graph, looks, sums, records, flags, firm, edge)?;
+    firm[edge.index()] = command.is_sure && !has_restat(graph, edge);
+    told.push(command)?;
     Ok(())
 }
 
@@ -137,7 +169,7 @@ fn due_command<S: Site>(
     ensures cause { HasCause (S.world site.old) (S.world site.new) result }
     ensures summed { AreSums graph.now [] looks.new.seen.items sums.new }
     ensures edge { IfOk result (λ command. command.edge ≡ edge) }
-    ensures why { IfOk result (IsWhy S.tells graph.now records.now flags.now (S.world site.old) (S.world site.new) looks.old looks.new) }
+    ensures why { IfOk result (IsWhy S.tells graph.now records.now flags.now (S.world site.old) (S.world site.new) looks.old looks.new edge) }
 {
     looks_follow();
     let found = reason(alloc, site, graph, looks, sums, records, &[], edge)?;
@@ -164,23 +196,21 @@ fn told_of(
     requires flags { length flags.now ≡ length graph.now.manifest.lines }
     requires firm { length firm.now ≡ length graph.now.manifest.lines }
     ensures edge { result.edge ≡ edge }
-    ensures told { IsTold graph.now records.now flags.now firm.now looks.now.seen.items found edges.now result }
+    ensures told { IsTold graph.now records.now flags.now firm.now looks.now.seen.items found edges.now edge result }
 {
-    let act = &command_of(graph, edge).act;
+    let command = command_of(graph, edge);
     let outputs = graph.outputs(edge);
-    let summary = summary_of(looks, records, act, outputs);
+    let summary = summary_of(looks, records, &command.act, outputs);
     let changed = Reason::InputChanged;
     let anew = first_input(graph, looks, flags, summary, changed, edges, edge);
     let sure = first_input(graph, looks, firm, summary, changed, edges, edge);
     let reason = told_reason(found, anew.is_some());
-    let path = match first_output(looks, records, act, reason, outputs) {
-        Some(output) => Some(output),
-        None => first_input(graph, looks, flags, summary, reason, edges, edge),
-    };
+    let made = first_output(looks, records, &command.act, reason, outputs);
+    let read = first_input(graph, looks, flags, summary, reason, edges, edge);
     DueCommand {
         edge,
         reason,
-        path,
+        path: made.or(read),
         is_sure: found.is_some() || sure.is_some(),
     }
 }
