@@ -114,6 +114,7 @@ module _ (follow : Follow) (tells : Bool) (graph : Graph) (records : Records) (f
   -- what was told by a point of the call is so in the whole
   pub why_later : HasLooked tells graph mid new during after → (e : ℕ) (command : DueCommand) → IsWhy tells graph records flags old mid before during e command → IsWhy tells graph records flags old new before after e command
   why_later more e command why = record {
+    within = why.within;
     found = why.found;
     judged = record {
       from = why.judged.from;
@@ -145,6 +146,7 @@ module _ (follow : Follow) (tells : Bool) (graph : Graph) (records : Records) (f
   -- what is told behind that
   pub why_behind : HasLooked tells graph old mid before during → (e : ℕ) (command : DueCommand) → IsWhy tells graph records flags mid new during after e command → IsWhy tells graph records flags old new before after e command
   why_behind first e command why = record {
+    within = why.within;
     found = why.found;
     judged = record {
       from = why.judged.from;
@@ -217,3 +219,10 @@ module _ (follow : Follow) (tells : Bool) (graph : Graph) (records : Records) (f
           subst (AreWhy tells graph records flags old new before after) (sym it.1)
           (all_more follow tells graph records flags old mid new before during after first more told e it.0 it.2 all it.3)
     ]
+
+-- the edges of the told commands are edges of the graph
+pub told_within : (tells : Bool) (graph : Graph) (records : Records) (flags : List Bool) (old new : World) (before after : Looks) (told : List DueCommand) → AreWhy tells graph records flags old new before after told
+    → (k : ℕ) (d : DueCommand) → k < length told → (get_or told k d).edge < length graph.manifest.lines
+told_within tells graph records flags old new before after [] all k d lt = absurd (omega (arith, lt))
+told_within tells graph records flags old new before after (command ∷ told) all zero d lt = all.0.within
+told_within tells graph records flags old new before after (command ∷ told) all (suc k) d lt = told_within tells graph records flags old new before after told all.1 k d (omega (arith, lt))

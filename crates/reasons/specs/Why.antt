@@ -164,6 +164,7 @@ pub record WasFound (tells : Bool) (graph : Graph) (records : Records) (old new 
 
 -- All that the edge makes and reads was asked for by some point of the call, and it is told why its command is due.
 pub record IsWhy (tells : Bool) (graph : Graph) (records : Records) (flags : List Bool) (old new : World) (before after : Looks) (e : ℕ) (command : DueCommand) : Type 0 where
+  pub within : e < length graph.manifest.lines
   pub found : Option Reason
   pub judged : WasFound tells graph records old new before after e found
   pub there : World

@@ -68,6 +68,7 @@ pub fn due_commands<S: Site>(
     requires due { length due.now ≡ length graph.now.manifest.lines }
     ensures looked { HasLooked S.tells graph.now (S.world site.old) (S.world site.new) looks.old looks.new }
     ensures cause { HasCause (S.world site.old) (S.world site.new) result }
+    ensures within { IfOk result (λ told. All (λ command. command.edge < length graph.now.manifest.lines) told.items) }
     ensures told { IfOk result (λ told. HasTold S.tells graph.now records.now due.now cone.now.order.items (S.world site.old) (S.world site.new) looks.old looks.new told.items) }
 {
     let flags = commands_due(alloc, graph, due)?;

@@ -28,6 +28,7 @@ returns-clause-why g c =
     let b = g.S.Texts.world c.reason.new.site in
     let d = g.S.Texts.world c.ask_for.new.site in
     record {
+      within = c.requires.within;
       found = c.in_ok-found.found;
       judged = record {
         from = a;

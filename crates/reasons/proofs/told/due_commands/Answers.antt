@@ -1,13 +1,17 @@
 use Rattle.std.proofs.Common.{◌≡◌, ℕ, List, Bool, map, filter, length, sym, ◌∙◌, ap, subst}
 use Rattle.dues.specs.Dues.{due_at}
 use Rattle.reasons.specs.Why.{AreNotPhony, AreWhy}
-use Rattle.reasons.proofs.Telling.{not_phony}
+use Rattle.reasons.proofs.Telling.{not_phony, told_within}
 use Rattle.reasons.proofs.told.due_commands.Goals as goal
 
 pub tell_all-requires-clause-commands : goal.tell_all-requires-clause-commands
 tell_all-requires-clause-commands g c =
     subst (AreNotPhony c.args.graph.now) (sym {A = List Bool} c.deref.ensures.value)
     (not_phony c.args.graph.now c.args.due.now c.in_ok-flags.flags.items (length c.args.graph.now.manifest.lines) c.in_ok-flags.ensures.fits c.in_ok-flags.ensures.flags)
+
+pub returns-clause-within : goal.returns-clause-within
+returns-clause-within g c =
+    told_within g.S.Texts.tells c.args.graph.now c.args.records.now c.deref.result.now (g.S.Texts.world c.args.site.now) (g.S.Texts.world c.tell_all.new.site) c.args.looks.now c.tell_all.new.looks c.tell_all.new.told.items c.in_ok-tell_all.ensures.all
 
 pub returns-clause-told : goal.returns-clause-told
 returns-clause-told g c =

@@ -1,0 +1,189 @@
+//! What is told of the commands that are due.
+
+ghost use Rattle.std.specs.Prelude.{◌≡◌, ◌≤◌, IfOk, length};
+
+use builder::{Acts, Explained, Explanation};
+use model::Reason;
+use std::alloc::Global;
+use std::io;
+use std::io::Write;
+use text::Text;
+
+/// Tells of each command that is due, in one line, why it is; where none is, that there is nothing to do. Where a dyndep file is yet to be
+/// loaded, the last line says so. The status is 0.
+pub(crate) fn tell<W: Write>(alloc: Global, explained: &Explained, out: &mut W) -> io::Result<u8>
+    ensures { IfOk result (λ status. status ≡ 0) }
+{
+    tell_all(alloc, explained, out)?;
+    out.flush()?;
+    Ok(0)
+}
+
+fn tell_all<W: Write>(alloc: Global, explained: &Explained, out: &mut W) -> io::Result<()> {
+    for explanation in &explained.commands {
+        tell_one(alloc, explanation, out)?;
+    }
+    if let Some(file) = &explained.unloaded {
+        return writeln!(out, "nj: more may follow: {file} is yet to be loaded");
+    }
+    if explained.commands.is_empty() {
+        return writeln!(out, "nj: no work to do.");
+    }
+    Ok(())
+}
+
+/// Tells why the command is due.
+fn tell_one<W: Write>(alloc: Global, explanation: &Explanation, out: &mut W) -> io::Result<()> {
+    let output = &explanation.output;
+    write!(out, "{output}: ")?;
+    tell_reason(alloc, explanation, out)?;
+    if !explanation.is_sure {
+        write!(out, " (may turn out not to be needed)")?;
+    }
+    writeln!(out)
+}
+
+fn tell_reason<W: Write>(alloc: Global, explanation: &Explanation, out: &mut W) -> io::Result<()> {
+    match explanation.reason {
+        Reason::OutputAbsent => tell_output(explanation, "is absent", out),
+        Reason::NoRecord => tell_output(
+            explanation,
+            "has no record of a command that made it",
+            out,
+        ),
+        Reason::OtherAct => tell_change(alloc, explanation, out),
+        Reason::InputAbsent => tell_input(explanation, "is absent", out),
+        Reason::InputChanged => tell_anew(explanation, out),
+        Reason::InputLater => tell_input(explanation, "is later than its last start", out),
+        Reason::OutputOlder => tell_input(explanation, "is later than what it made", out),
+        Reason::DepsUnknown => tell_unknown(explanation, out),
+    }
+}
+
+/// Tells what is so of an output: of the first one, which stands in front, or of another one.
+fn tell_output<W: Write>(explanation: &Explanation, what: &str, out: &mut W) -> io::Result<()> {
+    match &explanation.path {
+        Some(path) => {
+            if path.as_str() == explanation.output.as_str() {
+                write!(out, "it {what}")
+            } else {
+                write!(out, "its output {path} {what}")
+            }
+        }
+        None => write!(out, "an output {what}"),
+    }
+}
+
+fn tell_input<W: Write>(explanation: &Explanation, what: &str, out: &mut W) -> io::Result<()> {
+    match &explanation.path {
+        Some(path) => write!(out, "its input {path} {what}"),
+        None => write!(out, "an input {what}"),
+    }
+}
+
+fn tell_anew<W: Write>(explanation: &Explanation, out: &mut W) -> io::Result<()> {
+    match &explanation.path {
+        Some(path) => write!(out, "{path} will be made anew"),
+        None => write!(out, "what it reads was written meanwhile"),
+    }
+}
+
+fn tell_unknown<W: Write>(explanation: &Explanation, out: &mut W) -> io::Result<()> {
+    match &explanation.path {
+        Some(_) => write!(out, "what its depfile told is not known"),
+        None => write!(out, "its depfile is absent"),
+    }
+}
+
+/// Tells what of the command changed, by the first part that differs.
+fn tell_change<W: Write>(alloc: Global, explanation: &Explanation, out: &mut W) -> io::Result<()> {
+    match &explanation.acts {
+        Some(acts) => tell_acts(alloc, acts, out),
+        None => write!(out, "its command changed"),
+    }
+}
+
+fn tell_acts<W: Write>(alloc: Global, acts: &Acts, out: &mut W) -> io::Result<()> {
+    let old = &acts.old;
+    let new = &acts.new;
+    if old.command != new.command {
+        return tell_texts(alloc, "its command", &old.command, &new.command, out);
+    }
+    if old.depfile != new.depfile {
+        return tell_texts(alloc, "its depfile", &old.depfile, &new.depfile, out);
+    }
+    if old.response_path != new.response_path {
+        let what = "its response file";
+        return tell_texts(alloc, what, &old.response_path, &new.response_path, out);
+    }
+    let what = "what its response file holds";
+    tell_texts(
+        alloc,
+        what,
+        &old.response_content,
+        &new.response_content,
+        out,
+    )
+}
+
+/// Tells which words of the old text became which of the new one.
+fn tell_texts<W: Write>(
+    alloc: Global,
+    what: &str,
+    old: &Text,
+    new: &Text,
+    out: &mut W,
+) -> io::Result<()> {
+    let old: Vec<&str> = old.as_str().split(' ').collect(alloc)?;
+    let new: Vec<&str> = new.as_str().split(' ').collect(alloc)?;
+    write!(out, "{what} changed")?;
+    tell_words(&old, &new, out)
+}
+
+fn tell_words<W: Write>(old: &[&str], new: &[&str], out: &mut W) -> io::Result<()> {
+    let front = same_front(old, new);
+    let old = &old[front..];
+    let new = &new[front..];
+    let back = same_back(old, new);
+    tell_part(", before", &old[..old.len() - back], out)?;
+    tell_part(", now", &new[..new.len() - back], out)
+}
+
+/// How many words are the same in front.
+fn same_front(old: &[&str], new: &[&str]) -> usize
+    ensures old { result ≤ length old.now }
+    ensures new { result ≤ length new.now }
+{
+    let mut count = 0;
+    while count < old.len() && count < new.len() && old[count] == new[count] {
+        count += 1;
+    }
+    count
+}
+
+/// How many words are the same at the end.
+fn same_back(old: &[&str], new: &[&str]) -> usize
+    ensures old { result ≤ length old.now }
+    ensures new { result ≤ length new.now }
+{
+    let mut count = 0;
+    while count < old.len()
+        && count < new.len()
+        && old[old.len() - count - 1] == new[new.len() - count - 1]
+    {
+        count += 1;
+    }
+    count
+}
+
+/// Tells these words, if there are any.
+fn tell_part<W: Write>(mark: &str, words: &[&str], out: &mut W) -> io::Result<()> {
+    if words.is_empty() {
+        return Ok(());
+    }
+    write!(out, "{mark}")?;
+    for word in words {
+        write!(out, " {word}")?;
+    }
+    Ok(())
+}
