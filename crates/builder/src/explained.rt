@@ -1,6 +1,7 @@
 //! What is told of the commands that are due.
 
 use model::{Act, Reason};
+use paths::EdgeId;
 use text::Path;
 
 /// The commands that are due, and why.
@@ -16,6 +17,7 @@ pub struct Explained {
 /// A command that is due, and why.
 #[derive(Debug, Drop)]
 pub struct Explanation {
+    pub edge: EdgeId,
     /// The first output of its edge.
     pub output: Path,
     /// The first reason of the table that holds. `InputChanged` stands for what a due command will make anew.

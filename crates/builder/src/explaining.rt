@@ -22,7 +22,7 @@ use crate::loads::load;
 use crate::names::{first_output, path_text};
 use crate::one_build::{cone_of, read_records, state_of};
 use crate::own_files::{TICK, own_path};
-use crate::reading::Reading;
+use crate::reading::{Reading, read};
 use crate::recorded::join_recorded;
 use crate::report::{Options, Report};
 use crate::sources::check_sources;
@@ -38,12 +38,28 @@ use records::{Records, log_begins};
 use runner::State;
 use site::Site;
 use std::alloc::{AllocError, Global};
-use text::Path;
+use text::{Path, Text};
 
-/// Why commands are due that a build of what was read would start ([`crate::read`]): the build files, the logs and the files as they are
-/// now say so. It takes the same stages as [`crate::build_read`] up to the first start, and refuses what that refuses by then, with the
-/// same report: dyndep files that no edge makes are loaded. Nothing is started or written, the logs neither.
+/// Why commands are due that [`crate::build`] would start, by what the build files, the logs and the files say now. It takes the same
+/// stages up to the first start, and refuses what that refuses by then, with the same report: dyndep files that no edge makes are loaded.
+/// Nothing is started or written, the logs neither.
 pub fn explain<S: Site>(
+    alloc: Global,
+    site: &mut S,
+    options: &Options,
+    targets: &[Text],
+) -> Result<Explained, Report>
+    requires { IsIdle (S.world site.old).events }
+    ensures { OnlyLooks S.tells (S.world site.old) (S.world site.new) }
+{
+    match read(alloc, site, options, targets) {
+        Ok(reading) => explain_read(alloc, site, reading, options),
+        Err(report) => Err(report),
+    }
+}
+
+/// The same of what was read ([`crate::read`]), as [`crate::build_read`] would build it.
+pub fn explain_read<S: Site>(
     alloc: Global,
     site: &mut S,
     reading: Reading<'_>,
@@ -209,6 +225,7 @@ fn explanation(
     requires { command.edge < length graph.now.manifest.lines }
 {
     Ok(Explanation {
+        edge: command.edge,
         output: first_output(alloc, &graph.manifest, command.edge)?,
         reason: command.reason,
         path: text_of(alloc, graph, command.path)?,

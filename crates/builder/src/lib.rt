@@ -17,7 +17,7 @@ mod sources;
 mod stop;
 
 pub use explained::{Acts, Explained, Explanation};
-pub use explaining::explain;
+pub use explaining::{explain, explain_read};
 pub use one_build::{build, build_read};
 pub use reading::{Reading, read};
 pub use report::{Missing, Options, Refusal, Report, Unfit};

@@ -6,7 +6,7 @@ ghost use Rattle.model.specs.World.{IsIdle};
 ghost use Rattle.nj_run.specs.Alone.{IsBuiltAlone, Passes, WasReadAlone, WasUnreadAlone};
 
 use crate::noted::Noted;
-use builder::{Explained, Options, Reading, Report, build_read, explain, read};
+use builder::{Explained, Options, Reading, Report, build_read, explain_read, read};
 use depfile::has_reading;
 use deps_log::has_format;
 use dyndep_law::has_reading as has_dyndeps;
@@ -80,7 +80,7 @@ pub fn explain_alone<S: Alone>(
     ensures { OnlyLooks S.tells (S.world site.old) (S.world site.new) }
 {
     let reading = read_alone(alloc, site, options, targets)?;
-    explain(alloc, site, reading, options)
+    explain_read(alloc, site, reading, options)
 }
 
 /// Reads the build files, anew each time that somebody was waited for.

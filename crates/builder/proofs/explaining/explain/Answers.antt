@@ -1,25 +1,20 @@
-use Rattle.std.proofs.Common.{List, ℕ, sym, ap, subst}
-use Rattle.model.specs.declared.graph.BuildGraph.{BuildGraph}
-use Rattle.model.specs.Graph.{IsMadeOnce}
-use Rattle.model.specs.SingleBuild.{NamesOther}
-use Rattle.build_theory.proofs.Looks.{looks_nothing}
-use Rattle.manifest.specs.Answer.{IsGraph}
-use Rattle.paths.specs.Told.{graph_of}
+use Rattle.build_theory.proofs.Looks.{looks_then}
+use Rattle.builder.proofs.Builds.{idle_after}
 use Rattle.builder.proofs.explaining.explain.Goals as goal
 
-pub returns-in_err-graph : goal.returns-in_err-graph
-returns-in_err-graph g c = looks_nothing g.S.Texts.tells (g.S.Texts.world c.args.site.now)
+-- reading only looked
+pub explain_read-requires-clause-idle : goal.explain_read-requires-clause-idle
+explain_read-requires-clause-idle g c = idle_after g.S.Texts.tells (g.S.Texts.world c.args.site.now) (g.S.Texts.world c.read.new.site) c.in-Ok.ensures.read.looked.looks c.requires
 
-pub explain_linked-requires : goal.explain_linked-requires
-explain_linked-requires g c =
-    let same = sym {A = BuildGraph} (ap graph_of c.in_ok-graph.ensures.manifest) in
-    record {
-      idle = c.requires.idle;
-      running = c.requires.running;
-      formed = subst (λ (b : BuildGraph). IsGraph b) same c.requires.formed;
-      linked = record {
-        once = subst (λ (b : BuildGraph). IsMadeOnce b.edges) same c.in_ok-graph.ensures.once;
-        inputs = subst (λ (b : BuildGraph). (file : List ℕ) → NamesOther b.edges file → ⊥) same c.in_ok-graph.ensures.dyndep;
-        unrecorded = c.in_ok-graph.ensures.recorded;
-      };
-    }
+pub explain_read-requires-clause-running : goal.explain_read-requires-clause-running
+explain_read-requires-clause-running g c = c.in-Ok.ensures.read.looked.unrefused.goes_on
+
+pub explain_read-requires-clause-formed : goal.explain_read-requires-clause-formed
+explain_read-requires-clause-formed g c = c.in-Ok.ensures.read.formed
+
+pub returns-in-Ok : goal.returns-in-Ok
+returns-in-Ok g c =
+    looks_then g.S.Texts.tells (g.S.Texts.world c.args.site.now) (g.S.Texts.world c.read.new.site) (g.S.Texts.world c.explain_read.new.site) c.in-Ok.ensures.read.looked.looks c.explain_read.ensures
+
+pub returns-in-Err : goal.returns-in-Err
+returns-in-Err g c = c.in-Err.ensures.unread.looks
