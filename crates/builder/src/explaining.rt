@@ -21,7 +21,6 @@ use crate::going::source_to_load;
 use crate::loads::load;
 use crate::names::{first_output, path_text};
 use crate::one_build::{cone_of, read_records, state_of};
-use crate::own_files::{TICK, own_path};
 use crate::reading::{Reading, read};
 use crate::recorded::join_recorded;
 use crate::report::{Options, Report};
@@ -115,9 +114,8 @@ fn explain_graph<S: Site>(
     ensures { OnlyLooks S.tells (S.world site.old) (S.world site.new) }
 {
     let mut cone = cone_of(alloc, graph, asked)?;
-    let tick = own_path(alloc, asked.folder.as_str(), TICK)?;
     let mut state = state_of(alloc, graph, &cone, asked, options, records)?;
-    explain_state(alloc, site, graph, &mut cone, tick.as_str(), &mut state)
+    explain_state(alloc, site, graph, &mut cone, &mut state)
 }
 
 /// The same of a run that begins.
@@ -126,16 +124,15 @@ fn explain_state<S: Site>(
     site: &mut S,
     graph: &mut Graph,
     cone: &mut Cone,
-    tick: &str,
     state: &mut State<'_>,
 ) -> Result<Explained, Report>
     requires running { (S.world site.old).stopped ≡ false }
-    requires begins { (course : Course) × (edges : List Edge) × (phases : List Phase) × BeginsAt S.tells tick.now course edges phases graph.old cone.old state.old (S.world site.old) }
+    requires begins { (tick : List ℕ) × (course : Course) × (edges : List Edge) × (phases : List Phase) × BeginsAt S.tells tick course edges phases graph.old cone.old state.old (S.world site.old) }
     requires enough { AreSet graph.old state.old.set.items }
     ensures { OnlyLooks S.tells (S.world site.old) (S.world site.new) }
 {
-    load_sources(alloc, site, graph, cone, tick, state)?;
-    Ok(explain_run(alloc, site, graph, cone, tick, state)?)
+    load_sources(alloc, site, graph, cone, state)?;
+    Ok(explain_run(alloc, site, graph, cone, state)?)
 }
 
 /// Loads the dyndep files that no edge makes, as a build does before anything is started.
@@ -144,15 +141,14 @@ fn load_sources<S: Site>(
     site: &mut S,
     graph: &mut Graph,
     cone: &mut Cone,
-    tick: &str,
     state: &mut State<'_>,
 ) -> Result<(), Stop>
     requires running { (S.world site.old).stopped ≡ false }
-    requires begins { (course : Course) × (edges : List Edge) × (phases : List Phase) × BeginsAt S.tells tick.now course edges phases graph.old cone.old state.old (S.world site.old) }
+    requires begins { (tick : List ℕ) × (course : Course) × (edges : List Edge) × (phases : List Phase) × BeginsAt S.tells tick course edges phases graph.old cone.old state.old (S.world site.old) }
     requires enough { AreSet graph.old state.old.set.items }
     ensures looks { OnlyLooks S.tells (S.world site.old) (S.world site.new) }
     ensures running { OnOk result ((S.world site.new).stopped ≡ false) }
-    ensures begun { OnOk result ((course : Course) (edges : List Edge) (phases : List Phase) → BeginsAt S.tells tick.now course edges phases graph.old cone.old state.old (S.world site.old) → (many : List Edge) × (more : List Phase) × BeginsAt S.tells tick.now course many more graph.new cone.new state.new (S.world site.new)) }
+    ensures begun { OnOk result ((tick : List ℕ) (course : Course) (edges : List Edge) (phases : List Phase) → BeginsAt S.tells tick course edges phases graph.old cone.old state.old (S.world site.old) → (many : List Edge) × (more : List Phase) × BeginsAt S.tells tick course many more graph.new cone.new state.new (S.world site.new)) }
 {
     'sources: loop {
         match source_to_load(graph, &state.plan) {
@@ -168,11 +164,10 @@ fn explain_run<S: Site>(
     site: &mut S,
     graph: &Graph,
     cone: &Cone,
-    tick: &str,
     state: &mut State<'_>,
 ) -> Result<Explained, Stop>
     requires running { (S.world site.old).stopped ≡ false }
-    requires begins { (course : Course) × (edges : List Edge) × (phases : List Phase) × BeginsAt S.tells tick.now course edges phases graph.now cone.now state.old (S.world site.old) }
+    requires begins { (tick : List ℕ) × (course : Course) × (edges : List Edge) × (phases : List Phase) × BeginsAt S.tells tick course edges phases graph.now cone.now state.old (S.world site.old) }
     ensures { OnlyLooks S.tells (S.world site.old) (S.world site.new) }
 {
     let due = check_sources(

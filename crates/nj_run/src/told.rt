@@ -51,18 +51,18 @@ pub fn report<W: Write, E: Write>(
     }
 }
 
-/// Tells why something could not be told that nothing was started for, in the same way. The status is 1.
+/// Tells in the same way why it could not be told which commands are due. The status is 1.
 pub fn refusal<W: Write, E: Write>(
-    report: &Report,
+    refusal: &Report,
     trouble: Option<&Trouble>,
     out: &mut W,
     err: &mut E,
 ) -> io::Result<u8>
     ensures status { IfOk result (λ status. status ≡ 1) }
-    ensures out { OnOk result (Adds (W.contents out.old) (W.contents out.new) (out_of report.now)) }
-    ensures err { OnOk result (Adds (E.contents err.old) (E.contents err.new) (err_of report.now (is_some trouble.entry))) }
+    ensures out { OnOk result (Adds (W.contents out.old) (W.contents out.new) (out_of refusal.now)) }
+    ensures err { OnOk result (Adds (E.contents err.old) (E.contents err.new) (err_of refusal.now (is_some trouble.entry))) }
 {
-    self::report(report, trouble, out, err)?;
+    report(refusal, trouble, out, err)?;
     Ok(1)
 }
 

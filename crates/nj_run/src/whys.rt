@@ -1,6 +1,6 @@
 //! What is told of the commands that are due.
 
-ghost use Rattle.std.specs.Prelude.{◌≡◌, ◌≤◌, IfOk, length};
+ghost use Rattle.std.specs.Prelude.{◌≡◌, IfOk};
 
 use builder::{Acts, Explained, Explanation};
 use model::Reason;
@@ -130,50 +130,64 @@ fn tell_acts<W: Write>(alloc: Global, acts: &Acts, out: &mut W) -> io::Result<()
 fn tell_texts<W: Write>(
     alloc: Global,
     what: &str,
-    old: &Text,
-    new: &Text,
+    first: &Text,
+    second: &Text,
     out: &mut W,
 ) -> io::Result<()> {
-    let old: Vec<&str> = old.as_str().split(' ').collect(alloc)?;
-    let new: Vec<&str> = new.as_str().split(' ').collect(alloc)?;
+    let first: Vec<&str> = first.as_str().split(' ').collect(alloc)?;
+    let second: Vec<&str> = second.as_str().split(' ').collect(alloc)?;
     write!(out, "{what} changed")?;
-    tell_words(&old, &new, out)
+    tell_words(&first, &second, out)
 }
 
-fn tell_words<W: Write>(old: &[&str], new: &[&str], out: &mut W) -> io::Result<()> {
-    let front = same_front(old, new);
-    let old = &old[front..];
-    let new = &new[front..];
-    let back = same_back(old, new);
-    tell_part(", before", &old[..old.len() - back], out)?;
-    tell_part(", now", &new[..new.len() - back], out)
+fn tell_words<W: Write>(first: &[&str], second: &[&str], out: &mut W) -> io::Result<()> {
+    let front = same_front(first, second);
+    let first = first.get(front..).unwrap_or(&[]);
+    let second = second.get(front..).unwrap_or(&[]);
+    let back = same_back(first, second);
+    tell_part(", before", without_last(first, back), out)?;
+    tell_part(", now", without_last(second, back), out)
 }
 
 /// How many words are the same in front.
-fn same_front(old: &[&str], new: &[&str]) -> usize
-    ensures old { result ≤ length old.now }
-    ensures new { result ≤ length new.now }
-{
-    let mut count = 0;
-    while count < old.len() && count < new.len() && old[count] == new[count] {
-        count += 1;
+fn same_front(first: &[&str], second: &[&str]) -> usize {
+    for place in 0..first.len() {
+        if !is_same(first.get(place), second.get(place)) {
+            return place;
+        }
     }
-    count
+    first.len()
 }
 
 /// How many words are the same at the end.
-fn same_back(old: &[&str], new: &[&str]) -> usize
-    ensures old { result ≤ length old.now }
-    ensures new { result ≤ length new.now }
-{
-    let mut count = 0;
-    while count < old.len()
-        && count < new.len()
-        && old[old.len() - count - 1] == new[new.len() - count - 1]
-    {
-        count += 1;
+fn same_back(first: &[&str], second: &[&str]) -> usize {
+    for place in 0..first.len() {
+        if !is_same(from_back(first, place), from_back(second, place)) {
+            return place;
+        }
     }
-    count
+    first.len()
+}
+
+/// The word at this place from the end.
+fn from_back<'a, 'b>(words: &'a [&'b str], place: usize) -> Option<&'a &'b str> {
+    let left = words.len().checked_sub(place)?;
+    words.get(left.checked_sub(1)?)
+}
+
+/// Whether both words are there, and the same.
+fn is_same(first: Option<&&str>, second: Option<&&str>) -> bool {
+    match (first, second) {
+        (Some(first), Some(second)) => **first == **second,
+        _ => false,
+    }
+}
+
+/// The words but so many at the end.
+fn without_last<'a, 'b>(words: &'a [&'b str], count: usize) -> &'a [&'b str] {
+    words
+        .get(..words.len().saturating_sub(count))
+        .unwrap_or(&[])
 }
 
 /// Tells these words, if there are any.

@@ -1,4 +1,4 @@
-use Rattle.std.proofs.Common.{[], refl, ◌∙◌, ap}
+use Rattle.std.proofs.Common.{[], refl}
 use Rattle.model.specs.Records.{file_in, tick_name}
 use Rattle.build_theory.proofs.Looks.{looks_nothing}
 use Rattle.links.specs.Told.{declared_by}
@@ -10,9 +10,6 @@ use Rattle.builder.proofs.explaining.explain_graph.Goals as goal
 pub returns-in_err-cone : goal.returns-in_err-cone
 returns-in_err-cone g c = looks_nothing g.S.Texts.tells (g.S.Texts.world c.args.site.now)
 
-pub returns-in_err-tick : goal.returns-in_err-tick
-returns-in_err-tick g c = looks_nothing g.S.Texts.tells (g.S.Texts.world c.args.site.now)
-
 pub returns-in_err-state : goal.returns-in_err-state
 returns-in_err-state g c = looks_nothing g.S.Texts.tells (g.S.Texts.world c.args.site.now)
 
@@ -22,15 +19,15 @@ explain_state-requires-clause-begins g c =
     let graph = c.args.graph.now in
     let asked = c.args.asked.now in
     let old = g.S.Texts.world c.args.site.now in
-    let is_tick = c.as_str-2.ensures.value ∙ (c.in_ok-tick.ensures ∙ ap (λ folder. file_in folder tick_name) c.as_str.ensures) in
     let course = c.requires.read.0 in
     let state = c.in_ok-state.state in
     let fresh = c.in_ok-state.ensures.fresh in (
+      file_in asked.folder tick_name,
       course_of course.behaviour course.format course.own (asked_of (declared_by graph) asked.folder asked.limits asked.targets) course.store course.entry,
       (declared_by graph).edges,
       [],
       begins_this tells graph asked c.args.records course old c.requires.read.1 c.requires.formed c.requires.once c.requires.inputs c.in_ok-cone.cone c.in_ok-cone.ensures.cone state.plan fresh.plan state.looks
-          fresh.looks state refl refl fresh.kept fresh.failed fresh.starts _ is_tick,
+          fresh.looks state refl refl fresh.kept fresh.failed fresh.starts _ refl,
     )
 
 pub explain_state-requires-clause-enough : goal.explain_state-requires-clause-enough

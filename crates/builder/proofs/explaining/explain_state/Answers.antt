@@ -4,8 +4,8 @@ use Rattle.builder.proofs.explaining.explain_state.Goals as goal
 pub explain_run-requires-clause-begins : goal.explain_run-requires-clause-begins
 explain_run-requires-clause-begins g c =
     let begins = c.requires.begins in
-    let at = c.in_ok-load_sources.ensures.begun begins.0 begins.1 begins.2 begins.3 in
-    (begins.0, at.0, at.1, at.2)
+    let at = c.in_ok-load_sources.ensures.begun begins.0 begins.1 begins.2 begins.3 begins.4 in
+    (begins.0, begins.1, at.0, at.1, at.2)
 
 pub returns-in_err-explain_run : goal.returns-in_err-explain_run
 returns-in_err-explain_run g c =

@@ -1,6 +1,9 @@
-use Rattle.std.proofs.Common.{◌≡◌, true, false, inl, inr, refl, rules}
+use Rattle.std.proofs.Common.{◌≡◌, ◌∙◌, true, false, inl, inr, length, refl, ap, rules}
 use Rattle.dues.specs.Dues.{due_at}
 use Rattle.reasons.proofs.told.tell_one.Goals as goal
+
+pub due_command-requires-clause-firm : goal.due_command-requires-clause-firm
+due_command-requires-clause-firm g c = ap length c.as_slice.ensures.value ∙ c.requires.firm
 
 pub returns-then-not-index-clause-told : goal.returns-then-not-index-clause-told
 returns-then-not-index-clause-told g c =
