@@ -141,7 +141,17 @@ fn tell_one<S: Site>(
     if !flags[edge.index()] {
         return Ok(());
     }
-    let command = due_command(alloc, site, graph, looks, sums, records, flags, firm, edge)?;
+    let command = due_command(
+        alloc,
+        site,
+        graph,
+        looks,
+        sums,
+        records,
+        flags,
+        firm.as_slice(),
+        edge,
+    )?;
     firm[edge.index()] = command.is_sure && !has_restat(graph, edge);
     told.push(command)?;
     Ok(())
