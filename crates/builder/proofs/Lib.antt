@@ -29,3 +29,4 @@ pub mod Stopping
 pub mod Stops
 pub mod Telling
 pub mod Unedited
+pub mod Dueing

@@ -1,6 +1,7 @@
 //! Why commands are due, before anything runs.
 
 ghost use Rattle.std.specs.Prelude.{◌≡◌, ◌<◌, All, List, ℕ, IfOk, OnOk, Option, Some, None, false, length, vec_len};
+ghost use Rattle.std.specs.Option.{option_map};
 ghost use Rattle.model.specs.declared.graph.Edge.{Edge};
 ghost use Rattle.model.specs.Calls.{OnlyLooks};
 ghost use Rattle.model.specs.Graph.{IsMadeOnce};
@@ -9,9 +10,10 @@ ghost use Rattle.model.specs.SingleBuild.{NamesOther};
 ghost use Rattle.model.specs.World.{IsIdle};
 ghost use Rattle.links.specs.Told.{declared_by};
 ghost use Rattle.manifest.specs.Answer.{IsGraph};
-ghost use Rattle.paths.specs.Told.{graph_of};
+ghost use Rattle.paths.specs.Told.{graph_of, text_at};
 ghost use Rattle.runner.specs.Course.{Course};
 ghost use Rattle.runner.specs.Going.{AreSet};
+ghost use Rattle.builder.specs.Explained.{AreSaid, IsSaid, TellsDue, Explains, ExplainsBuild};
 ghost use Rattle.builder.specs.Going.{BeginsAt};
 ghost use Rattle.builder.specs.Reports.{HasRead, IsLinked};
 
@@ -67,7 +69,8 @@ pub fn explain_read<S: Site>(
     requires idle { IsIdle (S.world site.old).events }
     requires running { (S.world site.old).stopped ≡ false }
     requires formed { IsGraph (graph_of reading.manifest) }
-    ensures { OnlyLooks S.tells (S.world site.old) (S.world site.new) }
+    ensures looks { OnlyLooks S.tells (S.world site.old) (S.world site.new) }
+    ensures explains { IfOk result (λ explained. ExplainsBuild S.tells (graph_of reading.manifest) reading.asked (S.world site.old) (S.world site.new) explained.commands.items) }
 {
     let Reading { manifest, asked } = reading;
     let mut graph = Graph::build(alloc, manifest, asked.folder.as_str())?;
@@ -86,7 +89,8 @@ fn explain_linked<S: Site>(
     requires running { (S.world site.old).stopped ≡ false }
     requires formed { IsGraph (declared_by graph.old) }
     requires linked { IsLinked graph.old }
-    ensures { OnlyLooks S.tells (S.world site.old) (S.world site.new) }
+    ensures looks { OnlyLooks S.tells (S.world site.old) (S.world site.new) }
+    ensures explains { IfOk result (λ explained. ExplainsBuild S.tells (declared_by graph.old) asked.now (S.world site.old) (S.world site.new) explained.commands.items) }
 {
     has_format();
     has_reading();
@@ -111,7 +115,8 @@ fn explain_graph<S: Site>(
     requires once { IsMadeOnce (declared_by graph.old).edges }
     requires inputs { (file : List ℕ) → NamesOther (declared_by graph.old).edges file → ⊥ }
     requires read { (course : Course) × HasRead S.tells graph.old asked.now records course (S.world site.old) }
-    ensures { OnlyLooks S.tells (S.world site.old) (S.world site.new) }
+    ensures looks { OnlyLooks S.tells (S.world site.old) (S.world site.new) }
+    ensures explains { IfOk result (λ explained. ExplainsBuild S.tells (declared_by graph.old) asked.now (S.world site.old) (S.world site.new) explained.commands.items) }
 {
     let mut cone = cone_of(alloc, graph, asked)?;
     let mut state = state_of(alloc, graph, &cone, asked, options, records)?;
@@ -129,7 +134,8 @@ fn explain_state<S: Site>(
     requires running { (S.world site.old).stopped ≡ false }
     requires begins { (tick : List ℕ) × (course : Course) × (edges : List Edge) × (phases : List Phase) × BeginsAt S.tells tick course edges phases graph.old cone.old state.old (S.world site.old) }
     requires enough { AreSet graph.old state.old.set.items }
-    ensures { OnlyLooks S.tells (S.world site.old) (S.world site.new) }
+    ensures looks { OnlyLooks S.tells (S.world site.old) (S.world site.new) }
+    ensures explains { IfOk result (λ explained. (tick : List ℕ) (course : Course) (edges : List Edge) (phases : List Phase) → BeginsAt S.tells tick course edges phases graph.old cone.old state.old (S.world site.old) → Explains S.tells tick course (S.world site.old) (S.world site.new) explained.commands.items) }
 {
     load_sources(alloc, site, graph, cone, state)?;
     Ok(explain_run(alloc, site, graph, cone, state)?)
@@ -168,7 +174,8 @@ fn explain_run<S: Site>(
 ) -> Result<Explained, Stop>
     requires running { (S.world site.old).stopped ≡ false }
     requires begins { (tick : List ℕ) × (course : Course) × (edges : List Edge) × (phases : List Phase) × BeginsAt S.tells tick course edges phases graph.now cone.now state.old (S.world site.old) }
-    ensures { OnlyLooks S.tells (S.world site.old) (S.world site.new) }
+    ensures looks { OnlyLooks S.tells (S.world site.old) (S.world site.new) }
+    ensures tells { IfOk result (λ explained. TellsDue S.tells graph.now cone.now state.old.plan state.old.records (S.world site.old) (S.world site.new) state.old.looks state.new.looks explained.commands.items) }
 {
     let due = check_sources(
         alloc,
@@ -202,6 +209,7 @@ fn explanations(
     told: &[DueCommand],
 ) -> Result<Vec<Explanation>, AllocError>
     requires { All (λ command. command.edge < length graph.now.manifest.lines) told.now }
+    ensures { IfOk result (λ said. AreSaid graph.now told.now said.items) }
 {
     let mut all = Vec::new(alloc);
     for command in told {
@@ -218,6 +226,7 @@ fn explanation(
     command: DueCommand,
 ) -> Result<Explanation, AllocError>
     requires { command.edge < length graph.now.manifest.lines }
+    ensures { IfOk result (IsSaid graph.now command) }
 {
     Ok(Explanation {
         edge: command.edge,
@@ -230,7 +239,9 @@ fn explanation(
 }
 
 /// The text of the path, where there is one.
-fn text_of(alloc: Global, graph: &Graph, path: Option<PathId>) -> Result<Option<Path>, AllocError> {
+fn text_of(alloc: Global, graph: &Graph, path: Option<PathId>) -> Result<Option<Path>, AllocError>
+    ensures { IfOk result (λ text. text ≡ option_map (text_at graph.now.manifest.paths) path) }
+{
     match path {
         Some(path) => Ok(Some(path_text(alloc, &graph.manifest, path)?)),
         None => Ok(None),

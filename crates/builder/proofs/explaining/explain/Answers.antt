@@ -14,7 +14,7 @@ explain_read-requires-clause-formed g c = c.in-Ok.ensures.read.formed
 
 pub returns-in-Ok : goal.returns-in-Ok
 returns-in-Ok g c =
-    looks_then g.S.Texts.tells (g.S.Texts.world c.args.site.now) (g.S.Texts.world c.read.new.site) (g.S.Texts.world c.explain_read.new.site) c.in-Ok.ensures.read.looked.looks c.explain_read.ensures
+    looks_then g.S.Texts.tells (g.S.Texts.world c.args.site.now) (g.S.Texts.world c.read.new.site) (g.S.Texts.world c.explain_read.new.site) c.in-Ok.ensures.read.looked.looks c.explain_read.ensures.looks
 
 pub returns-in-Err : goal.returns-in-Err
 returns-in-Err g c = c.in-Err.ensures.unread.looks

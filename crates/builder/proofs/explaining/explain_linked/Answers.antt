@@ -7,6 +7,9 @@ use Rattle.build_theory.proofs.Looks.{looks_then}
 use Rattle.links.specs.Told.{declared_by}
 use Rattle.manifest.specs.Answer.{IsGraph}
 use Rattle.builder.specs.Build.{asked_of}
+use Rattle.builder.specs.Explained.{ExplainsBuild}
+use Rattle.builder.proofs.Dueing.{explains_before}
+use Rattle.builder.proofs.Slices.{if_ok_then}
 use Rattle.builder.proofs.Looking.{course_of}
 use Rattle.builder.proofs.Builds.{any_own, own_in, looked_nothing}
 use Rattle.builder.proofs.Opening.{has_read}
@@ -50,9 +53,19 @@ explain_graph-requires-clause-read g c =
           B c.has_format.ensures.0 (any_own asked.folder) old c.has_reading.ensures.1 dyndeps.1 c.has_format.ensures.1 (own_in asked.folder) c.requires.idle (looked_nothing tells old c.requires.running),
     )
 
-pub returns : goal.returns
-returns g c =
-    looks_then g.S.Texts.tells (g.S.Texts.world c.args.site.now) (g.S.Texts.world c.read_records.new.site) (g.S.Texts.world c.explain_graph.new.site) c.read_records.ensures.looks c.explain_graph.ensures
+pub returns-clause-looks : goal.returns-clause-looks
+returns-clause-looks g c =
+    looks_then g.S.Texts.tells (g.S.Texts.world c.args.site.now) (g.S.Texts.world c.read_records.new.site) (g.S.Texts.world c.explain_graph.new.site) c.read_records.ensures.looks c.explain_graph.ensures.looks
+
+pub returns-clause-explains : goal.returns-clause-explains
+returns-clause-explains g c =
+    let read = c.in_ok-records.ensures.read in
+    let joined = c.in_ok-join_recorded.ensures read.0 read.1 read.2 c.requires.linked.unrecorded in
+    if_ok_then c.explain_graph.result c.explain_graph.ensures.explains
+    (λ explained so.
+    let mid = g.S.Texts.world c.read_records.new.site in
+    let here = explains_before g.S.Texts.tells (declared_by c.join_recorded.new.graph) c.args.asked.now (g.S.Texts.world c.args.site.now) mid (g.S.Texts.world c.explain_graph.new.site) explained.commands.items c.read_records.ensures.looks so in
+    subst (λ (b : BuildGraph). ExplainsBuild g.S.Texts.tells b c.args.asked.now (g.S.Texts.world c.args.site.now) (g.S.Texts.world c.explain_graph.new.site) explained.commands.items) joined.grown.declared here)
 
 pub join_recorded-requires : goal.join_recorded-requires
 join_recorded-requires g c = let read = c.in_ok-records.ensures.read in record { known = (read.0, read.1, read.2) }

@@ -19,4 +19,4 @@ explain_read-requires-clause-formed g c = c.in_ok-reading.ensures.read.was_read.
 
 pub returns : goal.returns
 returns g c =
-    explained_looks g.S.Texts.tells c.args.options.now c.args.targets.now (g.S.Texts.world c.args.site.now) (g.S.Texts.world c.read_alone.new.site) (g.S.Texts.world c.explain_read.new.site) c.in_ok-reading.reading c.in_ok-reading.ensures.read c.explain_read.ensures
+    explained_looks g.S.Texts.tells c.args.options.now c.args.targets.now (g.S.Texts.world c.args.site.now) (g.S.Texts.world c.read_alone.new.site) (g.S.Texts.world c.explain_read.new.site) c.in_ok-reading.reading c.in_ok-reading.ensures.read c.explain_read.ensures.looks
