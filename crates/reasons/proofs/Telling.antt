@@ -206,18 +206,14 @@ module _ (follow : Follow) (tells : Bool) (graph : Graph) (records : Records) (f
     pub listed_then : map edge_in told ≡ filter (due_at flags) (take k order) → map edge_in then_told ≡ filter (due_at flags) (take (k + 1) order)
     listed_then listed = elim one [
       | inl none ↦ ap (map edge_in) none.1 ∙ listed_same flags order k e lt told listed (ap (due_at flags) (sym is) ∙ none.0)
-      | inr some ↦
-          let it = some.1 in
-          ap (map edge_in) it.1 ∙ listed_more flags order k e lt told it.0 listed (it.2 ∙ is) (ap (due_at flags) (sym is) ∙ some.0)
+      | inr this ↦ ap (map edge_in) this.is ∙ listed_more flags order k e lt told this.command listed (this.edge ∙ is) (ap (due_at flags) (sym is) ∙ this.flag)
     ]
 
     pub all_then : AreWhy tells graph records flags old mid before during told → AreWhy tells graph records flags old new before after then_told
     all_then all = elim one [
       | inl none ↦ subst (AreWhy tells graph records flags old new before after) (sym none.1) (all_later follow tells graph records flags old mid new before during after more told all)
-      | inr some ↦
-          let it = some.1 in
-          subst (AreWhy tells graph records flags old new before after) (sym it.1)
-          (all_more follow tells graph records flags old mid new before during after first more told e it.0 it.2 all it.3)
+      | inr this ↦ subst (AreWhy tells graph records flags old new before after) (sym this.is)
+          (all_more follow tells graph records flags old mid new before during after first more told e this.command this.edge all this.why)
     ]
 
 -- the edges of the told commands are edges of the graph

@@ -196,11 +196,18 @@ edge_in command = command.edge
 abbrev pub AreWhy : Bool → Graph → Records → List Bool → World → World → Looks → Looks → List DueCommand → Type 0
 AreWhy tells graph records flags old new before after told = AllByRecursion (λ command. IsWhy tells graph records flags old new before after command.edge command) told
 
--- the command of the edge was told behind these, if the edge has a flag
+-- the command of the edge, which has a flag, was told behind these
+pub record TellsThis (tells : Bool) (graph : Graph) (records : Records) (flags : List Bool) (old new : World) (before after : Looks) (e : ℕ) (told_before told : List DueCommand) : Type 0 where
+  pub flag : due_at flags e ≡ true
+  pub command : DueCommand
+  pub is : told ≡ told_before ++ command ∷ []
+  pub edge : command.edge ≡ e
+  pub why : IsWhy tells graph records flags old new before after e command
+
+-- if it has none, nothing was told
 abbrev pub TellsOne : Bool → Graph → Records → List Bool → World → World → Looks → Looks → ℕ → List DueCommand → List DueCommand → Type 0
 TellsOne tells graph records flags old new before after e told_before told =
-    ((due_at flags e ≡ false) × (told ≡ told_before))
-    ⊎ ((due_at flags e ≡ true) × ((command : DueCommand) × (told ≡ told_before ++ command ∷ []) × (command.edge ≡ e) × IsWhy tells graph records flags old new before after e command))
+    ((due_at flags e ≡ false) × (told ≡ told_before)) ⊎ TellsThis tells graph records flags old new before after e told_before told
 
 -- just the due commands of this order, in this order, with what is told of each
 pub record HasTold (tells : Bool) (graph : Graph) (records : Records) (due : List Bool) (order : List ℕ) (old new : World) (before after : Looks) (told : List DueCommand) : Type 0 where

@@ -9,8 +9,8 @@ pub ask-requires-clause-within : goal.ask-requires-clause-within
 ask-requires-clause-within g c =
     within_of (length c.args.graph.now.manifest.paths) ((links_of c.args.graph.now).outputs c.args.edge) c.outputs.result.now c.outputs.ensures (c.lists_stand.ensures.outputs_within c.args.edge)
 
-pub ask-2-requires-clause-within : goal.ask-requires-2-clause-within
-ask-2-requires-clause-within g c =
+pub ask-requires-2-clause-within : goal.ask-requires-2-clause-within
+ask-requires-2-clause-within g c =
     within_of (length c.args.graph.now.manifest.paths) ((links_of c.args.graph.now).recorded c.args.edge) c.recorded_inputs.result.now c.recorded_inputs.ensures (c.lists_stand.ensures.recorded_within c.args.edge)
 
 pub returns-in_err-ask_regular-clause-looked : goal.returns-in_err-ask_regular-clause-looked

@@ -11,6 +11,10 @@ returns-then-not-index-clause-told g c =
     inl (none, refl)
 
 pub returns-clause-told : goal.returns-clause-told
-returns-clause-told g c =
-    let some : due_at c.args.flags.now c.args.edge ≡ true = search rules in
-    inr (some, (c.in_ok-command.command, search rules, c.in_ok-command.ensures.edge, c.in_ok-command.ensures.why))
+returns-clause-told g c = inr record {
+  flag = search rules;
+  command = c.in_ok-command.command;
+  is = search rules;
+  edge = c.in_ok-command.ensures.edge;
+  why = c.in_ok-command.ensures.why;
+}
