@@ -43,7 +43,7 @@ pub record TellsDue (tells : Bool) (graph : Graph) (cone : Cone) (plan : Plan) (
   pub seen : Looks
   pub has : HasDue tells graph records cone plan old mid before due
   pub told : List DueCommand
-  pub why : HasTold tells graph records due cone.order.items mid new seen after told
+  pub why : HasTold tells graph cone records due mid new seen after told
   pub said_of : AreSaid graph told said
 
 -- So it is where a phase of some build begins, up to which it was only looked.

@@ -7,7 +7,7 @@ use text::Path;
 /// The commands that are due, and why.
 #[derive(Debug, Drop)]
 pub struct Explained {
-    /// Makers first.
+    /// Makers first, and else by number.
     pub commands: Vec<Explanation>,
     /// A dyndep file that a command makes is loaded when its maker is settled: more may follow then. The first of those that are to be
     /// loaded.

@@ -13,7 +13,9 @@ use Rattle.model.specs.Judgement.{OutputFacts, has_other_act, is_later, is_same_
 use Rattle.model.specs.OutOfDate.{deps_start}
 use Rattle.model.specs.Records.{in_force, deps_in_force}
 use Rattle.paths.specs.Told.{text_at}
+use Rattle.links.specs.declared.cone.Cone.{Cone}
 use Rattle.links.specs.declared.graph.Graph.{Graph}
+use Rattle.links.specs.Cone.{IsOrder}
 use Rattle.links.specs.Links.{Links, links_of}
 use Rattle.links.specs.Alias.{counts_if_present}
 use Rattle.links.specs.ReadingOf.{IsReadingOf}
@@ -30,6 +32,7 @@ use Rattle.verdict.specs.Facts.{seen_stamp}
 use Rattle.verdict.specs.Judged.{IsAnswer, KeepsDepfile}
 use Rattle.dues.specs.Dues.{due_at, is_made_due}
 use Rattle.reasons.specs.declared.told.DueCommand.{DueCommand}
+use Rattle.reasons.specs.Order.{IsSameCone}
 
 -- ---- what was seen and recorded of outputs
 
@@ -209,8 +212,11 @@ abbrev pub TellsOne : Bool → Graph → Records → List Bool → World → Wor
 TellsOne tells graph records flags old new before after e told_before told =
     ((due_at flags e ≡ false) × (told ≡ told_before)) ⊎ TellsThis tells graph records flags old new before after e told_before told
 
--- just the due commands of this order, in this order, with what is told of each
-pub record HasTold (tells : Bool) (graph : Graph) (records : Records) (due : List Bool) (order : List ℕ) (old new : World) (before after : Looks) (told : List DueCommand) : Type 0 where
+-- Just the due commands of the cone, each once and after the makers of what it needs, with what is told of each.
+pub record HasTold (tells : Bool) (graph : Graph) (cone : Cone) (records : Records) (due : List Bool) (old new : World) (before after : Looks) (told : List DueCommand) : Type 0 where
+  pub order : List ℕ
+  pub ordered : IsOrder (links_of graph) [] order
+  pub same : IsSameCone graph cone order
   pub flags : List Bool
   pub fits : length flags ≡ length graph.manifest.lines
   pub commands : AreCommands graph due (length graph.manifest.lines) flags

@@ -4,6 +4,7 @@
 mod asked;
 mod flags;
 mod inputs;
+mod order;
 mod outputs;
 mod table;
 mod told;

@@ -20,6 +20,7 @@ ghost use Rattle.reasons.specs.Why.{AreNotPhony, AreWhy, IsWhy, IsTold, HasTold,
 use crate::asked::ask_for;
 use crate::flags::commands_due;
 use crate::inputs::first_input;
+use crate::order::in_order;
 use crate::outputs::{first_output, summary_of};
 use crate::table::told_reason;
 use dirty::Reason;
@@ -47,7 +48,7 @@ pub struct DueCommand {
     pub is_sure: bool,
 }
 
-/// The due commands of the cone in the order of the cone, makers first, and why each is due: `due` says of each edge whether it is in the
+/// The due commands of the cone, makers first and else by number, and why each is due: `due` says of each edge whether it is in the
 /// cone and due, before anything runs. The reason is the first of the table that holds, where each due command is taken to make anew what
 /// it makes; the path is the first of which it holds, of the outputs, or of the reading set and then of the recorded inputs, in their order.
 ///
@@ -64,17 +65,18 @@ pub fn due_commands<S: Site>(
 ) -> Result<Vec<DueCommand>, SiteFault>
     requires running { (S.world site.old).stopped ≡ false }
     requires fits { length looks.old.seen.items ≡ length graph.now.manifest.paths }
-    requires order { All (λ e. e < length graph.now.manifest.lines) cone.now.order.items }
     requires due { length due.now ≡ length graph.now.manifest.lines }
     ensures looked { HasLooked S.tells graph.now (S.world site.old) (S.world site.new) looks.old looks.new }
     ensures cause { HasCause (S.world site.old) (S.world site.new) result }
     ensures within { IfOk result (λ told. All (λ command. command.edge < length graph.now.manifest.lines) told.items) }
-    ensures told { IfOk result (λ told. HasTold S.tells graph.now records.now due.now cone.now.order.items (S.world site.old) (S.world site.new) looks.old looks.new told.items) }
+    ensures told { IfOk result (λ told. HasTold S.tells graph.now cone.now records.now due.now (S.world site.old) (S.world site.new) looks.old looks.new told.items) }
 {
     let flags = commands_due(alloc, graph, due)?;
+    let order = in_order(alloc, graph, cone)?;
     let mut told = Vec::new(alloc);
-    let order = cone.order.as_slice();
-    tell_all(alloc, site, graph, looks, records, &flags, order, &mut told)?;
+    tell_all(
+        alloc, site, graph, looks, records, &flags, &order, &mut told,
+    )?;
     Ok(told)
 }
 

@@ -23,11 +23,6 @@ due_commands-requires-clause-running g c = c.in_ok-due.ensures.passed.goes_on
 pub due_commands-requires-clause-fits : goal.due_commands-requires-clause-fits
 due_commands-requires-clause-fits g c = c.check_sources.ensures.looked.fits ∙ c.requires.begins.4.stands.on.room.looks
 
-pub due_commands-requires-clause-order : goal.due_commands-requires-clause-order
-due_commands-requires-clause-order g c =
-    let begins = c.requires.begins in
-    order_within c.args.graph.now c.args.cone.now begins.2 _ _ (same_edges g.S.Texts.tells begins.0 begins.1 begins.2 begins.3 c.args.graph.now c.args.cone.now c.args.state.now (g.S.Texts.world c.args.site.now) begins.4.stands) begins.4.stands.listed
-
 pub due_commands-requires-clause-due : goal.due_commands-requires-clause-due
 due_commands-requires-clause-due g c = ap length c.deref.ensures.value ∙ c.in_ok-due.ensures.due.fits
 
@@ -63,6 +58,6 @@ returns-clause-tells g c = record {
   seen = c.check_sources.new.looks;
   has = c.in_ok-due.ensures.due;
   told = c.in_ok-told.told.items;
-  why = subst (λ (l : List Bool). HasTold g.S.Texts.tells c.args.graph.now c.args.state.now.records l c.args.cone.now.order.items (g.S.Texts.world c.check_sources.new.site) (g.S.Texts.world c.due_commands.new.site) c.check_sources.new.looks c.due_commands.new.looks c.in_ok-told.told.items) c.deref.ensures.value c.in_ok-told.ensures.told;
+  why = subst (λ (l : List Bool). HasTold g.S.Texts.tells c.args.graph.now c.args.cone.now c.args.state.now.records l (g.S.Texts.world c.check_sources.new.site) (g.S.Texts.world c.due_commands.new.site) c.check_sources.new.looks c.due_commands.new.looks c.in_ok-told.told.items) c.deref.ensures.value c.in_ok-told.ensures.told;
   said_of = subst (λ (l : List DueCommand). AreSaid c.args.graph.now l c.in_ok-explanations.field-0.items) c.deref-2.ensures.value c.in_ok-explanations.ensures;
 }
