@@ -1,6 +1,6 @@
 //! Why commands are due, before anything runs.
 
-ghost use Rattle.std.specs.Prelude.{◌≡◌, ◌<◌, All, List, ℕ, IfOk, OnOk, Option, Some, None, false, length, vec_len};
+ghost use Rattle.std.specs.Prelude.{◌≡◌, ◌<◌, All, List, ℕ, IfOk, OnOk, false, length};
 ghost use Rattle.std.specs.Option.{option_map};
 ghost use Rattle.model.specs.declared.graph.Edge.{Edge};
 ghost use Rattle.model.specs.Calls.{OnlyLooks};
@@ -33,7 +33,7 @@ use deps_log::has_format;
 use dyndep_law::has_reading as has_dyndeps;
 use links::{Cone, Graph};
 use model::{Act, Reason};
-use paths::{Action, EdgeId, PathId};
+use paths::{Action, PathId};
 use reasons::{DueCommand, due_commands};
 use records::{Records, log_begins};
 use runner::State;

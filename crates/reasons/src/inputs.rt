@@ -5,9 +5,7 @@ ghost use Rattle.std.specs.List.{flat_map};
 ghost use Rattle.model.specs.Graph.{has_number};
 ghost use Rattle.model.specs.Judgement.{is_later};
 ghost use Rattle.links.specs.Links.{links_of};
-ghost use Rattle.looks.specs.Seen.{look_at};
 ghost use Rattle.dues.specs.Dues.{is_made_due};
-ghost use Rattle.verdict.specs.Facts.{seen_stamp};
 ghost use Rattle.reasons.specs.Why.{counts, input_tells, is_sought, first_of, first_input};
 
 use crate::outputs::seen_stamp;

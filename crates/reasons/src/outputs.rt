@@ -1,6 +1,6 @@
 //! What is known of the outputs of an edge, by its records and by what was seen of them.
 
-ghost use Rattle.std.specs.Prelude.{◌≡◌, ◌<◌, List, ℕ, map, length};
+ghost use Rattle.std.specs.Prelude.{◌≡◌, ◌<◌, map, length};
 ghost use Rattle.model.specs.OutOfDate.{deps_start};
 ghost use Rattle.model.specs.Records.{deps_in_force};
 ghost use Rattle.paths.specs.Told.{text_at};

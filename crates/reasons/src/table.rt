@@ -1,7 +1,7 @@
 //! The first reason that holds, where due commands make anew what they make.
 
-ghost use Rattle.std.specs.Prelude.{◌≡◌};
-ghost use Rattle.reasons.specs.Why.{told_reason};
+ghost use Rattle.std.specs.Prelude.{◌≡◌, ◌&&◌, if◌then◌else◌};
+ghost use Rattle.reasons.specs.Why.{told_reason, is_behind};
 
 use dirty::Reason;
 

@@ -1,17 +1,13 @@
 //! The commands that are due, with what is told of each.
 
-ghost use Rattle.std.specs.Prelude.{◌≡◌, ◌<◌, ◌||◌, ℕ, suc, List, All, IfOk, OnOk, Option, true, false, is_some, length, map, filter, take};
-ghost use Rattle.model.specs.declared.record.Record.{Record};
-ghost use Rattle.model.specs.declared.record.DepsRecord.{DepsRecord};
+ghost use Rattle.std.specs.Prelude.{◌≡◌, ◌<◌, ℕ, suc, [], All, IfOk, OnOk, true, false, length, map, filter};
 ghost use Rattle.model.specs.Calls.{HasCause};
 ghost use Rattle.model.specs.Graph.{edge_at, has_number};
-ghost use Rattle.model.specs.World.{World};
 ghost use Rattle.links.specs.Told.{declared_by};
 ghost use Rattle.links.specs.Links.{links_of};
 ghost use Rattle.links.specs.ReadingOf.{edges_in};
 ghost use Rattle.paths.specs.Lists.{line_at};
 ghost use Rattle.paths.specs.Told.{edge_of};
-ghost use Rattle.looks.specs.declared.table.Looks.{Looks as LooksOf};
 ghost use Rattle.looks.specs.Looking.{HasLooked};
 ghost use Rattle.dues.specs.Dues.{due_at};
 ghost use Rattle.verdict.specs.Summed.{AreSums};
