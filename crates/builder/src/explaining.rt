@@ -33,7 +33,7 @@ use deps_log::has_format;
 use dyndep_law::has_reading as has_dyndeps;
 use links::{Cone, Graph};
 use model::{Act, Reason};
-use paths::{Action, PathId};
+use paths::{Action, EdgeId, PathId};
 use reasons::{DueCommand, due_commands};
 use records::{Records, log_begins};
 use runner::State;
@@ -197,7 +197,7 @@ fn explain_run<S: Site>(
     )?;
     Ok(Explained {
         commands: explanations(alloc, graph, &state.records, &told)?,
-        unloaded: first_unloaded(alloc, graph, cone)?,
+        unloaded: first_unloaded(alloc, graph, cone.order.as_slice())?,
     })
 }
 
@@ -279,11 +279,15 @@ fn acts(old: &Act, new: &Act) -> Result<Option<Acts>, AllocError> {
     }))
 }
 
-/// The first dyndep file that an edge of the cone names and that was not loaded.
-fn first_unloaded(alloc: Global, graph: &Graph, cone: &Cone) -> Result<Option<Path>, AllocError>
-    requires { All (λ e. e < length graph.now.manifest.lines) cone.now.order.items }
+/// The first dyndep file that one of these edges names and that was not loaded.
+fn first_unloaded(
+    alloc: Global,
+    graph: &Graph,
+    order: &[EdgeId],
+) -> Result<Option<Path>, AllocError>
+    requires { All (λ e. e < length graph.now.manifest.lines) order.now }
 {
-    for edge in cone.order.as_slice() {
+    for edge in order {
         if let Some(file) = graph.dyndep(*edge) {
             return Ok(Some(path_text(alloc, &graph.manifest, file)?));
         }

@@ -178,7 +178,7 @@ fn from_back<'a, 'b>(words: &'a [&'b str], place: usize) -> Option<&'a &'b str> 
 /// Whether both words are there, and the same.
 fn is_same(first: Option<&&str>, second: Option<&&str>) -> bool {
     match (first, second) {
-        (Some(first), Some(second)) => **first == **second,
+        (Some(first), Some(second)) => *first == *second,
         _ => false,
     }
 }

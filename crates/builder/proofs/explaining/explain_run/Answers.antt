@@ -1,4 +1,4 @@
-use Rattle.std.proofs.Common.{◌<◌, ◌∙◌, List, Bool, All, length, sym, ap, subst}
+use Rattle.std.proofs.Common.{◌<◌, ◌∙◌, ℕ, List, Bool, All, length, sym, ap, subst}
 use Rattle.reasons.specs.declared.told.DueCommand.{DueCommand}
 use Rattle.reasons.specs.Why.{HasTold}
 use Rattle.builder.specs.Explained.{AreSaid}
@@ -29,7 +29,8 @@ due_commands-requires-clause-due g c = ap length c.deref.ensures.value ∙ c.in_
 pub first_unloaded-requires : goal.first_unloaded-requires
 first_unloaded-requires g c =
     let begins = c.requires.begins in
-    order_within c.args.graph.now c.args.cone.now begins.2 _ _ (same_edges g.S.Texts.tells begins.0 begins.1 begins.2 begins.3 c.args.graph.now c.args.cone.now c.args.state.now (g.S.Texts.world c.args.site.now) begins.4.stands) begins.4.stands.listed
+    subst (λ (l : List ℕ). All (λ e. e < length c.args.graph.now.manifest.lines) l) (sym {A = List ℕ} c.as_slice.ensures.value)
+    (order_within c.args.graph.now c.args.cone.now begins.2 _ _ (same_edges g.S.Texts.tells begins.0 begins.1 begins.2 begins.3 c.args.graph.now c.args.cone.now c.args.state.now (g.S.Texts.world c.args.site.now) begins.4.stands) begins.4.stands.listed)
 
 pub returns-in_err-told-clause-looks : goal.returns-in_err-told-clause-looks
 returns-in_err-told-clause-looks g c =
