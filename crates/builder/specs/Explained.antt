@@ -36,15 +36,19 @@ pub record IsSaid (graph : Graph) (command : DueCommand) (said : Explanation) : 
 abbrev pub AreSaid : Graph → List DueCommand → List Explanation → Type 0
 AreSaid graph told said = AllZip (IsSaid graph) told said
 
--- Just the due commands of the cone are told, where this is the plan and these are the records, with why each is due.
+-- This is said of just the commands of the cone with a flag, with why each is due.
+pub record SaysDue (tells : Bool) (graph : Graph) (cone : Cone) (records : Records) (due : List Bool) (old new : World) (before after : Looks) (said : List Explanation) : Type 0 where
+  pub told : List DueCommand
+  pub why : HasTold tells graph cone records due old new before after told
+  pub said_of : AreSaid graph told said
+
+-- It is said of just the due commands of the cone, where this is the plan and these are the records.
 pub record TellsDue (tells : Bool) (graph : Graph) (cone : Cone) (plan : Plan) (records : Records) (old new : World) (before after : Looks) (said : List Explanation) : Type 0 where
   pub due : List Bool
   pub mid : World
   pub seen : Looks
   pub has : HasDue tells graph records cone plan old mid before due
-  pub told : List DueCommand
-  pub why : HasTold tells graph cone records due mid new seen after told
-  pub said_of : AreSaid graph told said
+  pub says : SaysDue tells graph cone records due mid new seen after said
 
 -- So it is where a phase of some build begins, up to which it was only looked.
 pub record Explains (tells : Bool) (tick : List ℕ) (course : Course) (old new : World) (said : List Explanation) : Type 0 where

@@ -9,11 +9,12 @@ ghost use Rattle.model.specs.Phases.{Phase};
 ghost use Rattle.model.specs.SingleBuild.{NamesOther};
 ghost use Rattle.model.specs.World.{IsIdle};
 ghost use Rattle.links.specs.Told.{declared_by};
+ghost use Rattle.looks.specs.Looking.{HasLooked};
 ghost use Rattle.manifest.specs.Answer.{IsGraph};
 ghost use Rattle.paths.specs.Told.{graph_of, text_at};
 ghost use Rattle.runner.specs.Course.{Course};
 ghost use Rattle.runner.specs.Going.{AreSet};
-ghost use Rattle.builder.specs.Explained.{AreSaid, IsSaid, TellsDue, Explains, ExplainsBuild};
+ghost use Rattle.builder.specs.Explained.{AreSaid, IsSaid, SaysDue, TellsDue, Explains, ExplainsBuild};
 ghost use Rattle.builder.specs.Going.{BeginsAt};
 ghost use Rattle.builder.specs.Reports.{HasRead, IsLinked};
 
@@ -32,7 +33,8 @@ use depfile::has_reading;
 use deps_log::has_format;
 use dyndep_law::has_reading as has_dyndeps;
 use links::{Cone, Graph};
-use model::{Act, Reason};
+use looks::Looks;
+use model::{Act, Reason, SiteFault};
 use paths::{Action, EdgeId, PathId};
 use reasons::{DueCommand, due_commands};
 use records::{Records, log_begins};
@@ -186,7 +188,7 @@ fn explain_run<S: Site>(
         &mut state.looks,
         &state.records,
     )?;
-    let told = due_commands(
+    let explained = explain_due(
         alloc,
         site,
         graph,
@@ -195,10 +197,47 @@ fn explain_run<S: Site>(
         &state.records,
         &due,
     )?;
-    Ok(Explained {
-        commands: explanations(alloc, graph, &state.records, &told)?,
-        unloaded: first_unloaded(alloc, graph, cone.order.as_slice())?,
-    })
+    Ok(explained)
+}
+
+/// Why the commands are due that have a flag.
+fn explain_due<S: Site>(
+    alloc: Global,
+    site: &mut S,
+    graph: &Graph,
+    cone: &Cone,
+    looks: &mut Looks,
+    records: &Records,
+    due: &[bool],
+) -> Result<Explained, SiteFault>
+    requires running { (S.world site.old).stopped ≡ false }
+    requires fits { length looks.old.seen.items ≡ length graph.now.manifest.paths }
+    requires order { All (λ e. e < length graph.now.manifest.lines) cone.now.order.items }
+    requires due { length due.now ≡ length graph.now.manifest.lines }
+    ensures looked { HasLooked S.tells graph.now (S.world site.old) (S.world site.new) looks.old looks.new }
+    ensures says { IfOk result (λ explained. SaysDue S.tells graph.now cone.now records.now due.now (S.world site.old) (S.world site.new) looks.old looks.new explained.commands.items) }
+{
+    let told = due_commands(alloc, site, graph, cone, looks, records, due)?;
+    let explained = explained_of(alloc, graph, cone, records, &told)?;
+    Ok(explained)
+}
+
+/// What is told of these commands of the cone.
+fn explained_of(
+    alloc: Global,
+    graph: &Graph,
+    cone: &Cone,
+    records: &Records,
+    told: &[DueCommand],
+) -> Result<Explained, AllocError>
+    requires edges { All (λ command. command.edge < length graph.now.manifest.lines) told.now }
+    requires order { All (λ e. e < length graph.now.manifest.lines) cone.now.order.items }
+    ensures { IfOk result (λ explained. AreSaid graph.now told.now explained.commands.items) }
+{
+    let order = cone.order.as_slice();
+    let unloaded = first_unloaded(alloc, graph, order)?;
+    let commands = explanations(alloc, graph, records, told)?;
+    Ok(Explained { commands, unloaded })
 }
 
 /// What is told of these commands, in texts.
