@@ -1,5 +1,5 @@
 -- A cone that is walked anew from its own edges has the same edges.
-use Rattle.std.proofs.Common.{◌≡◌, ◌⊎◌, inl, inr, ℕ, zero, suc, ◌+◌, ◌<◌, ◌==◌, ◌||◌, if◌then◌else◌, Bool, true, false, List, [], ◌∷◌, ◌++◌, map, get_or, length, refl, sym, ◌∙◌, ap, arith, subst}
+use Rattle.std.proofs.Common.{◌≡◌, ◌⊎◌, inl, inr, ℕ, zero, suc, ◌+◌, ◌<◌, ◌==◌, ◌||◌, if◌then◌else◌, Bool, true, false, List, [], ◌∷◌, ◌++◌, map, slice_index, length, refl, sym, ◌∙◌, ap, arith, subst}
 use Rattle.std.proofs.lemmas.Bool.{eq-eqb, eqb-true, or_cases, or_left, or_right, false≢true, cases_Bool}
 use Rattle.model.specs.declared.graph.Edge.{Edge}
 use Rattle.model.specs.Graph.{has_number}
@@ -11,11 +11,15 @@ use Rattle.links.specs.Cone.{IsCone, IsNeeded, Asked, Above, Beside, is_listed, 
 use Rattle.links.specs.Linked.{IsConeOf, IsLinksOf}
 use Rattle.links.specs.Links.{Links}
 use Rattle.reasons.specs.Order.{listed_below}
-use Rattle.reasons.proofs.Firsts.{at_has}
 
 -- ---- lists of numbers
 
-pub place_of : (xs : List ℕ) (n : ℕ) → has_number xs n ≡ true → (k : ℕ) × (k < length xs) × (get_or xs k 0 ≡ n)
+pub at_index : (xs : List ℕ) (k : ℕ) → k < length xs → has_number xs (slice_index xs k) ≡ true
+at_index [] k lt = absurd (omega (arith, lt))
+at_index (x ∷ xs) zero lt = or_left (x == x) (has_number xs x) (eq-eqb x x refl)
+at_index (x ∷ xs) (suc k) lt = or_right (x == slice_index xs k) (has_number xs (slice_index xs k)) (at_index xs k (omega (arith, lt)))
+
+pub place_of : (xs : List ℕ) (n : ℕ) → has_number xs n ≡ true → (k : ℕ) × (k < length xs) × (slice_index xs k ≡ n)
 place_of [] n h = absurd (false≢true h)
 place_of (x ∷ xs) n h = elim (or_cases (x == n) (has_number xs n) h) [
   | inl here ↦ (0, omega arith, eqb-true x n here)
@@ -86,8 +90,8 @@ module _ (edges : List Edge) (recorded : ℕ → List (List ℕ)) (targets : Lis
   where
     needed_old : (e : ℕ) → IsNeeded links requested e → IsInCone edges recorded targets (suc e)
     needed_old _ (Asked k lt) =
-        let x = get_or requested k 0 in
-        cone.within x (sym (cone.marked x) ∙ (listed_has marks links.count x (subst (λ (l : List ℕ). has_number l x ≡ true) are (at_has requested k 0 lt))).1)
+        let x = slice_index requested k in
+        cone.within x (sym (cone.marked x) ∙ (listed_has marks links.count x (subst (λ (l : List ℕ). has_number l x ≡ true) are (at_index requested k lt))).1)
     needed_old _ (Above e k m need lt is) =
         let link = linked.linked e (suc m) record { place = k; number = m; within = lt; is = is; same = refl } in
         Needed (suc m) (suc e) link.path (needed_old e need) link.needed link.made

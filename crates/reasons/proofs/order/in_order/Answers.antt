@@ -3,14 +3,13 @@ use Rattle.model.specs.Graph.{has_number}
 use Rattle.links.specs.Links.{links_of, EachIsEdge}
 use Rattle.links.specs.Cone.{IsCone}
 use Rattle.reasons.specs.Order.{listed_below}
-use Rattle.reasons.proofs.Firsts.{at_has}
-use Rattle.reasons.proofs.Ordering.{listed_has, same_cone}
+use Rattle.reasons.proofs.Ordering.{at_index, listed_has, same_cone}
 use Rattle.reasons.proofs.order.in_order.Goals as goal
 
 pub of-requires : goal.of-requires
 of-requires c k lt =
     let are : c.deref.result.now ≡ listed_below c.args.cone.now.marks.items (length c.args.graph.now.manifest.lines) = c.deref.ensures.value ∙ c.in_ok-requested.ensures in
-    (listed_has c.args.cone.now.marks.items (length c.args.graph.now.manifest.lines) (slice_index c.deref.result.now k) (subst (λ (l : List ℕ). has_number l (slice_index c.deref.result.now k) ≡ true) are (at_has c.deref.result.now k 0 lt))).0
+    (listed_has c.args.cone.now.marks.items (length c.args.graph.now.manifest.lines) (slice_index c.deref.result.now k) (subst (λ (l : List ℕ). has_number l (slice_index c.deref.result.now k) ≡ true) are (at_index c.deref.result.now k lt))).0
 
 pub returns-in-Ok-clause-ordered : goal.returns-in-Ok-clause-ordered
 returns-in-Ok-clause-ordered c = c.in-Ok.ensures.cone.ordered
