@@ -3,7 +3,7 @@ use Rattle.std.proofs.Common.{◌≡◌, ◌⊎◌, inl, inr, ℕ, zero, suc, �
 use Rattle.std.specs.List.{AllByRecursion, flat_map}
 use Rattle.std.specs.Option.{option_or}
 use Rattle.std.proofs.lemmas.Bool.{false≢true, and_parts}
-use Rattle.std.proofs.lemmas.List.{take_more, map-append, append-nil}
+use Rattle.std.proofs.lemmas.List.{take_more, map-append, append-nil, length-append}
 use Rattle.std.proofs.lemmas.List.Elements.{filter-append}
 use Rattle.std.proofs.lemmas.Grind.{flat_map-append}
 use Rattle.std.proofs.Math.Seq.{get_or-append_seam}
@@ -53,6 +53,9 @@ pub within_of : (n : ℕ) (xs ys : List ℕ) → ys ≡ xs → ((p : ℕ) → ha
 within_of n xs ys same each p h = each p (subst (λ (l : List ℕ). has_number l p ≡ true) same h)
 
 -- ---- which edges are told of
+
+pub one_longer : (flags : List Bool) (flag : Bool) (k : ℕ) → length flags ≡ k → length (flags ++ flag ∷ []) ≡ k + 1
+one_longer flags flag k is = length-append flags (flag ∷ []) ∙ ap (λ (n : ℕ). n + 1) is
 
 -- one flag more
 pub commands_more : (graph : Graph) (due flags : List Bool) (k : ℕ) (flag : Bool) → length flags ≡ k → AreCommands graph due k flags → flag ≡ (due_at due k && not ((links_of graph).phony k))

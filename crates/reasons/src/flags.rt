@@ -1,9 +1,12 @@
 //! Which edges that are due have commands.
 
-ghost use Rattle.std.specs.Prelude.{◌≡◌, IfOk, length};
+ghost use Rattle.std.specs.Prelude.{◌≡◌, ◌<◌, ◌&&◌, not, IfOk, length};
+ghost use Rattle.links.specs.Links.{links_of};
+ghost use Rattle.dues.specs.Dues.{due_at};
 ghost use Rattle.reasons.specs.Why.{AreCommands};
 
 use links::Graph;
+use paths::EdgeId;
 use std::alloc::{AllocError, Global};
 
 /// For each edge, whether it is due and has a command.
@@ -19,7 +22,16 @@ pub(crate) fn commands_due(
     let mut flags = Vec::new(alloc);
     for place in 0..graph.edges() {
         let edge = graph.manifest.edge(place);
-        flags.push(due[place] && !graph.is_phony(edge))?;
+        flags.push(is_command(graph, due, edge))?;
     }
     Ok(flags)
+}
+
+/// Whether the edge is due and has a command.
+fn is_command(graph: &Graph, due: &[bool], edge: EdgeId) -> bool
+    requires edge { edge < length graph.now.manifest.lines }
+    requires due { length due.now ≡ length graph.now.manifest.lines }
+    ensures { result ≡ (due_at due.now edge && not ((links_of graph.now).phony edge)) }
+{
+    due[edge.index()] && !graph.is_phony(edge)
 }

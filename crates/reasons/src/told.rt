@@ -136,7 +136,7 @@ fn tell_one<S: Site>(
     ensures told { OnOk result (TellsOne S.tells graph.now records.now flags.now (S.world site.old) (S.world site.new) looks.old looks.new edge told.old.items told.new.items) }
 {
     looks_follow();
-    if !flags[edge.index()] {
+    if !has_flag(flags, edge) {
         return Ok(());
     }
     let command = due_command(
@@ -153,6 +153,13 @@ fn tell_one<S: Site>(
     firm[edge.index()] = command.is_sure && !has_restat(graph, edge);
     told.push(command)?;
     Ok(())
+}
+
+/// Whether the edge has a flag.
+fn has_flag(flags: &[bool], edge: EdgeId) -> bool
+    ensures { result ≡ due_at flags.now edge }
+{
+    flags.get(edge.index()).copied().unwrap_or(false)
 }
 
 /// Why the command of the edge is due.

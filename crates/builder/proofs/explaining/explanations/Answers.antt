@@ -20,7 +20,7 @@ loop-command-preserved c =
     let said = c.in_ok-explanation.field-0 in
     let one : IsSaid graph (get_or told place item) said = subst (λ (command : DueCommand). IsSaid graph command said) c.command-item.is c.in_ok-explanation.ensures in
     subst (λ (commands : List DueCommand). AreSaid graph commands c.push.new.self.items) (sym {A = List DueCommand} (take_more told place item c.loop-command-test.true))
-    (subst (λ (all : List Explanation). AreSaid graph (take place told ++ get_or told place item ∷ []) all) (sym {A = List Explanation} c.in_ok-push.ensures.ok)
+    (subst (λ (all : List Explanation). AreSaid graph (take place told ++ get_or told place item ∷ []) all) (sym {A = List Explanation} c.in_ok-push.ensures.items)
     (AllZip-push (IsSaid graph) (take place told) c.loop-command.all.items (get_or told place item) said c.loop-command.invariant one))
 
 pub returns : goal.returns
