@@ -5,7 +5,7 @@ ghost use Rattle.links.specs.Cone.{is_listed, mark_at, IsOrder};
 ghost use Rattle.links.specs.Links.{links_of, AllEdges};
 ghost use Rattle.reasons.specs.Order.{IsSameCone, listed_below};
 
-use links::{Cone, Graph};
+use links::{Cone, Graph, Mark};
 use paths::EdgeId;
 use std::alloc::{AllocError, Global};
 
@@ -52,8 +52,6 @@ fn push_listed(cone: &Cone, edge: EdgeId, edges: &mut Vec<EdgeId>) -> Result<(),
 fn is_listed(cone: &Cone, edge: EdgeId) -> bool
     ensures { result ≡ is_listed (mark_at cone.now.marks.items edge) }
 {
-    match cone.marks.get(edge.index()) {
-        Some(mark) => mark.is_listed(),
-        None => false,
-    }
+    let mark = cone.marks.get(edge.index()).copied();
+    mark.unwrap_or(Mark::Unseen).is_listed()
 }

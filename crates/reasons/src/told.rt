@@ -18,7 +18,7 @@ use crate::flags::commands_due;
 use crate::inputs::first_input;
 use crate::order::in_order;
 use crate::outputs::{first_output, summary_of};
-use crate::table::told_reason;
+use crate::table::{first_found, is_sure, told_reason};
 use dirty::Reason;
 use links::{Cone, Graph, Reading, lists_stand, numbers_stand};
 use looks::{Looks, looks_follow};
@@ -220,14 +220,14 @@ fn told_of(
     let changed = Reason::InputChanged;
     let anew = first_input(graph, looks, flags, summary, changed, edges, edge);
     let sure = first_input(graph, looks, firm, summary, changed, edges, edge);
-    let reason = told_reason(found, anew.is_some());
+    let reason = told_reason(found, anew);
     let made = first_output(looks, records, &command.act, reason, outputs);
     let read = first_input(graph, looks, flags, summary, reason, edges, edge);
     DueCommand {
         edge,
         reason,
-        path: made.or(read),
-        is_sure: found.is_some() || sure.is_some(),
+        path: first_found(made, read),
+        is_sure: is_sure(found, sure),
     }
 }
 

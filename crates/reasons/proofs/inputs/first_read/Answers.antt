@@ -1,4 +1,4 @@
-use Rattle.std.proofs.Common.{◌≡◌, ◌<◌, ◌≤◌, ℕ, Bool, true, false, List, [], ◌∷◌, Option, is_some, drop, length, get_or, sym, ◌∙◌, ap, subst, arith}
+use Rattle.std.proofs.Common.{◌≡◌, ◌<◌, ◌≤◌, ℕ, Bool, true, false, List, Option, is_some, length, get_or, sym, ◌∙◌, ap, subst, arith, rules}
 use Rattle.std.specs.List.{flat_map}
 use Rattle.std.proofs.lemmas.List.{drop_all}
 use Rattle.links.specs.Links.{links_of}
@@ -18,7 +18,7 @@ returns-then-is_some c =
     let first : List ℕ → Option ℕ = first_of links c.args.anew.now c.args.looks.now.seen.items c.args.outputs c.args.reason false in
     let here : c.first_of-found.result ≡ first (links.regular (get_or c.args.edges.now c.loop-edge.edge-index c.edge-item.result)) =
     c.first_of-found.ensures ∙ (ap first c.regular_inputs-paths.ensures ∙ ap (λ (e : ℕ). first (links.regular e)) c.edge-item.is) in
-    let is : is_some c.first_of-found.result ≡ true = sym c.is_some.ensures ∙ c.if-is_some.true in
+    let is : is_some c.first_of-found.result ≡ true = search rules in
     here ∙ sym (c.loop-edge.invariant ∙ (first_step test links.regular c.args.edges.now c.loop-edge.edge-index c.edge-item.result c.loop-edge-test.true ∙ some_first _ _ (ap is_some (sym here) ∙ is)))
 
 pub loop-edge-preserved : goal.loop-edge-preserved
@@ -28,7 +28,7 @@ loop-edge-preserved c =
     let first : List ℕ → Option ℕ = first_of links c.args.anew.now c.args.looks.now.seen.items c.args.outputs c.args.reason false in
     let here : c.first_of-found.result ≡ first (links.regular (get_or c.args.edges.now c.loop-edge.edge-index c.edge-item.result)) =
     c.first_of-found.ensures ∙ (ap first c.regular_inputs-paths.ensures ∙ ap (λ (e : ℕ). first (links.regular e)) c.edge-item.is) in
-    let is : is_some c.first_of-found.result ≡ false = sym c.is_some.ensures ∙ c.if-is_some.false in
+    let is : is_some c.first_of-found.result ≡ false = search rules in
     c.loop-edge.invariant ∙ (first_step test links.regular c.args.edges.now c.loop-edge.edge-index c.edge-item.result c.loop-edge-test.true ∙ none_first _ _ (ap is_some (sym here) ∙ is))
 
 pub returns : goal.returns

@@ -1,8 +1,15 @@
-use Rattle.std.proofs.Common.{[], sym, subst}
-use Rattle.links.specs.ReadingOf.{IsReadingOf}
+use Rattle.std.proofs.Common.{[], length, sym, subst}
+use Rattle.links.specs.ReadingOf.{IsReadingOf, edges_in}
 use Rattle.looks.proofs.Stays.{looked_none}
 use Rattle.verdict.proofs.Summing.{sums_stay}
+use Rattle.reasons.proofs.Telling.{within_of}
 use Rattle.reasons.proofs.told.due_command.Goals as goal
+
+pub ask_for-requires-clause-edges : goal.ask_for-requires-clause-edges
+ask_for-requires-clause-edges g c = within_of (length c.args.graph.now.manifest.lines) (edges_in c.in_ok-reading.reading) c.edges_of-edges.result.now c.edges_of-edges.ensures c.in_ok-reading.ensures.within
+
+pub told_of-requires-clause-edges : goal.told_of-requires-clause-edges
+told_of-requires-clause-edges g c = within_of (length c.args.graph.now.manifest.lines) (edges_in c.in_ok-reading.reading) c.edges_of-edges.result.now c.edges_of-edges.ensures c.in_ok-reading.ensures.within
 
 pub returns-in_err-ask_for-clause-looked : goal.returns-in_err-ask_for-clause-looked
 returns-in_err-ask_for-clause-looked g c =

@@ -1,4 +1,4 @@
-use Rattle.std.proofs.Common.{◌≡◌, is_some, sym, ◌∙◌, ap, rules}
+use Rattle.std.proofs.Common.{◌≡◌, ◌||◌, ℕ, Option, is_some, sym, ◌∙◌, ap}
 use Rattle.model.specs.declared.act.Act.{Act}
 use Rattle.model.specs.declared.graph.Edge.{Edge}
 use Rattle.reasons.specs.Why.{told_reason, act_of}
@@ -14,8 +14,8 @@ returns-clause-told c =
     record {
       outputs = c.summary_of-summary.result;
       are = outputs_as graph c.args.records.now seen c.args.edge act (sym act_is) c.outputs-outputs.result.now c.outputs-outputs.ensures c.summary_of-summary.result c.summary_of-summary.ensures;
-      reason = c.told_reason-reason.ensures ∙ ap (told_reason c.args.found) (c.is_some.ensures ∙ ap is_some c.first_input-anew.ensures);
+      reason = c.told_reason-reason.ensures ∙ ap (λ (o : Option ℕ). told_reason c.args.found (is_some o)) c.first_input-anew.ensures;
       path = path_as graph c.args.records.now seen c.args.edge act (sym act_is) c.outputs-outputs.result.now c.outputs-outputs.ensures c.summary_of-summary.result c.args.flags.now c.told_reason-reason.result c.args.edges.now
-          c.first_output-made.result c.first_input-read.result _ c.first_output-made.ensures c.first_input-read.ensures c.or.ensures;
-      sure = search rules;
+          c.first_output-made.result c.first_input-read.result _ c.first_output-made.ensures c.first_input-read.ensures c.first_found.ensures;
+      sure = c.is_sure.ensures ∙ ap (λ (o : Option ℕ). is_some c.args.found || is_some o) c.first_input-sure.ensures;
     }
