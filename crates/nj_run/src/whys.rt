@@ -4,7 +4,7 @@ ghost use Rattle.std.specs.Prelude.{◌≡◌, IfOk};
 
 use builder::{Acts, Explained, Explanation};
 use model::Reason;
-use std::alloc::Global;
+use std::alloc::{AllocError, Global};
 use std::io;
 use std::io::Write;
 use text::Text;
@@ -134,10 +134,21 @@ fn tell_texts<W: Write>(
     second: &Text,
     out: &mut W,
 ) -> io::Result<()> {
-    let first: Vec<&str> = first.as_str().split(' ').collect(alloc)?;
-    let second: Vec<&str> = second.as_str().split(' ').collect(alloc)?;
+    let first = words_of(alloc, first.as_str())?;
+    let second = words_of(alloc, second.as_str())?;
     write!(out, "{what} changed")?;
     tell_words(&first, &second, out)
+}
+
+/// The words of a text, between blanks.
+fn words_of<'a>(alloc: Global, text: &'a str) -> Result<Vec<&'a str>, AllocError> {
+    let mut words = Vec::new(alloc);
+    for word in text.split(' ') {
+        if !word.is_empty() {
+            words.push(word)?;
+        }
+    }
+    Ok(words)
 }
 
 fn tell_words<W: Write>(first: &[&str], second: &[&str], out: &mut W) -> io::Result<()> {
