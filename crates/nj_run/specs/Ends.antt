@@ -26,7 +26,7 @@ pub data Ending : Type 0 where
   -- a build was reported so, and whether it is told what the device refused last
   Built : Report → Bool → Ending
   -- it was told why commands are due
-  Explained : Ending
+  ToldWhy : Ending
   -- that could not be told, as is reported so, and whether it is told what the device refused last
   Unexplained : Report → Bool → Ending
 
@@ -36,7 +36,7 @@ exit_status BadWords = 2
 exit_status NoMemory = 1
 exit_status (NoFolder folder) = 1
 exit_status (Built report refused) = status_of report
-exit_status Explained = 0
+exit_status ToldWhy = 0
 exit_status (Unexplained report refused) = 1
 
 -- What is told on the standard output, behind what the build showed there. Help is open (`None`): no contract of clap tells its
@@ -47,7 +47,7 @@ told_on_out BadWords = Some []
 told_on_out NoMemory = Some []
 told_on_out (NoFolder folder) = Some []
 told_on_out (Built report refused) = out_of report
-told_on_out Explained = None
+told_on_out ToldWhy = None
 told_on_out (Unexplained report refused) = out_of report
 
 -- What is told on the standard error. Open is what clap says of bad words, and of a folder why the system refuses it: that
@@ -58,7 +58,7 @@ told_on_err BadWords = None
 told_on_err NoMemory = Some no_memory
 told_on_err (NoFolder folder) = None
 told_on_err (Built report refused) = err_of report refused
-told_on_err Explained = Some []
+told_on_err ToldWhy = Some []
 told_on_err (Unexplained report refused) = err_of report refused
 
 -- help, or the version, which clap shows in the same way; `nj` has no word that asks for it
@@ -72,7 +72,7 @@ EndsBy kind BadWords = (¬ IsShown kind) × (kind ≢ OutOfMemory)
 EndsBy kind NoMemory = kind ≡ OutOfMemory
 EndsBy kind (NoFolder folder) = ⊥
 EndsBy kind (Built report refused) = ⊥
-EndsBy kind Explained = ⊥
+EndsBy kind ToldWhy = ⊥
 EndsBy kind (Unexplained report refused) = ⊥
 
 -- it was asked why commands are due, and the site of real files was only looked at: nothing was started or written
@@ -94,7 +94,7 @@ EndsFor asked BadWords = ⊥
 EndsFor asked NoMemory = ⊥
 EndsFor asked (NoFolder folder) = asked.folder ≡ Some folder
 EndsFor asked (Built report refused) = (asked.why ≡ false) × ((later : World) × BuildsAlone false any_outcome asked fresh later report)
-EndsFor asked Explained = AsksWhy asked
+EndsFor asked ToldWhy = AsksWhy asked
 EndsFor asked (Unexplained report refused) = AsksWhy asked
 
 -- the words have a fault for which a run may end so
@@ -117,7 +117,7 @@ MayEnd words BadWords = AreRefused words BadWords
 MayEnd words NoMemory = ⊤
 MayEnd words (NoFolder folder) = AreDone words (NoFolder folder)
 MayEnd words (Built report refused) = AreDone words (Built report refused)
-MayEnd words Explained = AreDone words Explained
+MayEnd words ToldWhy = AreDone words ToldWhy
 MayEnd words (Unexplained report refused) = AreDone words (Unexplained report refused)
 
 -- What the standard output was where a build has ended. A build shows on it by way of the host, which keeps it as long as the
@@ -129,7 +129,7 @@ ShownBefore BadWords old shown = shown ≡ old
 ShownBefore NoMemory old shown = shown ≡ old
 ShownBefore (NoFolder folder) old shown = shown ≡ old
 ShownBefore (Built report refused) old shown = ⊤
-ShownBefore Explained old shown = ⊤
+ShownBefore ToldWhy old shown = ⊤
 ShownBefore (Unexplained report refused) old shown = ⊤
 
 -- all was told: on the standard output, behind what was shown there, and on the standard error
@@ -166,4 +166,4 @@ EndsNoted {W} {E} words on_out on_err old_out new_out old_err status =
 -- help was asked for, or what the words ask for was built, with success, or it was told why commands are due
 abbrev pub EndsWell : List Text → Type 0
 EndsWell words =
-    AreRefused words Help ⊎ ((started : ℕ) × (refused : Bool) × AreDone words (Built (Success started) refused)) ⊎ AreDone words Explained
+    AreRefused words Help ⊎ ((started : ℕ) × (refused : Bool) × AreDone words (Built (Success started) refused)) ⊎ AreDone words ToldWhy
