@@ -22,6 +22,7 @@ pub mod Pausing
 pub mod Points
 pub mod Rounds
 pub mod Running
+pub mod Said
 pub mod Slices
 pub mod Stages
 pub mod StopCases

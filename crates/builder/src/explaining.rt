@@ -72,7 +72,7 @@ pub fn explain_read<S: Site>(
     requires running { (S.world site.old).stopped ≡ false }
     requires formed { IsGraph (graph_of reading.manifest) }
     ensures looks { OnlyLooks S.tells (S.world site.old) (S.world site.new) }
-    ensures explains { IfOk result (λ explained. ExplainsBuild S.tells (graph_of reading.manifest) reading.asked (S.world site.old) (S.world site.new) explained.commands.items) }
+    ensures explains { IfOk result (λ explained. ExplainsBuild S.tells (graph_of reading.entry.manifest) reading.entry.asked (S.world site.old) (S.world site.new) explained.commands.items) }
 {
     let Reading { manifest, asked } = reading;
     let mut graph = Graph::build(alloc, manifest, asked.folder.as_str())?;

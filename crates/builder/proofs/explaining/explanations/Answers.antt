@@ -1,9 +1,9 @@
 use Rattle.std.proofs.Common.{◌<◌, ◌++◌, ◌∷◌, [], List, get_or, take, length, sym, subst, arith}
 use Rattle.std.proofs.lemmas.List.{take_more, take_all}
-use Rattle.std.proofs.lemmas.List.Elements.{AllZip-push}
 use Rattle.builder.specs.declared.explained.Explanation.{Explanation}
 use Rattle.builder.specs.Explained.{AreSaid, IsSaid}
 use Rattle.reasons.specs.declared.told.DueCommand.{DueCommand}
+use Rattle.builder.proofs.Said.{one_more}
 use Rattle.builder.proofs.explaining.explanations.Goals as goal
 
 pub explanation-requires : goal.explanation-requires
@@ -21,7 +21,7 @@ loop-command-preserved c =
     let one : IsSaid graph (get_or told place item) said = subst (λ (command : DueCommand). IsSaid graph command said) c.command-item.is c.in_ok-explanation.ensures in
     subst (λ (commands : List DueCommand). AreSaid graph commands c.push.new.self.items) (sym {A = List DueCommand} (take_more told place item c.loop-command-test.true))
     (subst (λ (all : List Explanation). AreSaid graph (take place told ++ get_or told place item ∷ []) all) (sym {A = List Explanation} c.in_ok-push.ensures.items)
-    (AllZip-push (IsSaid graph) (take place told) c.loop-command.all.items (get_or told place item) said c.loop-command.invariant one))
+    (one_more (IsSaid graph) (take place told) c.loop-command.all.items (get_or told place item) said c.loop-command.invariant one))
 
 pub returns : goal.returns
 returns c =
