@@ -3,6 +3,8 @@
 
 mod asked;
 mod commands;
+mod explained;
+mod explaining;
 mod going;
 mod loads;
 mod names;
@@ -14,6 +16,8 @@ mod report;
 mod sources;
 mod stop;
 
+pub use explained::{Acts, Explained, Explanation};
+pub use explaining::{explain, explain_read};
 pub use one_build::{build, build_read};
 pub use reading::{Reading, read};
 pub use report::{Missing, Options, Refusal, Report, Unfit};
