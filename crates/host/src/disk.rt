@@ -162,14 +162,13 @@ impl<'a> Disk<'a> {
 
     /// The file at the path, as it was opened the last time, unless the path leads to another one now.
     fn open_appended(&mut self, path: &str) -> io::Result<Appended> {
-        if let Some(mut appended) = self.take_appended(path) {
+        if let Some(appended) = self.take_appended(path) {
             let now = Instant::now(self.rt).ok();
             if self.logs.are_guarded() && appended.is_seen(now) {
                 return Ok(appended);
             }
             if !is_elsewhere(self.rt, path, appended.identity) {
-                appended.seen = now.filter(|_| is_log(path));
-                return Ok(appended);
+                return Ok(appended.looked_for(now));
             }
             if is_log(path) {
                 self.look_again();
@@ -304,6 +303,21 @@ impl<'a> Disk<'a> {
 }
 
 impl Appended {
+    /// It was seen at its path.
+    fn looked_for(self, now: Option<Instant>) -> Appended {
+        let Appended { kept, identity, .. } = self;
+        let seen = if is_log(kept.path.as_str()) {
+            now
+        } else {
+            None
+        };
+        Appended {
+            kept,
+            identity,
+            seen,
+        }
+    }
+
     /// Whether it counts as seen at its path.
     fn is_seen(&self, now: Option<Instant>) -> bool {
         match (self.seen, now) {
