@@ -16,8 +16,9 @@ mod report;
 mod sources;
 mod stop;
 
+pub use asked::{Asked, Limits, own_folder};
 pub use explained::{Acts, Explained, Explanation};
 pub use explaining::{explain, explain_read};
-pub use one_build::{build, build_read};
+pub use one_build::{build, build_graph_read, build_read, link};
 pub use reading::{Reading, read};
 pub use report::{Missing, Options, Refusal, Report, Unfit};
