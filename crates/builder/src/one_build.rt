@@ -18,7 +18,7 @@ ghost use Rattle.paths.specs.Told.{graph_of, text_at};
 ghost use Rattle.runner.specs.Course.{Course};
 ghost use Rattle.runner.specs.Ran.{AreEdgesOf};
 ghost use Rattle.builder.specs.Build.{limits_of, Builds, IsBuild};
-ghost use Rattle.builder.specs.Parts.{BuildsGraph, BuildsReading};
+ghost use Rattle.builder.specs.Parts.{BuildsAsked, BuildsGraph, BuildsReading};
 ghost use Rattle.model.specs.Phases.{Phase};
 ghost use Rattle.runner.specs.Going.{AreSet};
 ghost use Rattle.builder.specs.Going.{BeginsAt};
@@ -92,6 +92,27 @@ pub fn build_read<S: Site>(
     match link_and_build(alloc, site, reading, options) {
         Ok(report) => report,
         Err(report) => report,
+    }
+}
+
+/// Builds what is asked for of the graph of what was read, as [`build_read`] does: for somebody who has looked at that graph before. Nothing
+/// is recorded of it yet; then it has the recorded inputs that this build uses, and what dyndep files add.
+pub fn build_graph_read<S: Site>(
+    alloc: Global,
+    site: &mut S,
+    graph: &mut Graph,
+    asked: &Asked<'_>,
+    options: &Options,
+) -> Report
+    requires idle { IsIdle (S.world site.old).events }
+    requires running { (S.world site.old).stopped ≡ false }
+    requires formed { IsGraph (declared_by graph.old) }
+    requires linked { IsLinked graph.old }
+    ensures { BuildsAsked S.tells (declared_by graph.old) asked.now (S.world site.old) (S.world site.new) result }
+{
+    match build_linked(alloc, site, graph, asked, options) {
+        Ok(told) => told,
+        Err(told) => told,
     }
 }
 
