@@ -1,5 +1,5 @@
 -- What tools tell of build files beside the manifest: the names of rules, and which edges run a generator (manual: "Rule variables").
-use Rattle.std.specs.Prelude.{◌≡◌, ◌≢◌, ◌↔◌, ◌×◌, Bool, List, ℕ, [], map, length, vec_len, codes, Option, Some, None, IsTrue, Result, Ok, Err}
+use Rattle.std.specs.Prelude.{◌≡◌, ◌≢◌, ◌<◌, ◌++◌, Bool, List, ℕ, [], map, length, vec_len, codes, get_or, string_bytes, Some, None, IsTrue, Result, Ok, Err}
 use Rattle.std.specs.List.{AllZip}
 use Rattle.scopes.specs.declared.all_scopes.Scopes.{Scopes}
 use Rattle.scopes.specs.declared.template.Rule.{Rule}
@@ -34,8 +34,16 @@ pub record MarksEdge (scopes : Scopes) (edge : ReadEdge) (mark : Bool) : Type 0 
   pub alias : edge.rule ≡ None → IsTrue mark → ⊥
   pub set : (rule : Rule) → edge.rule ≡ Some (record { value = rule }) → IsTrue mark → (at : Use) × IsUseBy edge rule at × IsSetAt scopes at
 
-abbrev pub NamesRules : Declared → List (List ℕ) → Type 0
-NamesRules declared names = names ≡ map (λ edge. edge.rule_name) declared.edges.items
+-- these are the numbers of the names of rules, among these names
+abbrev pub AreNamesOf : List ReadEdge → List (List ℕ) → List ℕ → Type 0
+AreNamesOf edges names numbers = map (λ number. get_or names number []) numbers ≡ map (λ edge. edge.rule_name) edges
+
+-- the name has this number, and those before it keep theirs
+pub record IsNumberIn (old new : List (List ℕ)) (name : List ℕ) (number : ℕ) : Type 0 where
+  pub added : List (List ℕ)
+  pub grows : new ≡ old ++ added
+  pub within : number < length new
+  pub is : get_or new number [] ≡ name
 
 abbrev pub MarksGenerators : Declared → List Bool → Type 0
 MarksGenerators declared marks = AllZip (MarksEdge declared.scopes) declared.edges.items marks

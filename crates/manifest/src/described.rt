@@ -1,8 +1,8 @@
 //! What tools tell of build files beside the manifest: the names of rules, and which edges run a generator.
 
-ghost use Rattle.std.specs.Prelude.{◌≡◌, ◌<◌, IfOk, length, map, vec_len};
+ghost use Rattle.std.specs.Prelude.{◌≡◌, ◌<◌, IfOk, length, map, string_bytes, vec_len};
 ghost use Rattle.paths.specs.Lists.{line_at};
-ghost use Rattle.manifest.specs.Described.{manifest_in, MarksEdge, MarksGenerators, NamesRules};
+ghost use Rattle.manifest.specs.Described.{manifest_in, AreNamesOf, IsNumberIn, MarksEdge, MarksGenerators};
 ghost use Rattle.manifest.specs.InNumbers.{IsWithin};
 ghost use Rattle.manifest.specs.Held.{IsFormed};
 ghost use Rattle.manifest.specs.Seen.{IsStated};
@@ -10,7 +10,7 @@ ghost use Rattle.manifest.specs.Seen.{IsStated};
 use crate::edges::{Shown, shown_of};
 use crate::fault::ReadError;
 use crate::kept::{Declared, ReadEdge};
-use indexmap::IndexMap;
+use indexmap::{IndexMap, IndexSet};
 use paths::{EdgeId, Lines, Manifest, Paths as Table};
 use scopes::{Part, Paths, Rule, Scopes, Template, Use, UseFault, expand_use};
 use std::alloc::{AllocError, Global};
@@ -31,8 +31,10 @@ pub struct RuleTold {
 /// What is told of edges and rules beside the manifest.
 #[derive(Drop)]
 pub struct Described {
-    /// The name of the rule of each edge.
-    pub rules: Vec<Text>,
+    /// The names of the rules of edges, each once.
+    pub names: IndexSet<String>,
+    /// The number of the name of the rule of each edge.
+    pub rules: Vec<usize>,
     /// For each edge whether `generator` is set where it stands.
     pub generators: Vec<bool>,
     /// The rules of the outermost scope, by name; `phony` is among them.
@@ -44,11 +46,13 @@ impl Described {
     pub(crate) fn of(alloc: Global, declared: &Declared) -> Result<Described, AllocError>
         requires formed { IsFormed declared.now }
         requires stated { IsStated declared.now }
-        ensures rules { IfOk result (λ described. NamesRules declared.now described.rules.items) }
+        ensures rules { IfOk result (λ described. AreNamesOf declared.now.edges.items (map string_bytes described.names.keys) described.rules.items) }
         ensures generators { IfOk result (λ described. MarksGenerators declared.now described.generators.items) }
     {
+        let (names, rules) = rule_names(alloc, &declared.edges)?;
         Ok(Described {
-            rules: rule_names(alloc, &declared.edges)?,
+            names,
+            rules,
             generators: generators(alloc, declared)?,
             outermost: outermost(alloc, &declared.scopes)?,
         })
@@ -70,7 +74,8 @@ impl Described {
 
     /// The name of the rule of the edge; none for an edge that was not read.
     pub fn rule(&self, edge: EdgeId) -> &str {
-        match self.rules.get(edge.index()) {
+        let number = self.rules.get(edge.index()).copied();
+        match number.and_then(|number| self.names.get_index(number)) {
             Some(name) => name.as_str(),
             None => "",
         }
@@ -82,14 +87,35 @@ impl Described {
     }
 }
 
-fn rule_names(alloc: Global, edges: &[ReadEdge]) -> Result<Vec<Text>, AllocError>
-    ensures { IfOk result (λ names. names.items ≡ map (λ edge. edge.rule_name) edges.now) }
+/// The names of the rules of edges, each once, and for each edge the number of its one.
+fn rule_names(
+    alloc: Global,
+    edges: &[ReadEdge],
+) -> Result<(IndexSet<String>, Vec<usize>), AllocError>
+    ensures { IfOk result (λ found. AreNamesOf edges.now (map string_bytes found.0.keys) found.1.items) }
 {
-    let mut names = Vec::with_capacity(alloc, edges.len())?;
+    let mut names = IndexSet::new(alloc);
+    let mut numbers = Vec::with_capacity(alloc, edges.len())?;
     for edge in edges {
-        names.push(edge.rule_name.clone()?)?;
+        numbers.push(number_of(alloc, &mut names, edge.rule_name.as_str())?)?;
     }
-    Ok(names)
+    Ok((names, numbers))
+}
+
+/// The number of the name, which is put behind the others where it is none of them.
+fn number_of(
+    alloc: Global,
+    names: &mut IndexSet<String>,
+    name: &str,
+) -> Result<usize, AllocError>
+    ensures { IfOk result (λ number. IsNumberIn (map string_bytes names.old.keys) (map string_bytes names.new.keys) name.now number) }
+{
+    if let Some(number) = names.get_index_of(name) {
+        return Ok(number);
+    }
+    let number = names.len();
+    names.insert(String::from_str(alloc, name)?)?;
+    Ok(number)
 }
 
 fn generators(alloc: Global, declared: &Declared) -> Result<Vec<bool>, AllocError>

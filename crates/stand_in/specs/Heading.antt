@@ -1,5 +1,5 @@
 -- What stands in front of each line (manual, "Environment variables": `NINJA_STATUS`; the fields are those of ninja 1.12).
-use Rattle.std.specs.Prelude.{◌≡◌, ℕ, List, [], ◌∷◌, concat_map, nat_eq, if◌then◌else◌}
+use Rattle.std.specs.Prelude.{◌≡◌, ℕ, List, [], ◌∷◌, flat_map, nat_eq, if◌then◌else◌}
 use Rattle.stand_in.specs.declared.heading.Field.{Field}
 use Rattle.stand_in.specs.declared.heading.Field.TheVariants as f
 use Rattle.stand_in.specs.declared.heading.Part.{Part}
@@ -26,4 +26,4 @@ spelled (Plain byte) = if nat_eq byte 37 then 37 ∷ 37 ∷ [] else byte ∷ []
 spelled (Shown field) = 37 ∷ letter field ∷ []
 
 abbrev pub IsHeadingOf : List ℕ → List Part → Type 0
-IsHeadingOf text parts = text ≡ concat_map spelled parts
+IsHeadingOf text parts = text ≡ flat_map spelled parts

@@ -13,7 +13,7 @@ use tools::{
     Answer, Cleaned, Cleaning, Declared, Entries, Fault, Logged, Missed, MissingDep, Switches,
     Tool, asked, asked_in_logs, clean, commands, compdb, compdb_targets, deps, edges_above, graph,
     inputs, load_dyndeps, missing_deps, push_line, query, read_joined, recorded_outputs,
-    rules, targets, to_bury, to_clean,
+    read_mode, rules, targets, to_bury, to_clean,
 };
 
 /// What is told behind the counts of missing dependencies.
@@ -136,7 +136,7 @@ fn told(
         expand: switches.has(b'x'),
     };
     match asking.tool {
-        Tool::Targets => targets(alloc, declared, words),
+        Tool::Targets => targets(alloc, declared, read_mode(alloc, words)?),
         Tool::Rules => Ok(rules(alloc, declared, switches.has(b'd'))?),
         Tool::Compdb => Ok(compdb(alloc, declared, how, words)?),
         Tool::CompdbTargets => compdb_targets(alloc, declared, how, words),

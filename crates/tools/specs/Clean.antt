@@ -1,5 +1,6 @@
 -- What `-t clean` removes.
-use Rattle.std.specs.Prelude.{◌≡◌, ◌≢◌, ◌<◌, ℕ, Bool, true, false, List, [], ◌↔◌, ◌⊎◌, Some, length, get_or}
+use Rattle.std.specs.Prelude.{◌≡◌, ◌≢◌, ℕ, Bool, true, false, List, [], ◌↔◌, ◌⊎◌, Some, map}
+use Rattle.std.specs.Map.Iter.{deref}
 use Rattle.model.specs.Graph.{has, has_number}
 use Rattle.links.specs.Links.{Links, links_of}
 use Rattle.paths.specs.Told.{text_at}
@@ -12,8 +13,8 @@ use Rattle.tools.specs.Files.{own_files, rule_of, runs_generator}
 -- what this edge makes is asked for: by all, by a path, or by its rule
 abbrev pub IsAsked : Declared → Cleaning → ℕ → ℕ → Type 0
 IsAsked declared All e p = Unit {0}
-IsAsked declared (Targets paths) e p = has_number paths p ≡ true ⊎ ((d : ℕ) × IsNeededFor (links_of declared.graph) paths d × (has_number ((links_of declared.graph).inputs d) p ≡ true))
-IsAsked declared (Rules rules) e p = has rules (rule_of declared e) ≡ true
+IsAsked declared (Targets paths) e p = (has_number paths.now p ≡ true) ⊎ ((d : ℕ) × IsNeededFor (links_of declared.graph) paths.now d × (has_number ((links_of declared.graph).inputs d) p ≡ true))
+IsAsked declared (Rules rules) e p = has (map deref rules.now) (rule_of declared e) ≡ true
 
 -- a command makes the path, what it makes is asked for, and it may be removed
 pub record IsCleanedOutput (declared : Declared) (cleaning : Cleaning) (generated : Bool) (text : List ℕ) : Type 0 where
@@ -23,6 +24,7 @@ pub record IsCleanedOutput (declared : Declared) (cleaning : Cleaning) (generate
   pub command : (links_of declared.graph).phony edge ≡ false
   pub asked : IsAsked declared cleaning edge path
   pub free : generated ≡ false → runs_generator declared edge ≡ false
+  pub some : text ≢ []
   pub file : (text ≡ text_at declared.graph.manifest.paths path) ⊎ (has (own_files declared edge) text ≡ true)
 
 -- just these, but for the file that was read

@@ -1,12 +1,12 @@
 -- What is told of an edge beside its line.
-use Rattle.std.specs.Prelude.{ℕ, Bool, false, List, [], ◌∷◌, get_or}
+use Rattle.std.specs.Prelude.{ℕ, Bool, false, List, [], ◌∷◌, get_or, map, string_bytes}
 use Rattle.paths.specs.declared.manifest.Action.{Action}
 use Rattle.paths.specs.declared.manifest.Action.TheVariants.{Alias, Command}
 use Rattle.paths.specs.Commands.{no_action}
 use Rattle.tools.specs.declared.declared.Declared.{Declared}
 
 abbrev pub rule_of : Declared → ℕ → List ℕ
-rule_of declared e = get_or declared.described.rules.items e []
+rule_of declared e = get_or (map string_bytes declared.described.names.keys) (get_or declared.described.rules.items e 0) []
 
 abbrev pub runs_generator : Declared → ℕ → Bool
 runs_generator declared e = get_or declared.described.generators.items e false

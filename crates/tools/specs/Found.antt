@@ -1,7 +1,7 @@
 -- Which path a word names.
 use Rattle.std.specs.Prelude.{◌≡◌, ℕ, List, [], ◌++◌, ◌∷◌, Some, ◌⊎◌, slice_get}
 use Rattle.std.specs.List.{AllZip}
-use Rattle.lexer.specs.Path.{IsCanonicalOf}
+use Rattle.lexer.specs.Path.{IsCanonical}
 use Rattle.links.specs.Links.{links_of, users_at}
 use Rattle.links.specs.declared.graph.Graph.{Graph}
 
@@ -15,7 +15,7 @@ IsFirstMadeOf graph text p = (q e : ℕ) × HasText graph text q × (slice_get (
 
 -- `^` is 94
 abbrev pub IsNamed : Graph → List ℕ → ℕ → Type 0
-IsNamed graph word p = (path : List ℕ) × IsCanonicalOf word path × (((front : List ℕ) × (path ≡ front ++ 94 ∷ []) × IsFirstMadeOf graph front p) ⊎ HasText graph path p)
+IsNamed graph word p = (path : List ℕ) × IsCanonical word path × (((front : List ℕ) × (path ≡ front ++ 94 ∷ []) × IsFirstMadeOf graph front p) ⊎ HasText graph path p)
 
 -- each path is what the word at its place names
 abbrev pub AreAsked : Graph → List (List ℕ) → List ℕ → Type 0

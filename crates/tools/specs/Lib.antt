@@ -5,3 +5,5 @@ pub mod Missing
 pub mod Files
 pub mod Clean
 pub mod Dead
+pub mod Answers
+pub mod Moves

@@ -1,7 +1,8 @@
 //! `-t clean`: what is removed.
 
-ghost use Rattle.std.specs.Prelude.{IfOk, OnOk};
+ghost use Rattle.std.specs.Prelude.{IfOk, map, string_bytes};
 ghost use Rattle.tools.specs.Clean.{AreCleaned};
+ghost use Rattle.tools.specs.Moves.{RemovesOf};
 
 use crate::answer::push_line;
 use crate::declared::Declared;
@@ -43,7 +44,7 @@ pub fn to_clean(
     generated: bool,
     file: &str,
 ) -> Result<IndexSet<String>, Fault>
-    ensures { IfOk result (λ paths. AreCleaned declared.now cleaning generated file.now paths.keys) }
+    ensures { IfOk result (λ paths. AreCleaned declared.now cleaning.entry generated file.now (map string_bytes paths.keys)) }
 {
     let mut paths = IndexSet::new(alloc);
     match cleaning {
@@ -179,7 +180,9 @@ pub fn clean<S: Site>(
     paths: &IndexSet<String>,
     only_count: bool,
     lines: Option<String>,
-) -> Result<Cleaned, Fault> {
+) -> Result<Cleaned, Fault>
+    ensures { RemovesOf S.tells only_count (map string_bytes paths.now.keys) (S.world site.old) (S.world site.new) }
+{
     let mut cleaned = Cleaned {
         removed: 0,
         refused: Vec::new(alloc),

@@ -1,7 +1,7 @@
 //! `-t commands`: the commands that make targets.
 
-ghost use Rattle.std.specs.Prelude.{IfOk};
-ghost use Rattle.tools.specs.Above.{AreAbove};
+ghost use Rattle.std.specs.Prelude.{IfOk, string_bytes};
+ghost use Rattle.tools.specs.Answers.{AreMakers, PrintsCommands};
 
 use crate::above::edges_above;
 use crate::answer::push_line;
@@ -17,7 +17,9 @@ pub fn commands(
     declared: &Declared,
     paths: &[PathId],
     single: bool,
-) -> Result<String, AllocError> {
+) -> Result<String, AllocError>
+    ensures { IfOk result (λ told. PrintsCommands declared.now paths.now single (string_bytes told)) }
+{
     let edges = if single {
         makers(alloc, &declared.graph, paths)?
     } else {
@@ -33,7 +35,9 @@ pub fn commands(
 }
 
 /// The edges that make these paths, each once.
-pub fn makers(alloc: Global, graph: &Graph, paths: &[PathId]) -> Result<Vec<EdgeId>, AllocError> {
+pub fn makers(alloc: Global, graph: &Graph, paths: &[PathId]) -> Result<Vec<EdgeId>, AllocError>
+    ensures { IfOk result (λ edges. AreMakers graph.now paths.now edges.items) }
+{
     let mut met = vec![in alloc; false; graph.edges()]?;
     let mut edges = Vec::new(alloc);
     for path in paths {

@@ -1,6 +1,7 @@
 //! The paths that words of the command line name.
 
-ghost use Rattle.std.specs.Prelude.{IfOk};
+ghost use Rattle.std.specs.Prelude.{IfOk, map};
+ghost use Rattle.std.specs.Map.Iter.{deref};
 ghost use Rattle.tools.specs.Found.{IsNamed, AreAsked};
 
 use crate::declared::Declared;
@@ -54,7 +55,7 @@ fn first_made_of(alloc: Global, graph: &Graph, path: &str) -> Result<PathId, Fau
 
 /// The paths that these words name; what is meant where there are none.
 pub fn asked(alloc: Global, graph: &Graph, words: &[&str]) -> Result<Vec<PathId>, Fault>
-    ensures { IfOk result (λ paths. AreAsked graph.now words.now paths.items) }
+    ensures { IfOk result (λ paths. AreAsked graph.now (map deref words.now) paths.items) }
 {
     if words.is_empty() {
         return defaults(alloc, graph);

@@ -1,5 +1,8 @@
 //! `-t inputs`: all that targets need.
 
+ghost use Rattle.std.specs.Prelude.{IfOk, string_bytes};
+ghost use Rattle.tools.specs.Answers.{PrintsInputs};
+
 use crate::above::edges_above;
 use crate::declared::Declared;
 use crate::targets::sorted_lines;
@@ -9,7 +12,9 @@ use std::alloc::{AllocError, Global};
 
 /// What `inputs` prints: each path that the commands above these paths name as an input, quoted for a shell, in the order of their
 /// bytes, each once. What aliases name stands there only where a command names it too.
-pub fn inputs(alloc: Global, declared: &Declared, paths: &[PathId]) -> Result<String, AllocError> {
+pub fn inputs(alloc: Global, declared: &Declared, paths: &[PathId]) -> Result<String, AllocError>
+    ensures { IfOk result (λ told. PrintsInputs declared.now paths.now (string_bytes told)) }
+{
     let mut quoted = Vec::new(alloc);
     for edge in edges_above(alloc, &declared.graph, paths)? {
         if !declared.graph.is_phony(edge) {

@@ -44,5 +44,5 @@ pub use recorded::{first_reader, own_folder, read_joined, read_records};
 pub use roots::{defaults, roots};
 pub use rules::rules;
 pub use switches::{Switches, Usage, split_switches};
-pub use targets::targets;
+pub use targets::{Wanted, read_mode, targets};
 pub use tool::Tool;

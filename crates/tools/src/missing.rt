@@ -36,7 +36,7 @@ pub fn missing_deps(
     paths: &[PathId],
     file: &str,
 ) -> Result<Missed, AllocError>
-    ensures { IfOk result (λ found. (rs : List Record) (ds : List DepsRecord) → AreKnown logged.declared.now.graph rs ds logged.records.now → AreMissing logged.declared.now.graph ds file.now paths.now found.missing.items) }
+    ensures { IfOk result (λ found. (rs : List Record) (ds : List DepsRecord) → AreKnown logged.entry.declared.now.graph rs ds logged.entry.records.now → AreMissing logged.entry.declared.now.graph ds file.now paths.now found.missing.items) }
 {
     let mut found = Missed {
         missing: Vec::new(alloc),

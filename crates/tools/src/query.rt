@@ -1,12 +1,17 @@
 //! `-t query`: what makes a path, and what is made of it.
 
+ghost use Rattle.std.specs.Prelude.{◌≡◌, IfOk, flat_map, string_bytes};
+ghost use Rattle.tools.specs.Answers.{lines, query_lines};
+
 use crate::answer::push_line;
 use crate::declared::Declared;
 use paths::{EdgeId, PathId};
 use std::alloc::{AllocError, Global};
 
 /// What `query` prints of each of the paths: its maker with the inputs of that, and the outputs of the edges that name it.
-pub fn query(alloc: Global, declared: &Declared, paths: &[PathId]) -> Result<String, AllocError> {
+pub fn query(alloc: Global, declared: &Declared, paths: &[PathId]) -> Result<String, AllocError>
+    ensures { IfOk result (λ told. string_bytes told ≡ lines (flat_map (query_lines declared.now) paths.now)) }
+{
     let mut told = String::new(alloc);
     for path in paths {
         push_path(alloc, declared, *path, &mut told)?;

@@ -1,6 +1,8 @@
 //! `-t targets`: outputs by depth, by rule, or all.
 
-ghost use Rattle.std.specs.Prelude.{IfOk};
+ghost use Rattle.std.specs.Prelude.{◌≡◌, IfOk, string_bytes};
+ghost use Rattle.tools.specs.Answers.{PrintsOfRule, PrintsTargets, all_sources, all_targets, lines};
+ghost use Rattle.tools.specs.declared.targets.Wanted.TheVariants as wanted;
 
 use crate::answer::push_line;
 use crate::declared::Declared;
@@ -15,21 +17,43 @@ use text::{Path, Text};
 /// The modes of the tool.
 const MODES: [&str; 3] = ["rule", "depth", "all"];
 
-/// What `targets` prints: `rule R` the outputs of that rule by name, `rule` the inputs that no edge makes, `all` each output with its
-/// rule, `depth N` the outputs that no edge reads with what is above them, so many levels; 0 is all levels. Without words it is
-/// `depth 1`.
-pub fn targets(alloc: Global, declared: &Declared, words: &[&str]) -> Result<String, Fault> {
+/// What the tool is to tell.
+#[derive(Clone, Copy, Debug)]
+pub enum Wanted<'a> {
+    /// The outputs that no edge reads with what is above them, so many levels; 0 is all levels.
+    Depth(usize),
+    /// The outputs of the edges of a rule, by name.
+    Rule(&'a str),
+    /// The inputs that no edge makes.
+    Sources,
+    /// Each output with its rule.
+    All,
+}
+
+/// What words of the tool want: `rule R`, `rule` for the sources, `all`, or `depth N`. Without words it is `depth 1`.
+pub fn read_mode<'a>(alloc: Global, words: &[&'a str]) -> Result<Wanted<'a>, Fault> {
     match words {
-        [] => by_depth(alloc, declared, 1),
-        ["rule"] | ["rule", ""] => Ok(sources(alloc, &declared.graph)?),
-        ["rule", rule, ..] => Ok(of_rule(alloc, declared, rule)?),
-        ["depth"] => by_depth(alloc, declared, 1),
-        ["depth", depth, ..] => by_depth(alloc, declared, number(depth)),
-        ["all", ..] => Ok(all(alloc, declared)?),
+        [] | ["depth"] => Ok(Wanted::Depth(1)),
+        ["rule"] | ["rule", ""] => Ok(Wanted::Sources),
+        ["rule", rule, ..] => Ok(Wanted::Rule(*rule)),
+        ["depth", depth, ..] => Ok(Wanted::Depth(number(depth))),
+        ["all", ..] => Ok(Wanted::All),
         [mode, ..] => {
             let near = near_word(alloc, MODES.as_slice(), mode)?;
             Err(Fault::UnknownMode(Text::from_str(alloc, mode)?, near))
         }
+    }
+}
+
+/// What `targets` prints.
+pub fn targets(alloc: Global, declared: &Declared, wanted: Wanted<'_>) -> Result<String, Fault>
+    ensures { IfOk result (λ told. PrintsTargets declared.now wanted.entry (string_bytes told)) }
+{
+    match wanted {
+        Wanted::Depth(depth) => by_depth(alloc, declared, depth),
+        Wanted::Rule(rule) => Ok(of_rule(alloc, declared, rule)?),
+        Wanted::Sources => Ok(sources(alloc, declared)?),
+        Wanted::All => Ok(all(alloc, declared)?),
     }
 }
 
@@ -48,7 +72,10 @@ fn number(text: &str) -> usize {
 }
 
 /// A line for each input that no edge makes, in reading order, as often as it is named.
-fn sources(alloc: Global, graph: &Graph) -> Result<String, AllocError> {
+fn sources(alloc: Global, declared: &Declared) -> Result<String, AllocError>
+    ensures { IfOk result (λ told. string_bytes told ≡ lines (all_sources declared.now)) }
+{
+    let graph = &declared.graph;
     let mut told = String::new(alloc);
     for place in 0..graph.edges() {
         push_sources(graph, graph.inputs(graph.manifest.edge(place)), &mut told)?;
@@ -66,7 +93,9 @@ fn push_sources(graph: &Graph, paths: &[PathId], told: &mut String) -> Result<()
 }
 
 /// The outputs of the edges of a rule, by name, each once.
-fn of_rule(alloc: Global, declared: &Declared, rule: &str) -> Result<String, AllocError> {
+fn of_rule(alloc: Global, declared: &Declared, rule: &str) -> Result<String, AllocError>
+    ensures { IfOk result (λ told. PrintsOfRule declared.now rule.now (string_bytes told)) }
+{
     let mut paths = Vec::new(alloc);
     for place in 0..declared.graph.edges() {
         let edge = declared.graph.manifest.edge(place);
@@ -104,7 +133,9 @@ pub fn sorted_lines(alloc: Global, texts: Vec<&str>) -> Result<String, AllocErro
 }
 
 /// Each output with the name of its rule, in reading order.
-fn all(alloc: Global, declared: &Declared) -> Result<String, AllocError> {
+fn all(alloc: Global, declared: &Declared) -> Result<String, AllocError>
+    ensures { IfOk result (λ told. string_bytes told ≡ lines (all_targets declared.now)) }
+{
     let mut told = String::new(alloc);
     for place in 0..declared.graph.edges() {
         push_outputs(declared, declared.graph.manifest.edge(place), &mut told)?;
@@ -130,7 +161,9 @@ struct Level<'a> {
 }
 
 /// The outputs that no edge reads, each with what is above it to this depth.
-fn by_depth(alloc: Global, declared: &Declared, depth: usize) -> Result<String, Fault> {
+fn by_depth(alloc: Global, declared: &Declared, depth: usize) -> Result<String, Fault>
+    ensures { IfOk result (λ told. PrintsTargets declared.now (wanted.Depth depth) (string_bytes told)) }
+{
     let roots = roots(alloc, &declared.graph)?;
     if roots.is_empty() && declared.graph.edges() > 0 {
         return Err(Fault::NoRoots);
