@@ -1,10 +1,10 @@
 //! One build.
 
-ghost use Rattle.std.specs.Prelude.{◌≡◌, ◌<◌, ℕ, All, List, IfOk, IfErr, OnOk, false, vec_len, length};
+ghost use Rattle.std.specs.Prelude.{◌≡◌, ◌<◌, ℕ, Bool, All, List, IfOk, IfErr, OnOk, false, vec_len, length};
 ghost use Rattle.model.specs.declared.record.Record.{Record};
 ghost use Rattle.model.specs.declared.record.DepsRecord.{DepsRecord};
 ghost use Rattle.model.specs.declared.graph.Edge.{Edge};
-ghost use Rattle.model.specs.World.{IsIdle};
+ghost use Rattle.model.specs.World.{World, IsIdle};
 ghost use Rattle.model.specs.Calls.{OnlyLooks};
 ghost use Rattle.model.specs.Records.{file_in, build_log_name, deps_log_name};
 ghost use Rattle.build_theory.specs.Seen.{Unrefused};
@@ -17,6 +17,7 @@ ghost use Rattle.manifest.specs.Answer.{IsGraph};
 ghost use Rattle.paths.specs.Told.{graph_of, text_at};
 ghost use Rattle.runner.specs.Course.{Course};
 ghost use Rattle.runner.specs.Ran.{AreEdgesOf};
+ghost use Rattle.builder.specs.declared.asked.Asked.{Asked as Request};
 ghost use Rattle.builder.specs.Build.{limits_of, Builds, IsBuild};
 ghost use Rattle.builder.specs.Parts.{BuildsAsked, BuildsGraph, BuildsReading};
 ghost use Rattle.model.specs.Phases.{Phase};
@@ -38,6 +39,7 @@ use display::Display;
 use dyndep_law::has_reading as has_dyndeps;
 use links::{Cone, ConeFault, Graph, lists_stand};
 use looks::Looks;
+use paths::Manifest;
 use plan::{Plan, task_of};
 use records::{Records, log_begins};
 use runner::{State, Summary};
@@ -95,7 +97,20 @@ pub fn build_read<S: Site>(
     }
 }
 
-/// Builds what is asked for of the graph of what was read, as [`build_read`] does: for somebody who has looked at that graph before. Nothing
+/// The graph of what was read of build files.
+///
+/// # Errors
+///
+/// The report of each build of it, where its edges make no graph.
+pub fn link(alloc: Global, manifest: Manifest) -> Result<Graph, Report>
+    requires formed { IsGraph (graph_of manifest) }
+    ensures graph { IfOk result (λ graph. (graph.manifest ≡ manifest) × IsLinked graph) }
+    ensures refused { IfErr result (λ report. (tells : Bool) (asked : Request) (now : World) → BuildsAsked tells (graph_of manifest) asked now now report) }
+{
+    Ok(Graph::build(alloc, manifest)?)
+}
+
+/// Builds what is asked for of the graph of what was read ([`link`]), as [`build_read`] does: for somebody who has looked at that graph before. Nothing
 /// is recorded of it yet; then it has the recorded inputs that this build uses, and what dyndep files add.
 pub fn build_graph_read<S: Site>(
     alloc: Global,

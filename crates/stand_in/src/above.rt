@@ -1,9 +1,9 @@
 //! What stands above the file that was read.
 
 ghost use Rattle.std.specs.Prelude.{IfOk};
+ghost use Rattle.stand_in.specs.Above.{AreEdges, IsAllAbove, IsFileOf};
 
 use lexer::{ReadFault, canonical};
-use links::Graph;
 use paths::{EdgeId, PathId};
 use std::alloc::{AllocError, Global};
 use text::Text;
@@ -21,9 +21,12 @@ pub struct Above {
 }
 
 /// What is above the file of this name.
-pub fn all_above(alloc: Global, declared: &Declared, name: &str) -> Result<Above, AllocError> {
+pub fn all_above(alloc: Global, declared: &Declared, name: &str) -> Result<Above, AllocError>
+    ensures all { IfOk result (IsAllAbove declared.now name.now) }
+    ensures within { IfOk result (λ above. AreEdges declared.now above.generators.items) }
+{
     let mut above = Above {
-        file: file_path(alloc, &declared.graph, name)?,
+        file: file_path(alloc, declared, name)?,
         generators: Vec::new(alloc),
         first: Vec::new(alloc),
     };
@@ -59,9 +62,15 @@ fn add_edge(
 }
 
 /// The path of a file, where a line names it.
-fn file_path(alloc: Global, graph: &Graph, name: &str) -> Result<Option<PathId>, AllocError> {
+fn file_path(
+    alloc: Global,
+    declared: &Declared,
+    name: &str,
+) -> Result<Option<PathId>, AllocError>
+    ensures { IfOk result (IsFileOf declared.now name.now) }
+{
     match canonical(alloc, name) {
-        Ok(path) => Ok(graph.manifest.number_of(path.as_str())),
+        Ok(path) => Ok(declared.graph.manifest.number_of(path.as_str())),
         Err(ReadFault::EmptyPath) => Ok(None),
         Err(ReadFault::Memory) => Err(AllocError),
     }

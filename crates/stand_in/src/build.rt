@@ -1,15 +1,17 @@
 //! A build with what is regenerated before it.
 
-ghost use Rattle.model.specs.World.{IsIdle};
-ghost use Rattle.stand_in.specs.Moves.{IsEndOf};
+ghost use Rattle.std.specs.Prelude.{◌≡◌, ◌⊎◌, [], false, IfNone, IfOk, IfErr, IfSome, OnOk};
+ghost use Rattle.model.specs.World.{World, IsIdle};
+ghost use Rattle.model.specs.Calls.{IsRestart, OnlyLooks};
+ghost use Rattle.stand_in.specs.Above.{AreEdges};
+ghost use Rattle.stand_in.specs.Moves.{IsEndOf, IsNext, IsOneBuild, IsPrepared, IsReady, WasBuiltFirst, WasReadAlone, WasReadHere, WasUnreadAlone, WasUnreadHere, end_in, outcome_in};
 
 use crate::above::{Above, all_above};
 use crate::given::Options as Given;
 use crate::place::Place;
 use crate::regenerate::{Regenerated, regenerate, would_run};
 use crate::targets::{Targets, left_targets};
-use builder::{Asked, Options, Report, build, build_graph_read};
-use links::Graph;
+use builder::{Asked, Options, Report, build, build_graph_read, link};
 use manifest::read_described;
 use model::SiteFault;
 use nj_run::Alone;
@@ -53,21 +55,29 @@ impl Ended {
 enum Next {
     /// What was read is built.
     Build,
-    /// Generators ran: the build files are read anew before that. `old` says that the file is out of date still.
+    /// Generators ran, or what they need was built: the build files are read anew before that. `old` says that the file is out of date still.
     ReadAnew { old: bool },
     /// Nothing more.
     End(Outcome),
 }
 
 /// Reads the build files, and what is told beside.
-pub fn read_here<S: Site>(alloc: Global, site: &mut S, file: &str) -> Result<Declared, Report> {
+pub fn read_here<S: Site>(alloc: Global, site: &mut S, file: &str) -> Result<Declared, Report>
+    ensures looks { OnlyLooks S.tells (S.world site.old) (S.world site.new) }
+    ensures read { IfOk result (WasReadHere S.tells file.now (S.world site.old) (S.world site.new)) }
+    ensures unread { IfErr result (WasUnreadHere S.tells S.outcome file.now (S.world site.old) (S.world site.new)) }
+{
     let (manifest, described) = read_described(alloc, site, file)?;
-    let graph = Graph::build(alloc, manifest)?;
+    let graph = link(alloc, manifest)?;
     Ok(Declared { graph, described })
 }
 
 /// The same once nobody else is at work in the folder: what is read is what is there by then.
-pub fn read_alone<S: Alone>(alloc: Global, site: &mut S, file: &str) -> Result<Declared, Report> {
+pub fn read_alone<S: Alone>(alloc: Global, site: &mut S, file: &str) -> Result<Declared, Report>
+    ensures looks { OnlyLooks S.tells (S.world site.old) (S.world site.new) }
+    ensures read { IfOk result (WasReadAlone S.tells file.now (S.world site.old) (S.world site.new)) }
+    ensures unread { IfErr result (WasUnreadAlone S.tells S.outcome file.now (S.world site.old) (S.world site.new)) }
+{
     site.enter();
     for _ in 0..u32::MAX {
         let declared = read_here(alloc, site, file)?;
@@ -103,6 +113,7 @@ fn try_build<S: Place>(
     options: &Options,
 ) -> Result<Ended, Report>
     requires { IsIdle (S.world site.old).events }
+    ensures { IsEndOf S.tells S.outcome options.now (S.world site.old) (S.world site.new) (end_in result) }
 {
     let mut declared = read_alone(alloc, site, options.file.as_str())?;
     if given.dry {
@@ -118,7 +129,11 @@ fn build_declared<S: Place>(
     given: &Given<'_>,
     options: &Options,
     declared: &mut Declared,
-) -> Result<Ended, Report> {
+) -> Result<Ended, Report>
+    requires idle { IsIdle (S.world site.old).events }
+    requires read { (entry : World) × WasReadAlone S.tells options.now.file entry (S.world site.old) declared.old }
+    ensures { (entry : World) → WasReadAlone S.tells options.now.file entry (S.world site.old) declared.old → IsEndOf S.tells S.outcome options.now entry (S.world site.new) (end_in result) }
+{
     let above = all_above(alloc, declared, options.file.as_str())?;
     match before_build(alloc, site, declared, &above, options)? {
         Next::End(outcome) => Ok(Ended::by(outcome)),
@@ -140,28 +155,45 @@ fn before_build<S: Place>(
     declared: &Declared,
     above: &Above,
     options: &Options,
-) -> Result<Next, Report> {
+) -> Result<Next, Report>
+    requires idle { IsIdle (S.world site.old).events }
+    requires within { AreEdges declared.now above.now.generators.items }
+    requires read { (entry : World) × WasReadAlone S.tells options.now.file entry (S.world site.old) declared.now }
+    ensures idle { IfOk result (λ next. IsIdle (S.world site.new).events) }
+    ensures goes { OnOk result ((S.world site.new).stopped ≡ false) }
+    ensures next { (entry : World) → WasReadAlone S.tells options.now.file entry (S.world site.old) declared.now → IsNext S.tells S.outcome options.now entry (S.world site.old) (S.world site.new) result }
+{
     if let Some(report) = build_first(alloc, site, above, options) {
         return Ok(Next::End(Outcome::NotRebuilt(Some(report))));
     }
     match regenerate(alloc, site, declared, above, options)? {
-        Regenerated::Nothing => Ok(Next::Build),
+        Regenerated::Nothing if above.first.is_empty() => Ok(Next::Build),
+        // what was built first may be read by a build file
+        Regenerated::Nothing => Ok(Next::ReadAnew { old: false }),
         Regenerated::Ran { old } => Ok(Next::ReadAnew { old }),
         Regenerated::Failed => Ok(Next::End(Outcome::NotRebuilt(None))),
     }
 }
 
-/// Builds what generators need and other commands make. There is a report where that did not succeed.
+/// Builds what generators need and other commands make, and starts the site again, so that no command runs. There is a report where it
+/// did not succeed.
 fn build_first<S: Place>(
     alloc: Global,
     site: &mut S,
     above: &Above,
     options: &Options,
-) -> Option<Report> {
+) -> Option<Report>
+    requires { IsIdle (S.world site.old).events }
+    ensures idle { IsIdle (S.world site.new).events }
+    ensures none { IfNone result (((S.world site.new) ≡ (S.world site.old)) ⊎ WasBuiltFirst S.tells S.outcome options.now (S.world site.old) (S.world site.new)) }
+    ensures nothing { above.now.first.items ≡ [] → S.world site.new ≡ S.world site.old }
+    ensures some { IfSome result (λ report. (end : World) × IsOneBuild S.tells S.outcome options.now (S.world site.old) end report × IsRestart S.tells end (S.world site.new)) }
+{
     if above.first.is_empty() {
         return None;
     }
     let report = build(alloc, site, options, above.first.as_slice());
+    site.restart();
     match report {
         Report::Success { .. } => None,
         report => Some(report),
@@ -174,7 +206,10 @@ fn build_anew<S: Place>(
     site: &mut S,
     given: &Given<'_>,
     options: &Options,
-) -> Result<Outcome, Report> {
+) -> Result<Outcome, Report>
+    requires { IsIdle (S.world site.old).events }
+    ensures { (old : World) → IsPrepared S.tells S.outcome options.now old (S.world site.old) → IsEndOf S.tells S.outcome options.now old (S.world site.new) (outcome_in result) }
+{
     let file = options.file.as_str();
     let mut declared = read_here(alloc, site, file)?;
     let above = all_above(alloc, &declared, file)?;
@@ -189,7 +224,11 @@ fn build_rest<S: Place>(
     options: &Options,
     declared: &mut Declared,
     above: &Above,
-) -> Result<Outcome, Report> {
+) -> Result<Outcome, Report>
+    requires idle { IsIdle (S.world site.old).events }
+    requires ready { (old : World) × IsReady S.tells S.outcome options.now old (S.world site.old) declared.old }
+    ensures { (old : World) → IsReady S.tells S.outcome options.now old (S.world site.old) declared.old → IsEndOf S.tells S.outcome options.now old (S.world site.new) (outcome_in result) }
+{
     match left_targets(alloc, site, declared, given.words.as_slice(), above) {
         Ok(Targets::Default) => build_these(alloc, site, options, declared, &[]),
         Ok(Targets::Named(paths)) => {
@@ -208,7 +247,11 @@ fn build_these<S: Place>(
     options: &Options,
     declared: &mut Declared,
     targets: &[Text],
-) -> Result<Outcome, Report> {
+) -> Result<Outcome, Report>
+    requires idle { IsIdle (S.world site.old).events }
+    requires ready { (old : World) × IsReady S.tells S.outcome options.now old (S.world site.old) declared.old }
+    ensures { (old : World) → IsReady S.tells S.outcome options.now old (S.world site.old) declared.old → IsEndOf S.tells S.outcome options.now old (S.world site.new) (outcome_in result) }
+{
     let graph = &mut declared.graph;
     let asked = Asked::new(alloc, options, targets, &graph.manifest.builddir)?;
     Ok(Outcome::Built(build_graph_read(
@@ -223,7 +266,10 @@ fn only_say<S: Place>(
     given: &Given<'_>,
     options: &Options,
     declared: &mut Declared,
-) -> Result<Ended, Report> {
+) -> Result<Ended, Report>
+    requires read { (entry : World) × WasReadAlone S.tells options.now.file entry (S.world site.old) declared.old }
+    ensures { (entry : World) → WasReadAlone S.tells options.now.file entry (S.world site.old) declared.old → IsEndOf S.tells S.outcome options.now entry (S.world site.new) (end_in result) }
+{
     let above = all_above(alloc, declared, options.file.as_str())?;
     match left_targets(alloc, site, declared, given.words.as_slice(), &above) {
         Ok(Targets::Nothing) => {

@@ -1,6 +1,7 @@
 //! Whether a generator is to be run: by stamps alone.
 
-ghost use Rattle.std.specs.Prelude.{◌<◌, length, OnOk};
+ghost use Rattle.std.specs.Prelude.{◌≡◌, ◌<◌, false, length, IfOk, IsSome, OnOk};
+ghost use Rattle.build_theory.specs.Seen.{Looked};
 ghost use Rattle.model.specs.Calls.{OnlyLooks};
 ghost use Rattle.stand_in.specs.Moves.{GoesOn};
 
@@ -25,6 +26,7 @@ pub fn is_out_of_date<S: Site>(
     requires { edge < length declared.now.graph.manifest.lines }
     ensures looks { OnlyLooks S.tells (S.world site.old) (S.world site.new) }
     ensures goes { OnOk result (GoesOn (S.world site.old) (S.world site.new)) }
+    ensures looked { IfOk result (λ later. later ≡ false → Looked S.tells (S.world site.old) (S.world site.new)) }
 {
     let Some(made) = made_stamp(site, declared, edge, file)? else {
         return Ok(true);
@@ -44,6 +46,7 @@ fn made_stamp<S: Site>(
 ) -> Result<Option<u64>, SiteFault>
     ensures looks { OnlyLooks S.tells (S.world site.old) (S.world site.new) }
     ensures goes { OnOk result (GoesOn (S.world site.old) (S.world site.new)) }
+    ensures looked { IfOk result (λ stamp. IsSome stamp → Looked S.tells (S.world site.old) (S.world site.new)) }
 {
     let outputs = declared.graph.outputs(edge);
     if let Some(file) = file {
@@ -65,6 +68,7 @@ fn made_stamp<S: Site>(
 fn stamp<S: Site>(site: &mut S, path: &str) -> Result<Option<u64>, SiteFault>
     ensures looks { OnlyLooks S.tells (S.world site.old) (S.world site.new) }
     ensures goes { OnOk result (GoesOn (S.world site.old) (S.world site.new)) }
+    ensures looked { IfOk result (λ stamp. IsSome stamp → Looked S.tells (S.world site.old) (S.world site.new)) }
 {
     match site.stat(path) {
         Err(SiteFault::Device) => Ok(None),
@@ -76,6 +80,7 @@ fn stamp<S: Site>(site: &mut S, path: &str) -> Result<Option<u64>, SiteFault>
 fn is_later<S: Site>(site: &mut S, path: &str, made: u64) -> Result<bool, SiteFault>
     ensures looks { OnlyLooks S.tells (S.world site.old) (S.world site.new) }
     ensures goes { OnOk result (GoesOn (S.world site.old) (S.world site.new)) }
+    ensures looked { IfOk result (λ later. later ≡ false → Looked S.tells (S.world site.old) (S.world site.new)) }
 {
     match stamp(site, path)? {
         None => Ok(true),
@@ -93,6 +98,7 @@ fn has_later_input<S: Site>(
 ) -> Result<bool, SiteFault>
     ensures looks { OnlyLooks S.tells (S.world site.old) (S.world site.new) }
     ensures goes { OnOk result (GoesOn (S.world site.old) (S.world site.new)) }
+    ensures looked { IfOk result (λ later. later ≡ false → Looked S.tells (S.world site.old) (S.world site.new)) }
 {
     match graph.reading(alloc, edge)? {
         Reading::Itself(edge) => is_one_later(site, graph, graph.regular_inputs(edge), made),
@@ -115,6 +121,7 @@ fn is_one_later<S: Site>(
 ) -> Result<bool, SiteFault>
     ensures looks { OnlyLooks S.tells (S.world site.old) (S.world site.new) }
     ensures goes { OnOk result (GoesOn (S.world site.old) (S.world site.new)) }
+    ensures looked { IfOk result (λ later. later ≡ false → Looked S.tells (S.world site.old) (S.world site.new)) }
 {
     for path in paths {
         if is_input_later(site, graph, *path, made)? {
@@ -124,7 +131,7 @@ fn is_one_later<S: Site>(
     Ok(false)
 }
 
-/// Whether an input is later. An absent alias that has inputs is not.
+/// Whether an input is later. An absent alias that has inputs is not; what cannot be looked at is.
 fn is_input_later<S: Site>(
     site: &mut S,
     graph: &Graph,
@@ -133,10 +140,13 @@ fn is_input_later<S: Site>(
 ) -> Result<bool, SiteFault>
     ensures looks { OnlyLooks S.tells (S.world site.old) (S.world site.new) }
     ensures goes { OnOk result (GoesOn (S.world site.old) (S.world site.new)) }
+    ensures looked { IfOk result (λ later. later ≡ false → Looked S.tells (S.world site.old) (S.world site.new)) }
 {
-    match stamp(site, graph.text(path))? {
-        None => Ok(!graph.counts_if_present(path)),
-        Some(stamp) => Ok(stamp > made),
+    match site.stat(graph.text(path)) {
+        Ok(Some(stamp)) => Ok(stamp > made),
+        Ok(None) => Ok(!graph.counts_if_present(path)),
+        Err(SiteFault::Device) => Ok(true),
+        Err(fault) => Err(fault),
     }
 }
 
@@ -150,6 +160,7 @@ fn has_later_told<S: Site>(
 ) -> Result<bool, SiteFault>
     ensures looks { OnlyLooks S.tells (S.world site.old) (S.world site.new) }
     ensures goes { OnOk result (GoesOn (S.world site.old) (S.world site.new)) }
+    ensures looked { IfOk result (λ later. later ≡ false → Looked S.tells (S.world site.old) (S.world site.new)) }
 {
     let Some(command) = declared.command(edge) else {
         return Ok(false);
@@ -169,6 +180,7 @@ fn is_told_later<S: Site>(
 ) -> Result<bool, SiteFault>
     ensures looks { OnlyLooks S.tells (S.world site.old) (S.world site.new) }
     ensures goes { OnOk result (GoesOn (S.world site.old) (S.world site.new)) }
+    ensures looked { IfOk result (λ later. later ≡ false → Looked S.tells (S.world site.old) (S.world site.new)) }
 {
     let content = match site.read(path) {
         Ok(Some(content)) => content,
@@ -187,6 +199,7 @@ fn is_told_later<S: Site>(
 fn is_some_later<S: Site>(site: &mut S, paths: &[Path], made: u64) -> Result<bool, SiteFault>
     ensures looks { OnlyLooks S.tells (S.world site.old) (S.world site.new) }
     ensures goes { OnOk result (GoesOn (S.world site.old) (S.world site.new)) }
+    ensures looked { IfOk result (λ later. later ≡ false → Looked S.tells (S.world site.old) (S.world site.new)) }
 {
     for path in paths {
         if is_later(site, path.as_str(), made)? {

@@ -1,7 +1,9 @@
 //! Regenerating: what the program does between two builds, in the user's place.
 
-ghost use Rattle.std.specs.Prelude.{OnOk};
+ghost use Rattle.std.specs.Prelude.{◌≡◌, ◌<◌, length, IfOk, OnOk};
+ghost use Rattle.build_theory.specs.Seen.{Looked};
 ghost use Rattle.model.specs.Calls.{OnlyLooks};
+ghost use Rattle.stand_in.specs.Above.{AreEdges};
 ghost use Rattle.stand_in.specs.Moves.{GoesOn};
 
 use crate::above::Above;
@@ -29,7 +31,8 @@ pub enum Regenerated {
 /// Runs those of the generators that are out of date by stamps, makers first, one after the other, each with the program's own input and
 /// output. None of it is put into a log.
 ///
-/// As moves this is a list of edits: to the site nobody but others wrote, no command was started, and all that was has ended.
+/// As moves this is a list of edits: to the site nobody but others wrote, no command was started, and all that was has ended. Where nothing
+/// was out of date, no call was refused: what cannot be looked at counts as later.
 pub fn regenerate<S: Place>(
     alloc: Global,
     site: &mut S,
@@ -37,8 +40,10 @@ pub fn regenerate<S: Place>(
     above: &Above,
     options: &Options,
 ) -> Result<Regenerated, SiteFault>
+    requires { AreEdges declared.now above.now.generators.items }
     ensures looks { OnlyLooks S.tells (S.world site.old) (S.world site.new) }
     ensures goes { OnOk result (GoesOn (S.world site.old) (S.world site.new)) }
+    ensures nothing { IfOk result (λ ran. ran ≡ Regenerated.Nothing → Looked S.tells (S.world site.old) (S.world site.new)) }
 {
     let mut ran = 0;
     for generator in above.generators.as_slice() {
@@ -68,6 +73,7 @@ fn is_last_old<S: Site>(
     declared: &Declared,
     above: &Above,
 ) -> Result<bool, SiteFault>
+    requires { AreEdges declared.now above.now.generators.items }
     ensures looks { OnlyLooks S.tells (S.world site.old) (S.world site.new) }
     ensures goes { OnOk result (GoesOn (S.world site.old) (S.world site.new)) }
 {
@@ -84,6 +90,7 @@ pub fn would_run<S: Site>(
     declared: &Declared,
     above: &Above,
 ) -> Result<bool, SiteFault>
+    requires { AreEdges declared.now above.now.generators.items }
     ensures looks { OnlyLooks S.tells (S.world site.old) (S.world site.new) }
     ensures goes { OnOk result (GoesOn (S.world site.old) (S.world site.new)) }
 {
@@ -111,6 +118,7 @@ fn run_one<S: Place>(
     edge: EdgeId,
     turn: Turn<'_>,
 ) -> Result<bool, SiteFault>
+    requires { edge < length declared.now.graph.manifest.lines }
     ensures looks { OnlyLooks S.tells (S.world site.old) (S.world site.new) }
     ensures goes { OnOk result (GoesOn (S.world site.old) (S.world site.new)) }
 {
@@ -159,6 +167,7 @@ fn show_failure<S: Site>(
     edge: EdgeId,
     command: &Command,
 ) -> Result<(), SiteFault>
+    requires { edge < length declared.now.graph.manifest.lines }
     ensures looks { OnlyLooks S.tells (S.world site.old) (S.world site.new) }
     ensures goes { OnOk result (GoesOn (S.world site.old) (S.world site.new)) }
 {
@@ -180,7 +189,9 @@ fn texts<'a>(
     alloc: Global,
     declared: &'a Declared,
     edge: EdgeId,
-) -> Result<Vec<&'a str>, AllocError> {
+) -> Result<Vec<&'a str>, AllocError>
+    requires { edge < length declared.now.graph.manifest.lines }
+{
     let mut texts = Vec::new(alloc);
     for output in declared.graph.outputs(edge) {
         texts.push(declared.graph.text(*output))?;
@@ -190,6 +201,7 @@ fn texts<'a>(
 
 /// Makes the folders of the outputs.
 fn make_folders<S: Site>(site: &mut S, declared: &Declared, edge: EdgeId) -> Result<(), SiteFault>
+    requires { edge < length declared.now.graph.manifest.lines }
     ensures looks { OnlyLooks S.tells (S.world site.old) (S.world site.new) }
     ensures goes { OnOk result (GoesOn (S.world site.old) (S.world site.new)) }
 {

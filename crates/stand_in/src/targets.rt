@@ -1,5 +1,10 @@
 //! What is built beside what generators make.
 
+ghost use Rattle.std.specs.Prelude.{◌≡◌, false, OnOk};
+ghost use Rattle.build_theory.specs.Seen.{Looked};
+ghost use Rattle.model.specs.Calls.{OnlyLooks};
+ghost use Rattle.tools.specs.Joined.{KeepsEdges};
+
 use crate::above::Above;
 use links::Graph;
 use paths::PathId;
@@ -26,7 +31,12 @@ pub fn left_targets<S: Site>(
     declared: &mut Declared,
     words: &[&str],
     above: &Above,
-) -> Result<Targets, Fault> {
+) -> Result<Targets, Fault>
+    requires running { (S.world site.old).stopped ≡ false }
+    ensures looks { OnlyLooks S.tells (S.world site.old) (S.world site.new) }
+    ensures looked { OnOk result (Looked S.tells (S.world site.old) (S.world site.new)) }
+    ensures kept { KeepsEdges declared.old.graph declared.new.graph }
+{
     let paths = if words.is_empty() {
         meant(alloc, &declared.graph, above)?
     } else {
@@ -49,7 +59,12 @@ fn asked_here<S: Site>(
     site: &mut S,
     declared: &mut Declared,
     words: &[&str],
-) -> Result<Vec<PathId>, Fault> {
+) -> Result<Vec<PathId>, Fault>
+    requires running { (S.world site.old).stopped ≡ false }
+    ensures looks { OnlyLooks S.tells (S.world site.old) (S.world site.new) }
+    ensures looked { OnOk result (Looked S.tells (S.world site.old) (S.world site.new)) }
+    ensures kept { KeepsEdges declared.old.graph declared.new.graph }
+{
     if !words.iter().any(|word| word.ends_with('^')) {
         return asked(alloc, &declared.graph, words);
     }

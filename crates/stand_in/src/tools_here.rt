@@ -1,5 +1,9 @@
 //! The tools over a site.
 
+ghost use Rattle.std.specs.Prelude.{◌≡◌, false};
+ghost use Rattle.model.specs.Calls.{OnlyLooks};
+ghost use Rattle.stand_in.specs.Tools.{removes};
+
 use crate::build::{read_alone, read_here};
 use crate::given::{Options, Shown};
 use builder::Report;
@@ -63,7 +67,10 @@ pub fn answer<S: Alone>(
     site: &mut S,
     asking: Asking<'_>,
     folder: &str,
-) -> Result<Answer, NoAnswer> {
+) -> Result<Answer, NoAnswer>
+    requires running { (S.world site.old).stopped ≡ false }
+    ensures looks { removes asking.entry.tool ≡ false → OnlyLooks S.tells (S.world site.old) (S.world site.new) }
+{
     let file = asking.options.file;
     match asking.tool {
         Tool::Restat | Tool::Recompact => Ok(Answer::well(String::new(alloc))),
@@ -85,7 +92,9 @@ fn answer_read<S: Site>(
     asking: Asking<'_>,
     folder: &str,
     declared: &mut Declared,
-) -> Result<Answer, NoAnswer> {
+) -> Result<Answer, NoAnswer>
+    requires { (S.world site.old).stopped ≡ false }
+{
     match asking.tool {
         Tool::Query | Tool::Deps | Tool::MissingDeps | Tool::CleanDead => {
             with_records(alloc, site, asking, declared)
@@ -108,7 +117,9 @@ fn with_records<S: Site>(
     site: &mut S,
     asking: Asking<'_>,
     declared: &mut Declared,
-) -> Result<Answer, NoAnswer> {
+) -> Result<Answer, NoAnswer>
+    requires { (S.world site.old).stopped ≡ false }
+{
     let records = read_joined(alloc, site, declared)?;
     if asking.tool == Tool::Query {
         let words = asking.switches.words.as_slice();

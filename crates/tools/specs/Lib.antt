@@ -7,3 +7,4 @@ pub mod Clean
 pub mod Dead
 pub mod Answers
 pub mod Moves
+pub mod Joined

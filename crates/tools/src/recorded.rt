@@ -1,5 +1,13 @@
 //! What logs tell, as tools see it.
 
+ghost use Rattle.std.specs.Prelude.{◌≡◌, false, List, IfOk, OnOk};
+ghost use Rattle.build_theory.specs.Seen.{Looked};
+ghost use Rattle.model.specs.Calls.{OnlyLooks};
+ghost use Rattle.model.specs.declared.record.Record.{Record};
+ghost use Rattle.model.specs.declared.record.DepsRecord.{DepsRecord};
+ghost use Rattle.records.specs.Known.{AreKnown};
+ghost use Rattle.tools.specs.Joined.{KeepsEdges};
+
 use crate::declared::Declared;
 use crate::fault::Fault;
 use lexer::{ReadFault, canonical};
@@ -25,7 +33,12 @@ pub fn own_folder(alloc: Global, graph: &Graph) -> Result<String, AllocError> {
 }
 
 /// Reads the logs of the graph's build files. It only looks.
-pub fn read_records<S: Site>(alloc: Global, site: &mut S, graph: &Graph) -> Result<Records, Fault> {
+pub fn read_records<S: Site>(alloc: Global, site: &mut S, graph: &Graph) -> Result<Records, Fault>
+    requires running { (S.world site.old).stopped ≡ false }
+    ensures looks { OnlyLooks S.tells (S.world site.old) (S.world site.new) }
+    ensures looked { OnOk result (Looked S.tells (S.world site.old) (S.world site.new)) }
+    ensures known { IfOk result (λ records. (rs : List Record) × (ds : List DepsRecord) × AreKnown graph.now rs ds records) }
+{
     let folder = own_folder(alloc, graph)?;
     let build_log = own_path(alloc, folder.as_str(), LOG)?;
     let deps_log = own_path(alloc, folder.as_str(), DEPS_LOG)?;
@@ -37,7 +50,13 @@ pub fn read_joined<S: Site>(
     alloc: Global,
     site: &mut S,
     declared: &mut Declared,
-) -> Result<Records, Fault> {
+) -> Result<Records, Fault>
+    requires running { (S.world site.old).stopped ≡ false }
+    ensures looks { OnlyLooks S.tells (S.world site.old) (S.world site.new) }
+    ensures looked { OnOk result (Looked S.tells (S.world site.old) (S.world site.new)) }
+    ensures kept { KeepsEdges declared.old.graph declared.new.graph }
+    ensures known { IfOk result (λ records. (rs : List Record) × (ds : List DepsRecord) × AreKnown declared.new.graph rs ds records) }
+{
     let first = read_records(alloc, site, &declared.graph)?;
     join_paths(alloc, &mut declared.graph, &first)?;
     read_records(alloc, site, &declared.graph)
@@ -53,7 +72,9 @@ fn own_path(alloc: Global, folder: &str, name: &str) -> Result<String, AllocErro
 }
 
 /// Gives numbers to all paths of the deps log, so that words may name them.
-fn join_paths(alloc: Global, graph: &mut Graph, records: &Records) -> Result<(), AllocError> {
+fn join_paths(alloc: Global, graph: &mut Graph, records: &Records) -> Result<(), AllocError>
+    ensures { KeepsEdges graph.old graph.new }
+{
     let mut number = 0;
     while let Some(path) = records.deps_path(number) {
         graph.add_path(alloc, path)?;
