@@ -74,8 +74,10 @@ impl Described {
 
     /// The name of the rule of the edge; none for an edge that was not read.
     pub fn rule(&self, edge: EdgeId) -> &str {
-        let number = self.rules.get(edge.index()).copied();
-        match number.and_then(|number| self.names.get_index(number)) {
+        let Some(number) = self.rules.get(edge.index()) else {
+            return "";
+        };
+        match self.names.get_index(*number) {
             Some(name) => name.as_str(),
             None => "",
         }
