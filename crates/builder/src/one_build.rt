@@ -1,10 +1,10 @@
 //! One build.
 
-ghost use Rattle.std.specs.Prelude.{◌≡◌, ◌<◌, ℕ, Bool, All, List, IfOk, IfErr, OnOk, false, vec_len, length};
+ghost use Rattle.std.specs.Prelude.{◌≡◌, ◌<◌, ℕ, All, List, IfOk, IfErr, OnOk, false, vec_len, length};
 ghost use Rattle.model.specs.declared.record.Record.{Record};
 ghost use Rattle.model.specs.declared.record.DepsRecord.{DepsRecord};
 ghost use Rattle.model.specs.declared.graph.Edge.{Edge};
-ghost use Rattle.model.specs.World.{World, IsIdle};
+ghost use Rattle.model.specs.World.{IsIdle};
 ghost use Rattle.model.specs.Calls.{OnlyLooks};
 ghost use Rattle.model.specs.Records.{file_in, build_log_name, deps_log_name};
 ghost use Rattle.build_theory.specs.Seen.{Unrefused};
@@ -17,9 +17,8 @@ ghost use Rattle.manifest.specs.Answer.{IsGraph};
 ghost use Rattle.paths.specs.Told.{graph_of, text_at};
 ghost use Rattle.runner.specs.Course.{Course};
 ghost use Rattle.runner.specs.Ran.{AreEdgesOf};
-ghost use Rattle.builder.specs.declared.asked.Asked.{Asked as Request};
 ghost use Rattle.builder.specs.Build.{limits_of, Builds, IsBuild};
-ghost use Rattle.builder.specs.Parts.{BuildsAsked, BuildsGraph, BuildsReading};
+ghost use Rattle.builder.specs.Parts.{BuildsAsked, BuildsGraph, BuildsReading, IsReportOfNoGraph};
 ghost use Rattle.model.specs.Phases.{Phase};
 ghost use Rattle.runner.specs.Going.{AreSet};
 ghost use Rattle.builder.specs.Going.{BeginsAt};
@@ -105,7 +104,7 @@ pub fn build_read<S: Site>(
 pub fn link(alloc: Global, manifest: Manifest) -> Result<Graph, Report>
     requires formed { IsGraph (graph_of manifest) }
     ensures graph { IfOk result (λ graph. (graph.manifest ≡ manifest) × IsLinked graph) }
-    ensures refused { IfErr result (λ report. (tells : Bool) (asked : Request) (now : World) → BuildsAsked tells (graph_of manifest) asked now now report) }
+    ensures refused { IfErr result (IsReportOfNoGraph manifest) }
 {
     Ok(Graph::build(alloc, manifest)?)
 }

@@ -61,13 +61,20 @@ pub record WasBuiltFirst (tells : Bool) (outcome : Act → View → Outcome) (op
   pub built : IsOneBuild tells outcome options old end report
   pub restarted : IsRestart tells end new
 
+abbrev pub MayBeBuiltFirst : Bool → (Act → View → Outcome) → Options → World → World → Type 0
+MayBeBuiltFirst tells outcome options old new = (new ≡ old) ⊎ WasBuiltFirst tells outcome options old new
+
+-- a build ended with this report, and then the site was started again
+abbrev pub EndsFirst : Bool → (Act → View → Outcome) → Options → World → World → Report → Type 0
+EndsFirst tells outcome options old new report = (end : World) × IsOneBuild tells outcome options old end report × IsRestart tells end new
+
 -- What generators need was built, or nothing was needed. Before and behind that nobody but others wrote: those that were there before,
 -- and the generators, which ran in the user's place.
 pub record IsPrepared (tells : Bool) (outcome : Act → View → Outcome) (options : Options) (old new : World) : Type 0 where
   pub entry : World
   pub before : OnlyLooks tells old entry
   pub first : World
-  pub built : (first ≡ entry) ⊎ WasBuiltFirst tells outcome options entry first
+  pub built : MayBeBuiltFirst tells outcome options entry first
   pub edits : OnlyLooks tells first new
 
 -- How a run ends: with the report of the last build, or of the one of what generators need; and where nothing else was to be built, with
@@ -79,7 +86,7 @@ IsEndOf tells outcome options old new (Built report) =
 IsEndOf tells outcome options old new (Refused fault) = IsPrepared tells outcome options old new
 IsEndOf tells outcome options old new (NotRebuilt None) = IsPrepared tells outcome options old new
 IsEndOf tells outcome options old new (NotRebuilt (Some report)) =
-    (entry end : World) × OnlyLooks tells old entry × IsOneBuild tells outcome options entry end report × IsRestart tells end new
+    (entry : World) × OnlyLooks tells old entry × EndsFirst tells outcome options entry new report
 IsEndOf tells outcome options old new WouldRun = OnlyLooks tells old new
 
 -- ---- on the way
@@ -107,3 +114,20 @@ IsNext tells outcome options entry old new (Ok Build) = Looked tells old new
 IsNext tells outcome options entry old new (Ok (ReadAnew is_old)) = IsPrepared tells outcome options entry new
 IsNext tells outcome options entry old new (Ok (EndsBy end)) = IsEndOf tells outcome options entry new end
 IsNext tells outcome options entry old new (Err report) = IsEndOf tells outcome options entry new (Built report)
+
+-- it comes to this, whatever the world was in which the build files were read, or before all was prepared
+abbrev pub ComesNext : Bool → (Act → View → Outcome) → Options → Declared → World → World → Result Next Report → Type 0
+ComesNext tells outcome options declared old new result =
+    (entry : World) → WasReadAlone tells options.file entry old declared → IsNext tells outcome options entry old new result
+
+abbrev pub EndsOnceRead : Bool → (Act → View → Outcome) → Options → Declared → World → World → End → Type 0
+EndsOnceRead tells outcome options declared old new end =
+    (entry : World) → WasReadAlone tells options.file entry old declared → IsEndOf tells outcome options entry new end
+
+abbrev pub EndsOnceReady : Bool → (Act → View → Outcome) → Options → Declared → World → World → End → Type 0
+EndsOnceReady tells outcome options declared old new end =
+    (entry : World) → IsReady tells outcome options entry old declared → IsEndOf tells outcome options entry new end
+
+abbrev pub EndsOncePrepared : Bool → (Act → View → Outcome) → Options → World → World → End → Type 0
+EndsOncePrepared tells outcome options old new end =
+    (entry : World) → IsPrepared tells outcome options entry old → IsEndOf tells outcome options entry new end

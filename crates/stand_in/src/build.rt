@@ -1,10 +1,12 @@
 //! A build with what is regenerated before it.
 
-ghost use Rattle.std.specs.Prelude.{◌≡◌, ◌⊎◌, [], false, IfNone, IfOk, IfErr, IfSome, OnOk};
+ghost use Rattle.std.specs.Prelude.{◌≡◌, [], false, IfErr, IfNone, IfOk, IfSome, OnOk};
 ghost use Rattle.model.specs.World.{World, IsIdle};
-ghost use Rattle.model.specs.Calls.{IsRestart, OnlyLooks};
+ghost use Rattle.model.specs.Calls.{OnlyLooks};
 ghost use Rattle.stand_in.specs.Above.{AreEdges};
-ghost use Rattle.stand_in.specs.Moves.{IsEndOf, IsNext, IsOneBuild, IsPrepared, IsReady, WasBuiltFirst, WasReadAlone, WasReadHere, WasUnreadAlone, WasUnreadHere, end_in, outcome_in};
+ghost use Rattle.stand_in.specs.Moves.{EndsFirst, IsEndOf, IsReady, MayBeBuiltFirst, end_in, outcome_in};
+ghost use Rattle.stand_in.specs.Moves.{WasReadAlone, WasReadHere, WasUnreadAlone, WasUnreadHere};
+ghost use Rattle.stand_in.specs.Moves.{ComesNext, EndsOncePrepared, EndsOnceRead, EndsOnceReady};
 
 use crate::above::{Above, all_above};
 use crate::given::Options as Given;
@@ -55,7 +57,8 @@ impl Ended {
 enum Next {
     /// What was read is built.
     Build,
-    /// Generators ran, or what they need was built: the build files are read anew before that. `old` says that the file is out of date still.
+    /// Generators ran, or what they need was built: the build files are read anew before that. `old` says that the file is out of date
+    /// still.
     ReadAnew { old: bool },
     /// Nothing more.
     End(Outcome),
@@ -132,7 +135,7 @@ fn build_declared<S: Place>(
 ) -> Result<Ended, Report>
     requires idle { IsIdle (S.world site.old).events }
     requires read { (entry : World) × WasReadAlone S.tells options.now.file entry (S.world site.old) declared.old }
-    ensures { (entry : World) → WasReadAlone S.tells options.now.file entry (S.world site.old) declared.old → IsEndOf S.tells S.outcome options.now entry (S.world site.new) (end_in result) }
+    ensures { EndsOnceRead S.tells S.outcome options.now declared.old (S.world site.old) (S.world site.new) (end_in result) }
 {
     let above = all_above(alloc, declared, options.file.as_str())?;
     match before_build(alloc, site, declared, &above, options)? {
@@ -161,7 +164,7 @@ fn before_build<S: Place>(
     requires read { (entry : World) × WasReadAlone S.tells options.now.file entry (S.world site.old) declared.now }
     ensures idle { IfOk result (λ next. IsIdle (S.world site.new).events) }
     ensures goes { OnOk result ((S.world site.new).stopped ≡ false) }
-    ensures next { (entry : World) → WasReadAlone S.tells options.now.file entry (S.world site.old) declared.now → IsNext S.tells S.outcome options.now entry (S.world site.old) (S.world site.new) result }
+    ensures next { ComesNext S.tells S.outcome options.now declared.now (S.world site.old) (S.world site.new) result }
 {
     if let Some(report) = build_first(alloc, site, above, options) {
         return Ok(Next::End(Outcome::NotRebuilt(Some(report))));
@@ -185,9 +188,9 @@ fn build_first<S: Place>(
 ) -> Option<Report>
     requires { IsIdle (S.world site.old).events }
     ensures idle { IsIdle (S.world site.new).events }
-    ensures none { IfNone result (((S.world site.new) ≡ (S.world site.old)) ⊎ WasBuiltFirst S.tells S.outcome options.now (S.world site.old) (S.world site.new)) }
+    ensures none { IfNone result (MayBeBuiltFirst S.tells S.outcome options.now (S.world site.old) (S.world site.new)) }
     ensures nothing { above.now.first.items ≡ [] → S.world site.new ≡ S.world site.old }
-    ensures some { IfSome result (λ report. (end : World) × IsOneBuild S.tells S.outcome options.now (S.world site.old) end report × IsRestart S.tells end (S.world site.new)) }
+    ensures some { IfSome result (EndsFirst S.tells S.outcome options.now (S.world site.old) (S.world site.new)) }
 {
     if above.first.is_empty() {
         return None;
@@ -208,7 +211,7 @@ fn build_anew<S: Place>(
     options: &Options,
 ) -> Result<Outcome, Report>
     requires { IsIdle (S.world site.old).events }
-    ensures { (old : World) → IsPrepared S.tells S.outcome options.now old (S.world site.old) → IsEndOf S.tells S.outcome options.now old (S.world site.new) (outcome_in result) }
+    ensures { EndsOncePrepared S.tells S.outcome options.now (S.world site.old) (S.world site.new) (outcome_in result) }
 {
     let file = options.file.as_str();
     let mut declared = read_here(alloc, site, file)?;
@@ -227,7 +230,7 @@ fn build_rest<S: Place>(
 ) -> Result<Outcome, Report>
     requires idle { IsIdle (S.world site.old).events }
     requires ready { (old : World) × IsReady S.tells S.outcome options.now old (S.world site.old) declared.old }
-    ensures { (old : World) → IsReady S.tells S.outcome options.now old (S.world site.old) declared.old → IsEndOf S.tells S.outcome options.now old (S.world site.new) (outcome_in result) }
+    ensures { EndsOnceReady S.tells S.outcome options.now declared.old (S.world site.old) (S.world site.new) (outcome_in result) }
 {
     match left_targets(alloc, site, declared, given.words.as_slice(), above) {
         Ok(Targets::Default) => build_these(alloc, site, options, declared, &[]),
@@ -250,7 +253,7 @@ fn build_these<S: Place>(
 ) -> Result<Outcome, Report>
     requires idle { IsIdle (S.world site.old).events }
     requires ready { (old : World) × IsReady S.tells S.outcome options.now old (S.world site.old) declared.old }
-    ensures { (old : World) → IsReady S.tells S.outcome options.now old (S.world site.old) declared.old → IsEndOf S.tells S.outcome options.now old (S.world site.new) (outcome_in result) }
+    ensures { EndsOnceReady S.tells S.outcome options.now declared.old (S.world site.old) (S.world site.new) (outcome_in result) }
 {
     let graph = &mut declared.graph;
     let asked = Asked::new(alloc, options, targets, &graph.manifest.builddir)?;
@@ -268,7 +271,7 @@ fn only_say<S: Place>(
     declared: &mut Declared,
 ) -> Result<Ended, Report>
     requires read { (entry : World) × WasReadAlone S.tells options.now.file entry (S.world site.old) declared.old }
-    ensures { (entry : World) → WasReadAlone S.tells options.now.file entry (S.world site.old) declared.old → IsEndOf S.tells S.outcome options.now entry (S.world site.new) (end_in result) }
+    ensures { EndsOnceRead S.tells S.outcome options.now declared.old (S.world site.old) (S.world site.new) (end_in result) }
 {
     let above = all_above(alloc, declared, options.file.as_str())?;
     match left_targets(alloc, site, declared, given.words.as_slice(), &above) {

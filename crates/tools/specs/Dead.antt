@@ -6,6 +6,9 @@ use Rattle.model.specs.Graph.{has}
 use Rattle.model.specs.Records.{in_force}
 use Rattle.paths.specs.Told.{IsUnnamed}
 use Rattle.paths.specs.declared.manifest.Manifest.{Manifest}
+use Rattle.links.specs.declared.graph.Graph.{Graph}
+use Rattle.records.specs.Known.{Knows}
+use Rattle.records.specs.declared.records.Records.{Records}
 
 -- a build made it, and no line names it any more
 pub record IsLeft (manifest : Manifest) (records : List Record) (text : List ℕ) : Type 0 where
@@ -20,3 +23,7 @@ IsListed records text = (told : DepsRecord) × (has told.paths text ≡ true)
 pub record AreBuried (manifest : Manifest) (records : List Record) (deps : List DepsRecord) (dead kept : List (List ℕ)) : Type 0 where
   pub dead : (text : List ℕ) → has dead text ≡ true ↔ (IsLeft manifest records text × (IsListed deps text → ⊥))
   pub kept : (text : List ℕ) → has kept text ≡ true ↔ (IsLeft manifest records text × IsListed deps text)
+
+-- the same of whatever the logs tell
+abbrev pub Buries : Graph → Records → (dead kept : List (List ℕ)) → Type 0
+Buries graph records dead kept = (rs : List Record) (ds : List DepsRecord) → Knows graph records rs ds → AreBuried graph.manifest rs ds dead kept

@@ -6,6 +6,9 @@ use Rattle.model.specs.Records.{deps_in_force, paths_in}
 use Rattle.links.specs.Links.{links_of}
 use Rattle.links.specs.declared.graph.Graph.{Graph}
 use Rattle.paths.specs.Told.{text_at}
+use Rattle.records.specs.Known.{Knows}
+use Rattle.records.specs.declared.records.Records.{Records}
+use Rattle.model.specs.declared.record.Record.{Record}
 use Rattle.tools.specs.declared.missing.MissingDep.{MissingDep}
 use Rattle.tools.specs.Above.{IsNeededFor}
 
@@ -27,3 +30,7 @@ IsOneOf dep found = (before after : List MissingDep) × (found ≡ before ++ dep
 pub record AreMissing (graph : Graph) (records : List DepsRecord) (file : List ℕ) (paths : List ℕ) (found : List MissingDep) : Type 0 where
   pub sound : (dep : MissingDep) → IsOneOf dep found → IsMissing graph records file dep × IsNamedAbove graph paths dep.output
   pub whole : (dep : MissingDep) → IsMissing graph records file dep → IsNamedAbove graph paths dep.output → IsOneOf dep found
+
+-- the same of whatever the logs tell
+abbrev pub Misses : Graph → Records → (file : List ℕ) → (paths : List ℕ) → List MissingDep → Type 0
+Misses graph records file paths found = (rs : List Record) (ds : List DepsRecord) → Knows graph records rs ds → AreMissing graph ds file paths found

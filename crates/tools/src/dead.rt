@@ -1,10 +1,7 @@
 //! `-t cleandead`: what a build made once and no line names any more.
 
-ghost use Rattle.std.specs.Prelude.{List, IfOk, map, string_bytes};
-ghost use Rattle.model.specs.declared.record.Record.{Record};
-ghost use Rattle.model.specs.declared.record.DepsRecord.{DepsRecord};
-ghost use Rattle.records.specs.Known.{AreKnown};
-ghost use Rattle.tools.specs.Dead.{AreBuried};
+ghost use Rattle.std.specs.Prelude.{IfOk, map, string_bytes};
+ghost use Rattle.tools.specs.Dead.{Buries};
 
 use crate::declared::Declared;
 use indexmap::IndexSet;
@@ -22,7 +19,7 @@ pub struct Dead {
 
 /// The outputs of the build log that no line names, by whether a deps record lists them.
 pub fn to_bury(alloc: Global, declared: &Declared, records: &Records) -> Result<Dead, AllocError>
-    ensures { IfOk result (λ found. (rs : List Record) (ds : List DepsRecord) → AreKnown declared.now.graph rs ds records.now → AreBuried declared.now.graph.manifest rs ds (map string_bytes found.dead.keys) (map string_bytes found.kept.keys)) }
+    ensures { IfOk result (λ found. Buries declared.now.graph records.now (map string_bytes found.dead.keys) (map string_bytes found.kept.keys)) }
 {
     let listed = listed(alloc, records)?;
     let mut found = Dead {

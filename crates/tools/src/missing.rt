@@ -1,10 +1,7 @@
 //! `-t missingdeps`: recorded inputs that are made, and whose maker is not above.
 
-ghost use Rattle.std.specs.Prelude.{List, IfOk};
-ghost use Rattle.model.specs.declared.record.Record.{Record};
-ghost use Rattle.model.specs.declared.record.DepsRecord.{DepsRecord};
-ghost use Rattle.records.specs.Known.{AreKnown};
-ghost use Rattle.tools.specs.Missing.{AreMissing};
+ghost use Rattle.std.specs.Prelude.{IfOk};
+ghost use Rattle.tools.specs.Missing.{Misses};
 
 use crate::above::edges_above;
 use crate::declared::Logged;
@@ -36,7 +33,7 @@ pub fn missing_deps(
     paths: &[PathId],
     file: &str,
 ) -> Result<Missed, AllocError>
-    ensures { IfOk result (λ found. (rs : List Record) (ds : List DepsRecord) → AreKnown logged.entry.declared.now.graph rs ds logged.entry.records.now → AreMissing logged.entry.declared.now.graph ds file.now paths.now found.missing.items) }
+    ensures { IfOk result (λ found. Misses logged.entry.declared.now.graph logged.entry.records.now file.now paths.now found.missing.items) }
 {
     let mut found = Missed {
         missing: Vec::new(alloc),

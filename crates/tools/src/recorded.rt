@@ -1,11 +1,9 @@
 //! What logs tell, as tools see it.
 
-ghost use Rattle.std.specs.Prelude.{◌≡◌, false, List, IfOk, OnOk};
+ghost use Rattle.std.specs.Prelude.{◌≡◌, false, IfOk, OnOk};
 ghost use Rattle.build_theory.specs.Seen.{Looked};
 ghost use Rattle.model.specs.Calls.{OnlyLooks};
-ghost use Rattle.model.specs.declared.record.Record.{Record};
-ghost use Rattle.model.specs.declared.record.DepsRecord.{DepsRecord};
-ghost use Rattle.records.specs.Known.{AreKnown};
+ghost use Rattle.records.specs.Known.{Knows, SomeOfBoth};
 ghost use Rattle.tools.specs.Joined.{KeepsEdges};
 
 use crate::declared::Declared;
@@ -37,7 +35,7 @@ pub fn read_records<S: Site>(alloc: Global, site: &mut S, graph: &Graph) -> Resu
     requires running { (S.world site.old).stopped ≡ false }
     ensures looks { OnlyLooks S.tells (S.world site.old) (S.world site.new) }
     ensures looked { OnOk result (Looked S.tells (S.world site.old) (S.world site.new)) }
-    ensures known { IfOk result (λ records. (rs : List Record) × (ds : List DepsRecord) × AreKnown graph.now rs ds records) }
+    ensures known { IfOk result (λ records. SomeOfBoth (Knows graph.now records)) }
 {
     let folder = own_folder(alloc, graph)?;
     let build_log = own_path(alloc, folder.as_str(), LOG)?;
@@ -55,7 +53,7 @@ pub fn read_joined<S: Site>(
     ensures looks { OnlyLooks S.tells (S.world site.old) (S.world site.new) }
     ensures looked { OnOk result (Looked S.tells (S.world site.old) (S.world site.new)) }
     ensures kept { KeepsEdges declared.old.graph declared.new.graph }
-    ensures known { IfOk result (λ records. (rs : List Record) × (ds : List DepsRecord) × AreKnown declared.new.graph rs ds records) }
+    ensures known { IfOk result (λ records. SomeOfBoth (Knows declared.new.graph records)) }
 {
     let first = read_records(alloc, site, &declared.graph)?;
     join_paths(alloc, &mut declared.graph, &first)?;
