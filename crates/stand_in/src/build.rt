@@ -1,6 +1,6 @@
 //! A build with what is regenerated before it.
 
-ghost use Rattle.std.specs.Prelude.{◌≡◌, [], false, IfErr, IfNone, IfOk, IfSome, OnOk};
+ghost use Rattle.std.specs.Prelude.{◌≡◌, ◌⊎◌, [], false, IfErr, IfNone, IfOk, IfSome, OnOk};
 ghost use Rattle.model.specs.World.{World, IsIdle};
 ghost use Rattle.model.specs.Calls.{OnlyLooks};
 ghost use Rattle.stand_in.specs.Above.{AreEdges};
@@ -170,11 +170,22 @@ fn before_build<S: Place>(
         return Ok(Next::End(Outcome::NotRebuilt(Some(report))));
     }
     match regenerate(alloc, site, declared, above, options)? {
-        Regenerated::Nothing if above.first.is_empty() => Ok(Next::Build),
-        // what was built first may be read by a build file
-        Regenerated::Nothing => Ok(Next::ReadAnew { old: false }),
+        Regenerated::Nothing => Ok(where_nothing_ran(above)),
         Regenerated::Ran { old } => Ok(Next::ReadAnew { old }),
         Regenerated::Failed => Ok(Next::End(Outcome::NotRebuilt(None))),
+    }
+}
+
+/// What is to be done where no generator ran: what was built first may be read by a build file.
+fn where_nothing_ran(above: &Above) -> Next
+    ensures built { above.now.first.items ≡ [] → result ≡ Next.Build }
+    ensures anew { (result ≡ Next.Build) ⊎ (result ≡ Next.ReadAnew false) }
+    ensures none { result ≡ Next.Build → above.now.first.items ≡ [] }
+{
+    if above.first.is_empty() {
+        Next::Build
+    } else {
+        Next::ReadAnew { old: false }
     }
 }
 

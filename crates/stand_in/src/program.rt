@@ -77,12 +77,21 @@ fn run_build<W: Write + Drop, E: Write>(
     out: &mut W,
     err: &mut E,
 ) -> io::Result<u8> {
-    let alloc = rt.alloc();
-    let heading = match Heading::parse(alloc, heading.unwrap_or(Heading::DEFAULT)) {
-        Ok(heading) => heading,
-        Err(HeadingFault::Memory) => return told::error("N61: out of memory", err),
-        Err(HeadingFault::Unknown(letter)) => return unknown_field(letter, err),
-    };
+    match Heading::parse(rt.alloc(), heading.unwrap_or(Heading::DEFAULT)) {
+        Ok(heading) => build_under(rt, given, &heading, out, err),
+        Err(HeadingFault::Memory) => told::error("N61: out of memory", err),
+        Err(HeadingFault::Unknown(letter)) => unknown_field(letter, err),
+    }
+}
+
+/// Builds in the folder that was named, with this heading in front of lines.
+fn build_under<W: Write + Drop, E: Write>(
+    rt: &HostRuntime,
+    given: &Given<'_>,
+    heading: &Heading,
+    out: &mut W,
+    err: &mut E,
+) -> io::Result<u8> {
     if given.shown != Shown::Printed {
         tell_folder(given, out)?;
     }
@@ -96,7 +105,7 @@ fn run_build<W: Write + Drop, E: Write>(
         writeln!(out, "ninja: -d keepdepfile and -d keeprsp do nothing here")?;
         out.flush()?;
     }
-    let (ended, trouble) = build_in(rt, given, &heading, out)?;
+    let (ended, trouble) = build_in(rt, given, heading, out)?;
     let telling = told::Telling {
         file: given.file,
         keep: given.keep,

@@ -47,15 +47,28 @@ pub fn to_clean(
     ensures { IfOk result (λ paths. AreCleaned declared.now cleaning.entry generated file.now (map string_bytes paths.keys)) }
 {
     let mut paths = IndexSet::new(alloc);
+    add_asked(alloc, declared, cleaning, generated, &mut paths)?;
+    Ok(without(alloc, paths, file)?)
+}
+
+/// Adds what a cleaning asks for. An unknown rule is refused before anything is added.
+fn add_asked(
+    alloc: Global,
+    declared: &Declared,
+    cleaning: Cleaning<'_>,
+    generated: bool,
+    paths: &mut IndexSet<String>,
+) -> Result<(), Fault> {
     match cleaning {
-        Cleaning::All => add_edges(alloc, declared, None, generated, &mut paths)?,
-        Cleaning::Targets(targets) => add_targets(alloc, declared, targets, generated, &mut paths)?,
+        Cleaning::All => Ok(add_edges(alloc, declared, None, generated, paths)?),
+        Cleaning::Targets(targets) => {
+            Ok(add_targets(alloc, declared, targets, generated, paths)?)
+        }
         Cleaning::Rules(rules) => {
             check_rules(alloc, declared, rules)?;
-            add_edges(alloc, declared, Some(rules), generated, &mut paths)?;
+            Ok(add_edges(alloc, declared, Some(rules), generated, paths)?)
         }
     }
-    Ok(without(alloc, paths, file)?)
 }
 
 /// The same paths without this one.

@@ -75,6 +75,15 @@ fn output(alloc: Global, declared: &Declared, word: &str) -> Result<PathId, Faul
     Ok(path)
 }
 
+/// What is told of one edge.
+#[derive(Clone, Copy)]
+struct Entry<'a> {
+    folder: &'a str,
+    command: &'a str,
+    file: &'a str,
+    output: &'a str,
+}
+
 /// The entries so far.
 #[derive(Drop)]
 struct Listing {
@@ -115,13 +124,23 @@ impl Listing {
             Some(command) => shown_command(alloc, command, how.expand)?,
             None => String::new(alloc),
         };
+        let entry = Entry {
+            folder: how.folder,
+            command: command.as_str(),
+            file: declared.graph.text(input),
+            output: declared.graph.text(output),
+        };
+        self.push_entry(alloc, entry)
+    }
+
+    fn push_entry(&mut self, alloc: Global, entry: Entry<'_>) -> Result<(), AllocError> {
         self.told
             .push_str(if self.is_empty { "\n  {" } else { ",\n  {" })?;
         self.is_empty = false;
-        self.push_member(alloc, "\n    \"directory\": ", how.folder)?;
-        self.push_member(alloc, ",\n    \"command\": ", command.as_str())?;
-        self.push_member(alloc, ",\n    \"file\": ", declared.graph.text(input))?;
-        self.push_member(alloc, ",\n    \"output\": ", declared.graph.text(output))?;
+        self.push_member(alloc, "\n    \"directory\": ", entry.folder)?;
+        self.push_member(alloc, ",\n    \"command\": ", entry.command)?;
+        self.push_member(alloc, ",\n    \"file\": ", entry.file)?;
+        self.push_member(alloc, ",\n    \"output\": ", entry.output)?;
         self.told.push_str("\n  }")
     }
 

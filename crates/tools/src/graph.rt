@@ -52,12 +52,7 @@ impl Drawing {
         if is_met(&mut self.paths, path.index()) {
             return Ok(());
         }
-        let name = path_name(alloc, path)?;
-        let label = escaped(alloc, declared.graph.text(path))?;
-        push_line(
-            &mut self.told,
-            &["\"", name.as_str(), "\" [label=\"", label.as_str(), "\"]"],
-        )?;
+        self.draw_path(alloc, path, declared.graph.text(path))?;
         let Some(edge) = declared.graph.maker(path) else {
             return Ok(());
         };
@@ -66,6 +61,14 @@ impl Drawing {
         }
         self.draw_edge(alloc, declared, edge)?;
         self.push_reversed(declared.graph.inputs(edge))
+    }
+
+    /// Draws a path as a node.
+    fn draw_path(&mut self, alloc: Global, path: PathId, text: &str) -> Result<(), AllocError> {
+        let name = path_name(alloc, path)?;
+        let label = escaped(alloc, text)?;
+        let line = ["\"", name.as_str(), "\" [label=\"", label.as_str(), "\"]"];
+        push_line(&mut self.told, line.as_slice())
     }
 
     /// Draws an edge: by one line from its input to its output, where it has one of each, and else as a node of its own.
@@ -77,39 +80,52 @@ impl Drawing {
     ) -> Result<(), AllocError> {
         let graph = &declared.graph;
         let rule = declared.rule(edge);
-        if let ([input], [output]) = (graph.inputs(edge), graph.outputs(edge)) {
-            let from = path_name(alloc, *input)?;
-            let to = path_name(alloc, *output)?;
-            let line = [
-                "\"",
-                from.as_str(),
-                "\" -> \"",
-                to.as_str(),
-                "\" [label=\" ",
-                rule,
-                "\"]",
-            ];
-            return push_line(&mut self.told, line.as_slice());
+        match (graph.inputs(edge), graph.outputs(edge)) {
+            ([input], [output]) => self.draw_short(alloc, *input, *output, rule),
+            _ => {
+                let number = edge.index();
+                let name = format!(in alloc; "e{number}")?;
+                self.draw_node(alloc, declared, edge, name.as_str())
+            }
         }
-        let number = edge.index();
-        let name = format!(in alloc; "e{number}")?;
+    }
+
+    fn draw_short(
+        &mut self,
+        alloc: Global,
+        input: PathId,
+        output: PathId,
+        rule: &str,
+    ) -> Result<(), AllocError> {
+        let from = path_name(alloc, input)?;
+        let to = path_name(alloc, output)?;
         let line = [
             "\"",
-            name.as_str(),
-            "\" [label=\"",
+            from.as_str(),
+            "\" -> \"",
+            to.as_str(),
+            "\" [label=\" ",
             rule,
-            "\", shape=ellipse]",
+            "\"]",
         ];
+        push_line(&mut self.told, line.as_slice())
+    }
+
+    /// Draws an edge as a node of this name.
+    fn draw_node(
+        &mut self,
+        alloc: Global,
+        declared: &Declared,
+        edge: EdgeId,
+        name: &str,
+    ) -> Result<(), AllocError> {
+        let rule = declared.rule(edge);
+        let line = ["\"", name, "\" [label=\"", rule, "\", shape=ellipse]"];
         push_line(&mut self.told, line.as_slice())?;
-        self.draw_outputs(alloc, name.as_str(), graph.outputs(edge))?;
-        let lines = &graph.manifest.lines;
-        self.draw_inputs(alloc, name.as_str(), "", lines.regular_inputs(edge))?;
-        self.draw_inputs(
-            alloc,
-            name.as_str(),
-            " style=dotted",
-            lines.order_only_inputs(edge),
-        )
+        let lines = &declared.graph.manifest.lines;
+        self.draw_outputs(alloc, name, declared.graph.outputs(edge))?;
+        self.draw_inputs(alloc, name, "", lines.regular_inputs(edge))?;
+        self.draw_inputs(alloc, name, " style=dotted", lines.order_only_inputs(edge))
     }
 
     fn draw_outputs(
@@ -120,10 +136,8 @@ impl Drawing {
     ) -> Result<(), AllocError> {
         for path in paths {
             let name = path_name(alloc, *path)?;
-            push_line(
-                &mut self.told,
-                &["\"", edge, "\" -> \"", name.as_str(), "\""],
-            )?;
+            let line = ["\"", edge, "\" -> \"", name.as_str(), "\""];
+            push_line(&mut self.told, line.as_slice())?;
         }
         Ok(())
     }
@@ -137,18 +151,16 @@ impl Drawing {
     ) -> Result<(), AllocError> {
         for path in paths {
             let name = path_name(alloc, *path)?;
-            push_line(
-                &mut self.told,
-                &[
-                    "\"",
-                    name.as_str(),
-                    "\" -> \"",
-                    edge,
-                    "\" [arrowhead=none",
-                    style,
-                    "]",
-                ],
-            )?;
+            let line = [
+                "\"",
+                name.as_str(),
+                "\" -> \"",
+                edge,
+                "\" [arrowhead=none",
+                style,
+                "]",
+            ];
+            push_line(&mut self.told, line.as_slice())?;
         }
         Ok(())
     }
