@@ -3,7 +3,8 @@ use Rattle.std.specs.Prelude.{◌≡◌, ◌⊎◌, ℕ, Bool, false, IsTrue, Li
 use Rattle.model.specs.declared.act.Act.{Act}
 use Rattle.model.specs.declared.outcome.Outcome.{Outcome}
 use Rattle.model.specs.World.{World, View}
-use Rattle.model.specs.Calls.{IsRestart, OnlyLooks}
+use Rattle.model.specs.Calls.{HasCause, IsRestart, OnlyLooks}
+use Rattle.model.specs.declared.fault.SiteFault.{SiteFault}
 use Rattle.build_theory.specs.Seen.{Looked}
 use Rattle.manifest.specs.Answer.{IsGraph, ReadsFile}
 use Rattle.links.specs.Told.{declared_by}
@@ -23,6 +24,16 @@ use Rattle.stand_in.specs.declared.build.Outcome.TheVariants.{Built, Refused, No
 -- the site has not stopped since
 abbrev pub GoesOn : World → World → Type 0
 GoesOn old new = old.stopped ≡ false → new.stopped ≡ false
+
+-- it only looked, and the last call was answered by this fault, or there was no memory for what came behind it
+pub record FailedAt (tells : Bool) (old new : World) (fault : SiteFault) : Type 0 where
+  pub mid : World
+  pub before : OnlyLooks tells old mid
+  pub looks : OnlyLooks tells mid new
+  pub cause : HasCause {T = Unit {0}} mid new (Err fault)
+
+abbrev pub Fails : Bool → World → World → SiteFault → Type 0
+Fails tells old new fault = old.stopped ≡ false → FailedAt tells old new fault
 
 -- ---- reading
 

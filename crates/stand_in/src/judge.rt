@@ -1,9 +1,9 @@
 //! Whether a generator is to be run: by stamps alone.
 
-ghost use Rattle.std.specs.Prelude.{◌≡◌, ◌<◌, false, length, IfOk, IsSome, OnOk};
+ghost use Rattle.std.specs.Prelude.{◌≡◌, ◌<◌, false, length, IfErr, IfOk, IsSome, OnOk};
 ghost use Rattle.build_theory.specs.Seen.{Looked};
 ghost use Rattle.model.specs.Calls.{OnlyLooks};
-ghost use Rattle.stand_in.specs.Moves.{GoesOn};
+ghost use Rattle.stand_in.specs.Moves.{Fails, GoesOn};
 
 use links::{Graph, Reading};
 use model::SiteFault;
@@ -26,6 +26,7 @@ pub fn is_out_of_date<S: Site>(
     requires { edge < length declared.now.graph.manifest.lines }
     ensures looks { OnlyLooks S.tells (S.world site.old) (S.world site.new) }
     ensures goes { OnOk result (GoesOn (S.world site.old) (S.world site.new)) }
+    ensures fault { IfErr result (Fails S.tells (S.world site.old) (S.world site.new)) }
     ensures looked { IfOk result (λ later. later ≡ false → Looked S.tells (S.world site.old) (S.world site.new)) }
 {
     let Some(made) = made_stamp(site, declared, edge, file)? else {
@@ -46,6 +47,7 @@ fn made_stamp<S: Site>(
 ) -> Result<Option<u64>, SiteFault>
     ensures looks { OnlyLooks S.tells (S.world site.old) (S.world site.new) }
     ensures goes { OnOk result (GoesOn (S.world site.old) (S.world site.new)) }
+    ensures fault { IfErr result (Fails S.tells (S.world site.old) (S.world site.new)) }
     ensures looked { IfOk result (λ stamp. IsSome stamp → Looked S.tells (S.world site.old) (S.world site.new)) }
 {
     let outputs = declared.graph.outputs(edge);
@@ -68,6 +70,7 @@ fn made_stamp<S: Site>(
 fn stamp<S: Site>(site: &mut S, path: &str) -> Result<Option<u64>, SiteFault>
     ensures looks { OnlyLooks S.tells (S.world site.old) (S.world site.new) }
     ensures goes { OnOk result (GoesOn (S.world site.old) (S.world site.new)) }
+    ensures fault { IfErr result (Fails S.tells (S.world site.old) (S.world site.new)) }
     ensures looked { IfOk result (λ stamp. IsSome stamp → Looked S.tells (S.world site.old) (S.world site.new)) }
 {
     match site.stat(path) {
@@ -80,6 +83,7 @@ fn stamp<S: Site>(site: &mut S, path: &str) -> Result<Option<u64>, SiteFault>
 fn is_later<S: Site>(site: &mut S, path: &str, made: u64) -> Result<bool, SiteFault>
     ensures looks { OnlyLooks S.tells (S.world site.old) (S.world site.new) }
     ensures goes { OnOk result (GoesOn (S.world site.old) (S.world site.new)) }
+    ensures fault { IfErr result (Fails S.tells (S.world site.old) (S.world site.new)) }
     ensures looked { IfOk result (λ later. later ≡ false → Looked S.tells (S.world site.old) (S.world site.new)) }
 {
     match stamp(site, path)? {
@@ -98,6 +102,7 @@ fn has_later_input<S: Site>(
 ) -> Result<bool, SiteFault>
     ensures looks { OnlyLooks S.tells (S.world site.old) (S.world site.new) }
     ensures goes { OnOk result (GoesOn (S.world site.old) (S.world site.new)) }
+    ensures fault { IfErr result (Fails S.tells (S.world site.old) (S.world site.new)) }
     ensures looked { IfOk result (λ later. later ≡ false → Looked S.tells (S.world site.old) (S.world site.new)) }
 {
     match graph.reading(alloc, edge)? {
@@ -121,6 +126,7 @@ fn is_one_later<S: Site>(
 ) -> Result<bool, SiteFault>
     ensures looks { OnlyLooks S.tells (S.world site.old) (S.world site.new) }
     ensures goes { OnOk result (GoesOn (S.world site.old) (S.world site.new)) }
+    ensures fault { IfErr result (Fails S.tells (S.world site.old) (S.world site.new)) }
     ensures looked { IfOk result (λ later. later ≡ false → Looked S.tells (S.world site.old) (S.world site.new)) }
 {
     for path in paths {
@@ -140,6 +146,7 @@ fn is_input_later<S: Site>(
 ) -> Result<bool, SiteFault>
     ensures looks { OnlyLooks S.tells (S.world site.old) (S.world site.new) }
     ensures goes { OnOk result (GoesOn (S.world site.old) (S.world site.new)) }
+    ensures fault { IfErr result (Fails S.tells (S.world site.old) (S.world site.new)) }
     ensures looked { IfOk result (λ later. later ≡ false → Looked S.tells (S.world site.old) (S.world site.new)) }
 {
     match site.stat(graph.text(path)) {
@@ -160,6 +167,7 @@ fn has_later_told<S: Site>(
 ) -> Result<bool, SiteFault>
     ensures looks { OnlyLooks S.tells (S.world site.old) (S.world site.new) }
     ensures goes { OnOk result (GoesOn (S.world site.old) (S.world site.new)) }
+    ensures fault { IfErr result (Fails S.tells (S.world site.old) (S.world site.new)) }
     ensures looked { IfOk result (λ later. later ≡ false → Looked S.tells (S.world site.old) (S.world site.new)) }
 {
     let Some(command) = declared.command(edge) else {
@@ -180,6 +188,7 @@ fn is_told_later<S: Site>(
 ) -> Result<bool, SiteFault>
     ensures looks { OnlyLooks S.tells (S.world site.old) (S.world site.new) }
     ensures goes { OnOk result (GoesOn (S.world site.old) (S.world site.new)) }
+    ensures fault { IfErr result (Fails S.tells (S.world site.old) (S.world site.new)) }
     ensures looked { IfOk result (λ later. later ≡ false → Looked S.tells (S.world site.old) (S.world site.new)) }
 {
     let content = match site.read(path) {
@@ -199,6 +208,7 @@ fn is_told_later<S: Site>(
 fn is_some_later<S: Site>(site: &mut S, paths: &[Path], made: u64) -> Result<bool, SiteFault>
     ensures looks { OnlyLooks S.tells (S.world site.old) (S.world site.new) }
     ensures goes { OnOk result (GoesOn (S.world site.old) (S.world site.new)) }
+    ensures fault { IfErr result (Fails S.tells (S.world site.old) (S.world site.new)) }
     ensures looked { IfOk result (λ later. later ≡ false → Looked S.tells (S.world site.old) (S.world site.new)) }
 {
     for path in paths {

@@ -1,10 +1,10 @@
 //! Regenerating: what the program does between two builds, in the user's place.
 
-ghost use Rattle.std.specs.Prelude.{◌≡◌, ◌<◌, length, IfOk, OnOk};
+ghost use Rattle.std.specs.Prelude.{◌≡◌, ◌<◌, length, IfErr, IfOk, OnOk};
 ghost use Rattle.build_theory.specs.Seen.{Looked};
 ghost use Rattle.model.specs.Calls.{OnlyLooks};
 ghost use Rattle.stand_in.specs.Above.{AreEdges};
-ghost use Rattle.stand_in.specs.Moves.{GoesOn};
+ghost use Rattle.stand_in.specs.Moves.{Fails, GoesOn};
 
 use crate::above::Above;
 use crate::judge::is_out_of_date;
@@ -43,6 +43,7 @@ pub fn regenerate<S: Place>(
     requires { AreEdges declared.now above.now.generators.items }
     ensures looks { OnlyLooks S.tells (S.world site.old) (S.world site.new) }
     ensures goes { OnOk result (GoesOn (S.world site.old) (S.world site.new)) }
+    ensures fault { IfErr result (Fails S.tells (S.world site.old) (S.world site.new)) }
     ensures nothing { IfOk result (λ ran. ran ≡ Regenerated.Nothing → Looked S.tells (S.world site.old) (S.world site.new)) }
 {
     let mut ran = 0;
@@ -76,6 +77,7 @@ fn is_last_old<S: Site>(
     requires { AreEdges declared.now above.now.generators.items }
     ensures looks { OnlyLooks S.tells (S.world site.old) (S.world site.new) }
     ensures goes { OnOk result (GoesOn (S.world site.old) (S.world site.new)) }
+    ensures fault { IfErr result (Fails S.tells (S.world site.old) (S.world site.new)) }
 {
     match above.generators.last() {
         Some(last) => is_out_of_date(alloc, site, declared, *last, above.file),
@@ -93,6 +95,7 @@ pub fn would_run<S: Site>(
     requires { AreEdges declared.now above.now.generators.items }
     ensures looks { OnlyLooks S.tells (S.world site.old) (S.world site.new) }
     ensures goes { OnOk result (GoesOn (S.world site.old) (S.world site.new)) }
+    ensures fault { IfErr result (Fails S.tells (S.world site.old) (S.world site.new)) }
 {
     for generator in above.generators.as_slice() {
         if is_out_of_date(alloc, site, declared, *generator, above.file)? {
@@ -121,6 +124,7 @@ fn run_one<S: Place>(
     requires { edge < length declared.now.graph.manifest.lines }
     ensures looks { OnlyLooks S.tells (S.world site.old) (S.world site.new) }
     ensures goes { OnOk result (GoesOn (S.world site.old) (S.world site.new)) }
+    ensures fault { IfErr result (Fails S.tells (S.world site.old) (S.world site.new)) }
 {
     let Some(command) = declared.command(edge) else {
         return Ok(true);
@@ -143,6 +147,7 @@ fn show_line<S: Site>(
 ) -> Result<(), SiteFault>
     ensures looks { OnlyLooks S.tells (S.world site.old) (S.world site.new) }
     ensures goes { OnOk result (GoesOn (S.world site.old) (S.world site.new)) }
+    ensures fault { IfErr result (Fails S.tells (S.world site.old) (S.world site.new)) }
 {
     let counts = Counts {
         started: turn.done + 1,
@@ -170,6 +175,7 @@ fn show_failure<S: Site>(
     requires { edge < length declared.now.graph.manifest.lines }
     ensures looks { OnlyLooks S.tells (S.world site.old) (S.world site.new) }
     ensures goes { OnOk result (GoesOn (S.world site.old) (S.world site.new)) }
+    ensures fault { IfErr result (Fails S.tells (S.world site.old) (S.world site.new)) }
 {
     let outputs = texts(alloc, declared, edge)?;
     let ending = Ending {
@@ -204,6 +210,7 @@ fn make_folders<S: Site>(site: &mut S, declared: &Declared, edge: EdgeId) -> Res
     requires { edge < length declared.now.graph.manifest.lines }
     ensures looks { OnlyLooks S.tells (S.world site.old) (S.world site.new) }
     ensures goes { OnOk result (GoesOn (S.world site.old) (S.world site.new)) }
+    ensures fault { IfErr result (Fails S.tells (S.world site.old) (S.world site.new)) }
 {
     for output in declared.graph.outputs(edge) {
         if let Some((folder, _)) = declared.graph.text(*output).rsplit_once('/') {

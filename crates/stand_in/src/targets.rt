@@ -1,6 +1,6 @@
 //! What is built beside what generators make.
 
-ghost use Rattle.std.specs.Prelude.{◌≡◌, false, OnOk};
+ghost use Rattle.std.specs.Prelude.{◌≡◌, false, IfErr, OnOk};
 ghost use Rattle.build_theory.specs.Seen.{Looked};
 ghost use Rattle.model.specs.Calls.{OnlyLooks};
 ghost use Rattle.tools.specs.Joined.{KeepsEdges};
@@ -35,6 +35,7 @@ pub fn left_targets<S: Site>(
     requires running { (S.world site.old).stopped ≡ false }
     ensures looks { OnlyLooks S.tells (S.world site.old) (S.world site.new) }
     ensures looked { OnOk result (Looked S.tells (S.world site.old) (S.world site.new)) }
+    ensures memory { IfErr result (λ fault. fault ≡ Fault.Memory → (S.world site.new).stopped ≡ false) }
     ensures kept { KeepsEdges declared.old.graph declared.new.graph }
 {
     let paths = if words.is_empty() {
@@ -63,6 +64,7 @@ fn asked_here<S: Site>(
     requires running { (S.world site.old).stopped ≡ false }
     ensures looks { OnlyLooks S.tells (S.world site.old) (S.world site.new) }
     ensures looked { OnOk result (Looked S.tells (S.world site.old) (S.world site.new)) }
+    ensures memory { IfErr result (λ fault. fault ≡ Fault.Memory → (S.world site.new).stopped ≡ false) }
     ensures kept { KeepsEdges declared.old.graph declared.new.graph }
 {
     if !words.iter().any(|word| word.ends_with('^')) {

@@ -1,6 +1,6 @@
 //! What logs tell, as tools see it.
 
-ghost use Rattle.std.specs.Prelude.{◌≡◌, false, IfOk, OnOk};
+ghost use Rattle.std.specs.Prelude.{◌≡◌, false, IfErr, IfOk, OnOk};
 ghost use Rattle.build_theory.specs.Seen.{Looked};
 ghost use Rattle.model.specs.Calls.{OnlyLooks};
 ghost use Rattle.records.specs.Known.{Knows, SomeOfBoth};
@@ -35,6 +35,7 @@ pub fn read_records<S: Site>(alloc: Global, site: &mut S, graph: &Graph) -> Resu
     requires running { (S.world site.old).stopped ≡ false }
     ensures looks { OnlyLooks S.tells (S.world site.old) (S.world site.new) }
     ensures looked { OnOk result (Looked S.tells (S.world site.old) (S.world site.new)) }
+    ensures memory { IfErr result (λ fault. fault ≡ Fault.Memory → (S.world site.new).stopped ≡ false) }
     ensures known { IfOk result (λ records. SomeOfBoth (Knows graph.now records)) }
 {
     let folder = own_folder(alloc, graph)?;
@@ -52,6 +53,7 @@ pub fn read_joined<S: Site>(
     requires running { (S.world site.old).stopped ≡ false }
     ensures looks { OnlyLooks S.tells (S.world site.old) (S.world site.new) }
     ensures looked { OnOk result (Looked S.tells (S.world site.old) (S.world site.new)) }
+    ensures memory { IfErr result (λ fault. fault ≡ Fault.Memory → (S.world site.new).stopped ≡ false) }
     ensures kept { KeepsEdges declared.old.graph declared.new.graph }
     ensures known { IfOk result (λ records. SomeOfBoth (Knows declared.new.graph records)) }
 {
