@@ -180,14 +180,7 @@ fn run_tool<W: Write, E: Write>(
         return Ok(1);
     }
     match switches_of(alloc, tool, given.words.as_slice()) {
-        Ok(found) => {
-            let asking = Asking {
-                tool,
-                options: given,
-                switches: &found,
-            };
-            answer_in(rt, asking, out, err)
-        }
+        Ok(found) => answer_in(rt, Asking::new(tool, given, &found), out, err),
         Err(Usage::Memory) => told::error("N61: out of memory", err),
         Err(usage) => {
             if let Usage::Letter(letter) = usage {

@@ -59,6 +59,16 @@ pub struct Asking<'a> {
     pub switches: &'a Switches<'a>,
 }
 
+impl<'a> Asking<'a> {
+    pub fn new(tool: Tool, options: &'a Options<'a>, switches: &'a Switches<'a>) -> Asking<'a> {
+        Asking {
+            tool,
+            options,
+            switches,
+        }
+    }
+}
+
 /// What a tool answers in the working folder, which is this one: it reads the build files, and the logs where it wants them. None but
 /// `clean` and `cleandead` writes; these wait until nobody else is at work in the folder. `restat` and `recompact` only have their words
 /// checked, so that a generator may call them while a build has the logs open.
@@ -93,7 +103,8 @@ fn answer_read<S: Site>(
     folder: &str,
     declared: &mut Declared,
 ) -> Result<Answer, NoAnswer>
-    requires { (S.world site.old).stopped ≡ false }
+    requires running { (S.world site.old).stopped ≡ false }
+    ensures looks { removes asking.entry.tool ≡ false → OnlyLooks S.tells (S.world site.old) (S.world site.new) }
 {
     match asking.tool {
         Tool::Query | Tool::Deps | Tool::MissingDeps | Tool::CleanDead => {
@@ -118,7 +129,8 @@ fn with_records<S: Site>(
     asking: Asking<'_>,
     declared: &mut Declared,
 ) -> Result<Answer, NoAnswer>
-    requires { (S.world site.old).stopped ≡ false }
+    requires running { (S.world site.old).stopped ≡ false }
+    ensures looks { removes asking.entry.tool ≡ false → OnlyLooks S.tells (S.world site.old) (S.world site.new) }
 {
     let records = read_joined(alloc, site, declared)?;
     if asking.tool == Tool::Query {
@@ -126,11 +138,7 @@ fn with_records<S: Site>(
         let told = queried(alloc, site, declared, &records, words)?;
         return Ok(Answer::well(told));
     }
-    let logged = Logged {
-        declared: &*declared,
-        records: &records,
-    };
-    with_logs(alloc, site, logged, asking)
+    with_logs(alloc, site, Logged::new(declared, &records), asking)
 }
 
 /// What a tool tells of the graph alone.
@@ -213,7 +221,9 @@ fn with_logs<S: Site>(
     site: &mut S,
     logged: Logged<'_>,
     asking: Asking<'_>,
-) -> Result<Answer, NoAnswer> {
+) -> Result<Answer, NoAnswer>
+    ensures { removes asking.entry.tool ≡ false → OnlyLooks S.tells (S.world site.old) (S.world site.new) }
+{
     let words = asking.switches.words.as_slice();
     let Logged { declared, records } = logged;
     match asking.tool {
@@ -406,18 +416,14 @@ fn remove_all<S: Site>(
     let lines = tells_each(asking.options).then_some(String::new(alloc));
     let cleaned = clean(alloc, site, paths, asking.options.dry, lines)?;
     let mut text = String::new(alloc);
-    push_cleaned(alloc, site, &cleaned, kept, asking, &mut text)?;
+    push_cleaned(alloc, site, &cleaned, kept, &mut text)?;
     let status = if cleaned.refused.is_empty() { 0 } else { 1 };
     Ok(Answer { text, status })
 }
 
 /// Whether a line tells each file that is removed.
 fn tells_each(options: &Options<'_>) -> bool {
-    match options.shown {
-        Shown::Commands => true,
-        Shown::Lines => options.dry,
-        Shown::Printed => false,
-    }
+    options.dry || options.shown == Shown::Commands
 }
 
 /// Tells what was removed, what is kept, and what could not be removed.
@@ -426,12 +432,9 @@ fn push_cleaned<S: Site>(
     site: &mut S,
     cleaned: &Cleaned,
     kept: Option<&IndexSet<String>>,
-    asking: Asking<'_>,
     text: &mut String,
 ) -> Result<(), Fault> {
-    if asking.options.shown != Shown::Printed {
-        push_removed(alloc, text, cleaned)?;
-    }
+    push_removed(alloc, text, cleaned)?;
     if let Some(kept) = kept {
         push_kept(site, text, kept)?;
     }

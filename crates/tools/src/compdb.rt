@@ -75,13 +75,11 @@ fn output(alloc: Global, declared: &Declared, word: &str) -> Result<PathId, Faul
     Ok(path)
 }
 
-/// What is told of one edge.
+/// The first input and the first output of an edge.
 #[derive(Clone, Copy)]
-struct Entry<'a> {
-    folder: &'a str,
-    command: &'a str,
-    file: &'a str,
-    output: &'a str,
+struct Ends {
+    input: PathId,
+    output: PathId,
 }
 
 /// The entries so far.
@@ -124,23 +122,27 @@ impl Listing {
             Some(command) => shown_command(alloc, command, how.expand)?,
             None => String::new(alloc),
         };
-        let entry = Entry {
-            folder: how.folder,
-            command: command.as_str(),
-            file: declared.graph.text(input),
-            output: declared.graph.text(output),
-        };
-        self.push_entry(alloc, entry)
+        let ends = Ends { input, output };
+        self.push_entry(alloc, declared, ends, how.folder, command.as_str())
     }
 
-    fn push_entry(&mut self, alloc: Global, entry: Entry<'_>) -> Result<(), AllocError> {
+    fn push_entry(
+        &mut self,
+        alloc: Global,
+        declared: &Declared,
+        ends: Ends,
+        folder: &str,
+        command: &str,
+    ) -> Result<(), AllocError> {
         self.told
             .push_str(if self.is_empty { "\n  {" } else { ",\n  {" })?;
         self.is_empty = false;
-        self.push_member(alloc, "\n    \"directory\": ", entry.folder)?;
-        self.push_member(alloc, ",\n    \"command\": ", entry.command)?;
-        self.push_member(alloc, ",\n    \"file\": ", entry.file)?;
-        self.push_member(alloc, ",\n    \"output\": ", entry.output)?;
+        let file = declared.graph.text(ends.input);
+        let output = declared.graph.text(ends.output);
+        self.push_member(alloc, "\n    \"directory\": ", folder)?;
+        self.push_member(alloc, ",\n    \"command\": ", command)?;
+        self.push_member(alloc, ",\n    \"file\": ", file)?;
+        self.push_member(alloc, ",\n    \"output\": ", output)?;
         self.told.push_str("\n  }")
     }
 

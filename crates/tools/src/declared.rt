@@ -37,3 +37,9 @@ pub struct Logged<'a> {
     pub declared: &'a Declared,
     pub records: &'a Records,
 }
+
+impl<'a> Logged<'a> {
+    pub fn new(declared: &'a Declared, records: &'a Records) -> Logged<'a> {
+        Logged { declared, records }
+    }
+}
