@@ -11,7 +11,7 @@ ghost use Rattle.stand_in.specs.Moves.{ComesNext, EndsOncePrepared, EndsOnceRead
 use crate::above::{Above, all_above};
 use crate::given::Options as Given;
 use crate::place::Place;
-use crate::regenerate::{Regenerated, regenerate, would_run};
+use crate::regenerating::{Regenerated, regenerate, would_run};
 use crate::targets::{Targets, left_targets};
 use builder::{Asked, Options, Report, build, build_graph_read, link};
 use manifest::read_described;

@@ -17,8 +17,8 @@ use Rattle.tools.specs.Above.{AreAbove, IsNeededFor}
 use Rattle.tools.specs.Files.{rule_of}
 use Rattle.tools.specs.Roots.{AreRoots}
 use Rattle.tools.specs.declared.declared.Declared.{Declared}
-use Rattle.tools.specs.declared.targets.Wanted.{Wanted}
-use Rattle.tools.specs.declared.targets.Wanted.TheVariants.{Depth, Rule, Sources, All}
+use Rattle.tools.specs.declared.listing.Wanted.{Wanted}
+use Rattle.tools.specs.declared.listing.Wanted.TheVariants.{Depth, Rule, Sources, All}
 
 abbrev pub line : List ℕ → List ℕ
 line text = text ++ 10 ∷ []

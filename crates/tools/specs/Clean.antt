@@ -5,8 +5,8 @@ use Rattle.model.specs.Graph.{has, has_number}
 use Rattle.links.specs.Links.{Links, links_of}
 use Rattle.paths.specs.Told.{text_at}
 use Rattle.tools.specs.declared.declared.Declared.{Declared}
-use Rattle.tools.specs.declared.clean.Cleaning.{Cleaning}
-use Rattle.tools.specs.declared.clean.Cleaning.TheVariants.{All, Targets, Rules}
+use Rattle.tools.specs.declared.cleaning.Cleaning.{Cleaning}
+use Rattle.tools.specs.declared.cleaning.Cleaning.TheVariants.{All, Targets, Rules}
 use Rattle.tools.specs.Above.{IsNeededFor}
 use Rattle.tools.specs.Files.{own_files, rule_of, runs_generator}
 

@@ -8,7 +8,7 @@ use crate::declared::Declared;
 use crate::fault::Fault;
 use crate::near::near;
 use crate::recorded::first_reader;
-use crate::roots::defaults;
+use crate::unread::defaults;
 use lexer::{ReadFault, canonical};
 use links::Graph;
 use paths::PathId;

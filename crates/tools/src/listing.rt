@@ -2,13 +2,13 @@
 
 ghost use Rattle.std.specs.Prelude.{◌≡◌, IfOk, string_bytes};
 ghost use Rattle.tools.specs.Answers.{PrintsOfRule, PrintsTargets, all_sources, all_targets, lines};
-ghost use Rattle.tools.specs.declared.targets.Wanted.TheVariants as wanted;
+ghost use Rattle.tools.specs.declared.listing.Wanted.TheVariants as wanted;
 
 use crate::answer::push_line;
 use crate::declared::Declared;
 use crate::fault::Fault;
 use crate::near::near_word;
-use crate::roots::roots;
+use crate::unread::roots;
 use links::{ConeFault, Graph};
 use paths::{EdgeId, PathId};
 use std::alloc::{AllocError, Global};

@@ -5,7 +5,7 @@ ghost use Rattle.tools.specs.Answers.{PrintsInputs};
 
 use crate::above::edges_above;
 use crate::declared::Declared;
-use crate::targets::sorted_lines;
+use crate::listing::sorted_lines;
 use lexer::quote;
 use paths::PathId;
 use std::alloc::{AllocError, Global};
