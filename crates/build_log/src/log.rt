@@ -168,6 +168,11 @@ impl Log {
         self.kept.at(number)
     }
 
+    /// The outputs for which the done record with this number is in force.
+    pub fn outputs_at(&self, alloc: Global, number: usize) -> Result<Vec<&str>, AllocError> {
+        self.kept.outputs_in_force(alloc, number)
+    }
+
     /// How many records are in force, each for one of its outputs at least.
     pub fn records_in_force(&self) -> usize
         ensures { OfKept Keeps self.now (λ all. result ≡ length (compaction all)) }

@@ -3,6 +3,7 @@ use Rattle.std.specs.Prelude.{Bool, List, Result}
 use Rattle.model.specs.declared.graph.BuildGraph.{BuildGraph}
 use Rattle.model.specs.declared.graph.Edge.{Edge}
 use Rattle.model.specs.World.{World}
+use Rattle.paths.specs.declared.manifest.Manifest.{Manifest}
 use Rattle.paths.specs.Told.{graph_of}
 use Rattle.links.specs.declared.graph.Graph.{Graph}
 use Rattle.links.specs.Told.{declared_by}
@@ -23,3 +24,7 @@ BuildsReading tells reading old new report = BuildsAsked tells (graph_of reading
 -- the same of a graph in numbers, where a stage that ends the build gives its report as an error
 abbrev pub BuildsGraph : Bool → Graph → Asked → World → World → Result Report Report → Type 0
 BuildsGraph tells graph asked old new result = BuildsAsked tells (declared_by graph) asked old new (report_in result)
+
+-- each build of what the manifest declares reports so, whatever is asked for and whenever, since its edges make no graph
+abbrev pub IsReportOfNoGraph : Manifest → Report → Type 0
+IsReportOfNoGraph manifest report = (tells : Bool) (asked : Asked) (now : World) → BuildsAsked tells (graph_of manifest) asked now now report

@@ -29,6 +29,7 @@ pub struct Asked<'a> {
 }
 
 impl<'a> Asked<'a> {
+    /// What these options and targets ask of build files that say this of `builddir`; no targets stand for the default ones.
     pub fn new(
         alloc: Global,
         options: &Options,

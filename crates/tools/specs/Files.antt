@@ -1,0 +1,20 @@
+-- What is told of an edge beside its line.
+use Rattle.std.specs.Prelude.{ℕ, Bool, false, List, [], ◌∷◌, get_or, map, string_bytes}
+use Rattle.paths.specs.declared.manifest.Action.{Action}
+use Rattle.paths.specs.declared.manifest.Action.TheVariants.{Alias, Command}
+use Rattle.paths.specs.Commands.{no_action}
+use Rattle.tools.specs.declared.declared.Declared.{Declared}
+
+abbrev pub rule_of : Declared → ℕ → List ℕ
+rule_of declared e = get_or (map string_bytes declared.described.names.keys) (get_or declared.described.rules.items e 0) []
+
+abbrev pub runs_generator : Declared → ℕ → Bool
+runs_generator declared e = get_or declared.described.generators.items e false
+
+-- the depfile and the response file of what an edge does
+abbrev pub files_of : Action → List (List ℕ)
+files_of Alias = []
+files_of (Command command) = command.act.depfile ∷ command.act.response_path ∷ []
+
+abbrev pub own_files : Declared → ℕ → List (List ℕ)
+own_files declared e = files_of (get_or declared.graph.manifest.actions e no_action)
