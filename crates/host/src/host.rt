@@ -168,7 +168,8 @@ impl<'a, W: Write> Host<'a, W> {
 
     /// Does what a user would do between two builds, in the user's place: writes the response file, if there is one, runs the command alone,
     /// with the program's own input and output, and waits for it; where it ended well, the response file is removed. Answers whether it
-    /// did. It is none of the starts and finishes that are told, and what is written counts as written by others.
+    /// did. It is none of the starts and finishes that are told, and what is written counts as written by others. As behind a build, it waits
+    /// before until what is written has a later stamp than each start (`wait_for_clock`).
     pub fn run_for_user(&mut self, act: &Act) -> Result<bool, SiteFault>
         ensures looks { OnlyLooks false (world_of self.old) (world_of self.new) }
         ensures cause { HasCause (world_of self.old) (world_of self.new) result }
@@ -176,6 +177,8 @@ impl<'a, W: Write> Host<'a, W> {
         ensures ok { OnOk result (world_of self.new ≡ world_of self.old) }
         ensures ended { IfOk result EndedSo }
     {
+        // where the clock stands still for seconds there is nothing more to do about it
+        let _ = self.wait_for_clock();
         self.put_response(act)?;
         let ran = self
             .jobs

@@ -1,5 +1,5 @@
 -- What tools tell of build files beside the manifest: the names of rules, and which edges run a generator (manual: "Rule variables").
-use Rattle.std.specs.Prelude.{◌≡◌, ◌≢◌, ◌<◌, ◌++◌, Bool, List, ℕ, [], map, length, vec_len, codes, get_or, string_bytes, Some, None, IsTrue, Result, Ok, Err}
+use Rattle.std.specs.Prelude.{◌≡◌, ◌≢◌, ◌<◌, ◌++◌, Bool, false, List, ℕ, [], map, length, vec_len, codes, get_or, string_bytes, Some, None, IsTrue, Result, Ok, Err}
 use Rattle.std.specs.List.{AllZip}
 use Rattle.scopes.specs.declared.all_scopes.Scopes.{Scopes}
 use Rattle.scopes.specs.declared.template.Rule.{Rule}
@@ -44,6 +44,14 @@ pub record IsNumberIn (old new : List (List ℕ)) (name : List ℕ) (number : �
   pub grows : new ≡ old ++ added
   pub within : number < length new
   pub is : get_or new number [] ≡ name
+
+-- the name of the rule of an edge; that of an edge that was not read means nothing
+abbrev pub rule_in : Described → ℕ → List ℕ
+rule_in described e = get_or (map string_bytes described.names.keys) (get_or described.rules.items e 0) []
+
+-- whether the edge runs a generator; none that was not read does
+abbrev pub mark_in : Described → ℕ → Bool
+mark_in described e = get_or described.generators.items e false
 
 abbrev pub MarksGenerators : Declared → List Bool → Type 0
 MarksGenerators declared marks = AllZip (MarksEdge declared.scopes) declared.edges.items marks

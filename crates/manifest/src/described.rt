@@ -2,7 +2,7 @@
 
 ghost use Rattle.std.specs.Prelude.{◌≡◌, ◌<◌, IfOk, length, map, string_bytes, vec_len};
 ghost use Rattle.paths.specs.Lists.{line_at};
-ghost use Rattle.manifest.specs.Described.{manifest_in, AreNamesOf, IsNumberIn, MarksEdge, MarksGenerators};
+ghost use Rattle.manifest.specs.Described.{manifest_in, mark_in, rule_in, AreNamesOf, IsNumberIn, MarksEdge, MarksGenerators};
 ghost use Rattle.manifest.specs.InNumbers.{IsWithin};
 ghost use Rattle.manifest.specs.Held.{IsFormed};
 ghost use Rattle.manifest.specs.Seen.{IsStated};
@@ -72,19 +72,21 @@ impl Described {
         }
     }
 
-    /// The name of the rule of the edge; none for an edge that was not read.
-    pub fn rule(&self, edge: EdgeId) -> &str {
-        let Some(number) = self.rules.get(edge.index()) else {
-            return "";
-        };
-        match self.names.get_index(*number) {
+    /// The name of the rule of the edge. Of an edge that was not read it means nothing.
+    pub fn rule(&self, edge: EdgeId) -> &str
+        ensures { result.now ≡ rule_in self.now edge }
+    {
+        let number = self.rules.get(edge.index()).copied().unwrap_or(0);
+        match self.names.get_index(number) {
             Some(name) => name.as_str(),
             None => "",
         }
     }
 
     /// Whether the edge runs a generator.
-    pub fn is_generator(&self, edge: EdgeId) -> bool {
+    pub fn is_generator(&self, edge: EdgeId) -> bool
+        ensures { result ≡ mark_in self.now edge }
+    {
         self.generators.get(edge.index()).copied().unwrap_or(false)
     }
 }
@@ -160,7 +162,7 @@ impl ReadEdge {
         requires scope { self.now.scope < vec_len round.scopes.now.scopes }
         requires edge { edge < length round.lines.now }
         requires within { IsWithin round.table.now (line_at round.lines.now edge) }
-        ensures { IfOk result (MarksEdge round.scopes.now self.now) }
+        ensures { IfOk result (MarksEdge round.entry.scopes.now self.now) }
     {
         let Some(rule) = &self.rule else {
             return Ok(false);

@@ -38,7 +38,10 @@ fn told_of(folder: &Folder<'_>, bytes: &[u8]) -> Result<String, AllocError> {
     let text = String::from_utf8_lossy(alloc, bytes)?;
     let mut told = String::new(alloc);
     let mut rest = text.as_str();
-    while let Some((before, behind)) = rest.split_once(folder.path.as_str()) {
+    for _ in 0..bytes.len() {
+        let Some((before, behind)) = rest.split_once(folder.path.as_str()) else {
+            break;
+        };
         told.push_str(before)?;
         told.push('@')?;
         rest = behind;

@@ -1,5 +1,5 @@
 -- What stands above the file that was read.
-use Rattle.std.specs.Prelude.{◌≡◌, ◌<◌, ℕ, List, [], ◌∷◌, All, filter, flat_map, length, Option, Some, None, MatchOption, slice_get, if◌then◌else◌, ◌==◌}
+use Rattle.std.specs.Prelude.{◌≡◌, ◌<◌, ℕ, List, [], ◌∷◌, ◌++◌, All, filter, flat_map, length, Option, Some, None, MatchOption, slice_get, if◌then◌else◌, ◌==◌}
 use Rattle.lexer.specs.Path.{IsCanonical}
 use Rattle.paths.specs.Told.{IsUnnamed, text_at}
 use Rattle.links.specs.Links.{links_of}
@@ -35,6 +35,12 @@ pub record IsAllAbove (declared : Declared) (name : List ℕ) (above : Above) : 
   pub are : AreAboveFile declared above.file edges
   pub generators : above.generators.items ≡ filter (runs_generator declared) edges
   pub first : above.first.items ≡ if length above.generators.items == 0 then [] else flat_map (made_first declared) edges
+
+-- one edge more was looked at
+pub record AddsEdge (declared : Declared) (edge : ℕ) (old new : Above) : Type 0 where
+  pub file : new.file ≡ old.file
+  pub generators : new.generators.items ≡ old.generators.items ++ filter (runs_generator declared) (edge ∷ [])
+  pub first : new.first.items ≡ old.first.items ++ made_first declared edge
 
 -- they are edges
 abbrev pub AreEdges : Declared → List ℕ → Type 0

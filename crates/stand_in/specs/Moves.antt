@@ -2,7 +2,7 @@
 use Rattle.std.specs.Prelude.{◌≡◌, ◌⊎◌, ℕ, Bool, false, IsTrue, List, [], Option, Some, None, Result, Ok, Err}
 use Rattle.model.specs.declared.act.Act.{Act}
 use Rattle.model.specs.declared.outcome.Outcome.{Outcome}
-use Rattle.model.specs.World.{World, View}
+use Rattle.model.specs.World.{World, View, IsIdle}
 use Rattle.model.specs.Calls.{HasCause, IsRestart, OnlyLooks}
 use Rattle.model.specs.declared.fault.SiteFault.{SiteFault}
 use Rattle.build_theory.specs.Seen.{Looked}
@@ -44,9 +44,9 @@ pub record WasReadHere (tells : Bool) (name : List ℕ) (old new : World) (decla
   pub file : IsTrue tells → ReadsFile name old.history new.history (Ok (declared_by declared.graph))
   pub looked : Looked tells old new
 
--- it was not, or its edges make no graph: so says the report of a build of it, within any limits
+-- it was not, or its edges make no graph: so says the report of a build of it, within any limits, where no command runs
 abbrev pub WasUnreadHere : Bool → (Act → View → Outcome) → List ℕ → World → World → Report → Type 0
-WasUnreadHere tells outcome name old new report = (limits : Limits) → IsBuild tells outcome name limits [] old new report
+WasUnreadHere tells outcome name old new report = IsIdle old.events → (limits : Limits) → IsBuild tells outcome name limits [] old new report
 
 -- time went by before it was read, and then there was only looked
 pub record WasReadAlone (tells : Bool) (name : List ℕ) (old new : World) (declared : Declared) : Type 0 where

@@ -1,13 +1,13 @@
 //! What stands above the file that was read.
 
-ghost use Rattle.std.specs.Prelude.{IfOk};
-ghost use Rattle.stand_in.specs.Above.{AreEdges, IsAllAbove, IsFileOf};
+ghost use Rattle.std.specs.Prelude.{OnOk, IfOk};
+ghost use Rattle.stand_in.specs.Above.{AddsEdge, AreEdges, IsAllAbove, IsFileOf};
 
 use lexer::{ReadFault, canonical};
 use paths::{EdgeId, PathId};
 use std::alloc::{AllocError, Global};
 use text::Text;
-use tools::{Declared, edges_above};
+use tools::{Declared, edges_above, is_phony_at, outputs_at, text_at};
 
 /// What is above the file that was read.
 #[derive(Drop)]
@@ -49,12 +49,14 @@ fn add_edge(
     declared: &Declared,
     edge: EdgeId,
     above: &mut Above,
-) -> Result<(), AllocError> {
+) -> Result<(), AllocError>
+    ensures { OnOk result (AddsEdge declared.now edge above.old above.new) }
+{
     if declared.described.is_generator(edge) {
         above.generators.push(edge)?;
-    } else if !declared.graph.is_phony(edge) {
-        if let Some(output) = declared.graph.outputs(edge).first() {
-            let text = declared.graph.text(*output);
+    } else if !is_phony_at(&declared.graph, edge) {
+        if let Some(output) = outputs_at(&declared.graph, edge).first() {
+            let text = text_at(&declared.graph, *output);
             above.first.push(Text::from_str(alloc, text)?)?;
         }
     }

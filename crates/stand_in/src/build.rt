@@ -13,14 +13,17 @@ use crate::given::Options as Given;
 use crate::place::Place;
 use crate::regenerating::{Regenerated, regenerate, would_run};
 use crate::targets::{Targets, left_targets};
-use builder::{Asked, Options, Report, build, build_graph_read, link};
+use builder::{Asked, Options, Report, build, build_graph_read, link, own_folder};
+use depfile::has_reading;
+use deps_log::has_format;
+use dyndep_law::has_reading as has_dyndeps;
 use manifest::read_described;
 use model::SiteFault;
 use nj_run::Alone;
 use site::Site;
 use std::alloc::Global;
 use text::Text;
-use tools::{Declared, Fault, own_folder};
+use tools::{Declared, Fault};
 
 /// How the whole ended.
 #[derive(Debug, Drop)]
@@ -71,6 +74,8 @@ pub fn read_here<S: Site>(alloc: Global, site: &mut S, file: &str) -> Result<Dec
     ensures unread { IfErr result (WasUnreadHere S.tells S.outcome file.now (S.world site.old) (S.world site.new)) }
 {
     let (manifest, described) = read_described(alloc, site, file)?;
+    // a build of it has a folder for the program's own files, also where its edges make no graph
+    own_folder(alloc, manifest.builddir.as_str())?;
     let graph = link(alloc, manifest)?;
     Ok(Declared { graph, described })
 }
@@ -84,7 +89,7 @@ pub fn read_alone<S: Alone>(alloc: Global, site: &mut S, file: &str) -> Result<D
     site.enter();
     for _ in 0..u32::MAX {
         let declared = read_here(alloc, site, file)?;
-        let folder = own_folder(alloc, &declared.graph)?;
+        let folder = own_folder(alloc, declared.graph.manifest.builddir.as_str())?;
         if !site.has_waited(folder.as_str()) {
             return Ok(declared);
         }
@@ -266,6 +271,9 @@ fn build_these<S: Place>(
     requires ready { (old : World) × IsReady S.tells S.outcome options.now old (S.world site.old) declared.old }
     ensures { EndsOnceReady S.tells S.outcome options.now declared.old (S.world site.old) (S.world site.new) (outcome_in result) }
 {
+    has_format();
+    has_reading();
+    has_dyndeps();
     let graph = &mut declared.graph;
     let asked = Asked::new(alloc, options, targets, &graph.manifest.builddir)?;
     Ok(Outcome::Built(build_graph_read(

@@ -11,7 +11,7 @@ use paths::{EdgeId, PathId};
 use site::Site;
 use std::alloc::Global;
 use text::Path;
-use tools::Declared;
+use tools::{Declared, outputs_at, regular_inputs_at, text_at};
 
 /// Whether the edge of a generator is out of date: an input is absent or later than what it makes, or that is absent. Inputs are the
 /// regular ones of its line, through aliases, and those of its depfile as it stands; one that cannot be read counts as later, and so
@@ -23,7 +23,8 @@ pub fn is_out_of_date<S: Site>(
     edge: EdgeId,
     file: Option<PathId>,
 ) -> Result<bool, SiteFault>
-    requires { edge < length declared.now.graph.manifest.lines }
+    requires edge { edge < length declared.now.graph.manifest.lines }
+    requires running { (S.world site.old).stopped ≡ false }
     ensures looks { OnlyLooks S.tells (S.world site.old) (S.world site.new) }
     ensures goes { OnOk result (GoesOn (S.world site.old) (S.world site.new)) }
     ensures fault { IfErr result (Fails S.tells (S.world site.old) (S.world site.new)) }
@@ -45,20 +46,21 @@ fn made_stamp<S: Site>(
     edge: EdgeId,
     file: Option<PathId>,
 ) -> Result<Option<u64>, SiteFault>
+    requires { (S.world site.old).stopped ≡ false }
     ensures looks { OnlyLooks S.tells (S.world site.old) (S.world site.new) }
     ensures goes { OnOk result (GoesOn (S.world site.old) (S.world site.new)) }
     ensures fault { IfErr result (Fails S.tells (S.world site.old) (S.world site.new)) }
     ensures looked { IfOk result (λ stamp. IsSome stamp → Looked S.tells (S.world site.old) (S.world site.new)) }
 {
-    let outputs = declared.graph.outputs(edge);
+    let outputs = outputs_at(&declared.graph, edge);
     if let Some(file) = file {
         if outputs.contains(&file) {
-            return stamp(site, declared.graph.text(file));
+            return stamp(site, text_at(&declared.graph, file));
         }
     }
     let mut oldest = u64::MAX;
     for output in outputs {
-        let Some(stamp) = stamp(site, declared.graph.text(*output))? else {
+        let Some(stamp) = stamp(site, text_at(&declared.graph, *output))? else {
             return Ok(None);
         };
         oldest = oldest.min(stamp);
@@ -68,6 +70,7 @@ fn made_stamp<S: Site>(
 
 /// The stamp of a file; none where it is absent or cannot be looked at.
 fn stamp<S: Site>(site: &mut S, path: &str) -> Result<Option<u64>, SiteFault>
+    requires { (S.world site.old).stopped ≡ false }
     ensures looks { OnlyLooks S.tells (S.world site.old) (S.world site.new) }
     ensures goes { OnOk result (GoesOn (S.world site.old) (S.world site.new)) }
     ensures fault { IfErr result (Fails S.tells (S.world site.old) (S.world site.new)) }
@@ -81,6 +84,7 @@ fn stamp<S: Site>(site: &mut S, path: &str) -> Result<Option<u64>, SiteFault>
 
 /// Whether the file is absent or later than this stamp.
 fn is_later<S: Site>(site: &mut S, path: &str, made: u64) -> Result<bool, SiteFault>
+    requires { (S.world site.old).stopped ≡ false }
     ensures looks { OnlyLooks S.tells (S.world site.old) (S.world site.new) }
     ensures goes { OnOk result (GoesOn (S.world site.old) (S.world site.new)) }
     ensures fault { IfErr result (Fails S.tells (S.world site.old) (S.world site.new)) }
@@ -100,16 +104,18 @@ fn has_later_input<S: Site>(
     edge: EdgeId,
     made: u64,
 ) -> Result<bool, SiteFault>
+    requires edge { edge < length graph.now.manifest.lines }
+    requires running { (S.world site.old).stopped ≡ false }
     ensures looks { OnlyLooks S.tells (S.world site.old) (S.world site.new) }
     ensures goes { OnOk result (GoesOn (S.world site.old) (S.world site.new)) }
     ensures fault { IfErr result (Fails S.tells (S.world site.old) (S.world site.new)) }
     ensures looked { IfOk result (λ later. later ≡ false → Looked S.tells (S.world site.old) (S.world site.new)) }
 {
     match graph.reading(alloc, edge)? {
-        Reading::Itself(edge) => is_one_later(site, graph, graph.regular_inputs(edge), made),
+        Reading::Itself(edge) => is_one_later(site, graph, regular_inputs_at(graph, edge), made),
         Reading::Through(edges) => {
             for edge in edges.as_slice() {
-                if is_one_later(site, graph, graph.regular_inputs(*edge), made)? {
+                if is_one_later(site, graph, regular_inputs_at(graph, *edge), made)? {
                     return Ok(true);
                 }
             }
@@ -124,6 +130,7 @@ fn is_one_later<S: Site>(
     paths: &[PathId],
     made: u64,
 ) -> Result<bool, SiteFault>
+    requires { (S.world site.old).stopped ≡ false }
     ensures looks { OnlyLooks S.tells (S.world site.old) (S.world site.new) }
     ensures goes { OnOk result (GoesOn (S.world site.old) (S.world site.new)) }
     ensures fault { IfErr result (Fails S.tells (S.world site.old) (S.world site.new)) }
@@ -144,12 +151,13 @@ fn is_input_later<S: Site>(
     path: PathId,
     made: u64,
 ) -> Result<bool, SiteFault>
+    requires { (S.world site.old).stopped ≡ false }
     ensures looks { OnlyLooks S.tells (S.world site.old) (S.world site.new) }
     ensures goes { OnOk result (GoesOn (S.world site.old) (S.world site.new)) }
     ensures fault { IfErr result (Fails S.tells (S.world site.old) (S.world site.new)) }
     ensures looked { IfOk result (λ later. later ≡ false → Looked S.tells (S.world site.old) (S.world site.new)) }
 {
-    match site.stat(graph.text(path)) {
+    match site.stat(text_at(graph, path)) {
         Ok(Some(stamp)) => Ok(stamp > made),
         Ok(None) => Ok(!graph.counts_if_present(path)),
         Err(SiteFault::Device) => Ok(true),
@@ -165,6 +173,7 @@ fn has_later_told<S: Site>(
     edge: EdgeId,
     made: u64,
 ) -> Result<bool, SiteFault>
+    requires { (S.world site.old).stopped ≡ false }
     ensures looks { OnlyLooks S.tells (S.world site.old) (S.world site.new) }
     ensures goes { OnOk result (GoesOn (S.world site.old) (S.world site.new)) }
     ensures fault { IfErr result (Fails S.tells (S.world site.old) (S.world site.new)) }
@@ -186,6 +195,7 @@ fn is_told_later<S: Site>(
     path: &str,
     made: u64,
 ) -> Result<bool, SiteFault>
+    requires { (S.world site.old).stopped ≡ false }
     ensures looks { OnlyLooks S.tells (S.world site.old) (S.world site.new) }
     ensures goes { OnOk result (GoesOn (S.world site.old) (S.world site.new)) }
     ensures fault { IfErr result (Fails S.tells (S.world site.old) (S.world site.new)) }
@@ -206,6 +216,7 @@ fn is_told_later<S: Site>(
 
 /// Whether one of the paths is absent or later.
 fn is_some_later<S: Site>(site: &mut S, paths: &[Path], made: u64) -> Result<bool, SiteFault>
+    requires { (S.world site.old).stopped ≡ false }
     ensures looks { OnlyLooks S.tells (S.world site.old) (S.world site.new) }
     ensures goes { OnOk result (GoesOn (S.world site.old) (S.world site.new)) }
     ensures fault { IfErr result (Fails S.tells (S.world site.old) (S.world site.new)) }

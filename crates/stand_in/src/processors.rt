@@ -32,7 +32,9 @@ pub fn default_jobs<R: Texts>(alloc: Global, texts: &mut R) -> u32
 }
 
 /// The processors on which this process may run; 0 where it cannot be told.
-fn allowed<R: Texts>(texts: &mut R) -> u32 {
+fn allowed<R: Texts>(texts: &mut R) -> u32
+    ensures { OnlyLooks R.tells (R.world texts.old) (R.world texts.new) }
+{
     let Ok(Some(bytes)) = texts.read(STATUS) else {
         return 0;
     };
@@ -70,7 +72,9 @@ fn count_in(part: &str) -> u32 {
 }
 
 /// How many processors the group of this process may use in full; none where it has no limit.
-fn granted<R: Texts>(alloc: Global, texts: &mut R) -> Option<u32> {
+fn granted<R: Texts>(alloc: Global, texts: &mut R) -> Option<u32>
+    ensures { OnlyLooks R.tells (R.world texts.old) (R.world texts.new) }
+{
     let group = texts.read(GROUP).ok()??;
     let folder = line_behind(&group, "0::")?;
     let path = format!(in alloc; "/sys/fs/cgroup{folder}/cpu.max").ok()?;

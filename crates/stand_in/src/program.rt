@@ -1,6 +1,6 @@
 //! The run of the program.
 
-ghost use Rattle.std.specs.Prelude.{◌≤◌};
+ghost use Rattle.std.specs.Prelude.{◌≤◌, IfOk};
 
 use crate::build::{Ended, build_here};
 use crate::given::{Asked, Options as Given, Shown};
@@ -76,7 +76,9 @@ fn run_build<W: Write + Drop, E: Write>(
     heading: Option<&str>,
     out: &mut W,
     err: &mut E,
-) -> io::Result<u8> {
+) -> io::Result<u8>
+    ensures { IfOk result (λ status. status ≤ 3) }
+{
     match Heading::parse(rt.alloc(), heading.unwrap_or(Heading::DEFAULT)) {
         Ok(heading) => build_under(rt, given, &heading, out, err),
         Err(HeadingFault::Memory) => told::error("N61: out of memory", err),
@@ -91,7 +93,9 @@ fn build_under<W: Write + Drop, E: Write>(
     heading: &Heading,
     out: &mut W,
     err: &mut E,
-) -> io::Result<u8> {
+) -> io::Result<u8>
+    ensures { IfOk result (λ status. status ≤ 3) }
+{
     if given.shown != Shown::Printed {
         tell_folder(given, out)?;
     }
@@ -116,7 +120,9 @@ fn build_under<W: Write + Drop, E: Write>(
     told::ended(&ended, telling, out, err)
 }
 
-fn unknown_field<E: Write>(letter: u8, err: &mut E) -> io::Result<u8> {
+fn unknown_field<E: Write>(letter: u8, err: &mut E) -> io::Result<u8>
+    ensures { IfOk result (λ status. status ≤ 3) }
+{
     let letter = char::from(letter);
     writeln!(
         err,
@@ -174,7 +180,9 @@ fn run_tool<W: Write, E: Write>(
     given: &Given<'_>,
     out: &mut W,
     err: &mut E,
-) -> io::Result<u8> {
+) -> io::Result<u8>
+    ensures { IfOk result (λ status. status ≤ 3) }
+{
     let alloc = rt.alloc();
     if !enter(rt, given, err)? {
         return Ok(1);
@@ -212,7 +220,9 @@ fn answer_in<W: Write, E: Write>(
     asking: Asking<'_>,
     out: &mut W,
     err: &mut E,
-) -> io::Result<u8> {
+) -> io::Result<u8>
+    ensures { IfOk result (λ status. status ≤ 3) }
+{
     let alloc = rt.alloc();
     let folder = env::current_dir(rt)?;
     let mut host = Host::new(alloc, rt, Vec::new(alloc));
@@ -228,7 +238,9 @@ fn answer_in<W: Write, E: Write>(
     }
 }
 
-fn no_answer<E: Write>(fault: &NoAnswer, trouble: Option<&Trouble>, err: &mut E) -> io::Result<u8> {
+fn no_answer<E: Write>(fault: &NoAnswer, trouble: Option<&Trouble>, err: &mut E) -> io::Result<u8>
+    ensures { IfOk result (λ status. status ≤ 3) }
+{
     match fault {
         NoAnswer::Unread(Report::Refused(refusal)) => writeln!(err, "ninja: error: {refusal}")?,
         NoAnswer::Unread(Report::Fault(SiteFault::Memory)) | NoAnswer::Fault(Fault::Memory) => {

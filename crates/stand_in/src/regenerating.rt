@@ -1,6 +1,6 @@
 //! Regenerating: what the program does between two builds, in the user's place.
 
-ghost use Rattle.std.specs.Prelude.{◌≡◌, ◌<◌, length, IfErr, IfOk, OnOk};
+ghost use Rattle.std.specs.Prelude.{◌≡◌, false, IfErr, IfOk, OnOk};
 ghost use Rattle.build_theory.specs.Seen.{Looked};
 ghost use Rattle.model.specs.Calls.{OnlyLooks};
 ghost use Rattle.stand_in.specs.Above.{AreEdges};
@@ -15,7 +15,7 @@ use paths::{Command, EdgeId};
 use site::Site;
 use status::{Counts, Ending, Failure, line, push_ending, said_of};
 use std::alloc::{AllocError, Global};
-use tools::Declared;
+use tools::{Declared, outputs_at, text_at};
 
 /// What became of the generators of a file.
 #[derive(Clone, Copy, Debug, PartialEq, Eq)]
@@ -40,13 +40,14 @@ pub fn regenerate<S: Place>(
     above: &Above,
     options: &Options,
 ) -> Result<Regenerated, SiteFault>
-    requires { AreEdges declared.now above.now.generators.items }
+    requires edges { AreEdges declared.now above.now.generators.items }
+    requires running { (S.world site.old).stopped ≡ false }
     ensures looks { OnlyLooks S.tells (S.world site.old) (S.world site.new) }
     ensures goes { OnOk result (GoesOn (S.world site.old) (S.world site.new)) }
     ensures fault { IfErr result (Fails S.tells (S.world site.old) (S.world site.new)) }
     ensures nothing { IfOk result (λ ran. ran ≡ Regenerated.Nothing → Looked S.tells (S.world site.old) (S.world site.new)) }
 {
-    let mut ran = 0;
+    let mut ran = 0usize;
     for generator in above.generators.as_slice() {
         if is_out_of_date(alloc, site, declared, *generator, above.file)? {
             let turn = Turn {
@@ -57,7 +58,7 @@ pub fn regenerate<S: Place>(
             if !run_one(alloc, site, declared, *generator, turn)? {
                 return Ok(Regenerated::Failed);
             }
-            ran += 1;
+            ran = ran.saturating_add(1);
         }
     }
     if ran == 0 {
@@ -74,7 +75,8 @@ fn is_last_old<S: Site>(
     declared: &Declared,
     above: &Above,
 ) -> Result<bool, SiteFault>
-    requires { AreEdges declared.now above.now.generators.items }
+    requires edges { AreEdges declared.now above.now.generators.items }
+    requires running { (S.world site.old).stopped ≡ false }
     ensures looks { OnlyLooks S.tells (S.world site.old) (S.world site.new) }
     ensures goes { OnOk result (GoesOn (S.world site.old) (S.world site.new)) }
     ensures fault { IfErr result (Fails S.tells (S.world site.old) (S.world site.new)) }
@@ -92,7 +94,8 @@ pub fn would_run<S: Site>(
     declared: &Declared,
     above: &Above,
 ) -> Result<bool, SiteFault>
-    requires { AreEdges declared.now above.now.generators.items }
+    requires edges { AreEdges declared.now above.now.generators.items }
+    requires running { (S.world site.old).stopped ≡ false }
     ensures looks { OnlyLooks S.tells (S.world site.old) (S.world site.new) }
     ensures goes { OnOk result (GoesOn (S.world site.old) (S.world site.new)) }
     ensures fault { IfErr result (Fails S.tells (S.world site.old) (S.world site.new)) }
@@ -121,7 +124,6 @@ fn run_one<S: Place>(
     edge: EdgeId,
     turn: Turn<'_>,
 ) -> Result<bool, SiteFault>
-    requires { edge < length declared.now.graph.manifest.lines }
     ensures looks { OnlyLooks S.tells (S.world site.old) (S.world site.new) }
     ensures goes { OnOk result (GoesOn (S.world site.old) (S.world site.new)) }
     ensures fault { IfErr result (Fails S.tells (S.world site.old) (S.world site.new)) }
@@ -149,9 +151,10 @@ fn show_line<S: Site>(
     ensures goes { OnOk result (GoesOn (S.world site.old) (S.world site.new)) }
     ensures fault { IfErr result (Fails S.tells (S.world site.old) (S.world site.new)) }
 {
+    let started = turn.done.saturating_add(1);
     let counts = Counts {
-        started: turn.done + 1,
-        total: turn.total.max(turn.done + 1),
+        started,
+        total: turn.total.max(started),
         running: 1,
         finished: turn.done,
     };
@@ -172,7 +175,6 @@ fn show_failure<S: Site>(
     edge: EdgeId,
     command: &Command,
 ) -> Result<(), SiteFault>
-    requires { edge < length declared.now.graph.manifest.lines }
     ensures looks { OnlyLooks S.tells (S.world site.old) (S.world site.new) }
     ensures goes { OnOk result (GoesOn (S.world site.old) (S.world site.new)) }
     ensures fault { IfErr result (Fails S.tells (S.world site.old) (S.world site.new)) }
@@ -196,24 +198,22 @@ fn texts<'a>(
     declared: &'a Declared,
     edge: EdgeId,
 ) -> Result<Vec<&'a str>, AllocError>
-    requires { edge < length declared.now.graph.manifest.lines }
 {
     let mut texts = Vec::new(alloc);
-    for output in declared.graph.outputs(edge) {
-        texts.push(declared.graph.text(*output))?;
+    for output in outputs_at(&declared.graph, edge) {
+        texts.push(text_at(&declared.graph, *output))?;
     }
     Ok(texts)
 }
 
 /// Makes the folders of the outputs.
 fn make_folders<S: Site>(site: &mut S, declared: &Declared, edge: EdgeId) -> Result<(), SiteFault>
-    requires { edge < length declared.now.graph.manifest.lines }
     ensures looks { OnlyLooks S.tells (S.world site.old) (S.world site.new) }
     ensures goes { OnOk result (GoesOn (S.world site.old) (S.world site.new)) }
     ensures fault { IfErr result (Fails S.tells (S.world site.old) (S.world site.new)) }
 {
-    for output in declared.graph.outputs(edge) {
-        if let Some((folder, _)) = declared.graph.text(*output).rsplit_once('/') {
+    for output in outputs_at(&declared.graph, edge) {
+        if let Some((folder, _)) = text_at(&declared.graph, *output).rsplit_once('/') {
             if !folder.is_empty() {
                 site.make_dirs(folder)?;
             }

@@ -1,5 +1,7 @@
 //! The screen: a writer that makes the front of lines.
 
+ghost use Rattle.std.specs.Prelude.{◌<◌, length};
+
 use crate::given::Shown;
 use crate::heading::{Heading, Moment};
 use std::alloc::Global;
@@ -136,7 +138,10 @@ impl<'a, W: Write> Write for Screen<'a, W> {
 }
 
 /// The first line, with its newline, and what stands behind it.
-fn split_line(text: &[u8]) -> (&[u8], &[u8]) {
+fn split_line(text: &[u8]) -> (&[u8], &[u8])
+    requires { 0 < length text.now }
+    ensures { length result.1.now < length text.now }
+{
     for (place, byte) in text.iter().enumerate() {
         if *byte == b'\n' {
             return text.split_at(place + 1);

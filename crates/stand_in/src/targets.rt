@@ -11,7 +11,7 @@ use paths::PathId;
 use site::Site;
 use std::alloc::{AllocError, Global};
 use text::Text;
-use tools::{Declared, Fault, asked, asked_in_logs, defaults, read_joined};
+use tools::{Declared, Fault, asked, asked_in_logs, defaults, read_joined, text_at};
 
 /// The targets of a build beside what generators of the file make.
 #[derive(Drop)]
@@ -95,7 +95,7 @@ fn others(
     let mut left = Vec::new(alloc);
     for path in paths {
         if !is_regenerated(graph, *path, above) {
-            left.push(Text::from_str(alloc, graph.text(*path))?)?;
+            left.push(Text::from_str(alloc, text_at(graph, *path))?)?;
         }
     }
     Ok(left)

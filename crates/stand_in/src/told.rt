@@ -1,6 +1,6 @@
 //! What the stand-in tells, and its status.
 
-ghost use Rattle.std.specs.Prelude.{◌≡◌};
+ghost use Rattle.std.specs.Prelude.{◌≡◌, ◌≤◌, IfOk};
 ghost use Rattle.stand_in.specs.Ends.{why_stopped};
 
 use crate::build::{Ended, Outcome};
@@ -57,7 +57,9 @@ pub fn information<W: Write, E: Write>(
     jobs: u32,
     out: &mut W,
     err: &mut E,
-) -> io::Result<u8> {
+) -> io::Result<u8>
+    ensures { IfOk result (λ status. status ≤ 1) }
+{
     let status = match information {
         Information::Version => {
             writeln!(out, "{VERSION}")?;
@@ -95,7 +97,9 @@ fn usage<E: Write>(jobs: u32, err: &mut E) -> io::Result<()> {
 }
 
 /// Tells what is wrong with the words.
-pub fn words<E: Write>(fault: &WordFault<'_>, jobs: u32, err: &mut E) -> io::Result<u8> {
+pub fn words<E: Write>(fault: &WordFault<'_>, jobs: u32, err: &mut E) -> io::Result<u8>
+    ensures { IfOk result (λ status. status ≤ 1) }
+{
     writeln!(err, "{fault}")?;
     if fault.wants_help() {
         usage(jobs, err)?;
@@ -105,14 +109,18 @@ pub fn words<E: Write>(fault: &WordFault<'_>, jobs: u32, err: &mut E) -> io::Res
 }
 
 /// Tells that the folder cannot be gone to.
-pub fn folder<E: Write>(folder: &str, reason: &io::Error, err: &mut E) -> io::Result<u8> {
+pub fn folder<E: Write>(folder: &str, reason: &io::Error, err: &mut E) -> io::Result<u8>
+    ensures { IfOk result (λ status. status ≤ 1) }
+{
     writeln!(err, "ninja: fatal: chdir to '{folder}' - {reason}")?;
     err.flush()?;
     Ok(1)
 }
 
 /// Tells why something is not done.
-pub fn error<E: Write>(text: &str, err: &mut E) -> io::Result<u8> {
+pub fn error<E: Write>(text: &str, err: &mut E) -> io::Result<u8>
+    ensures { IfOk result (λ status. status ≤ 1) }
+{
     writeln!(err, "ninja: error: {text}")?;
     err.flush()?;
     Ok(1)
@@ -135,7 +143,9 @@ pub fn ended<W: Write, E: Write>(
     telling: Telling<'_>,
     out: &mut W,
     err: &mut E,
-) -> io::Result<u8> {
+) -> io::Result<u8>
+    ensures { IfOk result (λ status. status ≤ 1) }
+{
     let file = telling.file;
     if ended.old {
         writeln!(
@@ -177,7 +187,9 @@ fn built<W: Write, E: Write>(
     telling: Telling<'_>,
     out: &mut W,
     err: &mut E,
-) -> io::Result<u8> {
+) -> io::Result<u8>
+    ensures { IfOk result (λ status. status ≤ 1) }
+{
     match report {
         Report::Success { started } => {
             if *started == 0 && telling.shown != Shown::Printed {

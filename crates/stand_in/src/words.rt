@@ -38,13 +38,14 @@ enum Taken {
 /// the tool's. Of an option that is given twice the last counts. What is only told ends the words where it stands.
 pub fn asked<'a>(alloc: Global, words: &[&'a str]) -> Result<Asked<'a>, WordFault<'a>> {
     let mut options = Options::new(alloc);
-    let mut place = 0;
+    let mut place = 0usize;
     while place < words.len() {
         match take(alloc, &words[place..], &mut options)? {
-            Taken::Words(count) => place += count.max(1),
+            Taken::Words(count) => place = place.saturating_add(count.max(1)),
             Taken::Told(information) => return Ok(Asked::Told(information)),
             Taken::Tool(tool, count) => {
-                push_words(words.get(place + count..).unwrap_or(&[]), &mut options)?;
+                let behind = place.saturating_add(count);
+                push_words(words.get(behind..).unwrap_or(&[]), &mut options)?;
                 return Ok(Asked::Tool(tool, options));
             }
         }

@@ -26,6 +26,10 @@ line text = text ++ 10 ∷ []
 abbrev pub lines : List (List ℕ) → List ℕ
 lines texts = flat_map line texts
 
+-- these lines were put behind a text
+abbrev pub Puts : (old new : List ℕ) → List (List ℕ) → Type 0
+Puts old new told = new ≡ old ++ lines told
+
 -- all edges, in reading order
 abbrev pub places : Graph → List ℕ
 places graph = range_with_len 0 (length graph.manifest.lines)
@@ -38,6 +42,13 @@ path_text declared p = text_at declared.graph.manifest.paths p
 pub record AreInOrder (texts : List (List ℕ)) : Type 0 where
   pub sorted : IsSorted (slice_cmp nat_cmp) texts
   pub once : (before between after : List (List ℕ)) (text : List ℕ) → texts ≡ before ++ (text ∷ between) ++ (text ∷ after) → ⊥
+
+-- a line for each of these texts, in the order of their bytes, each once
+pub record PrintsEach (texts : List (List ℕ)) (text : List ℕ) : Type 0 where
+  pub each : List (List ℕ)
+  pub order : AreInOrder each
+  pub just : (one : List ℕ) → has each one ≡ true ↔ has texts one ≡ true
+  pub is : text ≡ lines each
 
 -- ---- `-t commands`
 

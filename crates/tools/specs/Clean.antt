@@ -27,6 +27,14 @@ pub record IsCleanedOutput (declared : Declared) (cleaning : Cleaning) (generate
   pub some : text ≢ []
   pub file : (text ≡ text_at declared.graph.manifest.paths path) ⊎ (has (own_files declared edge) text ≡ true)
 
+-- there are the old ones and just these
+abbrev pub AddsJust : (old new : List (List ℕ)) → (List ℕ → Type 0) → Type 0
+AddsJust old new added = (text : List ℕ) → has new text ≡ true ↔ ((has old text ≡ true) ⊎ added text)
+
+-- there are the old ones but for this one
+abbrev pub LacksJust : (old new : List (List ℕ)) → List ℕ → Type 0
+LacksJust old new left_out = (text : List ℕ) → has new text ≡ true ↔ ((text ≢ left_out) × (has old text ≡ true))
+
 -- just these, but for the file that was read
 abbrev pub AreCleaned : Declared → Cleaning → Bool → List ℕ → List (List ℕ) → Type 0
 AreCleaned declared cleaning generated file paths = (text : List ℕ) → has paths text ≡ true ↔ ((text ≢ file) × IsCleanedOutput declared cleaning generated text)

@@ -1,5 +1,5 @@
 -- What `-t cleandead` removes, and what it keeps.
-use Rattle.std.specs.Prelude.{◌≡◌, ℕ, true, false, List, ◌↔◌, IsSome, Some}
+use Rattle.std.specs.Prelude.{◌≡◌, ℕ, true, List, ◌↔◌, IsSome, Some, slice_get}
 use Rattle.model.specs.declared.record.Record.{Record}
 use Rattle.model.specs.declared.record.DepsRecord.{DepsRecord}
 use Rattle.model.specs.Graph.{has}
@@ -17,7 +17,7 @@ pub record IsLeft (manifest : Manifest) (records : List Record) (text : List ℕ
 
 -- a deps record lists it as an input
 abbrev pub IsListed : List DepsRecord → List ℕ → Type 0
-IsListed records text = (told : DepsRecord) × (has told.paths text ≡ true)
+IsListed records text = (k : ℕ) × (told : DepsRecord) × (slice_get records k ≡ Some told) × (has told.paths text ≡ true)
 
 -- what is left is removed where no deps record lists it, and else kept
 pub record AreBuried (manifest : Manifest) (records : List Record) (deps : List DepsRecord) (dead kept : List (List ℕ)) : Type 0 where

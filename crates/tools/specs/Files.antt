@@ -1,15 +1,22 @@
 -- What is told of an edge beside its line.
-use Rattle.std.specs.Prelude.{ℕ, Bool, false, List, [], ◌∷◌, get_or, map, string_bytes}
+use Rattle.std.specs.Prelude.{ℕ, Bool, List, [], ◌∷◌, Option, None, Some, get_or}
+use Rattle.manifest.specs.Described.{mark_in, rule_in}
 use Rattle.paths.specs.declared.manifest.Action.{Action}
+use Rattle.paths.specs.declared.manifest.Command.{Command as EdgeCommand}
 use Rattle.paths.specs.declared.manifest.Action.TheVariants.{Alias, Command}
 use Rattle.paths.specs.Commands.{no_action}
 use Rattle.tools.specs.declared.declared.Declared.{Declared}
 
 abbrev pub rule_of : Declared → ℕ → List ℕ
-rule_of declared e = get_or (map string_bytes declared.described.names.keys) (get_or declared.described.rules.items e 0) []
+rule_of declared e = rule_in declared.described e
 
 abbrev pub runs_generator : Declared → ℕ → Bool
-runs_generator declared e = get_or declared.described.generators.items e false
+runs_generator declared e = mark_in declared.described e
+
+-- the command of what an edge does
+abbrev pub command_at : Action → Option EdgeCommand
+command_at Alias = None
+command_at (Command command) = Some command
 
 -- the depfile and the response file of what an edge does
 abbrev pub files_of : Action → List (List ℕ)

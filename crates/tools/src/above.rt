@@ -1,9 +1,9 @@
 //! The edges above targets.
 
-ghost use Rattle.std.specs.Prelude.{◌≡◌, ◌<◌, IfOk, OnOk, length, vec_len, All};
-ghost use Rattle.links.specs.Links.{AllPaths};
+ghost use Rattle.std.specs.Prelude.{IfOk};
 ghost use Rattle.tools.specs.Above.{AreAbove};
 
+use crate::access::inputs_at;
 use links::Graph;
 use paths::{EdgeId, PathId};
 use std::alloc::{AllocError, Global};
@@ -60,7 +60,7 @@ impl Walk {
     /// Looks at the next input of an edge, or adds the edge where there is none.
     fn go_on(&mut self, graph: &Graph, step: Step) -> Result<(), AllocError> {
         let Step { edge, place } = step;
-        match graph.inputs(edge).get(place).copied() {
+        match inputs_at(graph, edge).get(place).copied() {
             Some(input) => {
                 self.open.push(Step {
                     edge,

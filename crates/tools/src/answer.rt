@@ -1,12 +1,13 @@
 //! What a tool answers.
 
-use std::alloc::AllocError;
+ghost use Rattle.std.specs.Prelude.{◌≤◌};
 
 /// What a tool answers: the text that it prints, and the status with which the program ends.
-#[derive(Debug, Drop)]
+#[derive(Drop)]
 pub struct Answer {
     pub text: String,
     pub status: u8,
+    ghost known: { status ≤ 3 },
 }
 
 impl Answer {
@@ -14,12 +15,4 @@ impl Answer {
     pub fn well(text: String) -> Answer {
         Answer { text, status: 0 }
     }
-}
-
-/// Puts the parts at the end of a text, and a newline behind them.
-pub fn push_line(text: &mut String, parts: &[&str]) -> Result<(), AllocError> {
-    for part in parts {
-        text.push_str(part)?;
-    }
-    text.push('\n')
 }

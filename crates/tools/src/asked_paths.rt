@@ -1,10 +1,11 @@
 //! `-t query`: what makes a path, and what is made of it.
 
-ghost use Rattle.std.specs.Prelude.{◌≡◌, IfOk, flat_map, string_bytes};
-ghost use Rattle.tools.specs.Answers.{lines, query_lines};
+ghost use Rattle.std.specs.Prelude.{◌≡◌, ◌<◌, IfOk, OnOk, Some, flat_map, length, string_bytes};
+ghost use Rattle.tools.specs.Answers.{Puts, lines, maker_lines, marked, outputs_of, query_lines, validated_by};
 
-use crate::answer::push_line;
+use crate::access::{outputs_at, text_at, users_at};
 use crate::declared::Declared;
+use crate::lines::push_line;
 use paths::{EdgeId, PathId};
 use std::alloc::{AllocError, Global};
 
@@ -24,16 +25,16 @@ fn push_path(
     declared: &Declared,
     path: PathId,
     told: &mut String,
-) -> Result<(), AllocError> {
+) -> Result<(), AllocError>
+    ensures { OnOk result (Puts (string_bytes told.old) (string_bytes told.new) (query_lines declared.now path)) }
+{
     let graph = &declared.graph;
-    push_line(told, &[graph.text(path), ":"])?;
+    push_line(told, &[text_at(graph, path), ":"])?;
     if let Some(edge) = graph.maker(path) {
         push_maker(declared, edge, told)?;
     }
     push_line(told, &["  outputs:"])?;
-    for edge in graph.users(path) {
-        push_paths(declared, "    ", graph.outputs(*edge), told)?;
-    }
+    push_all_outputs(declared, users_at(graph, path), told)?;
     let validated = validated_by(alloc, declared, path)?;
     if validated.is_empty() {
         return Ok(());
@@ -42,7 +43,10 @@ fn push_path(
     push_all_outputs(declared, validated.as_slice(), told)
 }
 
-fn push_maker(declared: &Declared, edge: EdgeId, told: &mut String) -> Result<(), AllocError> {
+fn push_maker(declared: &Declared, edge: EdgeId, told: &mut String) -> Result<(), AllocError>
+    requires { edge < length declared.now.graph.manifest.lines }
+    ensures { OnOk result (Puts (string_bytes told.old) (string_bytes told.new) (maker_lines declared.now (Some edge))) }
+{
     let lines = &declared.graph.manifest.lines;
     push_line(told, &["  input: ", declared.rule(edge)])?;
     push_paths(declared, "    ", lines.explicit_inputs(edge), told)?;
@@ -59,9 +63,11 @@ fn push_paths(
     mark: &str,
     paths: &[PathId],
     told: &mut String,
-) -> Result<(), AllocError> {
+) -> Result<(), AllocError>
+    ensures { OnOk result (Puts (string_bytes told.old) (string_bytes told.new) (marked declared.now mark.now paths.now)) }
+{
     for path in paths {
-        push_line(told, &[mark, declared.graph.text(*path)])?;
+        push_line(told, &[mark, text_at(&declared.graph, *path)])?;
     }
     Ok(())
 }
@@ -70,9 +76,11 @@ fn push_all_outputs(
     declared: &Declared,
     edges: &[EdgeId],
     told: &mut String,
-) -> Result<(), AllocError> {
+) -> Result<(), AllocError>
+    ensures { OnOk result (Puts (string_bytes told.old) (string_bytes told.new) (outputs_of declared.now edges.now)) }
+{
     for edge in edges {
-        push_paths(declared, "    ", declared.graph.outputs(*edge), told)?;
+        push_paths(declared, "    ", outputs_at(&declared.graph, *edge), told)?;
     }
     Ok(())
 }
@@ -82,7 +90,9 @@ fn validated_by(
     alloc: Global,
     declared: &Declared,
     path: PathId,
-) -> Result<Vec<EdgeId>, AllocError> {
+) -> Result<Vec<EdgeId>, AllocError>
+    ensures { IfOk result (λ edges. edges.items ≡ validated_by declared.now path) }
+{
     let mut edges = Vec::new(alloc);
     for place in 0..declared.graph.edges() {
         let edge = declared.graph.manifest.edge(place);

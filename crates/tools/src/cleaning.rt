@@ -1,12 +1,14 @@
 //! `-t clean`: what is removed.
 
-ghost use Rattle.std.specs.Prelude.{IfOk, map, string_bytes};
-ghost use Rattle.tools.specs.Clean.{AreCleaned};
+ghost use Rattle.std.specs.Prelude.{◌≡◌, IfOk, OnOk, None, false, map, string_bytes, true};
+ghost use Rattle.model.specs.Calls.{OnlyLooks, WritesOrNot};
+ghost use Rattle.tools.specs.Clean.{AddsJust, AreCleaned, IsCleanedOutput, LacksJust};
 ghost use Rattle.tools.specs.Moves.{RemovesOf};
 
-use crate::answer::push_line;
+use crate::access::{is_phony_at, outputs_at, text_at};
 use crate::declared::Declared;
 use crate::fault::Fault;
+use crate::lines::push_line;
 use crate::missing::outputs_above;
 use indexmap::IndexSet;
 use paths::{EdgeId, PathId};
@@ -58,7 +60,9 @@ fn add_asked(
     cleaning: Cleaning<'_>,
     generated: bool,
     paths: &mut IndexSet<String>,
-) -> Result<(), Fault> {
+) -> Result<(), Fault>
+    ensures { OnOk result (AddsJust (map string_bytes paths.old.keys) (map string_bytes paths.new.keys) (IsCleanedOutput declared.now cleaning.entry generated)) }
+{
     match cleaning {
         Cleaning::All => Ok(add_edges(alloc, declared, None, generated, paths)?),
         Cleaning::Targets(targets) => {
@@ -76,7 +80,9 @@ fn without(
     alloc: Global,
     paths: IndexSet<String>,
     file: &str,
-) -> Result<IndexSet<String>, AllocError> {
+) -> Result<IndexSet<String>, AllocError>
+    ensures { IfOk result (λ others. LacksJust (map string_bytes paths.keys) (map string_bytes others.keys) file.now) }
+{
     if !paths.contains(file) {
         return Ok(paths);
     }
@@ -119,8 +125,10 @@ fn add_edges(
     for place in 0..declared.graph.edges() {
         let edge = declared.graph.manifest.edge(place);
         let is_asked = rules.is_none_or(|rules| rules.contains(&declared.rule(edge)));
-        if is_asked && may_clean(declared, edge, generated) {
-            add_outputs(alloc, declared, declared.graph.outputs(edge), paths)?;
+        let outputs = outputs_at(&declared.graph, edge);
+        // no line is without outputs
+        if is_asked && !outputs.is_empty() && may_clean(declared, edge, generated) {
+            add_outputs(alloc, declared, outputs, paths)?;
             add_own_files(alloc, declared, edge, paths)?;
         }
     }
@@ -129,7 +137,7 @@ fn add_edges(
 
 /// Whether what the edge makes may be removed.
 fn may_clean(declared: &Declared, edge: EdgeId, generated: bool) -> bool {
-    !declared.graph.is_phony(edge) && (generated || !declared.described.is_generator(edge))
+    !is_phony_at(&declared.graph, edge) && (generated || !declared.described.is_generator(edge))
 }
 
 /// Adds these paths and those above them, as far as commands make them.
@@ -143,7 +151,7 @@ fn add_targets(
     for output in outputs_above(alloc, &declared.graph, targets)? {
         match declared.graph.maker(output) {
             Some(edge) if may_clean(declared, edge, generated) => {
-                add_text(alloc, declared.graph.text(output), paths)?;
+                add_text(alloc, text_at(&declared.graph, output), paths)?;
                 add_own_files(alloc, declared, edge, paths)?;
             }
             _ => {}
@@ -159,7 +167,7 @@ fn add_outputs(
     paths: &mut IndexSet<String>,
 ) -> Result<(), AllocError> {
     for output in outputs {
-        add_text(alloc, declared.graph.text(*output), paths)?;
+        add_text(alloc, text_at(&declared.graph, *output), paths)?;
     }
     Ok(())
 }
@@ -216,7 +224,10 @@ fn remove<S: Site>(
     path: &str,
     only_count: bool,
     cleaned: &mut Cleaned,
-) -> Result<(), Fault> {
+) -> Result<(), Fault>
+    ensures counted { only_count ≡ true → OnlyLooks S.tells (S.world site.old) (S.world site.new) }
+    ensures removed { only_count ≡ false → WritesOrNot S.tells path.now None (S.world site.old) (S.world site.new) }
+{
     if !only_count && site.remove(path).is_err() {
         cleaned.refused.push(Text::from_str(alloc, path)?)?;
         return Ok(());

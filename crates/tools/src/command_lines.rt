@@ -4,8 +4,8 @@ ghost use Rattle.std.specs.Prelude.{IfOk, string_bytes};
 ghost use Rattle.tools.specs.Answers.{AreMakers, PrintsCommands};
 
 use crate::above::edges_above;
-use crate::answer::push_line;
 use crate::declared::Declared;
+use crate::lines::push_line;
 use links::Graph;
 use paths::{EdgeId, PathId};
 use std::alloc::{AllocError, Global};

@@ -1,6 +1,7 @@
 //! `-t compdb` and `-t compdb-targets`: commands with what they compile, as JSON.
 
 use crate::above::edges_above;
+use crate::access::{inputs_at, is_phony_at, outputs_at, text_at};
 use crate::declared::Declared;
 use crate::fault::Fault;
 use crate::found::target;
@@ -58,7 +59,7 @@ pub fn compdb_targets(
     }
     let mut listing = Listing::new(alloc)?;
     for edge in edges_above(alloc, &declared.graph, &paths)? {
-        if !declared.graph.is_phony(edge) {
+        if !is_phony_at(&declared.graph, edge) {
             listing.push(alloc, declared, how, edge)?;
         }
     }
@@ -69,7 +70,7 @@ pub fn compdb_targets(
 fn output(alloc: Global, declared: &Declared, word: &str) -> Result<PathId, Fault> {
     let path = target(alloc, &declared.graph, word)?;
     if declared.graph.maker(path).is_none() {
-        let text = declared.graph.text(path);
+        let text = text_at(&declared.graph, path);
         return Err(Fault::NotMade(Text::from_str(alloc, text)?));
     }
     Ok(path)
@@ -113,8 +114,8 @@ impl Listing {
         how: Entries<'_>,
         edge: EdgeId,
     ) -> Result<(), AllocError> {
-        let input = declared.graph.inputs(edge).first().copied();
-        let output = declared.graph.outputs(edge).first().copied();
+        let input = inputs_at(&declared.graph, edge).first().copied();
+        let output = outputs_at(&declared.graph, edge).first().copied();
         let (Some(input), Some(output)) = (input, output) else {
             return Ok(());
         };
@@ -137,8 +138,8 @@ impl Listing {
         self.told
             .push_str(if self.is_empty { "\n  {" } else { ",\n  {" })?;
         self.is_empty = false;
-        let file = declared.graph.text(ends.input);
-        let output = declared.graph.text(ends.output);
+        let file = text_at(&declared.graph, ends.input);
+        let output = text_at(&declared.graph, ends.output);
         self.push_member(alloc, "\n    \"directory\": ", folder)?;
         self.push_member(alloc, ",\n    \"command\": ", command)?;
         self.push_member(alloc, ",\n    \"file\": ", file)?;

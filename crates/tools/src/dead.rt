@@ -27,14 +27,25 @@ pub fn to_bury(alloc: Global, declared: &Declared, records: &Records) -> Result<
         kept: IndexSet::new(alloc),
     };
     let log = records.logs.build_log.log();
-    let mut number = 0;
-    while log.done_at(number).is_some() {
-        for output in log.outputs_at(alloc, number)? {
-            add(alloc, declared, &listed, output, &mut found)?;
-        }
-        number += 1;
+    for number in 0..log.done_records() {
+        let outputs = log.outputs_at(alloc, number)?;
+        add_all(alloc, declared, &listed, outputs.as_slice(), &mut found)?;
     }
     Ok(found)
+}
+
+/// Adds those of the outputs that no line names.
+fn add_all(
+    alloc: Global,
+    declared: &Declared,
+    listed: &IndexSet<String>,
+    outputs: &[&str],
+    found: &mut Dead,
+) -> Result<(), AllocError> {
+    for output in outputs {
+        add(alloc, declared, listed, output, found)?;
+    }
+    Ok(())
 }
 
 /// Adds an output, unless a line names it.
@@ -60,10 +71,11 @@ fn add(
 /// The paths that deps records list.
 fn listed(alloc: Global, records: &Records) -> Result<IndexSet<String>, AllocError> {
     let mut listed = IndexSet::new(alloc);
-    let mut number = 0;
-    while let Some(deps) = records.logs.deps_log.log().deps_at(number) {
-        add_listed(alloc, records, deps.paths.as_slice(), &mut listed)?;
-        number += 1;
+    let log = records.logs.deps_log.log();
+    for number in 0..log.deps_records() {
+        if let Some(deps) = log.deps_at(number) {
+            add_listed(alloc, records, deps.paths.as_slice(), &mut listed)?;
+        }
     }
     Ok(listed)
 }

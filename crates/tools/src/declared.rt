@@ -1,6 +1,9 @@
 //! What build files declare, as tools see it.
 
-ghost use Rattle.std.specs.Prelude.{◌<◌, length};
+ghost use Rattle.std.specs.Prelude.{◌≡◌, get_or};
+ghost use Rattle.std.specs.Option.{option_map};
+ghost use Rattle.paths.specs.Commands.{no_action};
+ghost use Rattle.tools.specs.Files.{command_at, rule_of};
 
 use links::Graph;
 use manifest::Described;
@@ -15,10 +18,13 @@ pub struct Declared {
 }
 
 impl Declared {
-    /// The command of the edge; none for an alias.
+    /// The command of the edge; none for an alias, and for what is no edge.
     pub fn command(&self, edge: EdgeId) -> Option<&Command>
-        requires { edge < length self.now.graph.manifest.lines }
+        ensures { option_map (λ command. command.now) result ≡ command_at (get_or self.now.graph.manifest.actions edge no_action) }
     {
+        if edge.index() >= self.graph.edges() {
+            return None;
+        }
         match self.graph.manifest.action(edge) {
             Action::Alias => None,
             Action::Command(command) => Some(command),
@@ -26,7 +32,9 @@ impl Declared {
     }
 
     /// The name of the rule of the edge.
-    pub fn rule(&self, edge: EdgeId) -> &str {
+    pub fn rule(&self, edge: EdgeId) -> &str
+        ensures { result.now ≡ rule_of self.now edge }
+    {
         self.described.rule(edge)
     }
 }

@@ -1,7 +1,10 @@
 //! `-t graph`: the graph above targets, for graphviz.
 
-use crate::answer::push_line;
+ghost use Rattle.std.specs.Prelude.{◌<◌, length};
+
+use crate::access::{inputs_at, outputs_at, text_at};
 use crate::declared::Declared;
+use crate::lines::push_line;
 use paths::{EdgeId, PathId};
 use std::alloc::{AllocError, Global};
 
@@ -52,7 +55,7 @@ impl Drawing {
         if is_met(&mut self.paths, path.index()) {
             return Ok(());
         }
-        self.draw_path(alloc, path, declared.graph.text(path))?;
+        self.draw_path(alloc, path, text_at(&declared.graph, path))?;
         let Some(edge) = declared.graph.maker(path) else {
             return Ok(());
         };
@@ -60,7 +63,7 @@ impl Drawing {
             return Ok(());
         }
         self.draw_edge(alloc, declared, edge)?;
-        self.push_reversed(declared.graph.inputs(edge))
+        self.push_reversed(inputs_at(&declared.graph, edge))
     }
 
     /// Draws a path as a node.
@@ -77,10 +80,12 @@ impl Drawing {
         alloc: Global,
         declared: &Declared,
         edge: EdgeId,
-    ) -> Result<(), AllocError> {
+    ) -> Result<(), AllocError>
+        requires { edge < length declared.now.graph.manifest.lines }
+    {
         let graph = &declared.graph;
         let rule = declared.rule(edge);
-        match (graph.inputs(edge), graph.outputs(edge)) {
+        match (inputs_at(graph, edge), outputs_at(graph, edge)) {
             ([input], [output]) => self.draw_short(alloc, *input, *output, rule),
             _ => {
                 let number = edge.index();
@@ -118,12 +123,14 @@ impl Drawing {
         declared: &Declared,
         edge: EdgeId,
         name: &str,
-    ) -> Result<(), AllocError> {
+    ) -> Result<(), AllocError>
+        requires { edge < length declared.now.graph.manifest.lines }
+    {
         let rule = declared.rule(edge);
         let line = ["\"", name, "\" [label=\"", rule, "\", shape=ellipse]"];
         push_line(&mut self.told, line.as_slice())?;
         let lines = &declared.graph.manifest.lines;
-        self.draw_outputs(alloc, name, declared.graph.outputs(edge))?;
+        self.draw_outputs(alloc, name, outputs_at(&declared.graph, edge))?;
         self.draw_inputs(alloc, name, "", lines.regular_inputs(edge))?;
         self.draw_inputs(alloc, name, " style=dotted", lines.order_only_inputs(edge))
     }

@@ -1,5 +1,8 @@
 //! Dyndep files, as tools load them (manual: "Dynamic Dependencies").
 
+ghost use Rattle.model.specs.Calls.{OnlyLooks};
+
+use crate::access::text_at;
 use crate::fault::Fault;
 use dyndep::{ReadError, parse};
 use indexmap::IndexSet;
@@ -16,7 +19,9 @@ pub fn load_dyndeps<S: Site>(
     site: &mut S,
     graph: &mut Graph,
     edges: &[EdgeId],
-) -> Result<(), Fault> {
+) -> Result<(), Fault>
+    ensures { OnlyLooks S.tells (S.world site.old) (S.world site.new) }
+{
     for file in files_of(alloc, graph, edges)?.as_slice() {
         load(alloc, site, graph, *file)?;
     }
@@ -31,8 +36,10 @@ fn files_of(
 ) -> Result<IndexSet<PathId>, AllocError> {
     let mut files = IndexSet::new(alloc);
     for edge in edges {
-        if let Some(file) = graph.dyndep(*edge) {
-            files.insert(file)?;
+        if edge.index() < graph.edges() {
+            if let Some(file) = graph.dyndep(*edge) {
+                files.insert(file)?;
+            }
         }
     }
     Ok(files)
@@ -43,8 +50,10 @@ fn load<S: Site>(
     site: &mut S,
     graph: &mut Graph,
     file: PathId,
-) -> Result<(), Fault> {
-    match site.read(graph.text(file)) {
+) -> Result<(), Fault>
+    ensures { OnlyLooks S.tells (S.world site.old) (S.world site.new) }
+{
+    match site.read(text_at(graph, file)) {
         Ok(Some(content)) => join(alloc, graph, file, &content),
         Ok(None) | Err(SiteFault::Device) => Ok(()),
         Err(fault) => Err(Fault::from(fault)),
@@ -57,6 +66,9 @@ fn join(alloc: Global, graph: &mut Graph, file: PathId, content: &Bytes) -> Resu
         Err(ReadError::Memory) => return Err(Fault::Memory),
         Err(ReadError::Fault(_)) => return Ok(()),
     };
+    if file.index() >= graph.paths() {
+        return Ok(());
+    }
     match graph.extend(alloc, additions.as_slice(), file) {
         Err(ExtendFault::Memory) => Err(Fault::Memory),
         _ => Ok(()),

@@ -2,8 +2,9 @@
 
 ghost use Rattle.std.specs.Prelude.{IfOk, map};
 ghost use Rattle.std.specs.Map.Iter.{deref};
-ghost use Rattle.tools.specs.Found.{IsNamed, AreAsked};
+ghost use Rattle.tools.specs.Found.{HasText, IsFirstMadeOf, IsNamed, AreAsked};
 
+use crate::access::{outputs_at, users_at};
 use crate::declared::Declared;
 use crate::fault::Fault;
 use crate::near::near;
@@ -33,7 +34,9 @@ pub fn target(alloc: Global, graph: &Graph, word: &str) -> Result<PathId, Fault>
 }
 
 /// The path of this text.
-fn known(alloc: Global, graph: &Graph, path: &str) -> Result<PathId, Fault> {
+fn known(alloc: Global, graph: &Graph, path: &str) -> Result<PathId, Fault>
+    ensures { IfOk result (HasText graph.now path.now) }
+{
     match graph.manifest.paths.number_of(path) {
         Some(number) => Ok(number),
         None => {
@@ -44,13 +47,16 @@ fn known(alloc: Global, graph: &Graph, path: &str) -> Result<PathId, Fault> {
 }
 
 /// The first output of the first edge that names the path as an input.
-fn first_made_of(alloc: Global, graph: &Graph, path: &str) -> Result<PathId, Fault> {
+fn first_made_of(alloc: Global, graph: &Graph, path: &str) -> Result<PathId, Fault>
+    ensures { IfOk result (IsFirstMadeOf graph.now path.now) }
+{
     let read = known(alloc, graph, path)?;
-    let edge = graph.users(read).first().copied();
-    match edge.and_then(|edge| graph.outputs(edge).first().copied()) {
-        Some(output) => Ok(output),
-        None => Err(Fault::NoOutEdge(Text::from_str(alloc, path)?)),
+    if let Some(edge) = users_at(graph, read).first() {
+        if let Some(output) = outputs_at(graph, *edge).first() {
+            return Ok(*output);
+        }
     }
+    Err(Fault::NoOutEdge(Text::from_str(alloc, path)?))
 }
 
 /// The paths that these words name; what is meant where there are none.

@@ -1,12 +1,16 @@
 //! `-t targets`: outputs by depth, by rule, or all.
 
-ghost use Rattle.std.specs.Prelude.{◌≡◌, IfOk, string_bytes};
-ghost use Rattle.tools.specs.Answers.{PrintsOfRule, PrintsTargets, all_sources, all_targets, lines};
+ghost use Rattle.std.specs.Prelude.{◌≡◌, ◌++◌, IfOk, OnOk, filter, is_none, map, string_bytes};
+ghost use Rattle.std.specs.Map.Iter.{deref};
+ghost use Rattle.links.specs.Links.{links_of};
+ghost use Rattle.paths.specs.Told.{texts_at};
+ghost use Rattle.tools.specs.Answers.{PrintsEach, PrintsOfRule, PrintsTargets, Puts, all_sources, all_targets, lines, with_rule};
 ghost use Rattle.tools.specs.declared.listing.Wanted.TheVariants as wanted;
 
-use crate::answer::push_line;
+use crate::access::{inputs_at, outputs_at, text_at};
 use crate::declared::Declared;
 use crate::fault::Fault;
+use crate::lines::push_line;
 use crate::near::near_word;
 use crate::unread::roots;
 use links::{ConeFault, Graph};
@@ -83,10 +87,12 @@ fn sources(alloc: Global, declared: &Declared) -> Result<String, AllocError>
     Ok(told)
 }
 
-fn push_sources(graph: &Graph, paths: &[PathId], told: &mut String) -> Result<(), AllocError> {
+fn push_sources(graph: &Graph, paths: &[PathId], told: &mut String) -> Result<(), AllocError>
+    ensures { OnOk result (Puts (string_bytes told.old) (string_bytes told.new) (texts_at graph.now.manifest.paths (filter (λ p. is_none ((links_of graph.now).maker p)) paths.now))) }
+{
     for path in paths {
         if graph.maker(*path).is_none() {
-            push_line(told, &[graph.text(*path)])?;
+            push_line(told, &[text_at(graph, *path)])?;
         }
     }
     Ok(())
@@ -110,15 +116,19 @@ fn push_texts<'a>(
     graph: &'a Graph,
     numbers: &[PathId],
     paths: &mut Vec<&'a str>,
-) -> Result<(), AllocError> {
+) -> Result<(), AllocError>
+    ensures { OnOk result (map deref paths.new.items ≡ map deref paths.old.items ++ texts_at graph.now.manifest.paths numbers.now) }
+{
     for number in numbers {
-        paths.push(graph.text(*number))?;
+        paths.push(text_at(graph, *number))?;
     }
     Ok(())
 }
 
 /// A line for each of the texts, in the order of their bytes, each once.
-pub fn sorted_lines(alloc: Global, texts: Vec<&str>) -> Result<String, AllocError> {
+pub fn sorted_lines(alloc: Global, texts: Vec<&str>) -> Result<String, AllocError>
+    ensures { IfOk result (λ told. PrintsEach (map deref texts.entry.items) (string_bytes told)) }
+{
     let mut texts = texts;
     texts.sort()?;
     let mut told = String::new(alloc);
@@ -143,12 +153,12 @@ fn all(alloc: Global, declared: &Declared) -> Result<String, AllocError>
     Ok(told)
 }
 
-fn push_outputs(declared: &Declared, edge: EdgeId, told: &mut String) -> Result<(), AllocError> {
-    for output in declared.graph.outputs(edge) {
-        push_line(
-            told,
-            &[declared.graph.text(*output), ": ", declared.rule(edge)],
-        )?;
+fn push_outputs(declared: &Declared, edge: EdgeId, told: &mut String) -> Result<(), AllocError>
+    ensures { OnOk result (Puts (string_bytes told.old) (string_bytes told.new) (map (with_rule declared.now edge) ((links_of declared.now.graph).outputs edge))) }
+{
+    for output in outputs_at(&declared.graph, edge) {
+        let text = text_at(&declared.graph, *output);
+        push_line(told, &[text, ": ", declared.rule(edge)])?;
     }
     Ok(())
 }
@@ -212,15 +222,13 @@ fn show_next<'a>(
         place: place + 1,
     })?;
     let Some(edge) = declared.graph.maker(path) else {
-        return push_line(told, &[declared.graph.text(path)]);
+        return push_line(told, &[text_at(&declared.graph, path)]);
     };
-    push_line(
-        told,
-        &[declared.graph.text(path), ": ", declared.rule(edge)],
-    )?;
+    let text = text_at(&declared.graph, path);
+    push_line(told, &[text, ": ", declared.rule(edge)])?;
     if levels.len() < depth {
         levels.push(Level {
-            paths: declared.graph.inputs(edge),
+            paths: inputs_at(&declared.graph, edge),
             place: 0,
         })?;
     }

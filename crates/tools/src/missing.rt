@@ -1,9 +1,10 @@
 //! `-t missingdeps`: recorded inputs that are made, and whose maker is not above.
 
 ghost use Rattle.std.specs.Prelude.{IfOk};
-ghost use Rattle.tools.specs.Missing.{Misses};
+ghost use Rattle.tools.specs.Missing.{AreNamedMade, Misses};
 
 use crate::above::edges_above;
+use crate::access::{inputs_at, outputs_at};
 use crate::declared::Logged;
 use links::Graph;
 use paths::{EdgeId, PathId};
@@ -53,16 +54,18 @@ pub fn outputs_above(
     alloc: Global,
     graph: &Graph,
     paths: &[PathId],
-) -> Result<Vec<PathId>, AllocError> {
+) -> Result<Vec<PathId>, AllocError>
+    ensures { IfOk result (λ outputs. AreNamedMade graph.now paths.now outputs.items) }
+{
     let edges = edges_above(alloc, graph, paths)?;
     let mut named = vec![in alloc; false; graph.paths()]?;
     mark(&mut named, paths);
     for edge in edges.as_slice() {
-        mark(&mut named, graph.inputs(*edge));
+        mark(&mut named, inputs_at(graph, *edge));
     }
     let mut outputs = Vec::new(alloc);
     for edge in edges.as_slice() {
-        push_marked(&named, graph.outputs(*edge), &mut outputs)?;
+        push_marked(&named, outputs_at(graph, *edge), &mut outputs)?;
     }
     Ok(outputs)
 }

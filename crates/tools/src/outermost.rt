@@ -1,7 +1,7 @@
 //! `-t rules`: the rules of the outermost scope.
 
-use crate::answer::push_line;
 use crate::declared::Declared;
+use crate::lines::push_line;
 use std::alloc::{AllocError, Global};
 
 /// What `rules` prints: the name of each rule of the outermost scope, in the order of their bytes, with its description where that is

@@ -6,6 +6,7 @@ ghost use Rattle.model.specs.Calls.{OnlyLooks};
 ghost use Rattle.records.specs.Known.{Knows, SomeOfBoth};
 ghost use Rattle.tools.specs.Joined.{KeepsEdges};
 
+use crate::access::outputs_at;
 use crate::declared::Declared;
 use crate::fault::Fault;
 use lexer::{ReadFault, canonical};
@@ -21,7 +22,7 @@ const LOG: &str = ".nj_log";
 const DEPS_LOG: &str = ".nj_deps";
 
 /// The folder of the program's own files, which `builddir` names; the empty one is the working folder.
-pub fn own_folder(alloc: Global, graph: &Graph) -> Result<String, AllocError> {
+fn own_folder(alloc: Global, graph: &Graph) -> Result<String, AllocError> {
     match canonical(alloc, graph.manifest.builddir.as_str()) {
         Ok(folder) if folder.as_str() == "." => Ok(String::new(alloc)),
         Ok(folder) => Ok(folder),
@@ -75,10 +76,11 @@ fn own_path(alloc: Global, folder: &str, name: &str) -> Result<String, AllocErro
 fn join_paths(alloc: Global, graph: &mut Graph, records: &Records) -> Result<(), AllocError>
     ensures { KeepsEdges graph.old graph.new }
 {
-    let mut number = 0;
-    while let Some(path) = records.deps_path(number) {
+    for number in 0..usize::MAX {
+        let Some(path) = records.deps_path(number) else {
+            break;
+        };
         graph.add_path(alloc, path)?;
-        number += 1;
     }
     Ok(())
 }
@@ -97,7 +99,7 @@ pub fn first_reader(declared: &Declared, records: &Records, path: &str) -> Optio
 
 /// The first output of the edge whose deps record names the path.
 fn reader_of(declared: &Declared, records: &Records, edge: EdgeId, path: &str) -> Option<PathId> {
-    for output in declared.graph.outputs(edge) {
+    for output in outputs_at(&declared.graph, edge) {
         if names(records, *output, path) {
             return Some(*output);
         }

@@ -1,8 +1,11 @@
 //! `-t deps`: what deps records tell.
 
-use crate::answer::push_line;
+ghost use Rattle.model.specs.Calls.{OnlyLooks};
+
+use crate::access::{outputs_at, text_at};
 use crate::declared::Logged;
 use crate::fault::Fault;
+use crate::lines::push_line;
 use deps_log::Deps;
 use model::Deps as Kind;
 use paths::PathId;
@@ -17,7 +20,9 @@ pub fn deps<S: Site>(
     site: &mut S,
     logged: Logged<'_>,
     paths: &[PathId],
-) -> Result<String, Fault> {
+) -> Result<String, Fault>
+    ensures { OnlyLooks S.tells (S.world site.old) (S.world site.new) }
+{
     let mut told = String::new(alloc);
     for path in paths {
         push_record(alloc, site, logged, *path, &mut told)?;
@@ -33,7 +38,7 @@ pub fn recorded_outputs(alloc: Global, logged: Logged<'_>) -> Result<Vec<PathId>
         let edge = declared.graph.manifest.edge(place);
         match declared.command(edge) {
             Some(command) if command.deps == Kind::Gcc => {
-                push_recorded(records, declared.graph.outputs(edge), &mut paths)?
+                push_recorded(records, outputs_at(&declared.graph, edge), &mut paths)?
             }
             _ => {}
         }
@@ -60,9 +65,11 @@ fn push_record<S: Site>(
     logged: Logged<'_>,
     path: PathId,
     told: &mut String,
-) -> Result<(), Fault> {
+) -> Result<(), Fault>
+    ensures { OnlyLooks S.tells (S.world site.old) (S.world site.new) }
+{
     let Logged { declared, records } = logged;
-    let text = declared.graph.text(path);
+    let text = text_at(&declared.graph, path);
     let Some(deps) = records.deps(path) else {
         return Ok(push_line(told, &[text, ": deps not found"])?);
     };

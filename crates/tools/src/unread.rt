@@ -1,8 +1,9 @@
 //! What is meant where no target is named.
 
-ghost use Rattle.std.specs.Prelude.{IfOk};
-ghost use Rattle.tools.specs.Roots.{AreRoots};
+ghost use Rattle.std.specs.Prelude.{◌≡◌, ◌++◌, IfOk, OnOk};
+ghost use Rattle.tools.specs.Roots.{AreRoots, unread};
 
+use crate::access::users_at;
 use crate::fault::Fault;
 use links::Graph;
 use paths::PathId;
@@ -20,9 +21,11 @@ pub fn roots(alloc: Global, graph: &Graph) -> Result<Vec<PathId>, AllocError>
 }
 
 /// Adds those of the paths that no edge names as an input.
-fn push_unread(graph: &Graph, paths: &[PathId], roots: &mut Vec<PathId>) -> Result<(), AllocError> {
+fn push_unread(graph: &Graph, paths: &[PathId], roots: &mut Vec<PathId>) -> Result<(), AllocError>
+    ensures { OnOk result (roots.new.items ≡ roots.old.items ++ unread graph.now paths.now) }
+{
     for path in paths {
-        if graph.users(*path).is_empty() {
+        if users_at(graph, *path).is_empty() {
             roots.push(*path)?;
         }
     }
