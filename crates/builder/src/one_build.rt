@@ -18,7 +18,7 @@ ghost use Rattle.paths.specs.Told.{graph_of, text_at};
 ghost use Rattle.runner.specs.Course.{Course};
 ghost use Rattle.runner.specs.Ran.{AreEdgesOf};
 ghost use Rattle.builder.specs.Build.{limits_of, Builds, IsBuild};
-ghost use Rattle.builder.specs.Parts.{BuildsGraph, BuildsReading};
+ghost use Rattle.builder.specs.Parts.{BuildsAsked, BuildsGraph, BuildsReading, IsReportOfNoGraph};
 ghost use Rattle.model.specs.Phases.{Phase};
 ghost use Rattle.runner.specs.Going.{AreSet};
 ghost use Rattle.builder.specs.Going.{BeginsAt};
@@ -38,6 +38,7 @@ use display::Display;
 use dyndep_law::has_reading as has_dyndeps;
 use links::{Cone, ConeFault, Graph, lists_stand};
 use looks::Looks;
+use paths::Manifest;
 use plan::{Plan, task_of};
 use records::{Records, log_begins};
 use runner::{State, Summary};
@@ -92,6 +93,40 @@ pub fn build_read<S: Site>(
     match link_and_build(alloc, site, reading, options) {
         Ok(report) => report,
         Err(report) => report,
+    }
+}
+
+/// The graph of what was read of build files.
+///
+/// # Errors
+///
+/// The report of each build of it, where its edges make no graph.
+pub fn link(alloc: Global, manifest: Manifest) -> Result<Graph, Report>
+    requires formed { IsGraph (graph_of manifest) }
+    ensures graph { IfOk result (λ graph. (graph.manifest ≡ manifest) × IsLinked graph) }
+    ensures refused { IfErr result (IsReportOfNoGraph manifest) }
+{
+    Ok(Graph::build(alloc, manifest)?)
+}
+
+/// Builds what is asked for of the graph of what was read ([`link`]), as [`build_read`] does: for somebody who has looked at that graph before. Nothing
+/// is recorded of it yet; then it has the recorded inputs that this build uses, and what dyndep files add.
+pub fn build_graph_read<S: Site>(
+    alloc: Global,
+    site: &mut S,
+    graph: &mut Graph,
+    asked: &Asked<'_>,
+    options: &Options,
+) -> Report
+    requires idle { IsIdle (S.world site.old).events }
+    requires running { (S.world site.old).stopped ≡ false }
+    requires formed { IsGraph (declared_by graph.old) }
+    requires linked { IsLinked graph.old }
+    ensures { BuildsAsked S.tells (declared_by graph.old) asked.now (S.world site.old) (S.world site.new) result }
+{
+    match build_linked(alloc, site, graph, asked, options) {
+        Ok(told) => told,
+        Err(told) => told,
     }
 }
 

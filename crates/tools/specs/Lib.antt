@@ -1,0 +1,10 @@
+pub mod Above
+pub mod Roots
+pub mod Found
+pub mod Missing
+pub mod Files
+pub mod Clean
+pub mod Dead
+pub mod Answers
+pub mod Moves
+pub mod Joined

@@ -1,0 +1,19 @@
+-- What `clean` and `cleandead` do to a site.
+use Rattle.std.specs.Prelude.{◌≡◌, ℕ, Bool, true, false, List, [], ◌∷◌, None}
+use Rattle.model.specs.Calls.{OnlyLooks, WritesOrNot}
+use Rattle.model.specs.Graph.{has}
+use Rattle.model.specs.World.{World}
+
+-- the files at these paths were removed, one after another, or that was refused; between them it only looked
+abbrev pub AreRemoved : Bool → List (List ℕ) → World → World → Type 0
+AreRemoved tells [] old new = OnlyLooks tells old new
+AreRemoved tells (path ∷ paths) old new = (before after : World) × OnlyLooks tells old before × WritesOrNot tells path None before after × AreRemoved tells paths after new
+
+-- all of them are among these
+abbrev pub AreAmong : List (List ℕ) → List (List ℕ) → Type 0
+AreAmong some paths = (path : List ℕ) → has some path ≡ true → has paths path ≡ true
+
+-- Nothing was done but to remove some of these files, each of which is an edit between builds; where they are only counted, nothing at all.
+abbrev pub RemovesOf : Bool → Bool → List (List ℕ) → World → World → Type 0
+RemovesOf tells true paths old new = OnlyLooks tells old new
+RemovesOf tells false paths old new = (gone : List (List ℕ)) × AreAmong gone paths × AreRemoved tells gone old new

@@ -1,0 +1,95 @@
+//! `-t cleandead`: what a build made once and no line names any more.
+
+ghost use Rattle.std.specs.Prelude.{IfOk, map, string_bytes};
+ghost use Rattle.tools.specs.Dead.{Buries};
+
+use crate::declared::Declared;
+use indexmap::IndexSet;
+use records::Records;
+use std::alloc::{AllocError, Global};
+
+/// The outputs of the build log that no line names.
+#[derive(Drop)]
+pub struct Dead {
+    /// Those that no deps record lists. They are removed.
+    pub dead: IndexSet<String>,
+    /// Those that some deps record lists. They may have become sources, and are kept.
+    pub kept: IndexSet<String>,
+}
+
+/// The outputs of the build log that no line names, by whether a deps record lists them.
+pub fn to_bury(alloc: Global, declared: &Declared, records: &Records) -> Result<Dead, AllocError>
+    ensures { IfOk result (λ found. Buries declared.now.graph records.now (map string_bytes found.dead.keys) (map string_bytes found.kept.keys)) }
+{
+    let listed = listed(alloc, records)?;
+    let mut found = Dead {
+        dead: IndexSet::new(alloc),
+        kept: IndexSet::new(alloc),
+    };
+    let log = records.logs.build_log.log();
+    for number in 0..log.done_records() {
+        let outputs = log.outputs_at(alloc, number)?;
+        add_all(alloc, declared, &listed, outputs.as_slice(), &mut found)?;
+    }
+    Ok(found)
+}
+
+/// Adds those of the outputs that no line names.
+fn add_all(
+    alloc: Global,
+    declared: &Declared,
+    listed: &IndexSet<String>,
+    outputs: &[&str],
+    found: &mut Dead,
+) -> Result<(), AllocError> {
+    for output in outputs {
+        add(alloc, declared, listed, output, found)?;
+    }
+    Ok(())
+}
+
+/// Adds an output, unless a line names it.
+fn add(
+    alloc: Global,
+    declared: &Declared,
+    listed: &IndexSet<String>,
+    output: &str,
+    found: &mut Dead,
+) -> Result<(), AllocError> {
+    if declared.graph.manifest.number_of(output).is_some() {
+        return Ok(());
+    }
+    let text = String::from_str(alloc, output)?;
+    if listed.contains(output) {
+        found.kept.insert(text)?;
+    } else {
+        found.dead.insert(text)?;
+    }
+    Ok(())
+}
+
+/// The paths that deps records list.
+fn listed(alloc: Global, records: &Records) -> Result<IndexSet<String>, AllocError> {
+    let mut listed = IndexSet::new(alloc);
+    let log = records.logs.deps_log.log();
+    for number in 0..log.deps_records() {
+        if let Some(deps) = log.deps_at(number) {
+            add_listed(alloc, records, deps.paths.as_slice(), &mut listed)?;
+        }
+    }
+    Ok(listed)
+}
+
+fn add_listed(
+    alloc: Global,
+    records: &Records,
+    numbers: &[usize],
+    listed: &mut IndexSet<String>,
+) -> Result<(), AllocError> {
+    for number in numbers {
+        if let Some(path) = records.deps_path(*number) {
+            listed.insert(String::from_str(alloc, path)?)?;
+        }
+    }
+    Ok(())
+}
