@@ -29,10 +29,11 @@ BuildsReading tells reading old new report = BuildsAsked tells (graph_of reading
 abbrev pub BuildsGraph : Bool → Graph → Asked → World → World → Result Report Report → Type 0
 BuildsGraph tells graph asked old new result = BuildsAsked tells (declared_by graph) asked old new (report_in result)
 
--- Each build of what the manifest declares reports so, whatever is asked for and whenever, since its edges make no graph: from an entry on,
--- since which there was only looked, and for whatever is behind the records of logs and the reading of other files.
-abbrev pub IsReportOfNoGraph : Manifest → Report → Type 0
-IsReportOfNoGraph manifest report =
-    (tells : Bool) (B : Behaviour) (format : LogFormat) (own : OwnFiles) (folder : List ℕ) (limits : Limits) (given targets : List (List ℕ)) (entry now : World)
+-- Each build of what the manifest declares reports so, where own files lie in this folder: whatever is asked for and whenever, since its
+-- edges make no graph; from an entry on, since which there was only looked, and for whatever is behind the records of logs and the
+-- reading of other files.
+abbrev pub IsReportOfNoGraph : List ℕ → Manifest → Report → Type 0
+IsReportOfNoGraph folder manifest report =
+    (tells : Bool) (B : Behaviour) (format : LogFormat) (own : OwnFiles) (limits : Limits) (given targets : List (List ℕ)) (entry now : World)
     → IsIdle entry.events → Looked tells entry now
     → Builds tells B format own (graph_of manifest) folder limits given targets (graph_of manifest).edges entry now report

@@ -1,6 +1,6 @@
 //! One build.
 
-ghost use Rattle.std.specs.Prelude.{◌≡◌, ◌<◌, ℕ, All, List, IfOk, IfErr, OnOk, false, vec_len, length};
+ghost use Rattle.std.specs.Prelude.{◌≡◌, ◌<◌, ℕ, All, List, [], IfOk, IfErr, OnOk, false, vec_len, length};
 ghost use Rattle.model.specs.declared.record.Record.{Record};
 ghost use Rattle.model.specs.declared.record.DepsRecord.{DepsRecord};
 ghost use Rattle.model.specs.declared.graph.Edge.{Edge};
@@ -12,7 +12,8 @@ ghost use Rattle.records.specs.Known.{AreKnown};
 ghost use Rattle.records.specs.Laws.{WereRead};
 ghost use Rattle.model.specs.Graph.{IsMadeOnce};
 ghost use Rattle.model.specs.SingleBuild.{NamesOther};
-ghost use Rattle.links.specs.Told.{declared_by};
+ghost use Rattle.links.specs.Occupying.{AreApart};
+ghost use Rattle.links.specs.Told.{declared_by, recorded_by};
 ghost use Rattle.manifest.specs.Answer.{IsGraph};
 ghost use Rattle.paths.specs.Told.{graph_of, text_at};
 ghost use Rattle.runner.specs.Course.{Course};
@@ -96,17 +97,21 @@ pub fn build_read<S: Site>(
     }
 }
 
-/// The graph of what was read of build files.
+/// The graph of what was read of build files, where the program's own files lie in the folder: its canonical path, which is empty for
+/// the working folder.
 ///
 /// # Errors
 ///
-/// The report of each build of it, where its edges make no graph.
-pub fn link(alloc: Global, manifest: Manifest) -> Result<Graph, Report>
-    requires formed { IsGraph (graph_of manifest) }
-    ensures graph { IfOk result (λ graph. (graph.manifest ≡ manifest) × IsLinked graph) }
-    ensures refused { IfErr result (IsReportOfNoGraph manifest) }
+/// The report of each build of it with own files in that folder, where its edges make no graph.
+pub fn link(alloc: Global, manifest: Manifest, folder: &str) -> Result<Graph, Report>
+    ensures manifest { IfOk result (λ graph. graph.manifest ≡ manifest) }
+    ensures once { OnOk result (IsMadeOnce (graph_of manifest).edges) }
+    ensures dyndep { OnOk result ((file : List ℕ) → NamesOther (graph_of manifest).edges file → ⊥) }
+    ensures apart { OnOk result (AreApart folder.now (graph_of manifest).edges) }
+    ensures recorded { IfOk result (λ graph. (i : ℕ) → recorded_by graph i ≡ []) }
+    ensures refused { IfErr result (IsReportOfNoGraph folder.now manifest) }
 {
-    Ok(Graph::build(alloc, manifest)?)
+    Ok(Graph::build(alloc, manifest, folder)?)
 }
 
 /// Builds what is asked for of the graph of what was read ([`link`]), as [`build_read`] does: for somebody who has looked at that graph before. Nothing
@@ -143,7 +148,7 @@ fn link_and_build<S: Site>(
     ensures { BuildsReading S.tells reading.entry (S.world site.old) (S.world site.new) (report_in result) }
 {
     let Reading { manifest, asked } = reading;
-    let mut graph = Graph::build(alloc, manifest, asked.folder.as_str())?;
+    let mut graph = link(alloc, manifest, asked.folder.as_str())?;
     build_linked(alloc, site, &mut graph, &asked, options)
 }
 

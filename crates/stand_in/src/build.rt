@@ -74,9 +74,8 @@ pub fn read_here<S: Site>(alloc: Global, site: &mut S, file: &str) -> Result<Dec
     ensures unread { IfErr result (WasUnreadHere S.tells S.outcome file.now (S.world site.old) (S.world site.new)) }
 {
     let (manifest, described) = read_described(alloc, site, file)?;
-    // a build of it has a folder for the program's own files, also where its edges make no graph
-    own_folder(alloc, manifest.builddir.as_str())?;
-    let graph = link(alloc, manifest)?;
+    let folder = own_folder(alloc, manifest.builddir.as_str())?;
+    let graph = link(alloc, manifest, folder.as_str())?;
     Ok(Declared { graph, described })
 }
 
