@@ -11,6 +11,7 @@ pub mod Declaring
 pub mod DefaultLemmas
 pub mod DefaultsAll
 pub mod DepthLemmas
+pub mod Describing
 pub mod EdgeAll
 pub mod EdgeChecks
 pub mod EdgeCircles

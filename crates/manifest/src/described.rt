@@ -1,18 +1,21 @@
 //! What tools tell of build files beside the manifest: the names of rules, and which edges run a generator.
 
-ghost use Rattle.std.specs.Prelude.{◌≡◌, ◌<◌, IfOk, length, map, string_bytes, vec_len};
+ghost use Rattle.std.specs.Prelude.{◌≡◌, ◌<◌, ◌≤◌, IfOk, length, map, vec_len};
+ghost use Rattle.std.specs.List.{AllByRecursion};
+ghost use Rattle.std.specs.Map.Iter.{deref};
 ghost use Rattle.paths.specs.Lists.{line_at};
-ghost use Rattle.manifest.specs.Described.{manifest_in, mark_in, rule_in, AreNamesOf, IsNumberIn, MarksEdge, MarksGenerators};
+ghost use Rattle.manifest.specs.Declarations.{most_edges};
+ghost use Rattle.manifest.specs.Described.{manifest_in, mark_in, rule_in, AreNamesOf, DescribesLines, MarksEdge, MarksEdges, MarksRule};
+ghost use Rattle.manifest.specs.Held.{IsFormed, IsInScope};
 ghost use Rattle.manifest.specs.InNumbers.{IsWithin};
-ghost use Rattle.manifest.specs.Held.{IsFormed};
 ghost use Rattle.manifest.specs.Seen.{IsStated};
 
 use crate::edges::{Shown, shown_of};
 use crate::fault::ReadError;
 use crate::kept::{Declared, ReadEdge};
-use indexmap::{IndexMap, IndexSet};
-use paths::{EdgeId, Lines, Manifest, Paths as Table};
-use scopes::{Part, Paths, Rule, Scopes, Template, Use, UseFault, expand_use};
+use indexmap::IndexMap;
+use paths::{EdgeId, Manifest, PathId, Paths as Table};
+use scopes::{Part, Paths, Rule, Scopes, Use, UseFault, expand_use};
 use std::alloc::{AllocError, Global};
 use std::rc::Rc;
 use text::Text;
@@ -31,10 +34,10 @@ pub struct RuleTold {
 /// What is told of edges and rules beside the manifest.
 #[derive(Drop)]
 pub struct Described {
-    /// The names of the rules of edges, each once.
-    pub names: IndexSet<String>,
+    /// The names of the rules of edges, each once, in a table of their own.
+    pub names: Table,
     /// The number of the name of the rule of each edge.
-    pub rules: Vec<usize>,
+    pub rules: Vec<PathId>,
     /// For each edge whether `generator` is set where it stands.
     pub generators: Vec<bool>,
     /// The rules of the outermost scope, by name; `phony` is among them.
@@ -46,15 +49,18 @@ impl Described {
     pub(crate) fn of(alloc: Global, declared: &Declared) -> Result<Described, AllocError>
         requires formed { IsFormed declared.now }
         requires stated { IsStated declared.now }
-        ensures rules { IfOk result (λ described. AreNamesOf declared.now.edges.items (map string_bytes described.names.keys) described.rules.items) }
-        ensures generators { IfOk result (λ described. MarksGenerators declared.now described.generators.items) }
+        ensures rules { IfOk result (λ described. AreNamesOf declared.now.edges.items described.names described.rules.items) }
+        ensures generators { IfOk result (λ described. MarksEdges declared.now described.generators.items) }
+        ensures fits { IfOk result (DescribesLines declared.now.paths.lines) }
     {
-        let (names, rules) = rule_names(alloc, &declared.edges)?;
+        let (names, rules) = rule_names(alloc, declared.edges.as_slice())?;
+        let generators = generators(alloc, declared)?;
+        let outermost = outermost(alloc, &declared.scopes)?;
         Ok(Described {
             names,
             rules,
-            generators: generators(alloc, declared)?,
-            outermost: outermost(alloc, &declared.scopes)?,
+            generators,
+            outermost,
         })
     }
 
@@ -72,13 +78,12 @@ impl Described {
         }
     }
 
-    /// The name of the rule of the edge. Of an edge that was not read it means nothing.
+    /// The name of the rule of the edge; it is empty for an edge that was not read.
     pub fn rule(&self, edge: EdgeId) -> &str
         ensures { result.now ≡ rule_in self.now edge }
     {
-        let number = self.rules.get(edge.index()).copied().unwrap_or(0);
-        match self.names.get_index(number) {
-            Some(name) => name.as_str(),
+        match self.rules.get(edge.index()) {
+            Some(number) => self.names.get(*number).unwrap_or(""),
             None => "",
         }
     }
@@ -92,95 +97,60 @@ impl Described {
 }
 
 /// The names of the rules of edges, each once, and for each edge the number of its one.
-fn rule_names(
-    alloc: Global,
-    edges: &[ReadEdge],
-) -> Result<(IndexSet<String>, Vec<usize>), AllocError>
-    ensures { IfOk result (λ found. AreNamesOf edges.now (map string_bytes found.0.keys) found.1.items) }
+fn rule_names(alloc: Global, edges: &[ReadEdge]) -> Result<(Table, Vec<PathId>), AllocError>
+    ensures { IfOk result (λ found. AreNamesOf edges.now found.0 found.1.items) }
 {
-    let mut names = IndexSet::new(alloc);
+    let mut names = Table::new(alloc);
     let mut numbers = Vec::with_capacity(alloc, edges.len())?;
     for edge in edges {
-        numbers.push(number_of(alloc, &mut names, edge.rule_name.as_str())?)?;
+        let number = names.add(alloc, edge.rule_name.as_str())?;
+        numbers.push(number)?;
     }
     Ok((names, numbers))
 }
 
-/// The number of the name, which is put behind the others where it is none of them.
-fn number_of(
-    alloc: Global,
-    names: &mut IndexSet<String>,
-    name: &str,
-) -> Result<usize, AllocError>
-    ensures { IfOk result (λ number. IsNumberIn (map string_bytes names.old.keys) (map string_bytes names.new.keys) name.now number) }
-{
-    if let Some(number) = names.get_index_of(name) {
-        return Ok(number);
-    }
-    let number = names.len();
-    names.insert(String::from_str(alloc, name)?)?;
-    Ok(number)
-}
-
+/// For each edge whether it runs a generator.
 fn generators(alloc: Global, declared: &Declared) -> Result<Vec<bool>, AllocError>
-    requires formed { IsFormed declared.now }
-    requires stated { IsStated declared.now }
-    ensures { IfOk result (λ marks. MarksGenerators declared.now marks.items) }
+    requires scopes { AllByRecursion (IsInScope declared.now.scopes) declared.now.edges.items }
+    requires within { AllByRecursion (IsWithin declared.now.paths.table) declared.now.paths.lines }
+    requires count { length declared.now.edges.items ≡ length declared.now.paths.lines }
+    requires few { length declared.now.paths.lines ≤ most_edges }
+    ensures { IfOk result (λ marks. MarksEdges declared.now marks.items) }
 {
     let mut marks = Vec::with_capacity(alloc, declared.edges.len())?;
     let mut room = String::new(alloc);
-    let round = Round {
-        scopes: &declared.scopes,
-        table: &declared.paths.table,
-        lines: &declared.paths.lines,
-    };
     for edge in declared.edges.as_slice() {
         let place = EdgeId::at_below(marks.len());
-        marks.push(edge.is_generator(alloc, round, place, &mut room)?)?;
+        let mark = edge.is_generator(alloc, declared, place, &mut room)?;
+        marks.push(mark)?;
     }
     Ok(marks)
 }
 
-/// What stands round build statements: scopes, paths, and the lines in numbers.
-#[derive(Clone, Copy)]
-struct Round<'a> {
-    scopes: &'a Scopes,
-    table: &'a Table,
-    lines: &'a Lines,
-}
-
 impl ReadEdge {
     /// Whether `generator` is set where the edge stands: in its block, else in its rule, else round it. An expansion that fails
-    /// counts as not set. An alias has none.
+    /// counts as not set. An alias has none. Of the others each is expanded, as each other variable of a rule is.
     fn is_generator(
         &self,
         alloc: Global,
-        round: Round<'_>,
+        declared: &Declared,
         edge: EdgeId,
         room: &mut String,
     ) -> Result<bool, AllocError>
-        requires scope { self.now.scope < vec_len round.scopes.now.scopes }
-        requires edge { edge < length round.lines.now }
-        requires within { IsWithin round.table.now (line_at round.lines.now edge) }
-        ensures { IfOk result (MarksEdge round.entry.scopes.now self.now) }
+        requires scope { self.now.scope < vec_len declared.now.scopes.scopes }
+        requires edge { edge < length declared.now.paths.lines }
+        requires within { IsWithin declared.now.paths.table (line_at declared.now.paths.lines edge) }
+        ensures { IfOk result (MarksEdge declared.now edge self.now) }
     {
         let Some(rule) = &self.rule else {
             return Ok(false);
         };
-        if let Some(value) = self.block.get(GENERATOR) {
-            return Ok(!value.is_empty());
-        }
-        match rule.get(GENERATOR) {
-            None => Ok(is_set_round(round.scopes, self.scope)),
-            Some(template) if is_plain(template) => Ok(!template.parts.is_empty()),
-            Some(_) => {
-                let shown = shown_of(alloc, round.table, round.lines, edge)?;
-                self.expands_generator(alloc, round.scopes, rule, &shown, room)
-            }
-        }
+        let named = &declared.paths;
+        let shown = shown_of(alloc, &named.table, &named.lines, edge)?;
+        self.expands_generator(alloc, &declared.scopes, rule, &shown, room)
     }
 
-    /// Whether the rule's text of `generator` expands to something, where these are the paths of the line.
+    /// Whether `generator` expands to something where the rule is used with these paths.
     fn expands_generator(
         &self,
         alloc: Global,
@@ -189,7 +159,8 @@ impl ReadEdge {
         shown: &Shown<'_>,
         room: &mut String,
     ) -> Result<bool, AllocError>
-        requires scope { self.now.scope < vec_len scopes.now.scopes }
+        requires { self.now.scope < vec_len scopes.now.scopes }
+        ensures { IfOk result (MarksRule scopes.now (map deref shown.now.inputs.items) (map deref shown.now.outputs.items) self.now rule.now) }
     {
         let plain = Paths {
             inputs: shown.inputs.as_slice(),
@@ -209,26 +180,6 @@ impl ReadEdge {
             Err(_) => Ok(false),
         }
     }
-}
-
-/// Whether a scope, or one round it, sets `generator`.
-fn is_set_round(scopes: &Scopes, scope: usize) -> bool
-    requires { scope < vec_len scopes.now.scopes }
-{
-    match scopes.lookup_in(scope, GENERATOR) {
-        Some(value) => !value.is_empty(),
-        None => false,
-    }
-}
-
-/// Whether no name stands in the text.
-fn is_plain(template: &Template) -> bool {
-    for part in template.parts.as_slice() {
-        if let Part::Name(_) = part {
-            return false;
-        }
-    }
-    true
 }
 
 /// The rules of the outermost scope, by name.

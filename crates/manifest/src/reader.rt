@@ -4,7 +4,7 @@ ghost use Rattle.std.specs.Prelude.{◌≡◌, ◌<◌, IfOk, OnOk, IsTrue, map}
 ghost use Rattle.lexer.specs.Said.{said_of, fragments_of, form_of};
 ghost use Rattle.model.specs.Calls.{OnlyLooks, HasCause};
 ghost use Rattle.manifest.specs.Answer.{site_part, in_texts, ReadsFile, IsGraph};
-ghost use Rattle.manifest.specs.Described.{manifest_in, DescribesEdges};
+ghost use Rattle.manifest.specs.Described.{manifest_in, DescribesLines};
 ghost use Rattle.manifest.specs.Files.{NameOf};
 ghost use Rattle.manifest.specs.Held.{KeepsScopes};
 ghost use Rattle.manifest.specs.Seen.{IsStated, HasCauseIn, Tells, Finds, if_no_line};
@@ -81,7 +81,7 @@ pub fn read_described<R: Texts>(
     ensures cause { HasCause (R.world texts.old) (R.world texts.new) (site_part (manifest_in result)) }
     ensures file { IsTrue R.tells → ReadsFile name.now (R.world texts.old).history (R.world texts.new).history (in_texts (manifest_in result)) }
     ensures graph { IfOk (in_texts (manifest_in result)) IsGraph }
-    ensures described { IfOk result (λ both. DescribesEdges both.0 both.1) }
+    ensures described { IfOk result (λ both. DescribesLines both.0.lines both.1) }
 {
     let content = texts.read(name)?;
     let file = Rc::new(alloc, Text::from_str(alloc, name)?)?;
