@@ -14,9 +14,13 @@ pub data IsNeededFor (links : Links) (paths : List ℕ) : ℕ → Type 0 where
 abbrev pub MakesInputOf : Links → ℕ → ℕ → Type 0
 MakesInputOf links m e = (p : ℕ) × (has_number (links.inputs e) p ≡ true) × (links.maker p ≡ Some m)
 
--- the edges that are needed for the paths, each once, and behind those that make its inputs, unless such a one needs it itself
+-- each of these edges stands behind those that make its inputs, unless such a one needs it itself
+abbrev pub AreBehindMakers : Links → List ℕ → Type 0
+AreBehindMakers links edges = (before after : List ℕ) (m e : ℕ) → edges ≡ before ++ e ∷ after → MakesInputOf links m e
+    → (IsNeededFor links (links.inputs m) e → ⊥) → has_number before m ≡ true
+
+-- the edges that are needed for the paths, each once, and behind those that make its inputs
 pub record AreAbove (graph : Graph) (paths edges : List ℕ) : Type 0 where
   pub just : (e : ℕ) → has_number edges e ≡ true ↔ IsNeededFor (links_of graph) paths e
   pub once : StandOnce edges
-  pub order : (before after : List ℕ) (m e : ℕ) → edges ≡ before ++ e ∷ after → MakesInputOf (links_of graph) m e
-      → (IsNeededFor (links_of graph) ((links_of graph).inputs m) e → ⊥) → has_number before m ≡ true
+  pub order : AreBehindMakers (links_of graph) edges

@@ -1,4 +1,5 @@
 pub mod Above
+pub mod Rising
 pub mod Roots
 pub mod Found
 pub mod Missing
