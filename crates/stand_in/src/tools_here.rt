@@ -9,7 +9,7 @@ use crate::given::{Options, Shown};
 use builder::Report;
 use indexmap::IndexSet;
 use nj_run::Alone;
-use paths::PathId;
+use paths::{PathId, Paths};
 use records::Records;
 use site::Site;
 use std::alloc::{AllocError, Global};
@@ -17,7 +17,7 @@ use tools::{
     Answer, Cleaned, Cleaning, Declared, Entries, Fault, Logged, Missed, MissingDep, Switches,
     Tool, asked, asked_in_logs, clean, commands, compdb, compdb_targets, deps, edges_above, graph,
     inputs, load_dyndeps, missing_deps, push_line, query, read_joined, read_mode,
-    recorded_outputs, rules, targets, text_at, to_bury, to_clean,
+    path_at, recorded_outputs, rules, targets, text_at, to_bury, to_clean,
 };
 
 /// What is told behind the counts of missing dependencies.
@@ -416,8 +416,8 @@ fn buried<S: Site>(
 fn remove_all<S: Site>(
     alloc: Global,
     site: &mut S,
-    paths: &IndexSet<String>,
-    kept: Option<&IndexSet<String>>,
+    paths: &Paths,
+    kept: Option<&Paths>,
     asking: Asking<'_>,
 ) -> Result<Answer, Fault> {
     let lines = tells_each(asking.options).then_some(String::new(alloc));
@@ -438,7 +438,7 @@ fn push_cleaned<S: Site>(
     alloc: Global,
     site: &mut S,
     cleaned: &Cleaned,
-    kept: Option<&IndexSet<String>>,
+    kept: Option<&Paths>,
     text: &mut String,
 ) -> Result<(), Fault> {
     push_removed(alloc, text, cleaned)?;
@@ -472,19 +472,26 @@ fn push_refused(text: &mut String, cleaned: &Cleaned) -> Result<(), AllocError> 
 fn push_kept<S: Site>(
     site: &mut S,
     text: &mut String,
-    kept: &IndexSet<String>,
+    kept: &Paths,
 ) -> Result<(), Fault> {
-    for path in kept.as_slice() {
-        if site.stat(path.as_str())?.is_some() {
-            push_line(
-                text,
-                &[
-                    "ninja: kept '",
-                    path.as_str(),
-                    "', which the deps log lists as an input",
-                ],
-            )?;
+    for place in 0..kept.len() {
+        if let Some(path) = path_at(kept, place) {
+            push_kept_path(site, text, path)?;
         }
+    }
+    Ok(())
+}
+
+fn push_kept_path<S: Site>(site: &mut S, text: &mut String, path: &str) -> Result<(), Fault> {
+    if site.stat(path)?.is_some() {
+        push_line(
+            text,
+            &[
+                "ninja: kept '",
+                path,
+                "', which the deps log lists as an input",
+            ],
+        )?;
     }
     Ok(())
 }

@@ -1,5 +1,5 @@
 -- Which edges are above paths, by the lines of build files alone (this project's own; what real ninja's tools go through).
-use Rattle.std.specs.Prelude.{◌≡◌, ℕ, true, List, ◌++◌, ◌∷◌, ◌↔◌, Some}
+use Rattle.std.specs.Prelude.{◌≡◌, ◌⊎◌, ℕ, true, List, ◌++◌, ◌∷◌, ◌↔◌, IsSome, Some}
 use Rattle.model.specs.Graph.{has_number}
 use Rattle.links.specs.Links.{Links, links_of}
 use Rattle.links.specs.declared.graph.Graph.{Graph}
@@ -24,3 +24,11 @@ pub record AreAbove (graph : Graph) (paths edges : List ℕ) : Type 0 where
   pub just : (e : ℕ) → has_number edges e ≡ true ↔ IsNeededFor (links_of graph) paths e
   pub once : StandOnce edges
   pub order : AreBehindMakers (links_of graph) edges
+
+-- the output is one of the paths, or an input of an edge that is needed for them
+abbrev pub IsNamedAbove : Graph → List ℕ → ℕ → Type 0
+IsNamedAbove graph paths p = (has_number paths p ≡ true) ⊎ ((e : ℕ) × IsNeededFor (links_of graph) paths e × (has_number ((links_of graph).inputs e) p ≡ true))
+
+-- the outputs that the paths are, or that edges above them name
+abbrev pub AreNamedMade : Graph → List ℕ → List ℕ → Type 0
+AreNamedMade graph paths outputs = (p : ℕ) → has_number outputs p ≡ true ↔ (IsNamedAbove graph paths p × IsSome ((links_of graph).maker p))

@@ -1,19 +1,19 @@
 -- What `-t clean` removes.
-use Rattle.std.specs.Prelude.{◌≡◌, ◌≢◌, ℕ, Bool, true, false, List, [], ◌↔◌, ◌⊎◌, Some, map}
+use Rattle.std.specs.Prelude.{◌≡◌, ◌≢◌, ◌<◌, ℕ, Bool, true, false, List, [], ◌↔◌, ◌⊎◌, Some, map, length}
 use Rattle.std.specs.Map.Iter.{deref}
-use Rattle.model.specs.Graph.{has, has_number}
-use Rattle.links.specs.Links.{Links, links_of}
-use Rattle.paths.specs.Told.{text_at}
+use Rattle.model.specs.Graph.{has}
+use Rattle.links.specs.Links.{links_of}
+use Rattle.paths.specs.Told.{text_at, texts_at}
 use Rattle.tools.specs.declared.declared.Declared.{Declared}
 use Rattle.tools.specs.declared.cleaning.Cleaning.{Cleaning}
 use Rattle.tools.specs.declared.cleaning.Cleaning.TheVariants.{All, Targets, Rules}
-use Rattle.tools.specs.Above.{IsNeededFor}
+use Rattle.tools.specs.Above.{IsNamedAbove}
 use Rattle.tools.specs.Files.{own_files, rule_of, runs_generator}
 
 -- what this edge makes is asked for: by all, by a path, or by its rule
 abbrev pub IsAsked : Declared → Cleaning → ℕ → ℕ → Type 0
 IsAsked declared All e p = Unit {0}
-IsAsked declared (Targets paths) e p = (has_number paths.now p ≡ true) ⊎ ((d : ℕ) × IsNeededFor (links_of declared.graph) paths.now d × (has_number ((links_of declared.graph).inputs d) p ≡ true))
+IsAsked declared (Targets paths) e p = IsNamedAbove declared.graph paths.now p
 IsAsked declared (Rules rules) e p = has (map deref rules.now) (rule_of declared e) ≡ true
 
 -- a command makes the path, what it makes is asked for, and it may be removed
@@ -26,6 +26,45 @@ pub record IsCleanedOutput (declared : Declared) (cleaning : Cleaning) (generate
   pub free : generated ≡ false → runs_generator declared edge ≡ false
   pub some : text ≢ []
   pub file : (text ≡ text_at declared.graph.manifest.paths path) ⊎ (has (own_files declared edge) text ≡ true)
+
+-- ---- edge by edge
+
+abbrev pub IsOwnFileOf : Declared → ℕ → List ℕ → Type 0
+IsOwnFileOf declared e text = (text ≢ []) × (has (own_files declared e) text ≡ true)
+
+-- the edge makes the path, or it is its depfile or response file; no line is without outputs
+pub record IsFileOf (declared : Declared) (e : ℕ) (text : List ℕ) : Type 0 where
+  pub makes : (links_of declared.graph).outputs e ≢ []
+  pub some : text ≢ []
+  pub file : (has (texts_at declared.graph.manifest.paths ((links_of declared.graph).outputs e)) text ≡ true) ⊎ (has (own_files declared e) text ≡ true)
+
+-- what the edge makes may be removed
+pub record IsFree (declared : Declared) (generated : Bool) (e : ℕ) : Type 0 where
+  pub command : (links_of declared.graph).phony e ≡ false
+  pub free : generated ≡ false → runs_generator declared e ≡ false
+
+-- the path is one of the edge's that may be removed
+abbrev pub MayClean : Declared → Bool → ℕ → List ℕ → Type 0
+MayClean declared generated e text = IsFree declared generated e × IsFileOf declared e text
+
+-- of some edge
+abbrev pub IsAnyRule : Declared → Bool → List ℕ → Type 0
+IsAnyRule declared generated text = (e : ℕ) × (e < length declared.graph.manifest.lines) × MayClean declared generated e text
+
+-- of some edge of these rules
+abbrev pub IsCleanedRule : Declared → List (List ℕ) → Bool → List ℕ → Type 0
+IsCleanedRule declared rules generated text =
+    (e : ℕ) × (e < length declared.graph.manifest.lines) × (has rules (rule_of declared e) ≡ true) × MayClean declared generated e text
+
+-- the path is this one, or a depfile or response file of the edge that makes it, and may be removed
+abbrev pub MayCleanPath : Declared → Bool → ℕ → List ℕ → Type 0
+MayCleanPath declared generated p text =
+    (e : ℕ) × ((links_of declared.graph).maker p ≡ Some e) × IsFree declared generated e × (text ≢ [])
+    × ((text ≡ text_at declared.graph.manifest.paths p) ⊎ (has (own_files declared e) text ≡ true))
+
+-- of one of these paths, or of an input above them
+abbrev pub IsCleanedTarget : Declared → List ℕ → Bool → List ℕ → Type 0
+IsCleanedTarget declared targets generated text = (p : ℕ) × IsNamedAbove declared.graph targets p × MayCleanPath declared generated p text
 
 -- there are the old ones and just these
 abbrev pub AddsJust : (old new : List (List ℕ)) → (List ℕ → Type 0) → Type 0

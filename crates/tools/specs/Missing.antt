@@ -1,7 +1,7 @@
 -- Recorded inputs that an edge makes which is not above: a build could make them later than what reads them.
-use Rattle.std.specs.Prelude.{◌≡◌, ◌≢◌, ℕ, true, List, ◌++◌, ◌∷◌, [], ◌⊎◌, ◌↔◌, IsSome, Some}
+use Rattle.std.specs.Prelude.{◌≡◌, ◌≢◌, ℕ, true, List, ◌++◌, ◌∷◌, [], IsSome, Some}
 use Rattle.model.specs.declared.record.DepsRecord.{DepsRecord}
-use Rattle.model.specs.Graph.{has, has_number}
+use Rattle.model.specs.Graph.{has}
 use Rattle.model.specs.Records.{deps_in_force, paths_in}
 use Rattle.links.specs.Links.{links_of}
 use Rattle.links.specs.declared.graph.Graph.{Graph}
@@ -10,7 +10,7 @@ use Rattle.records.specs.Known.{Knows}
 use Rattle.records.specs.declared.records.Records.{Records}
 use Rattle.model.specs.declared.record.Record.{Record}
 use Rattle.tools.specs.declared.missing.MissingDep.{MissingDep}
-use Rattle.tools.specs.Above.{IsNeededFor}
+use Rattle.tools.specs.Above.{IsNamedAbove, IsNeededFor}
 
 -- An input that the record in force of the output names, and that this edge makes, which is not needed for the output. What no edge makes
 -- is no output, whatever a log tells of it.
@@ -20,14 +20,6 @@ pub record IsMissing (graph : Graph) (records : List DepsRecord) (file : List �
   pub made : (links_of graph).maker dep.input ≡ Some dep.maker
   pub other : text_at graph.manifest.paths dep.input ≢ file
   pub apart : IsNeededFor (links_of graph) (dep.output ∷ []) dep.maker → ⊥
-
--- the output is one of the paths, or an input of an edge that is needed for them
-abbrev pub IsNamedAbove : Graph → List ℕ → ℕ → Type 0
-IsNamedAbove graph paths p = (has_number paths p ≡ true) ⊎ ((e : ℕ) × IsNeededFor (links_of graph) paths e × (has_number ((links_of graph).inputs e) p ≡ true))
-
--- the outputs that the paths are, or that edges above them name
-abbrev pub AreNamedMade : Graph → List ℕ → List ℕ → Type 0
-AreNamedMade graph paths outputs = (p : ℕ) → has_number outputs p ≡ true ↔ (IsNamedAbove graph paths p × IsSome ((links_of graph).maker p))
 
 abbrev pub IsOneOf : MissingDep → List MissingDep → Type 0
 IsOneOf dep found = (before after : List MissingDep) × (found ≡ before ++ dep ∷ after)

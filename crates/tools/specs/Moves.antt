@@ -9,6 +9,11 @@ abbrev pub AreRemoved : Bool → List (List ℕ) → World → World → Type 0
 AreRemoved tells [] old new = OnlyLooks tells old new
 AreRemoved tells (path ∷ paths) old new = (before after : World) × OnlyLooks tells old before × WritesOrNot tells path None before after × AreRemoved tells paths after new
 
+-- the same of one file; where it is only counted, nothing was done
+abbrev pub RemovesOne : Bool → Bool → List ℕ → World → World → Type 0
+RemovesOne tells true path old new = OnlyLooks tells old new
+RemovesOne tells false path old new = AreRemoved tells (path ∷ []) old new
+
 -- all of them are among these
 abbrev pub AreAmong : List (List ℕ) → List (List ℕ) → Type 0
 AreAmong some paths = (path : List ℕ) → has some path ≡ true → has paths path ≡ true

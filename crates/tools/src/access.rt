@@ -1,11 +1,13 @@
 //! What a graph tells of a number, whatever number it is: what is no path has no text, and what is no edge has no paths.
 
-ghost use Rattle.std.specs.Prelude.{◌≡◌};
+ghost use Rattle.std.specs.Prelude.{◌≡◌, ◌<◌, ◌^◌, slice_get};
+ghost use Rattle.std.specs.Map.Iter.{deref};
+ghost use Rattle.std.specs.Option.{option_map};
 ghost use Rattle.links.specs.Links.{links_of, users_at};
 ghost use Rattle.paths.specs.Told.{text_at};
 
 use links::Graph;
-use paths::{EdgeId, PathId};
+use paths::{EdgeId, PathId, Paths};
 
 /// The text of a path.
 pub fn text_at(graph: &Graph, path: PathId) -> &str
@@ -59,4 +61,11 @@ pub fn is_phony_at(graph: &Graph, edge: EdgeId) -> bool
     ensures { result ≡ (links_of graph.now).phony edge }
 {
     edge.index() >= graph.edges() || graph.is_phony(edge)
+}
+
+/// The text at a place of a table.
+pub fn path_at(paths: &Paths, place: usize) -> Option<&str>
+    ensures { place < 2 ^ 32 → option_map deref result ≡ slice_get paths.now place }
+{
+    paths.get(PathId::at(place)?)
 }

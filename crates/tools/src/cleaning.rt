@@ -1,17 +1,18 @@
 //! `-t clean`: what is removed.
 
-ghost use Rattle.std.specs.Prelude.{◌≡◌, IfOk, OnOk, None, false, map, string_bytes, true};
-ghost use Rattle.model.specs.Calls.{OnlyLooks, WritesOrNot};
-ghost use Rattle.tools.specs.Clean.{AddsJust, AreCleaned, IsCleanedOutput, LacksJust};
-ghost use Rattle.tools.specs.Moves.{RemovesOf};
+ghost use Rattle.std.specs.Prelude.{◌≡◌, ◌≢◌, ◌↔◌, [], IfOk, IsTrue, OnOk, map, true};
+ghost use Rattle.std.specs.Map.Iter.{deref};
+ghost use Rattle.model.specs.Graph.{has};
+ghost use Rattle.paths.specs.Told.{texts_at};
+ghost use Rattle.tools.specs.Clean.{AddsJust, AreCleaned, IsAnyRule, IsCleanedOutput, IsCleanedRule, IsCleanedTarget, IsFree, IsOwnFileOf, LacksJust, MayClean, MayCleanPath};
+ghost use Rattle.tools.specs.Moves.{RemovesOf, RemovesOne};
 
-use crate::access::{is_phony_at, outputs_at, text_at};
+use crate::access::{is_phony_at, outputs_at, path_at, text_at};
 use crate::declared::Declared;
 use crate::fault::Fault;
 use crate::lines::push_line;
 use crate::missing::outputs_above;
-use indexmap::IndexSet;
-use paths::{EdgeId, PathId};
+use paths::{EdgeId, PathId, Paths};
 use site::Site;
 use std::alloc::{AllocError, Global};
 use text::Text;
@@ -45,10 +46,10 @@ pub fn to_clean(
     cleaning: Cleaning<'_>,
     generated: bool,
     file: &str,
-) -> Result<IndexSet<String>, Fault>
-    ensures { IfOk result (λ paths. AreCleaned declared.now cleaning.entry generated file.now (map string_bytes paths.keys)) }
+) -> Result<Paths, Fault>
+    ensures { IfOk result (λ paths. AreCleaned declared.now cleaning.entry generated file.now paths) }
 {
-    let mut paths = IndexSet::new(alloc);
+    let mut paths = Paths::new(alloc);
     add_asked(alloc, declared, cleaning, generated, &mut paths)?;
     Ok(without(alloc, paths, file)?)
 }
@@ -59,40 +60,50 @@ fn add_asked(
     declared: &Declared,
     cleaning: Cleaning<'_>,
     generated: bool,
-    paths: &mut IndexSet<String>,
+    paths: &mut Paths,
 ) -> Result<(), Fault>
-    ensures { OnOk result (AddsJust (map string_bytes paths.old.keys) (map string_bytes paths.new.keys) (IsCleanedOutput declared.now cleaning.entry generated)) }
+    ensures { OnOk result (AddsJust paths.old paths.new (IsCleanedOutput declared.now cleaning.entry generated)) }
 {
     match cleaning {
-        Cleaning::All => Ok(add_edges(alloc, declared, None, generated, paths)?),
+        Cleaning::All => Ok(add_all(alloc, declared, generated, paths)?),
         Cleaning::Targets(targets) => {
             Ok(add_targets(alloc, declared, targets, generated, paths)?)
         }
         Cleaning::Rules(rules) => {
             check_rules(alloc, declared, rules)?;
-            Ok(add_edges(alloc, declared, Some(rules), generated, paths)?)
+            Ok(add_rules(alloc, declared, rules, generated, paths)?)
         }
     }
 }
 
 /// The same paths without this one.
-fn without(
-    alloc: Global,
-    paths: IndexSet<String>,
-    file: &str,
-) -> Result<IndexSet<String>, AllocError>
-    ensures { IfOk result (λ others. LacksJust (map string_bytes paths.keys) (map string_bytes others.keys) file.now) }
+fn without(alloc: Global, paths: Paths, file: &str) -> Result<Paths, AllocError>
+    ensures { IfOk result (λ others. LacksJust paths others file.now) }
 {
-    if !paths.contains(file) {
+    if paths.number_of(file).is_none() {
         return Ok(paths);
     }
-    let mut others = IndexSet::new(alloc);
-    for path in paths.as_slice() {
-        if path.as_str() != file {
-            others.insert(path.clone()?)?;
-        }
+    let mut others = Paths::new(alloc);
+    for place in 0..paths.len() {
+        add_other(alloc, path_at(&paths, place), file, &mut others)?;
     }
     Ok(others)
+}
+
+/// Adds a path, unless it is this one.
+fn add_other(
+    alloc: Global,
+    path: Option<&str>,
+    file: &str,
+    others: &mut Paths,
+) -> Result<(), AllocError> {
+    match path {
+        Some(path) if path != file => {
+            others.add(alloc, path)?;
+            Ok(())
+        }
+        _ => Ok(()),
+    }
 }
 
 /// Refuses the first of the rules that is none of the outermost scope.
@@ -114,29 +125,62 @@ fn is_rule(declared: &Declared, name: &str) -> bool {
     false
 }
 
-/// Adds what edges make, of all rules or of these.
-fn add_edges(
+/// Adds what all edges make.
+fn add_all(
     alloc: Global,
     declared: &Declared,
-    rules: Option<&[&str]>,
     generated: bool,
-    paths: &mut IndexSet<String>,
-) -> Result<(), AllocError> {
+    paths: &mut Paths,
+) -> Result<(), AllocError>
+    ensures { OnOk result (AddsJust paths.old paths.new (IsAnyRule declared.now generated)) }
+{
+    for place in 0..declared.graph.edges() {
+        add_edge(alloc, declared, declared.graph.manifest.edge(place), generated, paths)?;
+    }
+    Ok(())
+}
+
+/// Adds what the edges of these rules make.
+fn add_rules(
+    alloc: Global,
+    declared: &Declared,
+    rules: &[&str],
+    generated: bool,
+    paths: &mut Paths,
+) -> Result<(), AllocError>
+    ensures { OnOk result (AddsJust paths.old paths.new (IsCleanedRule declared.now (map deref rules.now) generated)) }
+{
     for place in 0..declared.graph.edges() {
         let edge = declared.graph.manifest.edge(place);
-        let is_asked = rules.is_none_or(|rules| rules.contains(&declared.rule(edge)));
-        let outputs = outputs_at(&declared.graph, edge);
-        // no line is without outputs
-        if is_asked && !outputs.is_empty() && may_clean(declared, edge, generated) {
-            add_outputs(alloc, declared, outputs, paths)?;
-            add_own_files(alloc, declared, edge, paths)?;
+        if rules.contains(&declared.rule(edge)) {
+            add_edge(alloc, declared, edge, generated, paths)?;
         }
     }
     Ok(())
 }
 
+/// Adds what the edge makes, and its depfile and response file, where that may be removed. No line is without outputs.
+fn add_edge(
+    alloc: Global,
+    declared: &Declared,
+    edge: EdgeId,
+    generated: bool,
+    paths: &mut Paths,
+) -> Result<(), AllocError>
+    ensures { OnOk result (AddsJust paths.old paths.new (MayClean declared.now generated edge)) }
+{
+    let outputs = outputs_at(&declared.graph, edge);
+    if outputs.is_empty() || !may_clean(declared, edge, generated) {
+        return Ok(());
+    }
+    add_outputs(alloc, declared, outputs, paths)?;
+    add_own_files(alloc, declared, edge, paths)
+}
+
 /// Whether what the edge makes may be removed.
-fn may_clean(declared: &Declared, edge: EdgeId, generated: bool) -> bool {
+fn may_clean(declared: &Declared, edge: EdgeId, generated: bool) -> bool
+    ensures { IsTrue result ↔ IsFree declared.now generated edge }
+{
     !is_phony_at(&declared.graph, edge) && (generated || !declared.described.is_generator(edge))
 }
 
@@ -146,26 +190,45 @@ fn add_targets(
     declared: &Declared,
     targets: &[PathId],
     generated: bool,
-    paths: &mut IndexSet<String>,
-) -> Result<(), AllocError> {
-    for output in outputs_above(alloc, &declared.graph, targets)? {
-        match declared.graph.maker(output) {
-            Some(edge) if may_clean(declared, edge, generated) => {
-                add_text(alloc, text_at(&declared.graph, output), paths)?;
-                add_own_files(alloc, declared, edge, paths)?;
-            }
-            _ => {}
-        }
+    paths: &mut Paths,
+) -> Result<(), AllocError>
+    ensures { OnOk result (AddsJust paths.old paths.new (IsCleanedTarget declared.now targets.now generated)) }
+{
+    let outputs = outputs_above(alloc, &declared.graph, targets)?;
+    for output in outputs.as_slice() {
+        add_target(alloc, declared, *output, generated, paths)?;
     }
     Ok(())
+}
+
+/// Adds a path, and the depfile and response file of the edge that makes it, where a command does and that may be removed.
+fn add_target(
+    alloc: Global,
+    declared: &Declared,
+    output: PathId,
+    generated: bool,
+    paths: &mut Paths,
+) -> Result<(), AllocError>
+    ensures { OnOk result (AddsJust paths.old paths.new (MayCleanPath declared.now generated output)) }
+{
+    let Some(edge) = declared.graph.maker(output) else {
+        return Ok(());
+    };
+    if !may_clean(declared, edge, generated) {
+        return Ok(());
+    }
+    add_text(alloc, text_at(&declared.graph, output), paths)?;
+    add_own_files(alloc, declared, edge, paths)
 }
 
 fn add_outputs(
     alloc: Global,
     declared: &Declared,
     outputs: &[PathId],
-    paths: &mut IndexSet<String>,
-) -> Result<(), AllocError> {
+    paths: &mut Paths,
+) -> Result<(), AllocError>
+    ensures { OnOk result (AddsJust paths.old paths.new (λ text. (text ≢ []) × (has (texts_at declared.now.graph.manifest.paths outputs.now) text ≡ true))) }
+{
     for output in outputs {
         add_text(alloc, text_at(&declared.graph, *output), paths)?;
     }
@@ -177,20 +240,25 @@ fn add_own_files(
     alloc: Global,
     declared: &Declared,
     edge: EdgeId,
-    paths: &mut IndexSet<String>,
-) -> Result<(), AllocError> {
-    if let Some(command) = declared.command(edge) {
-        add_text(alloc, command.act.depfile.as_str(), paths)?;
-        add_text(alloc, command.act.response_path.as_str(), paths)?;
-    }
-    Ok(())
+    paths: &mut Paths,
+) -> Result<(), AllocError>
+    ensures { OnOk result (AddsJust paths.old paths.new (IsOwnFileOf declared.now edge)) }
+{
+    let Some(command) = declared.command(edge) else {
+        return Ok(());
+    };
+    add_text(alloc, command.act.depfile.as_str(), paths)?;
+    add_text(alloc, command.act.response_path.as_str(), paths)
 }
 
 /// Adds a path, unless it is empty.
-fn add_text(alloc: Global, path: &str, paths: &mut IndexSet<String>) -> Result<(), AllocError> {
-    if !path.is_empty() {
-        paths.insert(String::from_str(alloc, path)?)?;
+fn add_text(alloc: Global, path: &str, paths: &mut Paths) -> Result<(), AllocError>
+    ensures { OnOk result (AddsJust paths.old paths.new (λ text. (text ≢ []) × (text ≡ path.now))) }
+{
+    if path.is_empty() {
+        return Ok(());
     }
+    paths.add(alloc, path)?;
     Ok(())
 }
 
@@ -198,40 +266,63 @@ fn add_text(alloc: Global, path: &str, paths: &mut IndexSet<String>) -> Result<(
 pub fn clean<S: Site>(
     alloc: Global,
     site: &mut S,
-    paths: &IndexSet<String>,
+    paths: &Paths,
     only_count: bool,
     lines: Option<String>,
 ) -> Result<Cleaned, Fault>
-    ensures { RemovesOf S.tells only_count (map string_bytes paths.now.keys) (S.world site.old) (S.world site.new) }
+    ensures { RemovesOf S.tells only_count paths.now (S.world site.old) (S.world site.new) }
 {
     let mut cleaned = Cleaned {
         removed: 0,
         refused: Vec::new(alloc),
         lines,
     };
-    for path in paths.as_slice() {
-        if site.stat(path.as_str())?.is_some() {
-            remove(alloc, site, path.as_str(), only_count, &mut cleaned)?;
-        }
-    }
+    remove_all(alloc, site, paths, only_count, &mut cleaned)?;
     Ok(cleaned)
 }
 
-/// Removes a file that is there, or only counts it. One that cannot be removed is noted.
-fn remove<S: Site>(
+/// The same, noting what was removed.
+fn remove_all<S: Site>(
+    alloc: Global,
+    site: &mut S,
+    paths: &Paths,
+    only_count: bool,
+    cleaned: &mut Cleaned,
+) -> Result<(), Fault>
+    ensures { RemovesOf S.tells only_count paths.now (S.world site.old) (S.world site.new) }
+{
+    for place in 0..paths.len() {
+        if let Some(path) = path_at(paths, place) {
+            remove_there(alloc, site, path, only_count, cleaned)?;
+        }
+    }
+    Ok(())
+}
+
+/// Removes the file at the path, if it is there, or only counts it.
+fn remove_there<S: Site>(
     alloc: Global,
     site: &mut S,
     path: &str,
     only_count: bool,
     cleaned: &mut Cleaned,
 ) -> Result<(), Fault>
-    ensures counted { only_count ≡ true → OnlyLooks S.tells (S.world site.old) (S.world site.new) }
-    ensures removed { only_count ≡ false → WritesOrNot S.tells path.now None (S.world site.old) (S.world site.new) }
+    ensures { RemovesOne S.tells only_count path.now (S.world site.old) (S.world site.new) }
 {
-    if !only_count && site.remove(path).is_err() {
-        cleaned.refused.push(Text::from_str(alloc, path)?)?;
+    if site.stat(path)?.is_none() {
         return Ok(());
     }
+    if only_count {
+        return Ok(count(path, cleaned)?);
+    }
+    match site.remove(path) {
+        Ok(()) => Ok(count(path, cleaned)?),
+        Err(_) => Ok(cleaned.refused.push(Text::from_str(alloc, path)?)?),
+    }
+}
+
+/// Counts a file that is there.
+fn count(path: &str, cleaned: &mut Cleaned) -> Result<(), AllocError> {
     cleaned.removed = cleaned.removed.saturating_add(1);
     if let Some(lines) = &mut cleaned.lines {
         push_line(lines, &["Remove ", path])?;

@@ -1,10 +1,10 @@
 //! `-t cleandead`: what a build made once and no line names any more.
 
-ghost use Rattle.std.specs.Prelude.{IfOk, map, string_bytes};
+ghost use Rattle.std.specs.Prelude.{IfOk};
 ghost use Rattle.tools.specs.Dead.{Buries};
 
 use crate::declared::Declared;
-use indexmap::IndexSet;
+use paths::Paths;
 use records::Records;
 use std::alloc::{AllocError, Global};
 
@@ -12,19 +12,19 @@ use std::alloc::{AllocError, Global};
 #[derive(Drop)]
 pub struct Dead {
     /// Those that no deps record lists. They are removed.
-    pub dead: IndexSet<String>,
+    pub dead: Paths,
     /// Those that some deps record lists. They may have become sources, and are kept.
-    pub kept: IndexSet<String>,
+    pub kept: Paths,
 }
 
 /// The outputs of the build log that no line names, by whether a deps record lists them.
 pub fn to_bury(alloc: Global, declared: &Declared, records: &Records) -> Result<Dead, AllocError>
-    ensures { IfOk result (λ found. Buries declared.now.graph records.now (map string_bytes found.dead.keys) (map string_bytes found.kept.keys)) }
+    ensures { IfOk result (λ found. Buries declared.now.graph records.now found.dead found.kept) }
 {
     let listed = listed(alloc, records)?;
     let mut found = Dead {
-        dead: IndexSet::new(alloc),
-        kept: IndexSet::new(alloc),
+        dead: Paths::new(alloc),
+        kept: Paths::new(alloc),
     };
     let log = records.logs.build_log.log();
     for number in 0..log.done_records() {
@@ -38,7 +38,7 @@ pub fn to_bury(alloc: Global, declared: &Declared, records: &Records) -> Result<
 fn add_all(
     alloc: Global,
     declared: &Declared,
-    listed: &IndexSet<String>,
+    listed: &Paths,
     outputs: &[&str],
     found: &mut Dead,
 ) -> Result<(), AllocError> {
@@ -52,25 +52,24 @@ fn add_all(
 fn add(
     alloc: Global,
     declared: &Declared,
-    listed: &IndexSet<String>,
+    listed: &Paths,
     output: &str,
     found: &mut Dead,
 ) -> Result<(), AllocError> {
     if declared.graph.manifest.number_of(output).is_some() {
         return Ok(());
     }
-    let text = String::from_str(alloc, output)?;
-    if listed.contains(output) {
-        found.kept.insert(text)?;
+    if listed.number_of(output).is_some() {
+        found.kept.add(alloc, output)?;
     } else {
-        found.dead.insert(text)?;
+        found.dead.add(alloc, output)?;
     }
     Ok(())
 }
 
 /// The paths that deps records list.
-fn listed(alloc: Global, records: &Records) -> Result<IndexSet<String>, AllocError> {
-    let mut listed = IndexSet::new(alloc);
+fn listed(alloc: Global, records: &Records) -> Result<Paths, AllocError> {
+    let mut listed = Paths::new(alloc);
     let log = records.logs.deps_log.log();
     for number in 0..log.deps_records() {
         if let Some(deps) = log.deps_at(number) {
@@ -84,11 +83,11 @@ fn add_listed(
     alloc: Global,
     records: &Records,
     numbers: &[usize],
-    listed: &mut IndexSet<String>,
+    listed: &mut Paths,
 ) -> Result<(), AllocError> {
     for number in numbers {
         if let Some(path) = records.deps_path(*number) {
-            listed.insert(String::from_str(alloc, path)?)?;
+            listed.add(alloc, path)?;
         }
     }
     Ok(())

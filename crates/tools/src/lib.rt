@@ -27,7 +27,7 @@ mod tool;
 mod unread;
 
 pub use above::edges_above;
-pub use access::{is_phony_at, outputs_at, regular_inputs_at, text_at};
+pub use access::{is_phony_at, outputs_at, path_at, regular_inputs_at, text_at};
 pub use answer::Answer;
 pub use asked_paths::query;
 pub use cleaning::{Cleaned, Cleaning, clean, to_clean};

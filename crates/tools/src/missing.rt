@@ -1,7 +1,8 @@
 //! `-t missingdeps`: recorded inputs that are made, and whose maker is not above.
 
 ghost use Rattle.std.specs.Prelude.{IfOk};
-ghost use Rattle.tools.specs.Missing.{AreNamedMade, Misses};
+ghost use Rattle.tools.specs.Above.{AreNamedMade};
+ghost use Rattle.tools.specs.Missing.{Misses};
 
 use crate::above::edges_above;
 use crate::access::{inputs_at, outputs_at};
