@@ -7,5 +7,6 @@ pub mod Files
 pub mod Clean
 pub mod Dead
 pub mod Answers
+pub mod Showing
 pub mod Moves
 pub mod Joined

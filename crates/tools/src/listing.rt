@@ -1,10 +1,11 @@
 //! `-t targets`: outputs by depth, by rule, or all.
 
-ghost use Rattle.std.specs.Prelude.{◌≡◌, ◌++◌, IfOk, OnOk, filter, is_none, map, string_bytes};
+ghost use Rattle.std.specs.Prelude.{◌≡◌, ◌<◌, ◌++◌, ◌∷◌, [], IfOk, OnOk, filter, flat_map, is_none, length, map, string_bytes};
 ghost use Rattle.std.specs.Map.Iter.{deref};
 ghost use Rattle.links.specs.Links.{links_of};
 ghost use Rattle.paths.specs.Told.{texts_at};
-ghost use Rattle.tools.specs.Answers.{PrintsEach, PrintsOfRule, PrintsTargets, Puts, all_sources, all_targets, lines, with_rule};
+ghost use Rattle.tools.specs.Answers.{PrintsEach, PrintsOfRule, PrintsTargets, Puts, all_sources, all_targets, levels, lines, tree, with_rule};
+ghost use Rattle.tools.specs.Showing.{Opens, Shows, head_line, indentation};
 ghost use Rattle.tools.specs.declared.listing.Wanted.TheVariants as wanted;
 
 use crate::access::{inputs_at, outputs_at, text_at};
@@ -179,20 +180,13 @@ fn by_depth(alloc: Global, declared: &Declared, depth: usize) -> Result<String, 
         return Err(Fault::NoRoots);
     }
     let depth = deepest(alloc, declared, depth)?;
-    let mut told = String::new(alloc);
-    let mut levels = Vec::new(alloc);
-    levels.push(Level {
-        paths: roots.as_slice(),
-        place: 0,
-    })?;
-    while let Some(level) = levels.pop() {
-        show_next(declared, depth, level, &mut levels, &mut told)?;
-    }
-    Ok(told)
+    Ok(show_all(alloc, declared, depth, roots.as_slice())?)
 }
 
 /// How deep lines are shown: to the depth that was asked for, or all where edges do not need each other in a circle.
-fn deepest(alloc: Global, declared: &Declared, depth: usize) -> Result<usize, Fault> {
+fn deepest(alloc: Global, declared: &Declared, depth: usize) -> Result<usize, Fault>
+    ensures { IfOk result (λ deepest. deepest ≡ levels declared.now depth) }
+{
     if depth > 0 {
         return Ok(depth);
     }
@@ -204,6 +198,25 @@ fn deepest(alloc: Global, declared: &Declared, depth: usize) -> Result<usize, Fa
     }
 }
 
+/// These paths, each with what is above it, so many levels.
+fn show_all(
+    alloc: Global,
+    declared: &Declared,
+    depth: usize,
+    paths: &[PathId],
+) -> Result<String, AllocError>
+    requires { 0 < depth }
+    ensures { IfOk result (λ told. string_bytes told ≡ lines (flat_map (tree declared.now depth 0) paths.now)) }
+{
+    let mut told = String::new(alloc);
+    let mut levels = Vec::new(alloc);
+    levels.push(Level { paths, place: 0 })?;
+    'levels: while let Some(level) = levels.pop() {
+        show_next(declared, depth, level, &mut levels, &mut told)?;
+    }
+    Ok(told)
+}
+
 /// Shows the next path of a level, and opens the level above it.
 fn show_next<'a>(
     declared: &'a Declared,
@@ -211,33 +224,66 @@ fn show_next<'a>(
     level: Level<'a>,
     levels: &mut Vec<Level<'a>>,
     told: &mut String,
-) -> Result<(), AllocError> {
+) -> Result<(), AllocError>
+    requires { length levels.old.items < depth }
+    ensures { OnOk result (Shows declared.now depth level levels.old.items levels.new.items (string_bytes told.old) (string_bytes told.new)) }
+{
     let Level { paths, place } = level;
     let Some(path) = paths.get(place).copied() else {
         return Ok(());
     };
-    push_indent(told, levels.len())?;
+    push_path(declared, path, levels.len(), told)?;
     levels.push(Level {
         paths,
         place: place + 1,
     })?;
-    let Some(edge) = declared.graph.maker(path) else {
-        return push_line(told, &[text_at(&declared.graph, path)]);
-    };
+    open_above(declared, depth, path, levels)
+}
+
+/// Puts the line of a path.
+fn push_path(
+    declared: &Declared,
+    path: PathId,
+    level: usize,
+    told: &mut String,
+) -> Result<(), AllocError>
+    ensures { OnOk result (Puts (string_bytes told.old) (string_bytes told.new) (head_line declared.now level path ((links_of declared.now.graph).maker path) ∷ [])) }
+{
+    push_indent(told, level)?;
     let text = text_at(&declared.graph, path);
-    push_line(told, &[text, ": ", declared.rule(edge)])?;
-    if levels.len() < depth {
-        levels.push(Level {
-            paths: inputs_at(&declared.graph, edge),
-            place: 0,
-        })?;
+    match declared.graph.maker(path) {
+        Some(edge) => push_line(told, &[text, ": ", declared.rule(edge)]),
+        None => push_line(told, &[text]),
+    }
+}
+
+fn push_indent(told: &mut String, level: usize) -> Result<(), AllocError>
+    ensures { OnOk result (string_bytes told.new ≡ string_bytes told.old ++ indentation level) }
+{
+    for _ in 0..level {
+        told.push_str("  ")?;
     }
     Ok(())
 }
 
-fn push_indent(told: &mut String, levels: usize) -> Result<(), AllocError> {
-    for _ in 0..levels {
-        told.push_str("  ")?;
+/// Opens the level above a path, where an edge makes it and lines are shown so deep.
+fn open_above<'a>(
+    declared: &'a Declared,
+    depth: usize,
+    path: PathId,
+    levels: &mut Vec<Level<'a>>,
+) -> Result<(), AllocError>
+    ensures { OnOk result (Opens declared.now depth path levels.old.items levels.new.items) }
+{
+    if levels.len() >= depth {
+        return Ok(());
     }
+    let Some(edge) = declared.graph.maker(path) else {
+        return Ok(());
+    };
+    levels.push(Level {
+        paths: inputs_at(&declared.graph, edge),
+        place: 0,
+    })?;
     Ok(())
 }

@@ -1,0 +1,95 @@
+-- Lines that are put behind a text, and lists that grow while another is gone through.
+use Rattle.std.proofs.Common.{◌≡◌, ℕ, zero, suc, ◌+◌, ◌<◌, ◌≤◌, Bool, true, false, cond, List, [], ◌∷◌, ◌++◌, Option, None, Some, length, take, get_or, map, filter, refl, sym, ap, ◌∙◌, subst, arith, append_assoc, append-nil}
+use Rattle.std.specs.List.{flat_map, range_with_len}
+use Rattle.std.proofs.lemmas.List.{map-append, take_more}
+use Rattle.std.proofs.lemmas.List.Concat.{flat_map-append}
+use Rattle.tools.specs.Answers.{line, lines, Puts}
+
+-- ---- lines
+
+pub puts_none : (text : List ℕ) → Puts text text []
+puts_none text = sym (append-nil text)
+
+pub puts_then : (old mid new : List ℕ) (one two : List (List ℕ)) → Puts old mid one → Puts mid new two → Puts old new (one ++ two)
+puts_then old mid new one two first second =
+    second ∙ (ap (λ (l : List ℕ). l ++ lines two) first ∙ (append_assoc old (lines one) (lines two) ∙ ap (λ (l : List ℕ). old ++ l) (sym (flat_map-append line one two))))
+
+pub puts_line : (old new text : List ℕ) → new ≡ old ++ line text → Puts old new (text ∷ [])
+puts_line old new text is = is ∙ ap (λ (l : List ℕ). old ++ l) (sym (append-nil (line text)))
+
+-- a line of one part, two and three
+pub one_part : (old new a text : List ℕ) → new ≡ old ++ line (a ++ []) → a ≡ text → Puts old new (text ∷ [])
+one_part old new a text is same = puts_line old new text (is ∙ ap (λ (l : List ℕ). old ++ line l) (append-nil a ∙ same))
+
+pub two_parts : (old new a b one two : List ℕ) → new ≡ old ++ line (a ++ (b ++ [])) → a ≡ one → b ≡ two → Puts old new ((one ++ two) ∷ [])
+two_parts old new a b one two is first second =
+    puts_line old new (one ++ two) (is ∙ ap (λ (l : List ℕ). old ++ line l) (ap (λ (l : List ℕ). a ++ l) (append-nil b ∙ second) ∙ ap (λ (l : List ℕ). l ++ two) first))
+
+pub three_parts : (old new a b c one two three : List ℕ) → new ≡ old ++ line (a ++ (b ++ (c ++ []))) → a ≡ one → b ≡ two → c ≡ three → Puts old new ((one ++ two ++ three) ∷ [])
+three_parts old new a b c one two three is first second third =
+    puts_line old new (one ++ two ++ three) (is ∙ ap (λ (l : List ℕ). old ++ line l)
+    (ap (λ (l : List ℕ). a ++ (b ++ l)) (append-nil c ∙ third) ∙ (ap (λ (l : List ℕ). a ++ (l ++ three)) second ∙ ap (λ (l : List ℕ). l ++ (two ++ three)) first)))
+
+-- ---- lists that are gone through
+
+module _ {X Y : Type 0} where
+  take_at : (xs : List X) (i : ℕ) (x : X) → i < length xs → x ≡ get_or xs i x → take (i + 1) xs ≡ take i xs ++ x ∷ []
+  take_at xs i x low is = take_more xs i x low ∙ ap (λ (y : X). take i xs ++ y ∷ []) (sym is)
+
+  pub map_next : (f : X → Y) (xs : List X) (i : ℕ) (x : X) → i < length xs → x ≡ get_or xs i x → map f (take (i + 1) xs) ≡ map f (take i xs) ++ f x ∷ []
+  map_next f xs i x low is = ap (map f) (take_at xs i x low is) ∙ map-append f (take i xs) (x ∷ [])
+
+  pub flat_next : (f : X → List Y) (xs : List X) (i : ℕ) (x : X) → i < length xs → x ≡ get_or xs i x → flat_map f (take (i + 1) xs) ≡ flat_map f (take i xs) ++ f x
+  flat_next f xs i x low is =
+      ap (flat_map f) (take_at xs i x low is) ∙ (flat_map-append f (take i xs) (x ∷ []) ∙ ap (λ (l : List Y). flat_map f (take i xs) ++ l) (append-nil (f x)))
+
+filter-append : {X : Type 0} (test : X → Bool) (xs ys : List X) → filter test (xs ++ ys) ≡ filter test xs ++ filter test ys
+filter-append test [] ys = refl
+filter-append test (x ∷ xs) ys = by (test x) refl
+  where
+    by : (b : Bool) → test x ≡ b → filter test ((x ∷ xs) ++ ys) ≡ filter test (x ∷ xs) ++ filter test ys
+    by true is =
+        ap (λ (c : Bool). cond c (x ∷ filter test (xs ++ ys)) (filter test (xs ++ ys))) is
+        ∙ (ap (λ l. x ∷ l) (filter-append test xs ys) ∙ sym (ap (λ (c : Bool). cond c (x ∷ filter test xs) (filter test xs) ++ filter test ys) is))
+    by false is =
+        ap (λ (c : Bool). cond c (x ∷ filter test (xs ++ ys)) (filter test (xs ++ ys))) is
+        ∙ (filter-append test xs ys ∙ sym (ap (λ (c : Bool). cond c (x ∷ filter test xs) (filter test xs) ++ filter test ys) is))
+
+module _ {X : Type 0} (test : X → Bool) (xs : List X) (i : ℕ) (x : X) (low : i < length xs) (is : x ≡ get_or xs i x) where
+  -- one more passes, or does not
+  pub filter_yes : test x ≡ true → filter test (take (i + 1) xs) ≡ filter test (take i xs) ++ x ∷ []
+  filter_yes yes =
+      ap (filter test) (take_at {Y = X} xs i x low is) ∙ (filter-append test (take i xs) (x ∷ [])
+      ∙ ap (λ (b : Bool). filter test (take i xs) ++ cond b (x ∷ []) []) yes)
+
+  pub filter_no : test x ≡ false → filter test (take (i + 1) xs) ≡ filter test (take i xs)
+  filter_no no =
+      ap (filter test) (take_at {Y = X} xs i x low is) ∙ (filter-append test (take i xs) (x ∷ [])
+      ∙ (ap (λ (b : Bool). filter test (take i xs) ++ cond b (x ∷ []) []) no ∙ append-nil (filter test (take i xs))))
+
+-- ---- numbers that are counted up
+
+range_last : (from count : ℕ) → range_with_len from (suc count) ≡ range_with_len from count ++ (from + count) ∷ []
+range_last from zero = let same : from ≡ from + 0 = omega arith in ap (λ (n : ℕ). n ∷ []) same
+range_last from (suc count) =
+    let same : from + 1 + count ≡ from + suc count = omega arith in
+    ap (λ (l : List ℕ). from ∷ l) (range_last (from + 1) count ∙ ap (λ (n : ℕ). range_with_len (from + 1) count ++ n ∷ []) same)
+
+pub range_next : (count : ℕ) → range_with_len 0 (count + 1) ≡ range_with_len 0 count ++ count ∷ []
+range_next count =
+    let more : count + 1 ≡ suc count = omega arith in
+    let last : 0 + count ≡ count = omega arith in
+    ap (range_with_len 0) more ∙ (range_last 0 count ∙ ap (λ (n : ℕ). range_with_len 0 count ++ n ∷ []) last)
+
+pub flat_counted : {Y : Type 0} (f : ℕ → List Y) (count : ℕ) → flat_map f (range_with_len 0 (count + 1)) ≡ flat_map f (range_with_len 0 count) ++ f count
+flat_counted {Y} f count =
+    ap (flat_map f) (range_next count) ∙ (flat_map-append f (range_with_len 0 count) (count ∷ []) ∙ ap (λ (l : List Y). flat_map f (range_with_len 0 count) ++ l) (append-nil (f count)))
+
+pub filter_counted_yes : (test : ℕ → Bool) (count : ℕ) → test count ≡ true → filter test (range_with_len 0 (count + 1)) ≡ filter test (range_with_len 0 count) ++ count ∷ []
+filter_counted_yes test count yes =
+    ap (filter test) (range_next count) ∙ (filter-append test (range_with_len 0 count) (count ∷ []) ∙ ap (λ (b : Bool). filter test (range_with_len 0 count) ++ cond b (count ∷ []) []) yes)
+
+pub filter_counted_no : (test : ℕ → Bool) (count : ℕ) → test count ≡ false → filter test (range_with_len 0 (count + 1)) ≡ filter test (range_with_len 0 count)
+filter_counted_no test count no =
+    ap (filter test) (range_next count) ∙ (filter-append test (range_with_len 0 count) (count ∷ [])
+    ∙ (ap (λ (b : Bool). filter test (range_with_len 0 count) ++ cond b (count ∷ []) []) no ∙ append-nil (filter test (range_with_len 0 count))))
