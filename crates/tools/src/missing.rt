@@ -1,6 +1,7 @@
 //! `-t missingdeps`: recorded inputs that are made, and whose maker is not above.
 
-ghost use Rattle.std.specs.Prelude.{IfOk};
+ghost use Rattle.std.specs.Prelude.{◌≡◌, ◌<◌, ◌||◌, ◌++◌, ℕ, IfOk, OnOk, false, filter, get_or, length, vec_len};
+ghost use Rattle.model.specs.Graph.{has_number};
 ghost use Rattle.tools.specs.Above.{AreNamedMade};
 ghost use Rattle.tools.specs.Missing.{Misses};
 
@@ -72,7 +73,10 @@ pub fn outputs_above(
 }
 
 /// Marks each of these.
-fn mark(marks: &mut Vec<bool>, paths: &[PathId]) {
+fn mark(marks: &mut Vec<bool>, paths: &[PathId])
+    ensures count { vec_len marks.new ≡ vec_len marks.old }
+    ensures marks { (p : ℕ) → p < length marks.old.items → get_or marks.new.items p false ≡ (get_or marks.old.items p false || has_number paths.now p) }
+{
     for path in paths {
         if path.index() < marks.len() {
             marks[path.index()] = true;
@@ -85,13 +89,22 @@ fn push_marked(
     marks: &[bool],
     paths: &[PathId],
     outputs: &mut Vec<PathId>,
-) -> Result<(), AllocError> {
+) -> Result<(), AllocError>
+    ensures { OnOk result (outputs.new.items ≡ outputs.old.items ++ filter (λ p. get_or marks.now p false) paths.now) }
+{
     for path in paths {
-        if path.index() < marks.len() && marks[path.index()] {
+        if is_marked(marks, path.index()) {
             outputs.push(*path)?;
         }
     }
     Ok(())
+}
+
+/// Whether the place is marked.
+fn is_marked(marks: &[bool], place: usize) -> bool
+    ensures { result ≡ get_or marks.now place false }
+{
+    marks.get(place).copied().unwrap_or(false)
 }
 
 /// Adds what is missing of one output.
@@ -111,7 +124,7 @@ fn add_missing(
     }
     let above = marks(alloc, &logged.declared.graph, output)?;
     for (input, maker) in made {
-        if !above.get(maker.index()).copied().unwrap_or(false) {
+        if !is_marked(&above, maker.index()) {
             missing.push(MissingDep {
                 output,
                 input,
