@@ -1,6 +1,7 @@
 -- What is told of edges beside the manifest: names of rules, and marks of generators.
-use Rattle.std.proofs.Common.{◌≡◌, ◌≢◌, ℕ, zero, suc, ◌<◌, ◌+◌, inl, inr, Bool, true, false, List, [], ◌∷◌, ◌++◌, length, take, get_or, map, not, Option, Some, None, Result, Ok, Err, refl, sym, ap, ◌∙◌, subst, arith, length-map}
-use Rattle.std.specs.Prelude.{◌⊎◌, ◌≤◌, IfOk, slice_get}
+use Rattle.std.proofs.Common.{◌≡◌, ℕ, zero, suc, ◌<◌, ◌+◌, inl, inr, Bool, true, false, List, [], ◌∷◌, ◌++◌, length, take, get_or, map, not, Option, Some, None, Result, Ok, Err, refl, sym, ap, ◌∙◌, subst, arith, length-map}
+use Rattle.std.specs.Prelude.{◌⊎◌, ◌≤◌, ◌↔◌, IfOk, IsTrue, slice_get}
+use Rattle.std.proofs.lemmas.Bool.{false≢true}
 use Rattle.std.specs.List.{AllByRecursion}
 use Rattle.std.specs.Map.Iter.{deref}
 use Rattle.std.specs.Option.{option_map}
@@ -14,11 +15,14 @@ use Rattle.paths.specs.Numbers.{IsAdded}
 use Rattle.paths.specs.Told.{text_at, texts_at}
 use Rattle.scopes.specs.declared.all_scopes.Scopes.{Scopes}
 use Rattle.scopes.specs.declared.template.Rule.{Rule}
+use Rattle.scopes.specs.declared.usage.Use.{Use}
+use Rattle.scopes.specs.Large.{IsValueIn}
+use Rattle.scopes.specs.Texts.{largest_value}
 use Rattle.manifest.specs.declared.described.Described.{Described}
 use Rattle.manifest.specs.declared.fault.ReadError.{ReadError}
 use Rattle.manifest.specs.declared.kept.Declared.{Declared}
 use Rattle.manifest.specs.declared.kept.ReadEdge.{ReadEdge}
-use Rattle.manifest.specs.Described.{manifest_in, AreNamesOf, DescribesLines, MarksEdge, MarksEdges, MarksIfRule, MarksRule}
+use Rattle.manifest.specs.Described.{generator, manifest_in, AreNamesOf, DescribesLines, Marks, MarksEdge, MarksIfRule, MarksRule}
 use Rattle.manifest.specs.InNumbers.{AreBelow}
 use Rattle.manifest.proofs.Added.{added_one, at_is, texts_grow, below_both, below_more, longer_length}
 
@@ -104,6 +108,11 @@ rule_marked declared line edge kept rule shown inputs outputs mark is of_rule in
     (subst (λ (r : Rule). MarksRule declared.scopes (texts_at declared.paths.table line.explicit_inputs) (texts_at declared.paths.table line.explicit_outputs) edge r mark) of_rule
     (subst (λ (l : List (List ℕ)). MarksRule declared.scopes (texts_at declared.paths.table line.explicit_inputs) l edge shown mark) outs
     (subst (λ (l : List (List ℕ)). MarksRule declared.scopes l outputs edge shown mark) ins marks)))
+
+-- the mark of a value
+pub marks_value : (scopes : Scopes) (at : Use) (text : List ℕ) (empty : Bool) → IsValueIn scopes at generator text → length text ≤ largest_value → (IsTrue empty ↔ (text ≡ [])) → Marks scopes at (not empty)
+marks_value scopes at text true is size none = inl (subst (λ (l : List ℕ). IsValueIn scopes at generator l) (none.0 refl) is)
+marks_value scopes at text false is size none = (text, is, size, λ empty. false≢true (none.1 empty))
 
 pub if_ok_mark : {E : Type 0} (r : Result Bool E) (P Q : Bool → Type 0) → ((mark : Bool) → P mark → Q mark) → IfOk r P → IfOk r Q
 if_ok_mark (Ok mark) P Q on is = on mark is

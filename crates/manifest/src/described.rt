@@ -20,9 +20,6 @@ use std::alloc::{AllocError, Global};
 use std::rc::Rc;
 use text::Text;
 
-/// The name of the variable that marks edges of a generator (manual: "Rule variables").
-const GENERATOR: &str = "generator";
-
 /// A rule of the outermost scope.
 #[derive(Drop)]
 pub struct RuleTold {
@@ -128,8 +125,8 @@ fn generators(alloc: Global, declared: &Declared) -> Result<Vec<bool>, AllocErro
 }
 
 impl ReadEdge {
-    /// Whether `generator` is set where the edge stands: in its block, else in its rule, else round it. An expansion that fails
-    /// counts as not set. An alias has none. Of the others each is expanded, as each other variable of a rule is.
+    /// Whether `generator` is set where the edge stands (manual: "Rule variables"): in its block, else in its rule, else round it. An
+    /// expansion that fails counts as not set. An alias has none. It is expanded for each edge, as the variables of commands are.
     fn is_generator(
         &self,
         alloc: Global,
@@ -174,7 +171,7 @@ impl ReadEdge {
             // whether a value is empty does not depend on quotes
             quoted: plain,
         };
-        match expand_use(alloc, scopes, &at, GENERATOR, room) {
+        match expand_use(alloc, scopes, &at, "generator", room) {
             Ok(value) => Ok(!value.is_empty()),
             Err(UseFault::Memory) => Err(AllocError),
             Err(_) => Ok(false),

@@ -1,5 +1,5 @@
 -- The outputs that paths are, or that edges above them name.
-use Rattle.std.proofs.Common.{◌≡◌, ◌≢◌, ◌⊎◌, ◌↔◌, inl, inr, ℕ, zero, suc, ◌+◌, ◌<◌, ◌≤◌, ◌==◌, ◌||◌, Bool, true, false, cond, List, [], ◌∷◌, ◌++◌, Option, Some, None, IsSome, length, take, get_or, filter, refl, sym, ap, ◌∙◌, subst, arith}
+use Rattle.std.proofs.Common.{◌≡◌, ◌≢◌, ◌⊎◌, ◌↔◌, inl, inr, ℕ, zero, suc, ◌+◌, ◌<◌, ◌≤◌, ◌==◌, ◌||◌, Bool, true, false, cond, List, [], ◌∷◌, ◌++◌, Option, Some, None, IsSome, is_some, length, take, get_or, filter, refl, sym, ap, ◌∙◌, subst, arith}
 use Rattle.std.specs.List.{flat_map}
 use Rattle.std.proofs.Math.ListN.{set}
 use Rattle.std.proofs.lemmas.Bool.{cases_Bool, cases_lt, eqb-true, eq-eqb, false≢true, or_cases, or_left, or_right}
@@ -161,10 +161,10 @@ module _ (graph : Graph) (paths edges : List ℕ) (marks : List Bool) (making : 
       on h =
           let at = has_flat (λ e. filter (λ q. get_or marks q false) ((links_of graph).outputs e)) edges p (subst (λ (l : List ℕ). has_number l p ≡ true) is h) in
           let kept = has_filter (λ q. get_or marks q false) ((links_of graph).outputs at.0) p at.2 in
-          (named p kept.1, subst IsSome (sym (making.all p at.0 kept.0)) tt)
+          (named p kept.1, ap is_some (making.all p at.0 kept.0))
 
       by_maker : (o : Option ℕ) → (links_of graph).maker p ≡ o → IsSome o → IsNamedAbove graph paths p → has_number outputs p ≡ true
-      by_maker None makes some names = absurd some
+      by_maker None makes some names = absurd (false≢true some)
       by_maker (Some e) makes some names =
           let needed : IsNeededFor (links_of graph) paths e = elim names [
             | inl asked ↦ Makes e p asked makes
