@@ -1,5 +1,5 @@
 -- What is told of edges beside the manifest: names of rules, and marks of generators.
-use Rattle.std.proofs.Common.{◌≡◌, ℕ, zero, suc, ◌<◌, ◌+◌, inl, inr, Bool, true, false, List, [], ◌∷◌, ◌++◌, length, take, get_or, map, not, Option, Some, None, Result, Ok, Err, refl, sym, ap, ◌∙◌, subst, arith, length-map}
+use Rattle.std.proofs.Common.{◌≡◌, ℕ, zero, suc, ◌<◌, ◌+◌, inl, inr, Bool, true, false, List, [], ◌∷◌, ◌++◌, length, take, get_or, map, not, Option, Some, None, Result, Ok, Err, IsErrAnd, refl, sym, ap, ◌∙◌, subst, arith, length-map}
 use Rattle.std.specs.Prelude.{◌⊎◌, ◌≤◌, ◌↔◌, IfOk, IsTrue, slice_get}
 use Rattle.std.proofs.lemmas.Bool.{false≢true}
 use Rattle.std.specs.List.{AllByRecursion}
@@ -119,6 +119,10 @@ if_ok_mark (Ok mark) P Q on is = on mark is
 if_ok_mark (Err error) P Q on is = tt
 
 -- ---- beside what was read
+
+pub err_in : (r : Result (Manifest × Described) ReadError) (error : ReadError) → IsErrAnd r (λ (e : ReadError). e ≡ error) → IsErrAnd (manifest_in r) (λ (e : ReadError). e ≡ error)
+err_in (Ok both) error is = is
+err_in (Err other) error is = is
 
 pub describes_both : (result : Result (Manifest × Described) ReadError) (read : Result Manifest ReadError) (lines : List Line) (described : Described) → manifest_in result ≡ read
     → IfOk result (λ both. both.1 ≡ described) → IfOk read (λ manifest. manifest.lines ≡ lines) → DescribesLines lines described → IfOk result (λ both. DescribesLines both.0.lines both.1)
