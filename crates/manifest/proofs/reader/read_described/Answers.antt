@@ -82,4 +82,4 @@ pub returns-clause-graph : goal.returns-clause-graph
 returns-clause-graph g c = subst (λ (r : Result Manifest ReadError). IfOk (in_texts r) IsGraph) (sym c.beside.ensures.read) c.finish.ensures.graph
 
 pub returns-clause-described : goal.returns-clause-described
-returns-clause-described g c = describes_both c.beside.result c.finish.result c.in_ok-declared.declared.paths.lines c.in_ok-described.described c.beside.ensures.read c.beside.ensures.beside c.finish.ensures.lines c.in_ok-described.ensures.fits
+returns-clause-described g c = describes_both c.beside.result c.finish.result c.read_bytes.new.declared.paths.lines c.in_ok-described.described c.beside.ensures.read c.beside.ensures.beside c.finish.ensures.lines c.in_ok-described.ensures.fits
