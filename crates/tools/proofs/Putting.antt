@@ -55,17 +55,8 @@ filter-append test (x ∷ xs) ys = by (test x) refl
         ap (λ (c : Bool). cond c (x ∷ filter test (xs ++ ys)) (filter test (xs ++ ys))) is
         ∙ (filter-append test xs ys ∙ sym (ap (λ (c : Bool). cond c (x ∷ filter test xs) (filter test xs) ++ filter test ys) is))
 
-module _ {X : Type 0} (test : X → Bool) (xs : List X) (i : ℕ) (x : X) (low : i < length xs) (is : x ≡ get_or xs i x) where
-  -- one more passes, or does not
-  pub filter_yes : test x ≡ true → filter test (take (i + 1) xs) ≡ filter test (take i xs) ++ x ∷ []
-  filter_yes yes =
-      ap (filter test) (take_at {Y = X} xs i x low is) ∙ (filter-append test (take i xs) (x ∷ [])
-      ∙ ap (λ (b : Bool). filter test (take i xs) ++ cond b (x ∷ []) []) yes)
-
-  pub filter_no : test x ≡ false → filter test (take (i + 1) xs) ≡ filter test (take i xs)
-  filter_no no =
-      ap (filter test) (take_at {Y = X} xs i x low is) ∙ (filter-append test (take i xs) (x ∷ [])
-      ∙ (ap (λ (b : Bool). filter test (take i xs) ++ cond b (x ∷ []) []) no ∙ append-nil (filter test (take i xs))))
+pub filter_next : {X : Type 0} (test : X → Bool) (xs : List X) (i : ℕ) (x : X) → i < length xs → x ≡ get_or xs i x → filter test (take (i + 1) xs) ≡ filter test (take i xs) ++ filter test (x ∷ [])
+filter_next {X} test xs i x low is = ap (filter test) (take_at {Y = X} xs i x low is) ∙ filter-append test (take i xs) (x ∷ [])
 
 -- ---- numbers that are counted up
 
@@ -85,11 +76,11 @@ pub flat_counted : {Y : Type 0} (f : ℕ → List Y) (count : ℕ) → flat_map 
 flat_counted {Y} f count =
     ap (flat_map f) (range_next count) ∙ (flat_map-append f (range_with_len 0 count) (count ∷ []) ∙ ap (λ (l : List Y). flat_map f (range_with_len 0 count) ++ l) (append-nil (f count)))
 
-pub filter_counted_yes : (test : ℕ → Bool) (count : ℕ) → test count ≡ true → filter test (range_with_len 0 (count + 1)) ≡ filter test (range_with_len 0 count) ++ count ∷ []
-filter_counted_yes test count yes =
-    ap (filter test) (range_next count) ∙ (filter-append test (range_with_len 0 count) (count ∷ []) ∙ ap (λ (b : Bool). filter test (range_with_len 0 count) ++ cond b (count ∷ []) []) yes)
+pub filter_counted : (test : ℕ → Bool) (count : ℕ) → filter test (range_with_len 0 (count + 1)) ≡ filter test (range_with_len 0 count) ++ filter test (count ∷ [])
+filter_counted test count = ap (filter test) (range_next count) ∙ filter-append test (range_with_len 0 count) (count ∷ [])
 
-pub filter_counted_no : (test : ℕ → Bool) (count : ℕ) → test count ≡ false → filter test (range_with_len 0 (count + 1)) ≡ filter test (range_with_len 0 count)
-filter_counted_no test count no =
-    ap (filter test) (range_next count) ∙ (filter-append test (range_with_len 0 count) (count ∷ [])
-    ∙ (ap (λ (b : Bool). filter test (range_with_len 0 count) ++ cond b (count ∷ []) []) no ∙ append-nil (filter test (range_with_len 0 count))))
+pub filter_one_yes : {X : Type 0} (test : X → Bool) (x : X) → test x ≡ true → filter test (x ∷ []) ≡ x ∷ []
+filter_one_yes test x yes = ap (λ (b : Bool). cond b (x ∷ []) []) yes
+
+pub filter_one_no : {X : Type 0} (test : X → Bool) (x : X) → test x ≡ false → filter test (x ∷ []) ≡ []
+filter_one_no test x no = ap (λ (b : Bool). cond b (x ∷ []) []) no

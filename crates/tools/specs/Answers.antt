@@ -154,8 +154,7 @@ maker_lines declared (Some e) =
     (codes "  input: " ++ rule_of declared e) ∷ marked declared (codes "    ") (line_at declared.graph.manifest.lines e).explicit_inputs
     ++ marked declared (codes "    | ") (line_at declared.graph.manifest.lines e).implicit_inputs
     ++ marked declared (codes "    || ") (line_at declared.graph.manifest.lines e).order_only_inputs
-    ++ if_some ((links_of declared.graph).validations e) (codes "  validations:" ∷ [])
-    ++ marked declared (codes "    ") ((links_of declared.graph).validations e)
+    ++ if_some ((links_of declared.graph).validations e) (codes "  validations:" ∷ marked declared (codes "    ") ((links_of declared.graph).validations e))
 
 -- the outputs of the edges that name a path
 abbrev pub outputs_of : Declared → List ℕ → List (List ℕ)

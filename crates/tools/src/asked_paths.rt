@@ -1,7 +1,9 @@
 //! `-t query`: what makes a path, and what is made of it.
 
-ghost use Rattle.std.specs.Prelude.{◌≡◌, ◌<◌, IfOk, OnOk, Some, flat_map, length, string_bytes};
-ghost use Rattle.tools.specs.Answers.{Puts, lines, maker_lines, marked, outputs_of, query_lines, validated_by};
+ghost use Rattle.std.specs.Prelude.{◌≡◌, ◌<◌, ◌++◌, ◌∷◌, [], IfOk, OnOk, Some, codes, filter, flat_map, length, string_bytes};
+ghost use Rattle.model.specs.Graph.{has_number};
+ghost use Rattle.links.specs.Links.{links_of};
+ghost use Rattle.tools.specs.Answers.{Puts, if_some, lines, maker_lines, marked, outputs_of, query_lines, validated_by};
 
 use crate::access::{outputs_at, text_at, users_at};
 use crate::declared::Declared;
@@ -30,17 +32,36 @@ fn push_path(
 {
     let graph = &declared.graph;
     push_line(told, &[text_at(graph, path), ":"])?;
-    if let Some(edge) = graph.maker(path) {
-        push_maker(declared, edge, told)?;
-    }
+    push_if_made(declared, path, told)?;
     push_line(told, &["  outputs:"])?;
     push_all_outputs(declared, users_at(graph, path), told)?;
     let validated = validated_by(alloc, declared, path)?;
-    if validated.is_empty() {
+    push_validated(declared, validated.as_slice(), told)
+}
+
+/// What makes the path, with its inputs.
+fn push_if_made(declared: &Declared, path: PathId, told: &mut String) -> Result<(), AllocError>
+    ensures { OnOk result (Puts (string_bytes told.old) (string_bytes told.new) (maker_lines declared.now ((links_of declared.now.graph).maker path))) }
+{
+    match declared.graph.maker(path) {
+        Some(edge) => push_maker(declared, edge, told),
+        None => Ok(()),
+    }
+}
+
+/// The outputs of the edges that a path validates, behind a line of their own, where there are such edges.
+fn push_validated(
+    declared: &Declared,
+    edges: &[EdgeId],
+    told: &mut String,
+) -> Result<(), AllocError>
+    ensures { OnOk result (Puts (string_bytes told.old) (string_bytes told.new) (if_some edges.now (codes "  validation for:" ∷ outputs_of declared.now edges.now))) }
+{
+    if edges.is_empty() {
         return Ok(());
     }
     push_line(told, &["  validation for:"])?;
-    push_all_outputs(declared, validated.as_slice(), told)
+    push_all_outputs(declared, edges, told)
 }
 
 fn push_maker(declared: &Declared, edge: EdgeId, told: &mut String) -> Result<(), AllocError>
@@ -52,10 +73,22 @@ fn push_maker(declared: &Declared, edge: EdgeId, told: &mut String) -> Result<()
     push_paths(declared, "    ", lines.explicit_inputs(edge), told)?;
     push_paths(declared, "    | ", lines.implicit_inputs(edge), told)?;
     push_paths(declared, "    || ", lines.order_only_inputs(edge), told)?;
-    if !lines.validations(edge).is_empty() {
-        push_line(told, &["  validations:"])?;
+    push_validations(declared, lines.validations(edge), told)
+}
+
+/// The validations of an edge, behind a line of their own, where it has some.
+fn push_validations(
+    declared: &Declared,
+    paths: &[PathId],
+    told: &mut String,
+) -> Result<(), AllocError>
+    ensures { OnOk result (Puts (string_bytes told.old) (string_bytes told.new) (if_some paths.now (codes "  validations:" ∷ marked declared.now (codes "    ") paths.now))) }
+{
+    if paths.is_empty() {
+        return Ok(());
     }
-    push_paths(declared, "    ", lines.validations(edge), told)
+    push_line(told, &["  validations:"])?;
+    push_paths(declared, "    ", paths, told)
 }
 
 fn push_paths(
@@ -96,9 +129,23 @@ fn validated_by(
     let mut edges = Vec::new(alloc);
     for place in 0..declared.graph.edges() {
         let edge = declared.graph.manifest.edge(place);
-        if declared.graph.validations(edge).contains(&path) {
-            edges.push(edge)?;
-        }
+        push_if_validated(declared, edge, path, &mut edges)?;
     }
     Ok(edges)
+}
+
+fn push_if_validated(
+    declared: &Declared,
+    edge: EdgeId,
+    path: PathId,
+    edges: &mut Vec<EdgeId>,
+) -> Result<(), AllocError>
+    requires { edge < length declared.now.graph.manifest.lines }
+    ensures { OnOk result (edges.new.items ≡ edges.old.items ++ filter (λ e. has_number ((links_of declared.now.graph).validations e) path) (edge ∷ [])) }
+{
+    if declared.graph.validations(edge).contains(&path) {
+        edges.push(edge)?;
+        return Ok(());
+    }
+    Ok(())
 }

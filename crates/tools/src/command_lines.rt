@@ -1,7 +1,7 @@
 //! `-t commands`: the commands that make targets.
 
-ghost use Rattle.std.specs.Prelude.{IfOk, string_bytes};
-ghost use Rattle.tools.specs.Answers.{AreMakers, PrintsCommands};
+ghost use Rattle.std.specs.Prelude.{◌∷◌, [], IfOk, OnOk, string_bytes};
+ghost use Rattle.tools.specs.Answers.{AreMakers, AreMeant, PrintsCommands, Puts, commands_of};
 
 use crate::above::edges_above;
 use crate::declared::Declared;
@@ -20,18 +20,37 @@ pub fn commands(
 ) -> Result<String, AllocError>
     ensures { IfOk result (λ told. PrintsCommands declared.now paths.now single (string_bytes told)) }
 {
-    let edges = if single {
-        makers(alloc, &declared.graph, paths)?
-    } else {
-        edges_above(alloc, &declared.graph, paths)?
-    };
+    let edges = meant(alloc, &declared.graph, paths, single)?;
     let mut told = String::new(alloc);
     for edge in edges.as_slice() {
-        if let Some(command) = declared.command(*edge) {
-            push_line(&mut told, &[command.act.command.as_str()])?;
-        }
+        push_command(declared, *edge, &mut told)?;
     }
     Ok(told)
+}
+
+/// The line of an edge's command, where it has one.
+fn push_command(declared: &Declared, edge: EdgeId, told: &mut String) -> Result<(), AllocError>
+    ensures { OnOk result (Puts (string_bytes told.old) (string_bytes told.new) (commands_of declared.now (edge ∷ []))) }
+{
+    match declared.command(edge) {
+        Some(command) => push_line(told, &[command.act.command.as_str()]),
+        None => Ok(()),
+    }
+}
+
+/// The edges that make these paths, each once, or all that are above them.
+fn meant(
+    alloc: Global,
+    graph: &Graph,
+    paths: &[PathId],
+    single: bool,
+) -> Result<Vec<EdgeId>, AllocError>
+    ensures { IfOk result (λ edges. AreMeant graph.now paths.now single edges.items) }
+{
+    if single {
+        return makers(alloc, graph, paths);
+    }
+    edges_above(alloc, graph, paths)
 }
 
 /// The edges that make these paths, each once.

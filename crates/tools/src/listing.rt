@@ -92,11 +92,19 @@ fn push_sources(graph: &Graph, paths: &[PathId], told: &mut String) -> Result<()
     ensures { OnOk result (Puts (string_bytes told.old) (string_bytes told.new) (texts_at graph.now.manifest.paths (filter (λ p. is_none ((links_of graph.now).maker p)) paths.now))) }
 {
     for path in paths {
-        if graph.maker(*path).is_none() {
-            push_line(told, &[text_at(graph, *path)])?;
-        }
+        push_source(graph, *path, told)?;
     }
     Ok(())
+}
+
+/// The line of a path, unless an edge makes it.
+fn push_source(graph: &Graph, path: PathId, told: &mut String) -> Result<(), AllocError>
+    ensures { OnOk result (Puts (string_bytes told.old) (string_bytes told.new) (texts_at graph.now.manifest.paths (filter (λ p. is_none ((links_of graph.now).maker p)) (path ∷ [])))) }
+{
+    match graph.maker(path) {
+        Some(_) => Ok(()),
+        None => push_line(told, &[text_at(graph, path)]),
+    }
 }
 
 /// The outputs of the edges of a rule, by name, each once.

@@ -1,6 +1,6 @@
 //! `-t missingdeps`: recorded inputs that are made, and whose maker is not above.
 
-ghost use Rattle.std.specs.Prelude.{◌≡◌, ◌<◌, ◌||◌, ◌++◌, ℕ, IfOk, OnOk, false, filter, get_or, length, vec_len};
+ghost use Rattle.std.specs.Prelude.{◌≡◌, ◌<◌, ◌||◌, ◌++◌, ◌∷◌, [], ℕ, IfOk, OnOk, false, filter, get_or, length, vec_len};
 ghost use Rattle.model.specs.Graph.{has_number};
 ghost use Rattle.tools.specs.Above.{AreNamedMade};
 ghost use Rattle.tools.specs.Missing.{Misses};
@@ -93,9 +93,21 @@ fn push_marked(
     ensures { OnOk result (outputs.new.items ≡ outputs.old.items ++ filter (λ p. get_or marks.now p false) paths.now) }
 {
     for path in paths {
-        if is_marked(marks, path.index()) {
-            outputs.push(*path)?;
-        }
+        push_if_marked(marks, *path, outputs)?;
+    }
+    Ok(())
+}
+
+fn push_if_marked(
+    marks: &[bool],
+    path: PathId,
+    outputs: &mut Vec<PathId>,
+) -> Result<(), AllocError>
+    ensures { OnOk result (outputs.new.items ≡ outputs.old.items ++ filter (λ p. get_or marks.now p false) (path ∷ [])) }
+{
+    if is_marked(marks, path.index()) {
+        outputs.push(path)?;
+        return Ok(());
     }
     Ok(())
 }

@@ -1,6 +1,6 @@
 //! What is meant where no target is named.
 
-ghost use Rattle.std.specs.Prelude.{◌≡◌, ◌++◌, IfOk, OnOk};
+ghost use Rattle.std.specs.Prelude.{◌≡◌, ◌++◌, ◌∷◌, [], IfOk, OnOk};
 ghost use Rattle.tools.specs.Roots.{AreRoots, unread};
 
 use crate::access::users_at;
@@ -25,9 +25,17 @@ fn push_unread(graph: &Graph, paths: &[PathId], roots: &mut Vec<PathId>) -> Resu
     ensures { OnOk result (roots.new.items ≡ roots.old.items ++ unread graph.now paths.now) }
 {
     for path in paths {
-        if users_at(graph, *path).is_empty() {
-            roots.push(*path)?;
-        }
+        push_if_unread(graph, *path, roots)?;
+    }
+    Ok(())
+}
+
+fn push_if_unread(graph: &Graph, path: PathId, roots: &mut Vec<PathId>) -> Result<(), AllocError>
+    ensures { OnOk result (roots.new.items ≡ roots.old.items ++ unread graph.now (path ∷ [])) }
+{
+    if users_at(graph, path).is_empty() {
+        roots.push(path)?;
+        return Ok(());
     }
     Ok(())
 }
