@@ -10,20 +10,9 @@ use Rattle.links.specs.Links.{Links, links_of}
 use Rattle.links.specs.declared.graph.Graph.{Graph}
 use Rattle.tools.specs.Above.{AreAbove, AreNamedMade, IsNamedAbove, IsNeededFor, Makes, Further}
 use Rattle.tools.proofs.Putting.{flat_next}
+use Rattle.tools.proofs.Rises.{has_push}
 
 -- ---- lists of numbers
-
-has_push : (xs : List ℕ) (i j : ℕ) → has_number (xs ++ i ∷ []) j ≡ (has_number xs j || (i == j))
-has_push [] i j = or_nothing (i == j)
-  where
-    or_nothing : (b : Bool) → (b || false) ≡ (false || b)
-    or_nothing true = refl
-    or_nothing false = refl
-has_push (x ∷ xs) i j = ap (λ (b : Bool). (x == j) || b) (has_push xs i j) ∙ or_assoc (x == j) (has_number xs j) (i == j)
-  where
-    or_assoc : (a b c : Bool) → (a || (b || c)) ≡ ((a || b) || c)
-    or_assoc true b c = refl
-    or_assoc false b c = refl
 
 has_both : (xs ys : List ℕ) (n : ℕ) → has_number (xs ++ ys) n ≡ (has_number xs n || has_number ys n)
 has_both [] ys n = refl

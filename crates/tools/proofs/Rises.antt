@@ -14,7 +14,7 @@ use Rattle.tools.specs.Rising.{IsNext, IsRiseAt}
 
 -- ---- lists of numbers
 
-has_push : (xs : List ℕ) (i j : ℕ) → has_number (xs ++ i ∷ []) j ≡ (has_number xs j || (i == j))
+pub has_push : (xs : List ℕ) (i j : ℕ) → has_number (xs ++ i ∷ []) j ≡ (has_number xs j || (i == j))
 has_push [] i j = or_nothing (i == j)
   where
     or_nothing : (b : Bool) → (b || false) ≡ (false || b)

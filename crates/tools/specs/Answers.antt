@@ -1,5 +1,5 @@
 -- What tools print of a graph, line by line (the forms are real ninja's).
-use Rattle.std.specs.Prelude.{◌≡◌, ℕ, zero, suc, Bool, true, false, List, [], ◌∷◌, ◌++◌, ◌↔◌, ◌⊎◌, IsSorted, map, filter, flat_map, codes, length, Option, Some, None, is_none, get_or}
+use Rattle.std.specs.Prelude.{◌≡◌, ◌<◌, ℕ, zero, suc, Bool, true, false, List, [], ◌∷◌, ◌++◌, ◌↔◌, ◌⊎◌, IsSorted, map, filter, flat_map, codes, length, Option, Some, None, is_none, get_or}
 use Rattle.std.specs.List.{range_with_len}
 use Rattle.std.specs.Ordering.{nat_cmp}
 use Rattle.std.specs.Cmp.Lexicographic.{slice_cmp}
@@ -63,6 +63,12 @@ commands_of declared edges = flat_map (λ e. command_in (get_or declared.graph.m
 pub record AreMakers (graph : Graph) (paths edges : List ℕ) : Type 0 where
   pub just : (e : ℕ) → has_number edges e ≡ true ↔ ((p : ℕ) × (has_number paths p ≡ true) × ((links_of graph).maker p ≡ Some e))
   pub once : StandOnce edges
+
+-- the edges that make these paths were met, and no others
+pub record AreMet (graph : Graph) (paths : List ℕ) (met : List Bool) (edges : List ℕ) : Type 0 where
+  pub count : length met ≡ length graph.manifest.lines
+  pub marked : (e : ℕ) → e < length graph.manifest.lines → get_or met e false ≡ has_number edges e
+  pub makers : AreMakers graph paths edges
 
 -- of the paths alone, or of all that is above them
 abbrev pub AreMeant : Graph → List ℕ → Bool → List ℕ → Type 0

@@ -1,7 +1,7 @@
 //! `-t commands`: the commands that make targets.
 
-ghost use Rattle.std.specs.Prelude.{◌∷◌, [], IfOk, OnOk, string_bytes};
-ghost use Rattle.tools.specs.Answers.{AreMakers, AreMeant, PrintsCommands, Puts, commands_of};
+ghost use Rattle.std.specs.Prelude.{◌++◌, ◌∷◌, ℕ, List, [], IfOk, OnOk, string_bytes};
+ghost use Rattle.tools.specs.Answers.{AreMakers, AreMeant, AreMet, PrintsCommands, Puts, commands_of};
 
 use crate::above::edges_above;
 use crate::declared::Declared;
@@ -60,12 +60,27 @@ pub fn makers(alloc: Global, graph: &Graph, paths: &[PathId]) -> Result<Vec<Edge
     let mut met = vec![in alloc; false; graph.edges()]?;
     let mut edges = Vec::new(alloc);
     for path in paths {
-        if let Some(edge) = graph.maker(*path) {
-            if edge.index() < met.len() && !met[edge.index()] {
-                met[edge.index()] = true;
-                edges.push(edge)?;
-            }
-        }
+        meet(graph, *path, &mut met, &mut edges)?;
     }
     Ok(edges)
+}
+
+/// Adds the edge that makes the path, where it was not met.
+fn meet(
+    graph: &Graph,
+    path: PathId,
+    met: &mut Vec<bool>,
+    edges: &mut Vec<EdgeId>,
+) -> Result<(), AllocError>
+    ensures { OnOk result ((paths : List ℕ) → AreMet graph.now paths met.old.items edges.old.items → AreMet graph.now (paths ++ path ∷ []) met.new.items edges.new.items) }
+{
+    let Some(edge) = graph.maker(path) else {
+        return Ok(());
+    };
+    if edge.index() >= met.len() || met[edge.index()] {
+        return Ok(());
+    }
+    edges.push(edge)?;
+    met[edge.index()] = true;
+    Ok(())
 }
