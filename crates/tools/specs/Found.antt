@@ -9,13 +9,24 @@ use Rattle.links.specs.declared.graph.Graph.{Graph}
 abbrev pub HasText : Graph → List ℕ → ℕ → Type 0
 HasText graph text p = slice_get graph.manifest.paths p ≡ Some text
 
--- the path is the first output of the first edge that names that of this text (manual: "Running ninja", `^`)
-abbrev pub IsFirstMadeOf : Graph → List ℕ → ℕ → Type 0
-IsFirstMadeOf graph text p = (q e : ℕ) × HasText graph text q × (slice_get (users_at graph q) 0 ≡ Some e) × (slice_get ((links_of graph).outputs e) 0 ≡ Some p)
+-- the path is the first output of the first edge that names the other (manual: "Running ninja", `^`), or the one of this text
+abbrev pub IsFirstMade : Graph → ℕ → ℕ → Type 0
+IsFirstMade graph q p = (e : ℕ) × (slice_get (users_at graph q) 0 ≡ Some e) × (slice_get ((links_of graph).outputs e) 0 ≡ Some p)
 
--- `^` is 94
+abbrev pub IsFirstMadeOf : Graph → List ℕ → ℕ → Type 0
+IsFirstMadeOf graph text p = (q : ℕ) × HasText graph text q × IsFirstMade graph q p
+
+-- `^` is 94, and stands behind this text
+abbrev pub IsMarked : List ℕ → List ℕ → Type 0
+IsMarked path front = path ≡ front ++ 94 ∷ []
+
+abbrev pub IsUnmarked : List ℕ → Type 0
+IsUnmarked path = (front : List ℕ) → IsMarked path front → ⊥
+
+-- the word names the path: by its canonical form, with or without the mark
 abbrev pub IsNamed : Graph → List ℕ → ℕ → Type 0
-IsNamed graph word p = (path : List ℕ) × IsCanonical word path × (((front : List ℕ) × (path ≡ front ++ 94 ∷ []) × IsFirstMadeOf graph front p) ⊎ HasText graph path p)
+IsNamed graph word p =
+    (path : List ℕ) × IsCanonical word path × (((front : List ℕ) × IsMarked path front × IsFirstMadeOf graph front p) ⊎ (IsUnmarked path × HasText graph path p))
 
 -- each path is what the word at its place names
 abbrev pub AreAsked : Graph → List (List ℕ) → List ℕ → Type 0

@@ -1,8 +1,8 @@
 //! The paths that words of the command line name.
 
-ghost use Rattle.std.specs.Prelude.{IfOk, map};
+ghost use Rattle.std.specs.Prelude.{IfOk, IfSome, MatchOption, map};
 ghost use Rattle.std.specs.Map.Iter.{deref};
-ghost use Rattle.tools.specs.Found.{HasText, IsFirstMadeOf, IsNamed, AreAsked};
+ghost use Rattle.tools.specs.Found.{HasText, IsFirstMade, IsFirstMadeOf, IsMarked, IsNamed, IsUnmarked, AreAsked};
 
 use crate::access::{outputs_at, users_at};
 use crate::declared::Declared;
@@ -27,10 +27,17 @@ pub fn target(alloc: Global, graph: &Graph, word: &str) -> Result<PathId, Fault>
         Err(ReadFault::EmptyPath) => return Err(Fault::EmptyPath),
         Err(ReadFault::Memory) => return Err(Fault::Memory),
     };
-    match path.as_str().strip_suffix('^') {
+    match without_mark(path.as_str()) {
         Some(read) => first_made_of(alloc, graph, read),
         None => known(alloc, graph, path.as_str()),
     }
+}
+
+/// What stands in front of a `^` at the end.
+fn without_mark(path: &str) -> Option<&str>
+    ensures { MatchOption result (IsUnmarked path.now) (λ front. IsMarked path.now front.now) }
+{
+    path.strip_suffix('^')
 }
 
 /// The path of this text.
@@ -51,12 +58,18 @@ fn first_made_of(alloc: Global, graph: &Graph, path: &str) -> Result<PathId, Fau
     ensures { IfOk result (IsFirstMadeOf graph.now path.now) }
 {
     let read = known(alloc, graph, path)?;
-    if let Some(edge) = users_at(graph, read).first() {
-        if let Some(output) = outputs_at(graph, *edge).first() {
-            return Ok(*output);
-        }
+    match first_made(graph, read) {
+        Some(output) => Ok(output),
+        None => Err(Fault::NoOutEdge(Text::from_str(alloc, path)?)),
     }
-    Err(Fault::NoOutEdge(Text::from_str(alloc, path)?))
+}
+
+/// The first output of the first edge that names the path.
+fn first_made(graph: &Graph, path: PathId) -> Option<PathId>
+    ensures { IfSome result (IsFirstMade graph.now path) }
+{
+    let edge = users_at(graph, path).first()?;
+    outputs_at(graph, *edge).first().copied()
 }
 
 /// The paths that these words name; what is meant where there are none.
