@@ -5,7 +5,7 @@ use Rattle.std.proofs.lemmas.Bool.{cases_lt}
 use Rattle.std.proofs.lemmas.List.{length-append}
 use Rattle.std.proofs.lemmas.List.Concat.{flat_map-append}
 use Rattle.links.specs.Links.{links_of}
-use Rattle.tools.specs.Answers.{branch, indented, levels, line, lines, tree}
+use Rattle.tools.specs.Answers.{branch, indented, levels, line, lines, tree, Puts}
 use Rattle.tools.specs.Showing.{Opens, OpensAbove, Shows, head_line, indentation, left_from, left_lines, shown}
 use Rattle.tools.specs.declared.declared.Declared.{Declared}
 use Rattle.tools.specs.declared.listing.Level.{Level}
@@ -32,10 +32,11 @@ pub lines_both : (one two : List (List ℕ)) → lines (one ++ two) ≡ lines on
 lines_both one two = flat_map-append line one two
 
 -- a line behind spaces
-pub line_indented : (level : ℕ) (told mid new text : List ℕ) → mid ≡ told ++ indentation level → new ≡ mid ++ line text → new ≡ told ++ lines (indented level text ∷ [])
+pub line_indented : (level : ℕ) (told mid new text : List ℕ) → mid ≡ told ++ indentation level → Puts mid new (text ∷ []) → Puts told new (indented level text ∷ [])
 line_indented level told mid new text spaces put =
-    put ∙ (ap (λ (l : List ℕ). l ++ line text) spaces ∙ (append_assoc told (indentation level) (line text)
-    ∙ ap (λ (l : List ℕ). told ++ l) (sym (append_assoc (indentation level) text (10 ∷ [])) ∙ (ap line (sym (indented_is level text)) ∙ sym (append-nil (line (indented level text)))))))
+    put ∙ (ap (λ (l : List ℕ). l ++ lines (text ∷ [])) spaces ∙ (append_assoc told (indentation level) (lines (text ∷ []))
+    ∙ ap (λ (l : List ℕ). told ++ l)
+    (sym (append_assoc (indentation level) (line text) []) ∙ ap (λ (l : List ℕ). l ++ []) (sym (append_assoc (indentation level) text (10 ∷ [])) ∙ ap line (sym (indented_is level text))))))
 
 -- ---- levels
 
