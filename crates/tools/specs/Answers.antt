@@ -1,5 +1,5 @@
 -- What tools print of a graph, line by line (the forms are real ninja's).
-use Rattle.std.specs.Prelude.{◌≡◌, ◌<◌, ℕ, zero, suc, Bool, true, false, List, [], ◌∷◌, ◌++◌, ◌↔◌, ◌⊎◌, IsSorted, map, filter, flat_map, codes, length, Option, Some, None, is_none, get_or}
+use Rattle.std.specs.Prelude.{◌≡◌, ◌<◌, ℕ, zero, suc, if◌then◌else◌, Bool, true, false, List, [], ◌∷◌, ◌++◌, ◌↔◌, ◌⊎◌, IsSorted, map, filter, flat_map, codes, length, Option, Some, None, is_none, get_or}
 use Rattle.std.specs.List.{range_with_len}
 use Rattle.std.specs.Ordering.{nat_cmp}
 use Rattle.std.specs.Cmp.Lexicographic.{slice_cmp}
@@ -85,6 +85,11 @@ abbrev pub IsInputFor : Declared → List ℕ → List ℕ → Type 0
 IsInputFor declared paths text =
     (e p : ℕ) × IsNeededFor (links_of declared.graph) paths e × ((links_of declared.graph).phony e ≡ false)
     × (has_number ((links_of declared.graph).inputs e) p ≡ true) × (text ≡ quoted (path_text declared p))
+
+-- the inputs of the edge, quoted, where it is a command
+abbrev pub quoted_inputs : Declared → ℕ → List (List ℕ)
+quoted_inputs declared e =
+    if (links_of declared.graph).phony e then [] else map (λ p. quoted (path_text declared p)) ((links_of declared.graph).inputs e)
 
 pub record PrintsInputs (declared : Declared) (paths text : List ℕ) : Type 0 where
   pub inputs : List (List ℕ)
