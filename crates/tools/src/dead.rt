@@ -1,7 +1,11 @@
 //! `-t cleandead`: what a build made once and no line names any more.
 
-ghost use Rattle.std.specs.Prelude.{IfOk};
-ghost use Rattle.tools.specs.Dead.{Buries};
+ghost use Rattle.std.specs.Prelude.{◌≡◌, IfOk, OnOk, map, true};
+ghost use Rattle.std.specs.Map.Iter.{deref};
+ghost use Rattle.model.specs.Graph.{has};
+ghost use Rattle.build_log.specs.Kept.{texts_at};
+ghost use Rattle.tools.specs.Clean.{AddsJust};
+ghost use Rattle.tools.specs.Dead.{AddsLeft, Buries, ListsAll};
 
 use crate::declared::Declared;
 use paths::Paths;
@@ -41,7 +45,9 @@ fn add_all(
     listed: &Paths,
     outputs: &[&str],
     found: &mut Dead,
-) -> Result<(), AllocError> {
+) -> Result<(), AllocError>
+    ensures { OnOk result (AddsLeft declared.now.graph.manifest listed.now (λ text. has (map deref outputs.now) text ≡ true) found.old found.new) }
+{
     for output in outputs {
         add(alloc, declared, listed, output, found)?;
     }
@@ -55,7 +61,9 @@ fn add(
     listed: &Paths,
     output: &str,
     found: &mut Dead,
-) -> Result<(), AllocError> {
+) -> Result<(), AllocError>
+    ensures { OnOk result (AddsLeft declared.now.graph.manifest listed.now (λ text. text ≡ output.now) found.old found.new) }
+{
     if declared.graph.manifest.number_of(output).is_some() {
         return Ok(());
     }
@@ -68,7 +76,9 @@ fn add(
 }
 
 /// The paths that deps records list.
-fn listed(alloc: Global, records: &Records) -> Result<Paths, AllocError> {
+fn listed(alloc: Global, records: &Records) -> Result<Paths, AllocError>
+    ensures { IfOk result (λ listed. ListsAll records.now listed) }
+{
     let mut listed = Paths::new(alloc);
     let log = records.logs.deps_log.log();
     for number in 0..log.deps_records() {
@@ -84,7 +94,9 @@ fn add_listed(
     records: &Records,
     numbers: &[usize],
     listed: &mut Paths,
-) -> Result<(), AllocError> {
+) -> Result<(), AllocError>
+    ensures { OnOk result (AddsJust listed.old listed.new (λ text. has (texts_at records.now.logs.deps_log.log.outputs numbers.now) text ≡ true)) }
+{
     for number in numbers {
         if let Some(path) = records.deps_path(*number) {
             listed.add(alloc, path)?;
