@@ -37,6 +37,7 @@ pub mod ReadMain
 pub mod ReadTo
 pub mod ReaderLemmas
 pub mod RuleLemmas
+pub mod RuleNames
 pub mod SameEdges
 pub mod SameFiles
 pub mod SamePasts

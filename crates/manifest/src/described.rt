@@ -1,6 +1,6 @@
 //! What tools tell of build files beside the manifest: the names of rules, and which edges run a generator.
 
-ghost use Rattle.std.specs.Prelude.{◌≡◌, ◌<◌, ◌≤◌, IfOk, length, map, vec_len};
+ghost use Rattle.std.specs.Prelude.{◌≡◌, ◌<◌, ◌≤◌, IfOk, length, map, slice_get, vec_len};
 ghost use Rattle.std.specs.List.{AllByRecursion};
 ghost use Rattle.std.specs.Map.Iter.{deref};
 ghost use Rattle.paths.specs.Lists.{line_at};
@@ -79,10 +79,17 @@ impl Described {
     pub fn rule(&self, edge: EdgeId) -> &str
         ensures { result.now ≡ rule_in self.now edge }
     {
-        match self.rules.get(edge.index()) {
-            Some(number) => self.names.get(*number).unwrap_or(""),
+        match self.rule_number(edge) {
+            Some(number) => self.names.get(number).unwrap_or(""),
             None => "",
         }
+    }
+
+    /// The number of the name of its rule; none for an edge that was not read.
+    fn rule_number(&self, edge: EdgeId) -> Option<PathId>
+        ensures { result ≡ slice_get self.now.rules.items edge }
+    {
+        self.rules.get(edge.index()).copied()
     }
 
     /// Whether the edge runs a generator.

@@ -5,6 +5,7 @@ ghost use Rattle.std.specs.Map.Iter.{deref};
 ghost use Rattle.model.specs.Graph.{has};
 ghost use Rattle.paths.specs.Told.{texts_at};
 ghost use Rattle.tools.specs.Clean.{AddsJust, AreCleaned, IsAnyRule, IsCleanedOutput, IsCleanedRule, IsCleanedTarget, IsFree, IsOwnFileOf, LacksJust, MayClean, MayCleanPath};
+ghost use Rattle.tools.specs.Files.{rule_of};
 ghost use Rattle.tools.specs.Moves.{RemovesOf, RemovesOne};
 
 use crate::access::{is_phony_at, outputs_at, path_at, text_at};
@@ -152,11 +153,38 @@ fn add_rules(
 {
     for place in 0..declared.graph.edges() {
         let edge = declared.graph.manifest.edge(place);
-        if rules.contains(&declared.rule(edge)) {
-            add_edge(alloc, declared, edge, generated, paths)?;
-        }
+        add_if_asked(alloc, declared, rules, edge, generated, paths)?;
     }
     Ok(())
+}
+
+/// Adds what the edge makes, where its rule is one of these.
+fn add_if_asked(
+    alloc: Global,
+    declared: &Declared,
+    rules: &[&str],
+    edge: EdgeId,
+    generated: bool,
+    paths: &mut Paths,
+) -> Result<(), AllocError>
+    ensures { OnOk result (AddsJust paths.old paths.new (λ text. (has (map deref rules.now) (rule_of declared.now edge) ≡ true) × MayClean declared.now generated edge text)) }
+{
+    if !is_among(rules, declared.rule(edge)) {
+        return Ok(());
+    }
+    add_edge(alloc, declared, edge, generated, paths)
+}
+
+/// Whether the text is one of these.
+fn is_among(texts: &[&str], text: &str) -> bool
+    ensures { result ≡ has (map deref texts.now) text.now }
+{
+    for one in texts {
+        if *one == text {
+            return true;
+        }
+    }
+    false
 }
 
 /// Adds what the edge makes, and its depfile and response file, where that may be removed. No line is without outputs.
@@ -170,7 +198,10 @@ fn add_edge(
     ensures { OnOk result (AddsJust paths.old paths.new (MayClean declared.now generated edge)) }
 {
     let outputs = outputs_at(&declared.graph, edge);
-    if outputs.is_empty() || !may_clean(declared, edge, generated) {
+    if outputs.is_empty() {
+        return Ok(());
+    }
+    if !may_clean(declared, edge, generated) {
         return Ok(());
     }
     add_outputs(alloc, declared, outputs, paths)?;

@@ -1,0 +1,183 @@
+-- What is cleaned, edge by edge and whole.
+use Rattle.std.proofs.Common.{◌≡◌, ◌≢◌, ◌⊎◌, ◌↔◌, inl, inr, ℕ, zero, suc, ◌<◌, ◌≤◌, ◌==◌, ◌||◌, Bool, true, false, List, [], ◌∷◌, Option, Some, None, length, map, get_or, refl, sym, ap, ◌∙◌, subst, arith, bytes_eq}
+use Rattle.std.specs.Map.Iter.{deref}
+use Rattle.std.proofs.lemmas.Bool.{cases_lt, eqb-true, eq-eqb, false≢true, or_cases, or_left, or_right}
+use Rattle.std.proofs.lemmas.List.{get_or_past}
+use Rattle.std.proofs.lemmas.Slice.Eq.{bytes_eq-Decides}
+use Rattle.model.specs.Graph.{has, has_number}
+use Rattle.paths.specs.Commands.{no_action}
+use Rattle.paths.specs.Lists.{line_at, line_outputs, no_line}
+use Rattle.paths.specs.Told.{text_at, texts_at}
+use Rattle.paths.specs.declared.line.Line.{Line}
+use Rattle.paths.specs.declared.manifest.Action.{Action}
+use Rattle.paths.specs.declared.manifest.Action.TheVariants.{Alias, Command}
+use Rattle.paths.specs.declared.manifest.Command.{Command as EdgeCommand}
+use Rattle.links.specs.Held.{AreMakers}
+use Rattle.links.specs.Links.{links_of}
+use Rattle.tools.specs.Above.{IsNamedAbove, AreNamedMade}
+use Rattle.tools.specs.Clean.{AddsJust, AreCleaned, IsAnyRule, IsAsked, IsCleanedOutput, IsCleanedRule, IsCleanedTarget, IsFileOf, IsFree, IsOwnFileOf, LacksJust, MayClean, MayCleanPath}
+use Rattle.tools.specs.Files.{command_at, files_of, own_files, rule_of}
+use Rattle.tools.specs.declared.cleaning.Cleaning.{Cleaning}
+use Rattle.tools.specs.declared.cleaning.Cleaning.TheVariants.{All, Targets, Rules}
+use Rattle.tools.specs.declared.declared.Declared.{Declared}
+use Rattle.tools.proofs.Adding.{adds_as, adds_none, adds_then}
+
+-- ---- the files of a command
+
+pub files_are : (action : Action) (command : EdgeCommand) → command_at action ≡ Some command → files_of action ≡ command.act.depfile ∷ command.act.response_path ∷ []
+files_are Alias command is = absurd (cc)
+files_are (Command own) command is = let same : own ≡ command = cc in ap (λ (c : EdgeCommand). c.act.depfile ∷ c.act.response_path ∷ []) same
+
+pub no_files : (action : Action) → command_at action ≡ None → files_of action ≡ []
+no_files Alias is = refl
+no_files (Command own) is = absurd (cc)
+
+same_text : (a b : List ℕ) → bytes_eq a b ≡ true → a ≡ b
+same_text a b h = (bytes_eq-Decides a b).0 h
+
+text_same : (a : List ℕ) → bytes_eq a a ≡ true
+text_same a = (bytes_eq-Decides a a).1 refl
+
+has_one : (t a : List ℕ) → has (a ∷ []) t ≡ true → t ≡ a
+has_one t a h = elim (or_cases (bytes_eq a t) false h) [
+  | inl same ↦ sym (same_text a t same)
+  | inr not ↦ absurd (false≢true not)
+]
+
+-- both files of a command are added
+pub own_adds : (declared : Declared) (e : ℕ) (command : EdgeCommand) (old mid new : List (List ℕ)) → command_at (get_or declared.graph.manifest.actions e no_action) ≡ Some command
+    → AddsJust old mid (λ t. (t ≢ []) × (t ≡ command.act.depfile)) → AddsJust mid new (λ t. (t ≢ []) × (t ≡ command.act.response_path)) → AddsJust old new (IsOwnFileOf declared e)
+own_adds declared e command old mid new is first second =
+    adds_as old new _ (IsOwnFileOf declared e)
+    (λ t either. elim either [
+      | inl p ↦ (p.0, subst (λ (l : List (List ℕ)). has l t ≡ true) (sym files) (or_left (bytes_eq command.act.depfile t) (has (command.act.response_path ∷ []) t) (subst (λ (q : List ℕ). bytes_eq q t ≡ true) p.1 (text_same t))))
+      | inr p ↦ (p.0, subst (λ (l : List (List ℕ)). has l t ≡ true) (sym files) (or_right (bytes_eq command.act.depfile t) (has (command.act.response_path ∷ []) t) (or_left (bytes_eq command.act.response_path t) false (subst (λ (q : List ℕ). bytes_eq q t ≡ true) p.1 (text_same t)))))
+    ])
+    (λ t own. elim (or_cases (bytes_eq command.act.depfile t) (has (command.act.response_path ∷ []) t) (subst (λ (l : List (List ℕ)). has l t ≡ true) files own.1)) [
+      | inl dep ↦ inl (own.0, sym (same_text command.act.depfile t dep))
+      | inr response ↦ inr (own.0, has_one t command.act.response_path response)
+    ])
+    (adds_then old mid new _ _ first second)
+  where
+    files : own_files declared e ≡ command.act.depfile ∷ command.act.response_path ∷ []
+    files = files_are (get_or declared.graph.manifest.actions e no_action) command is
+
+pub own_none : (declared : Declared) (e : ℕ) (old : List (List ℕ)) → command_at (get_or declared.graph.manifest.actions e no_action) ≡ None → AddsJust old old (IsOwnFileOf declared e)
+own_none declared e old is =
+    adds_none old (IsOwnFileOf declared e) (λ t own. false≢true (subst (λ (l : List (List ℕ)). has l t ≡ true) (no_files (get_or declared.graph.manifest.actions e no_action) is) own.1))
+
+-- ---- an edge
+
+pub edge_adds : (declared : Declared) (generated : Bool) (e : ℕ) (old mid new : List (List ℕ)) → IsFree declared generated e → (links_of declared.graph).outputs e ≢ []
+    → AddsJust old mid (λ t. (t ≢ []) × (has (texts_at declared.graph.manifest.paths ((links_of declared.graph).outputs e)) t ≡ true)) → AddsJust mid new (IsOwnFileOf declared e) → AddsJust old new (MayClean declared generated e)
+edge_adds declared generated e old mid new free makes first second =
+    adds_as old new _ (MayClean declared generated e)
+    (λ t either. elim either [
+      | inl p ↦ (free, record { makes = makes; some = p.0; file = inl p.1 })
+      | inr q ↦ (free, record { makes = makes; some = q.0; file = inr q.1 })
+    ])
+    (λ t may. elim may.1.file [
+      | inl made ↦ inl (may.1.some, made)
+      | inr own ↦ inr (may.1.some, own)
+    ])
+    (adds_then old mid new _ _ first second)
+
+pub edge_none : (declared : Declared) (generated : Bool) (e : ℕ) (old : List (List ℕ)) → (links_of declared.graph).outputs e ≡ [] → AddsJust old old (MayClean declared generated e)
+edge_none declared generated e old none = adds_none old (MayClean declared generated e) (λ t may. may.1.makes none)
+
+pub edge_kept : (declared : Declared) (generated : Bool) (e : ℕ) (old : List (List ℕ)) → (IsFree declared generated e → ⊥) → AddsJust old old (MayClean declared generated e)
+edge_kept declared generated e old not = adds_none old (MayClean declared generated e) (λ t may. not may.0)
+
+-- ---- a path
+
+pub path_none : (declared : Declared) (generated : Bool) (p : ℕ) (old : List (List ℕ)) → (links_of declared.graph).maker p ≡ None → AddsJust old old (MayCleanPath declared generated p)
+path_none declared generated p old none = adds_none old (MayCleanPath declared generated p) (λ t may. clash may.0 (sym none ∙ may.1))
+  where
+    clash : (e : ℕ) → None ≡ Some e → ⊥
+    clash e is = cc
+
+same_edge : (a b : ℕ) → Some a ≡ Some b → a ≡ b
+same_edge a b is = cc
+
+pub path_kept : (declared : Declared) (generated : Bool) (p e : ℕ) (old : List (List ℕ)) → (links_of declared.graph).maker p ≡ Some e → (IsFree declared generated e → ⊥) → AddsJust old old (MayCleanPath declared generated p)
+path_kept declared generated p e old made not =
+    adds_none old (MayCleanPath declared generated p) (λ t may. not (subst (λ (n : ℕ). IsFree declared generated n) (same_edge may.0 e (sym may.1 ∙ made)) may.2))
+
+pub path_adds : (declared : Declared) (generated : Bool) (p e : ℕ) (old mid new : List (List ℕ)) → (links_of declared.graph).maker p ≡ Some e → IsFree declared generated e
+    → AddsJust old mid (λ t. (t ≢ []) × (t ≡ text_at declared.graph.manifest.paths p)) → AddsJust mid new (IsOwnFileOf declared e) → AddsJust old new (MayCleanPath declared generated p)
+path_adds declared generated p e old mid new made free first second =
+    adds_as old new _ (MayCleanPath declared generated p)
+    (λ t either. elim either [
+      | inl one ↦ (e, made, free, one.0, inl one.1)
+      | inr own ↦ (e, made, free, own.0, inr own.1)
+    ])
+    (λ t may. elim may.4 [
+      | inl one ↦ inl (may.3, one)
+      | inr own ↦ inr (may.3, subst (λ (n : ℕ). has (own_files declared n) t ≡ true) (same_edge may.0 e (sym may.1 ∙ made)) own)
+    ])
+    (adds_then old mid new _ _ first second)
+
+-- ---- whole
+
+-- a text among those of numbers
+has_text : (paths : List (List ℕ)) (numbers : List ℕ) (t : List ℕ) → has (texts_at paths numbers) t ≡ true → (p : ℕ) × (has_number numbers p ≡ true) × (t ≡ text_at paths p)
+has_text paths [] t h = absurd (false≢true h)
+has_text paths (n ∷ numbers) t h = elim (or_cases (bytes_eq (text_at paths n) t) (has (texts_at paths numbers) t) h) [
+  | inl here ↦ (n, or_left (n == n) (has_number numbers n) (eq-eqb n n refl), sym (same_text (text_at paths n) t here))
+  | inr later ↦ let rest = has_text paths numbers t later in (rest.0, or_right (n == rest.0) (has_number numbers rest.0) rest.1, rest.2)
+]
+
+text_has : (paths : List (List ℕ)) (numbers : List ℕ) (p : ℕ) → has_number numbers p ≡ true → has (texts_at paths numbers) (text_at paths p) ≡ true
+text_has paths [] p h = absurd (false≢true h)
+text_has paths (n ∷ numbers) p h = elim (or_cases (n == p) (has_number numbers p) h) [
+  | inl here ↦ or_left (bytes_eq (text_at paths n) (text_at paths p)) (has (texts_at paths numbers) (text_at paths p)) (subst (λ (m : ℕ). bytes_eq (text_at paths n) (text_at paths m) ≡ true) (eqb-true n p here) (text_same (text_at paths n)))
+  | inr later ↦ or_right (bytes_eq (text_at paths n) (text_at paths p)) (has (texts_at paths numbers) (text_at paths p)) (text_has paths numbers p later)
+]
+
+first_of : (numbers : List ℕ) → numbers ≢ [] → (p : ℕ) × (has_number numbers p ≡ true)
+first_of [] some = absurd (some refl)
+first_of (n ∷ numbers) some = (n, or_left (n == n) (has_number numbers n) (eq-eqb n n refl))
+
+not_none : (numbers : List ℕ) (p : ℕ) → has_number numbers p ≡ true → numbers ≢ []
+not_none numbers p h none = false≢true (subst (λ (l : List ℕ). has_number l p ≡ true) none h)
+
+makes_within : (lines : List Line) (e p : ℕ) → has_number (line_outputs (line_at lines e)) p ≡ true → e < length lines
+makes_within lines e p h = elim (cases_lt e (length lines)) [
+  | inl low ↦ low
+  | inr past ↦ absurd (false≢true (sym (ap (λ (line : Line). has_number (line_outputs line) p) (get_or_past lines e no_line past)) ∙ h))
+]
+
+module _ (declared : Declared) (making : AreMakers declared.graph.manifest declared.graph.makers.items) (cleaning : Cleaning) (generated : Bool) where
+  -- a path of an edge that may be cleaned, of which each path is asked for
+  pub cleaned_of : (e : ℕ) (t : List ℕ) → MayClean declared generated e t → ((p : ℕ) → (links_of declared.graph).maker p ≡ Some e → IsAsked declared cleaning e p) → IsCleanedOutput declared cleaning generated t
+  cleaned_of e t may asked = elim may.1.file [
+    | inl made ↦
+        let at = has_text declared.graph.manifest.paths ((links_of declared.graph).outputs e) t made in
+        let maker = making.all at.0 e at.1 in
+        record { path = at.0; edge = e; made = maker; command = may.0.command; asked = asked at.0 maker; free = may.0.free; some = may.1.some; file = inl at.2 }
+    | inr own ↦
+        let first = first_of ((links_of declared.graph).outputs e) may.1.makes in
+        let maker = making.all first.0 e first.1 in
+        record { path = first.0; edge = e; made = maker; command = may.0.command; asked = asked first.0 maker; free = may.0.free; some = may.1.some; file = inr own }
+  ]
+
+  pub of_cleaned : (t : List ℕ) (cleaned : IsCleanedOutput declared cleaning generated t) → (cleaned.edge < length declared.graph.manifest.lines) × MayClean declared generated cleaned.edge t
+  of_cleaned t cleaned =
+      let makes = making.made cleaned.path cleaned.edge cleaned.made in
+      (
+        makes_within declared.graph.manifest.lines cleaned.edge cleaned.path makes,
+        record { command = cleaned.command; free = cleaned.free },
+        record {
+          makes = not_none ((links_of declared.graph).outputs cleaned.edge) cleaned.path makes;
+          some = cleaned.some;
+          file = elim cleaned.file [
+            | inl is ↦ inl (subst (λ (q : List ℕ). has (texts_at declared.graph.manifest.paths ((links_of declared.graph).outputs cleaned.edge)) q ≡ true) (sym is) (text_has declared.graph.manifest.paths ((links_of declared.graph).outputs cleaned.edge) cleaned.path makes))
+            | inr own ↦ inr own
+          ];
+        },
+      )
+
+module _ (declared : Declared) (making : AreMakers declared.graph.manifest declared.graph.makers.items) (generated : Bool) (old new : List (List ℕ)) where
+  pub all_adds : AddsJust old new (IsAnyRule declared generated) → AddsJust old new (IsCleanedOutput declared All generated)
+  all_adds adds =
+      adds_as old new _ _ (λ t any. cleaned_of declared making All generated any.0 t any.2 (λ p maker. tt)) (λ t cleaned. let may = of_cleaned declared making All generated t cleaned in (cleaned.edge, may.0, may.1)) adds
