@@ -19,10 +19,10 @@ has_push (y ∷ xs) x t = ap (λ (b : Bool). bytes_eq y t || b) (has_push xs x t
     or_assoc true b c = refl
     or_assoc false b c = refl
 
-has_old : (xs : List (List ℕ)) (x t : List ℕ) → has xs t ≡ true → has (xs ++ x ∷ []) t ≡ true
+pub has_old : (xs : List (List ℕ)) (x t : List ℕ) → has xs t ≡ true → has (xs ++ x ∷ []) t ≡ true
 has_old xs x t h = has_push xs x t ∙ or_left (has xs t) (bytes_eq x t) h
 
-has_new : (xs : List (List ℕ)) (x : List ℕ) → has (xs ++ x ∷ []) x ≡ true
+pub has_new : (xs : List (List ℕ)) (x : List ℕ) → has (xs ++ x ∷ []) x ≡ true
 has_new xs x = has_push xs x x ∙ or_right (has xs x) (bytes_eq x x) ((bytes_eq-Decides x x).1 refl)
 
 pub has_cases : (xs : List (List ℕ)) (x t : List ℕ) → has (xs ++ x ∷ []) t ≡ true → (has xs t ≡ true) ⊎ (x ≡ t)
@@ -30,6 +30,12 @@ has_cases xs x t h = elim (or_cases (has xs t) (bytes_eq x t) (sym (has_push xs 
   | inl old ↦ inl old
   | inr new ↦ inr ((bytes_eq-Decides x t).0 new)
 ]
+
+pub has_first : (x : List ℕ) (xs : List (List ℕ)) → has (x ∷ xs) x ≡ true
+has_first x xs = or_left (bytes_eq x x) (has xs x) ((bytes_eq-Decides x x).1 refl)
+
+pub has_later : (x t : List ℕ) (xs : List (List ℕ)) → has xs t ≡ true → has (x ∷ xs) t ≡ true
+has_later x t xs h = or_right (bytes_eq x t) (has xs t) h
 
 -- ---- what is added
 

@@ -1,6 +1,7 @@
 -- What is cleaned, edge by edge and whole.
 use Rattle.std.proofs.Common.{◌≡◌, ◌≢◌, ◌⊎◌, ◌↔◌, inl, inr, ℕ, zero, suc, ◌<◌, ◌≤◌, ◌==◌, ◌||◌, Bool, true, false, List, [], ◌∷◌, Option, Some, None, length, map, get_or, refl, sym, ap, ◌∙◌, subst, arith, bytes_eq}
 use Rattle.std.specs.Map.Iter.{deref}
+use denote.Ref.{Bor}
 use Rattle.std.proofs.lemmas.Bool.{cases_lt, eqb-true, eq-eqb, false≢true, or_cases, or_left, or_right}
 use Rattle.std.proofs.lemmas.List.{get_or_past}
 use Rattle.std.proofs.lemmas.Slice.Eq.{bytes_eq-Decides}
@@ -73,25 +74,25 @@ pub edge_adds : (declared : Declared) (generated : Bool) (e : ℕ) (old mid new 
 edge_adds declared generated e old mid new free makes first second =
     adds_as old new _ (MayClean declared generated e)
     (λ t either. elim either [
-      | inl p ↦ (free, record { makes = makes; some = p.0; file = inl p.1 })
-      | inr q ↦ (free, record { makes = makes; some = q.0; file = inr q.1 })
+      | inl p ↦ record { free = free; file = record { makes = makes; some = p.0; file = inl p.1 } }
+      | inr q ↦ record { free = free; file = record { makes = makes; some = q.0; file = inr q.1 } }
     ])
-    (λ t may. elim may.1.file [
-      | inl made ↦ inl (may.1.some, made)
-      | inr own ↦ inr (may.1.some, own)
+    (λ t may. elim may.file.file [
+      | inl made ↦ inl (may.file.some, made)
+      | inr own ↦ inr (may.file.some, own)
     ])
     (adds_then old mid new _ _ first second)
 
 pub edge_none : (declared : Declared) (generated : Bool) (e : ℕ) (old : List (List ℕ)) → (links_of declared.graph).outputs e ≡ [] → AddsJust old old (MayClean declared generated e)
-edge_none declared generated e old none = adds_none old (MayClean declared generated e) (λ t may. may.1.makes none)
+edge_none declared generated e old none = adds_none old (MayClean declared generated e) (λ t may. may.file.makes none)
 
 pub edge_kept : (declared : Declared) (generated : Bool) (e : ℕ) (old : List (List ℕ)) → (IsFree declared generated e → ⊥) → AddsJust old old (MayClean declared generated e)
-edge_kept declared generated e old not = adds_none old (MayClean declared generated e) (λ t may. not may.0)
+edge_kept declared generated e old not = adds_none old (MayClean declared generated e) (λ t may. not may.free)
 
 -- ---- a path
 
 pub path_none : (declared : Declared) (generated : Bool) (p : ℕ) (old : List (List ℕ)) → (links_of declared.graph).maker p ≡ None → AddsJust old old (MayCleanPath declared generated p)
-path_none declared generated p old none = adds_none old (MayCleanPath declared generated p) (λ t may. clash may.0 (sym none ∙ may.1))
+path_none declared generated p old none = adds_none old (MayCleanPath declared generated p) (λ t may. clash may.edge (sym none ∙ may.made))
   where
     clash : (e : ℕ) → None ≡ Some e → ⊥
     clash e is = cc
@@ -101,19 +102,19 @@ same_edge a b is = cc
 
 pub path_kept : (declared : Declared) (generated : Bool) (p e : ℕ) (old : List (List ℕ)) → (links_of declared.graph).maker p ≡ Some e → (IsFree declared generated e → ⊥) → AddsJust old old (MayCleanPath declared generated p)
 path_kept declared generated p e old made not =
-    adds_none old (MayCleanPath declared generated p) (λ t may. not (subst (λ (n : ℕ). IsFree declared generated n) (same_edge may.0 e (sym may.1 ∙ made)) may.2))
+    adds_none old (MayCleanPath declared generated p) (λ t may. not (subst (λ (n : ℕ). IsFree declared generated n) (same_edge may.edge e (sym may.made ∙ made)) may.free))
 
 pub path_adds : (declared : Declared) (generated : Bool) (p e : ℕ) (old mid new : List (List ℕ)) → (links_of declared.graph).maker p ≡ Some e → IsFree declared generated e
     → AddsJust old mid (λ t. (t ≢ []) × (t ≡ text_at declared.graph.manifest.paths p)) → AddsJust mid new (IsOwnFileOf declared e) → AddsJust old new (MayCleanPath declared generated p)
 path_adds declared generated p e old mid new made free first second =
     adds_as old new _ (MayCleanPath declared generated p)
     (λ t either. elim either [
-      | inl one ↦ (e, made, free, one.0, inl one.1)
-      | inr own ↦ (e, made, free, own.0, inr own.1)
+      | inl one ↦ record { edge = e; made = made; free = free; some = one.0; file = inl one.1 }
+      | inr own ↦ record { edge = e; made = made; free = free; some = own.0; file = inr own.1 }
     ])
-    (λ t may. elim may.4 [
-      | inl one ↦ inl (may.3, one)
-      | inr own ↦ inr (may.3, subst (λ (n : ℕ). has (own_files declared n) t ≡ true) (same_edge may.0 e (sym may.1 ∙ made)) own)
+    (λ t may. elim may.file [
+      | inl one ↦ inl (may.some, one)
+      | inr own ↦ inr (may.some, subst (λ (n : ℕ). has (own_files declared n) t ≡ true) (same_edge may.edge e (sym may.made ∙ made)) own)
     ])
     (adds_then old mid new _ _ first second)
 
@@ -150,15 +151,15 @@ makes_within lines e p h = elim (cases_lt e (length lines)) [
 module _ (declared : Declared) (making : AreMakers declared.graph.manifest declared.graph.makers.items) (cleaning : Cleaning) (generated : Bool) where
   -- a path of an edge that may be cleaned, of which each path is asked for
   pub cleaned_of : (e : ℕ) (t : List ℕ) → MayClean declared generated e t → ((p : ℕ) → (links_of declared.graph).maker p ≡ Some e → IsAsked declared cleaning e p) → IsCleanedOutput declared cleaning generated t
-  cleaned_of e t may asked = elim may.1.file [
+  cleaned_of e t may asked = elim may.file.file [
     | inl made ↦
         let at = has_text declared.graph.manifest.paths ((links_of declared.graph).outputs e) t made in
         let maker = making.all at.0 e at.1 in
-        record { path = at.0; edge = e; made = maker; command = may.0.command; asked = asked at.0 maker; free = may.0.free; some = may.1.some; file = inl at.2 }
+        record { path = at.0; edge = e; made = maker; command = may.free.command; asked = asked at.0 maker; free = may.free.free; some = may.file.some; file = inl at.2 }
     | inr own ↦
-        let first = first_of ((links_of declared.graph).outputs e) may.1.makes in
+        let first = first_of ((links_of declared.graph).outputs e) may.file.makes in
         let maker = making.all first.0 e first.1 in
-        record { path = first.0; edge = e; made = maker; command = may.0.command; asked = asked first.0 maker; free = may.0.free; some = may.1.some; file = inr own }
+        record { path = first.0; edge = e; made = maker; command = may.free.command; asked = asked first.0 maker; free = may.free.free; some = may.file.some; file = inr own }
   ]
 
   pub of_cleaned : (t : List ℕ) (cleaned : IsCleanedOutput declared cleaning generated t) → (cleaned.edge < length declared.graph.manifest.lines) × MayClean declared generated cleaned.edge t
@@ -166,14 +167,16 @@ module _ (declared : Declared) (making : AreMakers declared.graph.manifest decla
       let makes = making.made cleaned.path cleaned.edge cleaned.made in
       (
         makes_within declared.graph.manifest.lines cleaned.edge cleaned.path makes,
-        record { command = cleaned.command; free = cleaned.free },
         record {
-          makes = not_none ((links_of declared.graph).outputs cleaned.edge) cleaned.path makes;
-          some = cleaned.some;
-          file = elim cleaned.file [
-            | inl is ↦ inl (subst (λ (q : List ℕ). has (texts_at declared.graph.manifest.paths ((links_of declared.graph).outputs cleaned.edge)) q ≡ true) (sym is) (text_has declared.graph.manifest.paths ((links_of declared.graph).outputs cleaned.edge) cleaned.path makes))
-            | inr own ↦ inr own
-          ];
+          free = record { command = cleaned.command; free = cleaned.free };
+          file = record {
+            makes = not_none ((links_of declared.graph).outputs cleaned.edge) cleaned.path makes;
+            some = cleaned.some;
+            file = elim cleaned.file [
+              | inl is ↦ inl (subst (λ (q : List ℕ). has (texts_at declared.graph.manifest.paths ((links_of declared.graph).outputs cleaned.edge)) q ≡ true) (sym is) (text_has declared.graph.manifest.paths ((links_of declared.graph).outputs cleaned.edge) cleaned.path makes))
+              | inr own ↦ inr own
+            ];
+          };
         },
       )
 
@@ -181,3 +184,34 @@ module _ (declared : Declared) (making : AreMakers declared.graph.manifest decla
   pub all_adds : AddsJust old new (IsAnyRule declared generated) → AddsJust old new (IsCleanedOutput declared All generated)
   all_adds adds =
       adds_as old new _ _ (λ t any. cleaned_of declared making All generated any.0 t any.2 (λ p maker. tt)) (λ t cleaned. let may = of_cleaned declared making All generated t cleaned in (cleaned.edge, may.0, may.1)) adds
+
+  pub rules_adds : (rules : List (Bor (List ℕ))) (which : Bor (List (Bor (List ℕ)))) → which.now ≡ rules → AddsJust old new (IsCleanedRule declared (map deref rules) generated) → AddsJust old new (IsCleanedOutput declared (Rules which) generated)
+  rules_adds rules which same adds =
+      adds_as old new _ _
+      (λ t any. cleaned_of declared making (Rules which) generated any.0 t any.3 (λ p maker. subst (λ (l : List (Bor (List ℕ))). has (map deref l) (rule_of declared any.0) ≡ true) (sym same) any.2))
+      (λ t cleaned. let may = of_cleaned declared making (Rules which) generated t cleaned in (cleaned.edge, may.0, subst (λ (l : List (Bor (List ℕ))). has (map deref l) (rule_of declared cleaned.edge) ≡ true) same cleaned.asked, may.1)) adds
+
+  pub targets_adds : (targets : List ℕ) (which : Bor (List ℕ)) → which.now ≡ targets → AddsJust old new (IsCleanedTarget declared targets generated) → AddsJust old new (IsCleanedOutput declared (Targets which) generated)
+  targets_adds targets which same adds =
+      adds_as old new _ _
+      (λ t any. record {
+        path = any.0; edge = any.2.edge; made = any.2.made; command = any.2.free.command; asked = subst (λ (l : List ℕ). IsNamedAbove declared.graph l any.0) (sym same) any.1; free = any.2.free.free; some = any.2.some; file = any.2.file;
+      })
+      (λ t cleaned. (
+        cleaned.path, subst (λ (l : List ℕ). IsNamedAbove declared.graph l cleaned.path) same cleaned.asked,
+        record { edge = cleaned.edge; made = cleaned.made; free = record { command = cleaned.command; free = cleaned.free }; some = cleaned.some; file = cleaned.file },
+      )) adds
+
+-- the file that was read is none of them
+pub cleaned_all : (mid new : List (List ℕ)) (file : List ℕ) (P : List ℕ → Type 0) → AddsJust [] mid P → LacksJust mid new file → (t : List ℕ) → has new t ≡ true ↔ ((t ≢ file) × P t)
+cleaned_all mid new file P adds lacks t = (
+  λ h. let both = (lacks t).0 h in (both.0, elim ((adds t).0 both.1) [
+    | inl none ↦ absurd (false≢true none)
+    | inr p ↦ p
+  ]),
+  λ h. (lacks t).1 (h.0, (adds t).1 (inr h.1)),
+)
+
+-- where it was none of them, nothing is left out
+pub lacks_same : (paths : List (List ℕ)) (file : List ℕ) → has paths file ≡ false → LacksJust paths paths file
+lacks_same paths file none t = (λ h. (λ same. false≢true (sym none ∙ subst (λ (q : List ℕ). has paths q ≡ true) same h), h), λ h. h.1)

@@ -44,8 +44,9 @@ pub record IsFree (declared : Declared) (generated : Bool) (e : ℕ) : Type 0 wh
   pub free : generated ≡ false → runs_generator declared e ≡ false
 
 -- the path is one of the edge's that may be removed
-abbrev pub MayClean : Declared → Bool → ℕ → List ℕ → Type 0
-MayClean declared generated e text = IsFree declared generated e × IsFileOf declared e text
+pub record MayClean (declared : Declared) (generated : Bool) (e : ℕ) (text : List ℕ) : Type 0 where
+  pub free : IsFree declared generated e
+  pub file : IsFileOf declared e text
 
 -- of some edge
 abbrev pub IsAnyRule : Declared → Bool → List ℕ → Type 0
@@ -57,10 +58,12 @@ IsCleanedRule declared rules generated text =
     (e : ℕ) × (e < length declared.graph.manifest.lines) × (has rules (rule_of declared e) ≡ true) × MayClean declared generated e text
 
 -- the path is this one, or a depfile or response file of the edge that makes it, and may be removed
-abbrev pub MayCleanPath : Declared → Bool → ℕ → List ℕ → Type 0
-MayCleanPath declared generated p text =
-    (e : ℕ) × ((links_of declared.graph).maker p ≡ Some e) × IsFree declared generated e × (text ≢ [])
-    × ((text ≡ text_at declared.graph.manifest.paths p) ⊎ (has (own_files declared e) text ≡ true))
+pub record MayCleanPath (declared : Declared) (generated : Bool) (p : ℕ) (text : List ℕ) : Type 0 where
+  pub edge : ℕ
+  pub made : (links_of declared.graph).maker p ≡ Some edge
+  pub free : IsFree declared generated edge
+  pub some : text ≢ []
+  pub file : (text ≡ text_at declared.graph.manifest.paths p) ⊎ (has (own_files declared edge) text ≡ true)
 
 -- of one of these paths, or of an input above them
 abbrev pub IsCleanedTarget : Declared → List ℕ → Bool → List ℕ → Type 0

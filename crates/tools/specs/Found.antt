@@ -10,11 +10,15 @@ abbrev pub HasText : Graph → List ℕ → ℕ → Type 0
 HasText graph text p = slice_get graph.manifest.paths p ≡ Some text
 
 -- the path is the first output of the first edge that names the other (manual: "Running ninja", `^`), or the one of this text
-abbrev pub IsFirstMade : Graph → ℕ → ℕ → Type 0
-IsFirstMade graph q p = (e : ℕ) × (slice_get (users_at graph q) 0 ≡ Some e) × (slice_get ((links_of graph).outputs e) 0 ≡ Some p)
+pub record IsFirstMade (graph : Graph) (q p : ℕ) : Type 0 where
+  pub edge : ℕ
+  pub reads : slice_get (users_at graph q) 0 ≡ Some edge
+  pub makes : slice_get ((links_of graph).outputs edge) 0 ≡ Some p
 
-abbrev pub IsFirstMadeOf : Graph → List ℕ → ℕ → Type 0
-IsFirstMadeOf graph text p = (q : ℕ) × HasText graph text q × IsFirstMade graph q p
+pub record IsFirstMadeOf (graph : Graph) (text : List ℕ) (p : ℕ) : Type 0 where
+  pub read : ℕ
+  pub is : HasText graph text read
+  pub first : IsFirstMade graph read p
 
 -- `^` is 94, and stands behind this text
 abbrev pub IsMarked : List ℕ → List ℕ → Type 0

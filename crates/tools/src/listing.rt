@@ -234,7 +234,7 @@ fn show_next<'a>(
     told: &mut String,
 ) -> Result<(), AllocError>
     requires { length levels.old.items < depth }
-    ensures { OnOk result (Shows declared.now depth level levels.old.items levels.new.items (string_bytes told.old) (string_bytes told.new)) }
+    ensures { OnOk result (Shows declared.now depth level.entry levels.old.items levels.new.items (string_bytes told.old) (string_bytes told.new)) }
 {
     let Level { paths, place } = level;
     let Some(path) = paths.get(place).copied() else {
