@@ -3,6 +3,8 @@ use Rattle.std.proofs.Common.{◌≡◌, ◌≢◌, ◌⊎◌, ◌↔◌, inl, i
 use Rattle.std.proofs.lemmas.Bool.{cases_Bool, cases_lt, or_cases, or_left, or_right}
 use Rattle.std.proofs.lemmas.List.{map-append, take_more}
 use Rattle.std.proofs.lemmas.Slice.Eq.{bytes_eq-Decides}
+use Rattle.std.specs.Map.Iter.{deref}
+use denote.Ref.{Bor}
 use Rattle.model.specs.Graph.{has}
 use Rattle.paths.specs.Numbers.{IsAdded}
 use Rattle.tools.specs.Clean.{AddsJust}
@@ -36,6 +38,16 @@ has_first x xs = or_left (bytes_eq x x) (has xs x) ((bytes_eq-Decides x x).1 ref
 
 pub has_later : (x t : List ℕ) (xs : List (List ℕ)) → has xs t ≡ true → has (x ∷ xs) t ≡ true
 has_later x t xs h = or_right (bytes_eq x t) (has xs t) h
+
+pub has_either : (xs ys : List (List ℕ)) (t : List ℕ) → has (xs ++ ys) t ≡ true → (has xs t ≡ true) ⊎ (has ys t ≡ true)
+has_either [] ys t h = inr h
+has_either (x ∷ xs) ys t h = elim (or_cases (bytes_eq x t) (has (xs ++ ys) t) h) [
+  | inl here ↦ inl (or_left (bytes_eq x t) (has xs t) here)
+  | inr later ↦ elim (has_either xs ys t later) [
+    | inl one ↦ inl (or_right (bytes_eq x t) (has xs t) one)
+    | inr two ↦ inr two
+  ]
+]
 
 -- ---- what is added
 
@@ -75,25 +87,29 @@ adds_then old mid new P Q first second t = (
   ],
 )
 
--- one text, which is not empty
-pub adds_text : (old new : List (List ℕ)) (path : List ℕ) (n : ℕ) → IsAdded old new path n → path ≢ [] → AddsJust old new (λ t. (t ≢ []) × (t ≡ path))
-adds_text old new path n added some t = elim (cases_Bool (has old path)) [
+-- one text
+pub adds_path : (old new : List (List ℕ)) (path : List ℕ) (n : ℕ) → IsAdded old new path n → AddsJust old new (λ t. t ≡ path)
+adds_path old new path n added t = elim (cases_Bool (has old path)) [
   | inl known ↦
       let same : new ≡ old = added.grows ∙ ap (λ (b : Bool). if b then old else old ++ path ∷ []) known in
       (λ h. inl (subst (λ (l : List (List ℕ)). has l t ≡ true) same h), λ h. subst (λ (l : List (List ℕ)). has l t ≡ true) (sym same) (elim h [
         | inl is ↦ is
-        | inr is ↦ subst (λ (q : List ℕ). has old q ≡ true) (sym is.1) known
+        | inr is ↦ subst (λ (q : List ℕ). has old q ≡ true) (sym is) known
       ]))
   | inr unknown ↦
       let same : new ≡ old ++ path ∷ [] = added.grows ∙ ap (λ (b : Bool). if b then old else old ++ path ∷ []) unknown in
       (λ h. elim (has_cases old path t (subst (λ (l : List (List ℕ)). has l t ≡ true) same h)) [
         | inl is ↦ inl is
-        | inr is ↦ inr (λ empty. some (is ∙ empty), sym is)
+        | inr is ↦ inr (sym is)
       ], λ h. subst (λ (l : List (List ℕ)). has l t ≡ true) (sym same) (elim h [
         | inl is ↦ has_old old path t is
-        | inr is ↦ subst (λ (q : List ℕ). has (old ++ path ∷ []) q ≡ true) (sym is.1) (has_new old path)
+        | inr is ↦ subst (λ (q : List ℕ). has (old ++ path ∷ []) q ≡ true) (sym is) (has_new old path)
       ]))
 ]
+
+-- one that is not empty
+pub adds_text : (old new : List (List ℕ)) (path : List ℕ) (n : ℕ) → IsAdded old new path n → path ≢ [] → AddsJust old new (λ t. (t ≢ []) × (t ≡ path))
+adds_text old new path n added some = adds_as old new _ _ (λ t is. (λ empty. some (sym is ∙ empty), is)) (λ t both. both.1) (adds_path old new path n added)
 
 -- ---- lists that are gone through
 
@@ -136,3 +152,20 @@ adds_counted P i old mid new before adds =
       | inl below ↦ inl below
       | inr above ↦ inr (omega (arith, low, above))
     ]
+
+-- ---- texts that are borrowed
+
+has_next : (texts : List (Bor (List ℕ))) (i : ℕ) (d : Bor (List ℕ)) (text : List ℕ) → i < length texts → has (map deref (take (i + 1) texts)) text ≡ (has (map deref (take i texts)) text || bytes_eq (get_or texts i d).now text)
+has_next texts i d text low = ap (λ (l : List (List ℕ)). has l text) (ap (map deref) (take_more texts i d low) ∙ map-append deref (take i texts) (get_or texts i d ∷ [])) ∙ has_push (map deref (take i texts)) (get_or texts i d).now text
+
+pub not_among : (texts : List (Bor (List ℕ))) (i : ℕ) (d : Bor (List ℕ)) (text : List ℕ) → i < length texts → bytes_eq (get_or texts i d).now text ≡ false → has (map deref (take i texts)) text ≡ false → has (map deref (take (i + 1) texts)) text ≡ false
+not_among texts i d text low other none = has_next texts i d text low ∙ (ap (λ (b : Bool). b || bytes_eq (get_or texts i d).now text) none ∙ (ap (λ (b : Bool). false || b) other))
+
+pub is_among : (texts : List (Bor (List ℕ))) (i : ℕ) (d : Bor (List ℕ)) (text : List ℕ) → i < length texts → bytes_eq (get_or texts i d).now text ≡ true → has (map deref texts) text ≡ true
+is_among [] i d text low same = absurd (omega (arith, low))
+is_among (t ∷ texts) zero d text low same = or_left (bytes_eq t.now text) (has (map deref texts) text) same
+is_among (t ∷ texts) (suc i) d text low same = or_right (bytes_eq t.now text) (has (map deref texts) text) (is_among texts i d text (omega (arith, low)) same)
+
+pub length_none : (numbers : List ℕ) → length numbers ≡ 0 → numbers ≡ []
+length_none [] none = refl
+length_none (n ∷ numbers) none = absurd (omega (arith, none))

@@ -134,7 +134,7 @@ module _ (declared : Declared) (depth : ℕ) (level next : Level) (old new : Lis
 
       all : left_lines declared depth new ≡ above ++ (rest ++ left_lines declared depth old)
       all = elim (cases_lt (length (old ++ next ∷ [])) depth) [
-        | inl open ↦ opened_is declared depth (length old) maker (old ++ next ∷ []) new count (opens.above open) ∙ ap (λ (l : List (List ℕ)). above ++ l) next_left
+        | inl within ↦ opened_is declared depth (length old) maker (old ++ next ∷ []) new count (opens.above within) ∙ ap (λ (l : List (List ℕ)). above ++ l) next_left
         | inr shut ↦
             let last : depth - suc (length old) ≡ 0 = omega (arith, shut, count) in
             let none : above ≡ [] = ap (λ (n : ℕ). above_lines declared n (length old) maker) last ∙ none_above declared (length old) maker in
@@ -158,13 +158,13 @@ module _ (declared : Declared) (depth : ℕ) (level next : Level) (old new : Lis
     where
       longest : (p : ℕ) → Opens declared depth p (old ++ next ∷ []) new → length new ≤ length (old ++ next ∷ []) + 1
       longest p opens = elim (cases_lt (length (old ++ next ∷ [])) depth) [
-        | inl open ↦ opened_length declared ((links_of declared.graph).maker p) (old ++ next ∷ []) new (opens.above open)
+        | inl within ↦ opened_length declared ((links_of declared.graph).maker p) (old ++ next ∷ []) new (opens.above within)
         | inr shut ↦ let same = ap length (opens.deep (omega (arith, shut))) in omega (arith, same)
       ]
 
       fits : (p : ℕ) → Opens declared depth p (old ++ next ∷ []) new → length new ≤ depth
       fits p opens = elim (cases_lt (length (old ++ next ∷ [])) depth) [
-        | inl open ↦ let most = opened_length declared ((links_of declared.graph).maker p) (old ++ next ∷ []) new (opens.above open) in omega (arith, open, most)
+        | inl within ↦ let most = opened_length declared ((links_of declared.graph).maker p) (old ++ next ∷ []) new (opens.above within) in omega (arith, within, most)
         | inr shut ↦ let same = ap length (opens.deep (omega (arith, shut))) in let one = length-append old (next ∷ []) in omega (arith, same, one, low)
       ]
 

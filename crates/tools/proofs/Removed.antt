@@ -1,11 +1,11 @@
 -- Files that are removed one after another.
-use Rattle.std.proofs.Common.{◌≡◌, inl, inr, ℕ, zero, suc, Bool, true, false, List, [], ◌∷◌, ◌++◌, Option, Some, None, slice_get, subst}
+use Rattle.std.proofs.Common.{◌≡◌, ◌⊎◌, inl, inr, ℕ, zero, suc, Bool, true, false, List, [], ◌∷◌, ◌++◌, Option, Some, None, slice_get, subst}
 use Rattle.model.specs.Calls.{OnlyLooks, WritesOrNot}
 use Rattle.model.specs.Graph.{has}
 use Rattle.model.specs.World.{World}
 use Rattle.build_theory.proofs.Looks.{looks_nothing, looks_then}
 use Rattle.tools.specs.Moves.{AreAmong, AreRemoved, IsRemoved, NoMore, OneMore, RemovesOf, RemovesOne}
-use Rattle.tools.proofs.Adding.{has_cases, has_first, has_later}
+use Rattle.tools.proofs.Adding.{has_cases, has_either, has_first, has_later}
 
 -- one more at the end
 removed_more : (tells : Bool) (gone : List (List ℕ)) (path : List ℕ) (old mid new : World) → AreRemoved tells gone old mid → IsRemoved tells path mid new → AreRemoved tells (gone ++ path ∷ []) old new
@@ -53,3 +53,19 @@ removes_nothing tells false path old new looks = record { before = new; looks = 
 pub removes_one : (tells only_count : Bool) (path : List ℕ) (old mid new : World) → only_count ≡ false → OnlyLooks tells old mid → WritesOrNot tells path None mid new → RemovesOne tells only_count path old new
 removes_one tells true path old mid new not looks removes = absurd (cc)
 removes_one tells false path old mid new not looks removes = record { before = mid; looks = looks; removes = removes }
+
+-- ---- one after the other
+
+removed_then : (tells : Bool) (one two : List (List ℕ)) (old mid new : World) → AreRemoved tells one old mid → AreRemoved tells two mid new → AreRemoved tells (one ++ two) old new
+removed_then tells one two old mid new (NoMore old mid looks) (NoMore mid new more) = NoMore old new (looks_then tells old mid new looks more)
+removed_then tells one two old mid new (NoMore old mid looks) (OneMore path rest mid next new removed further) =
+    OneMore path rest old next new (record { before = removed.before; looks = looks_then tells old mid removed.before looks removed.looks; removes = removed.removes }) further
+removed_then tells one two old mid new (OneMore path rest old next mid removed further) after = OneMore path (rest ++ two) old next new removed (removed_then tells rest two next mid new further after)
+
+pub removes_then : (tells only_count : Bool) (paths : List (List ℕ)) (old mid new : World) → RemovesOf tells only_count paths old mid → RemovesOf tells only_count paths mid new → RemovesOf tells only_count paths old new
+removes_then tells true paths old mid new first second = looks_then tells old mid new first second
+removes_then tells false paths old mid new first second = (first.0 ++ second.0, λ path h. by path (has_either first.0 second.0 path h), removed_then tells first.0 second.0 old mid new first.2 second.2)
+  where
+    by : (path : List ℕ) → (has first.0 path ≡ true) ⊎ (has second.0 path ≡ true) → has paths path ≡ true
+    by path (inl one) = first.1 path one
+    by path (inr two) = second.1 path two

@@ -99,8 +99,8 @@ data SplitsAt (xs before after : List ℕ) (x e : ℕ) : Type 0 where
 splits : (xs before after : List ℕ) (x e : ℕ) → xs ++ x ∷ [] ≡ before ++ e ∷ after → SplitsAt xs before after x e
 splits [] [] after x e is = AtEnd refl (sym (first x e [] after is))
   where
-    first : (a b : ℕ) (as bs : List ℕ) → a ∷ as ≡ b ∷ bs → a ≡ b
-    first a b as bs same = cc
+    first : (a b : ℕ) (l m : List ℕ) → a ∷ l ≡ b ∷ m → a ≡ b
+    first a b l m same = cc
 splits [] (b ∷ before) after x e is = absurd (longer before after e x b is)
   where
     nothing : (before after : List ℕ) (e : ℕ) → [] ≡ before ++ e ∷ after → ⊥
@@ -111,15 +111,15 @@ splits [] (b ∷ before) after x e is = absurd (longer before after e x b is)
     longer before after e x b same = let rest : [] ≡ before ++ e ∷ after = cc in nothing before after e rest
 splits (y ∷ xs) [] after x e is = Inside xs (front y e (xs ++ x ∷ []) after is)
   where
-    front : (a b : ℕ) (as bs : List ℕ) → a ∷ as ≡ b ∷ bs → a ∷ xs ≡ b ∷ xs
-    front a b as bs same = let heads : a ≡ b = cc in ap (λ (n : ℕ). n ∷ xs) heads
+    front : (a b : ℕ) (l m : List ℕ) → a ∷ l ≡ b ∷ m → a ∷ xs ≡ b ∷ xs
+    front a b l m same = let heads : a ≡ b = cc in ap (λ (n : ℕ). n ∷ xs) heads
 splits (y ∷ xs) (b ∷ before) after x e is = further (splits xs before after x e (tails y b (xs ++ x ∷ []) (before ++ e ∷ after) is))
   where
-    tails : (a c : ℕ) (as cs : List ℕ) → a ∷ as ≡ c ∷ cs → as ≡ cs
-    tails a c as cs same = cc
+    tails : (a c : ℕ) (l m : List ℕ) → a ∷ l ≡ c ∷ m → l ≡ m
+    tails a c l m same = cc
 
-    heads : (a c : ℕ) (as cs : List ℕ) → a ∷ as ≡ c ∷ cs → a ≡ c
-    heads a c as cs same = cc
+    heads : (a c : ℕ) (l m : List ℕ) → a ∷ l ≡ c ∷ m → a ≡ c
+    heads a c l m same = cc
 
     further : SplitsAt xs before after x e → SplitsAt (y ∷ xs) (b ∷ before) after x e
     further (Inside rest same) = Inside rest (ap (λ (l : List ℕ). y ∷ l) same ∙ ap (λ (n : ℕ). n ∷ (before ++ e ∷ rest)) (heads y b (xs ++ x ∷ []) (before ++ e ∷ after) is))

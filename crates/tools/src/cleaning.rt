@@ -1,6 +1,6 @@
 //! `-t clean`: what is removed.
 
-ghost use Rattle.std.specs.Prelude.{◌≡◌, ◌≢◌, ◌↔◌, [], IfOk, IsTrue, OnOk, map, true};
+ghost use Rattle.std.specs.Prelude.{◌≡◌, ◌≢◌, ◌↔◌, ◌<◌, ◌^◌, ℕ, List, [], IfOk, IfSome, IsTrue, OnOk, Some, map, slice_get, true};
 ghost use Rattle.std.specs.Map.Iter.{deref};
 ghost use Rattle.model.specs.Graph.{has};
 ghost use Rattle.paths.specs.Told.{texts_at};
@@ -86,25 +86,30 @@ fn without(alloc: Global, paths: Paths, file: &str) -> Result<Paths, AllocError>
     }
     let mut others = Paths::new(alloc);
     for place in 0..paths.len() {
-        add_other(alloc, path_at(&paths, place), file, &mut others)?;
+        add_other(alloc, &paths, place, file, &mut others)?;
     }
     Ok(others)
 }
 
-/// Adds a path, unless it is this one.
+/// Adds the path at a place, unless it is this one.
 fn add_other(
     alloc: Global,
-    path: Option<&str>,
+    paths: &Paths,
+    place: usize,
     file: &str,
     others: &mut Paths,
-) -> Result<(), AllocError> {
-    match path {
-        Some(path) if path != file => {
-            others.add(alloc, path)?;
-            Ok(())
-        }
-        _ => Ok(()),
+) -> Result<(), AllocError>
+    requires { place < 2 ^ 32 }
+    ensures { OnOk result (AddsJust others.old others.new (λ text. (slice_get paths.now place ≡ Some text) × (text ≢ file.now))) }
+{
+    let Some(path) = path_at(paths, place) else {
+        return Ok(());
+    };
+    if path == file {
+        return Ok(());
     }
+    others.add(alloc, path)?;
+    Ok(())
 }
 
 /// Refuses the first of the rules that is none of the outermost scope.
@@ -323,11 +328,25 @@ fn remove_all<S: Site>(
     ensures { RemovesOf S.tells only_count paths.now (S.world site.old) (S.world site.new) }
 {
     for place in 0..paths.len() {
-        if let Some(path) = path_at(paths, place) {
-            remove_there(alloc, site, path, only_count, cleaned)?;
-        }
+        remove_some(alloc, site, path_at(paths, place), only_count, cleaned)?;
     }
     Ok(())
+}
+
+/// The same of a path, if there is one.
+fn remove_some<S: Site>(
+    alloc: Global,
+    site: &mut S,
+    path: Option<&str>,
+    only_count: bool,
+    cleaned: &mut Cleaned,
+) -> Result<(), Fault>
+    ensures { (paths : List (List ℕ)) → IfSome path.entry (λ one. has paths one.now ≡ true) → RemovesOf S.tells only_count paths (S.world site.old) (S.world site.new) }
+{
+    match path {
+        Some(path) => remove_there(alloc, site, path, only_count, cleaned),
+        None => Ok(()),
+    }
 }
 
 /// Removes the file at the path, if it is there, or only counts it.

@@ -6,6 +6,7 @@ ghost use Rattle.tools.specs.Answers.{AreMakers, AreMeant, AreMet, PrintsCommand
 use crate::above::edges_above;
 use crate::declared::Declared;
 use crate::lines::push_line;
+use crate::marks::{is_marked, set_mark};
 use links::Graph;
 use paths::{EdgeId, PathId};
 use std::alloc::{AllocError, Global};
@@ -77,10 +78,10 @@ fn meet(
     let Some(edge) = graph.maker(path) else {
         return Ok(());
     };
-    if edge.index() >= met.len() || met[edge.index()] {
+    if is_marked(met.as_slice(), edge.index()) {
         return Ok(());
     }
     edges.push(edge)?;
-    met[edge.index()] = true;
+    set_mark(met, edge.index());
     Ok(())
 }

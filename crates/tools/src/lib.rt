@@ -16,6 +16,7 @@ mod fault;
 mod found;
 mod lines;
 mod listing;
+mod marks;
 mod missing;
 mod named_inputs;
 mod near;

@@ -8,6 +8,7 @@ ghost use Rattle.tools.specs.Missing.{Misses};
 use crate::above::edges_above;
 use crate::access::{inputs_at, outputs_at};
 use crate::declared::Logged;
+use crate::marks::{is_marked, set_mark};
 use links::Graph;
 use paths::{EdgeId, PathId};
 use std::alloc::{AllocError, Global};
@@ -78,9 +79,7 @@ fn mark(marks: &mut Vec<bool>, paths: &[PathId])
     ensures marks { (p : ℕ) → p < length marks.old.items → get_or marks.new.items p false ≡ (get_or marks.old.items p false || has_number paths.now p) }
 {
     for path in paths {
-        if path.index() < marks.len() {
-            marks[path.index()] = true;
-        }
+        set_mark(marks, path.index());
     }
 }
 
@@ -110,13 +109,6 @@ fn push_if_marked(
         return Ok(());
     }
     Ok(())
-}
-
-/// Whether the place is marked.
-fn is_marked(marks: &[bool], place: usize) -> bool
-    ensures { result ≡ get_or marks.now place false }
-{
-    marks.get(place).copied().unwrap_or(false)
 }
 
 /// Adds what is missing of one output.
@@ -182,10 +174,9 @@ fn push_maker(
 fn marks(alloc: Global, graph: &Graph, output: PathId) -> Result<Vec<bool>, AllocError> {
     let mut marks = vec![in alloc; false; graph.edges()]?;
     let one = [output];
-    for edge in edges_above(alloc, graph, one.as_slice())? {
-        if edge.index() < marks.len() {
-            marks[edge.index()] = true;
-        }
+    let edges = edges_above(alloc, graph, one.as_slice())?;
+    for edge in edges.as_slice() {
+        set_mark(&mut marks, edge.index());
     }
     Ok(marks)
 }
