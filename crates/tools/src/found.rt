@@ -37,7 +37,10 @@ pub fn target(alloc: Global, graph: &Graph, word: &str) -> Result<PathId, Fault>
 fn without_mark(path: &str) -> Option<&str>
     ensures { MatchOption result (IsUnmarked path.now) (λ front. IsMarked path.now front.now) }
 {
-    path.strip_suffix('^')
+    match path.as_bytes() {
+        [.., b'^'] => Some(&path[..path.len() - 1]),
+        _ => None,
+    }
 }
 
 /// The path of this text.

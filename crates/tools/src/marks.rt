@@ -1,6 +1,6 @@
 //! Marks at places.
 
-ghost use Rattle.std.specs.Prelude.{◌≡◌, ◌<◌, ◌≤◌, false, get_or, length, true, vec_len};
+ghost use Rattle.std.specs.Prelude.{◌≡◌, ◌<◌, ◌≤◌, false, get_or, length, true};
 ghost use Rattle.std.proofs.Math.ListN.{set};
 
 /// Whether the place is marked; none past the end is.
@@ -12,7 +12,7 @@ pub fn is_marked(marks: &[bool], place: usize) -> bool
 
 /// Marks a place; one past the end has no mark.
 pub fn set_mark(marks: &mut Vec<bool>, place: usize)
-    ensures count { vec_len marks.new ≡ vec_len marks.old }
+    ensures count { length marks.new.items ≡ length marks.old.items }
     ensures within { place < length marks.old.items → marks.new.items ≡ set marks.old.items place true }
     ensures past { length marks.old.items ≤ place → marks.new.items ≡ marks.old.items }
 {

@@ -1,6 +1,6 @@
 //! `-t missingdeps`: recorded inputs that are made, and whose maker is not above.
 
-ghost use Rattle.std.specs.Prelude.{◌≡◌, ◌<◌, ◌||◌, ◌++◌, ◌∷◌, [], ℕ, IfOk, OnOk, false, filter, get_or, length, vec_len};
+ghost use Rattle.std.specs.Prelude.{◌≡◌, ◌<◌, ◌||◌, ◌++◌, ◌∷◌, [], ℕ, IfOk, OnOk, false, filter, get_or, length};
 ghost use Rattle.model.specs.Graph.{has_number};
 ghost use Rattle.tools.specs.Above.{AreNamedMade};
 ghost use Rattle.tools.specs.Missing.{Misses};
@@ -75,7 +75,7 @@ pub fn outputs_above(
 
 /// Marks each of these.
 fn mark(marks: &mut Vec<bool>, paths: &[PathId])
-    ensures count { vec_len marks.new ≡ vec_len marks.old }
+    ensures count { length marks.new.items ≡ length marks.old.items }
     ensures marks { (p : ℕ) → p < length marks.old.items → get_or marks.new.items p false ≡ (get_or marks.old.items p false || has_number paths.now p) }
 {
     for path in paths {

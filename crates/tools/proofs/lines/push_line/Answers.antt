@@ -6,4 +6,6 @@ use Rattle.tools.proofs.Putting.{flat_at}
 use Rattle.tools.proofs.lines.push_line.Goals as goal
 
 pub loop-part-preserved : goal.loop-part-preserved
-loop-part-preserved c = ?
+loop-part-preserved c =
+    let text = string_bytes c.args.text.now in
+    c.in_ok-push_str.ensures.bytes ∙ (ap (λ (l : List ℕ). l ++ _) c.loop-part.invariant ∙ (append_assoc text _ _ ∙ ap (λ (l : List ℕ). text ++ l) (sym (flat_at deref c.args.parts.now c.loop-part.part-index _ c.loop-part-test.true))))
