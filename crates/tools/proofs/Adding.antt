@@ -1,13 +1,14 @@
 -- Texts that are added to a table, whatever their order.
-use Rattle.std.proofs.Common.{◌≡◌, ◌≢◌, ◌⊎◌, ◌↔◌, inl, inr, ℕ, zero, suc, ◌+◌, ◌<◌, ◌||◌, Bool, true, false, if◌then◌else◌, List, [], ◌∷◌, ◌++◌, length, take, get_or, map, refl, sym, ap, ◌∙◌, subst, arith, bytes_eq}
-use Rattle.std.proofs.lemmas.Bool.{cases_Bool, cases_lt, or_cases, or_left, or_right}
+use Rattle.std.proofs.Common.{◌≡◌, ◌≢◌, ◌⊎◌, ◌↔◌, inl, inr, ℕ, zero, suc, ◌+◌, ◌<◌, ◌==◌, ◌||◌, Bool, true, false, if◌then◌else◌, List, [], ◌∷◌, ◌++◌, length, take, get_or, map, refl, sym, ap, ◌∙◌, subst, arith, bytes_eq}
+use Rattle.std.proofs.lemmas.Bool.{cases_Bool, cases_lt, eqb-true, eq-eqb, or_cases, or_left, or_right}
 use Rattle.std.proofs.lemmas.List.{map-append, take_more}
 use Rattle.std.proofs.lemmas.Slice.Eq.{bytes_eq-Decides}
 use Rattle.std.specs.Map.Iter.{deref}
 use denote.Ref.{Bor}
-use Rattle.model.specs.Graph.{has}
+use Rattle.model.specs.Graph.{has, has_number}
 use Rattle.paths.specs.Numbers.{IsAdded}
 use Rattle.tools.specs.Clean.{AddsJust}
+use Rattle.tools.proofs.Rises.{has_push as number_push}
 
 has_push : (xs : List (List ℕ)) (x t : List ℕ) → has (xs ++ x ∷ []) t ≡ (has xs t || bytes_eq x t)
 has_push [] x t = or_nothing (bytes_eq x t)
@@ -169,3 +170,21 @@ is_among (t ∷ texts) (suc i) d text low same = or_right (bytes_eq t.now text) 
 pub length_none : (numbers : List ℕ) → length numbers ≡ 0 → numbers ≡ []
 length_none [] none = refl
 length_none (n ∷ numbers) none = absurd (omega (arith, none))
+
+-- one number more of a list
+pub adds_listed : (P : ℕ → List ℕ → Type 0) (numbers : List ℕ) (i n : ℕ) (old mid new : List (List ℕ)) → i < length numbers → n ≡ get_or numbers i n
+    → AddsJust old mid (λ t. (p : ℕ) × (has_number (take i numbers) p ≡ true) × P p t) → AddsJust mid new (P n) → AddsJust old new (λ t. (p : ℕ) × (has_number (take (i + 1) numbers) p ≡ true) × P p t)
+adds_listed P numbers i n old mid new low is before adds =
+    adds_as old new _ _
+    (λ t either. elim either [
+      | inl was ↦ (was.0, subst (λ (l : List ℕ). has_number l was.0 ≡ true) (sym more) (number_push (take i numbers) n was.0 ∙ or_left (has_number (take i numbers) was.0) (n == was.0) was.1), was.2)
+      | inr now ↦ (n, subst (λ (l : List ℕ). has_number l n ≡ true) (sym more) (number_push (take i numbers) n n ∙ or_right (has_number (take i numbers) n) (n == n) (eq-eqb n n refl)), now)
+    ])
+    (λ t all. elim (or_cases (has_number (take i numbers) all.0) (n == all.0) (sym (number_push (take i numbers) n all.0) ∙ subst (λ (l : List ℕ). has_number l all.0 ≡ true) more all.1)) [
+      | inl was ↦ inl (all.0, was, all.2)
+      | inr now ↦ inr (subst (λ (p : ℕ). P p t) (sym (eqb-true n all.0 now)) all.2)
+    ])
+    (adds_then old mid new _ _ before adds)
+  where
+    more : take (i + 1) numbers ≡ take i numbers ++ n ∷ []
+    more = take_more numbers i n low ∙ ap (λ (m : ℕ). take i numbers ++ m ∷ []) (sym is)

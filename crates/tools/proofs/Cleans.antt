@@ -1,5 +1,5 @@
 -- What is cleaned, edge by edge and whole.
-use Rattle.std.proofs.Common.{◌≡◌, ◌≢◌, ◌⊎◌, ◌↔◌, inl, inr, ℕ, zero, suc, ◌<◌, ◌≤◌, ◌==◌, ◌||◌, Bool, true, false, List, [], ◌∷◌, Option, Some, None, length, map, get_or, refl, sym, ap, ◌∙◌, subst, arith, bytes_eq}
+use Rattle.std.proofs.Common.{◌≡◌, ◌≢◌, ◌⊎◌, ◌↔◌, inl, inr, ℕ, zero, suc, ◌<◌, ◌≤◌, ◌==◌, ◌||◌, Bool, true, false, List, [], ◌∷◌, Option, Some, None, is_some, length, map, get_or, refl, sym, ap, ◌∙◌, subst, arith, bytes_eq}
 use Rattle.std.specs.Map.Iter.{deref}
 use denote.Ref.{Bor}
 use Rattle.std.proofs.lemmas.Bool.{cases_lt, eqb-true, eq-eqb, false≢true, or_cases, or_left, or_right}
@@ -215,3 +215,10 @@ cleaned_all mid new file P adds lacks t = (
 -- where it was none of them, nothing is left out
 pub lacks_same : (paths : List (List ℕ)) (file : List ℕ) → has paths file ≡ false → LacksJust paths paths file
 lacks_same paths file none t = (λ h. (λ same. false≢true (sym none ∙ subst (λ (q : List ℕ). has paths q ≡ true) same h), h), λ h. h.1)
+
+-- the outputs above the targets, one by one, are all of them
+pub named_adds : (declared : Declared) (targets outputs : List ℕ) (generated : Bool) (old new : List (List ℕ)) → AreNamedMade declared.graph targets outputs
+    → AddsJust old new (λ t. (p : ℕ) × (has_number outputs p ≡ true) × MayCleanPath declared generated p t) → AddsJust old new (IsCleanedTarget declared targets generated)
+named_adds declared targets outputs generated old new named adds =
+    adds_as old new _ _ (λ t all. (all.0, ((named all.0).0 all.1).0, all.2))
+    (λ t all. (all.0, (named all.0).1 (all.1, ap is_some all.2.made), all.2)) adds
