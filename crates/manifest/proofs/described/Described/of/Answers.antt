@@ -12,4 +12,4 @@ generators-requires-clause-within c = lines_within c.args.declared.now.paths c.r
 pub returns-clause-fits : goal.returns-clause-fits
 returns-clause-fits c =
     let count = as_many c.args.declared.now _ c.requires.stated.1 in
-    record { rules = named_count _ _ _ c.in_ok-rule_names.ensures ∙ count; generators = c.in_ok-generators.ensures.count ∙ count }
+    record { rules = named_count _ _ _ c.in_ok-names.ensures ∙ count; generators = c.in_ok-generators.ensures.count ∙ count }
