@@ -30,6 +30,7 @@ mod random;
 mod script_asked;
 mod script_rows;
 mod script_sweeps;
+mod stand_in_runs;
 mod texts;
 mod toy_calls;
 mod toys;

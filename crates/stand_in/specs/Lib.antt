@@ -1,0 +1,5 @@
+pub mod Moves
+pub mod Heading
+pub mod Ends
+pub mod Above
+pub mod Tools
