@@ -15,14 +15,17 @@ use Rattle.paths.specs.Numbers.{IsAdded}
 use Rattle.paths.specs.Told.{text_at, texts_at}
 use Rattle.scopes.specs.declared.all_scopes.Scopes.{Scopes}
 use Rattle.scopes.specs.declared.template.Rule.{Rule}
+use Rattle.scopes.specs.declared.fault.UseFault.{UseFault}
+use Rattle.scopes.specs.declared.fault.UseFault.TheVariants.{Memory as UseMemory, Circle as UseCircle, TooLarge as UseTooLarge}
 use Rattle.scopes.specs.declared.usage.Use.{Use}
-use Rattle.scopes.specs.Large.{IsValueIn}
+use Rattle.scopes.specs.Large.{IsTooLargeIn, IsValueIn}
+use Rattle.scopes.specs.Use.{opened, HasCircle}
 use Rattle.scopes.specs.Texts.{largest_value}
 use Rattle.manifest.specs.declared.described.Described.{Described}
 use Rattle.manifest.specs.declared.fault.ReadError.{ReadError}
 use Rattle.manifest.specs.declared.kept.Declared.{Declared}
 use Rattle.manifest.specs.declared.kept.ReadEdge.{ReadEdge}
-use Rattle.manifest.specs.Described.{generator, manifest_in, AreNamesOf, DescribesLines, Marks, MarksEdge, MarksIfRule, MarksRule}
+use Rattle.manifest.specs.Described.{generator, manifest_in, AreNamesOf, DescribesLines, IsPlainUse, LeavesNoMark, Marks, MarksEdge, MarksIfRule, MarksRule}
 use Rattle.manifest.specs.InNumbers.{AreBelow}
 use Rattle.manifest.proofs.Added.{added_one, at_is, texts_grow, below_both, below_more, longer_length}
 
@@ -100,23 +103,48 @@ marked_next declared before after mark i edge low is count marks pushed so_far =
 pub alias_marked : (declared : Declared) (line : Line) (edge : ReadEdge) (kept : Option (Rc Rule Global)) → kept ≡ None → MarksIfRule declared line edge (option_map (λ (k : Rc Rule Global). k.value) kept) false
 alias_marked declared line edge kept none = subst (λ (o : Option (Rc Rule Global)). MarksIfRule declared line edge (option_map (λ (k : Rc Rule Global). k.value) o) false) (sym none) refl
 
-pub rule_marked : (declared : Declared) (line : Line) (edge : ReadEdge) (kept : Option (Rc Rule Global)) (rule : Rc Rule Global) (shown : Rule) (inputs outputs : List (List ℕ)) (mark : Bool)
+rule_marked_so : (declared : Declared) (line : Line) (edge : ReadEdge) (kept : Option (Rc Rule Global)) (rule : Rc Rule Global) (shown : Rule) (inputs outputs : List (List ℕ)) (mark : Bool)
     → kept ≡ Some rule → shown ≡ rule.value → inputs ≡ texts_at declared.paths.table line.explicit_inputs → outputs ≡ texts_at declared.paths.table line.explicit_outputs
     → MarksRule declared.scopes inputs outputs edge shown mark → MarksIfRule declared line edge (option_map (λ (k : Rc Rule Global). k.value) kept) mark
-rule_marked declared line edge kept rule shown inputs outputs mark is of_rule ins outs marks =
+rule_marked_so declared line edge kept rule shown inputs outputs mark is of_rule ins outs marks =
     subst (λ (o : Option (Rc Rule Global)). MarksIfRule declared line edge (option_map (λ (k : Rc Rule Global). k.value) o) mark) (sym is)
     (subst (λ (r : Rule). MarksRule declared.scopes (texts_at declared.paths.table line.explicit_inputs) (texts_at declared.paths.table line.explicit_outputs) edge r mark) of_rule
     (subst (λ (l : List (List ℕ)). MarksRule declared.scopes (texts_at declared.paths.table line.explicit_inputs) l edge shown mark) outs
     (subst (λ (l : List (List ℕ)). MarksRule declared.scopes l outputs edge shown mark) ins marks)))
+
+pub rule_marked : {E : Type 0} (declared : Declared) (line : Line) (edge : ReadEdge) (kept : Option (Rc Rule Global)) (rule : Rc Rule Global) (shown : Rule) (inputs outputs : List (List ℕ)) (r : Result Bool E)
+    → kept ≡ Some rule → shown ≡ rule.value → inputs ≡ texts_at declared.paths.table line.explicit_inputs → outputs ≡ texts_at declared.paths.table line.explicit_outputs
+    → IfOk r (MarksRule declared.scopes inputs outputs edge shown) → IfOk r (MarksIfRule declared line edge (option_map (λ (k : Rc Rule Global). k.value) kept))
+rule_marked declared line edge kept rule shown inputs outputs (Ok mark) is of_rule ins outs marks = rule_marked_so declared line edge kept rule shown inputs outputs mark is of_rule ins outs marks
+rule_marked declared line edge kept rule shown inputs outputs (Err error) is of_rule ins outs marks = tt
+
+-- the paths that are passed on are those of the line
+pub used_so : (inputs outputs ins outs : List (List ℕ)) (edge : ReadEdge) (rule : Rule) (at : Use) → IsPlainUse inputs outputs edge rule at → inputs ≡ ins → outputs ≡ outs → IsPlainUse ins outs edge rule at
+used_so inputs outputs ins outs edge rule at uses same_in same_out = record {
+  scope = uses.scope;
+  block = uses.block;
+  rule_is = uses.rule_is;
+  inputs_are = uses.inputs_are ∙ same_in;
+  outputs_are = uses.outputs_are ∙ same_out;
+  unquoted = uses.unquoted;
+}
 
 -- the mark of a value
 pub marks_value : (scopes : Scopes) (at : Use) (text : List ℕ) (empty : Bool) → IsValueIn scopes at generator text → length text ≤ largest_value → (IsTrue empty ↔ (text ≡ [])) → Marks scopes at (not empty)
 marks_value scopes at text true is size none = inl (subst (λ (l : List ℕ). IsValueIn scopes at generator l) (none.0 refl) is)
 marks_value scopes at text false is size none = (text, is, size, λ empty. false≢true (none.1 empty))
 
-pub if_ok_mark : {E : Type 0} (r : Result Bool E) (P Q : Bool → Type 0) → ((mark : Bool) → P mark → Q mark) → IfOk r P → IfOk r Q
-if_ok_mark (Ok mark) P Q on is = on mark is
-if_ok_mark (Err error) P Q on is = tt
+-- and that of a fault
+fault_marks : (scopes : Scopes) (at : Use) (fault : UseFault) (mark : Bool) → LeavesNoMark fault mark → (fault ≡ UseCircle → HasCircle (opened at) generator)
+    → (fault ≡ UseTooLarge → IsTooLargeIn scopes at generator) → Marks scopes at mark
+fault_marks scopes at UseMemory mark none circle large = absurd none
+fault_marks scopes at UseCircle mark none circle large = subst (λ (m : Bool). Marks scopes at m) (sym none) (inr (inl (circle refl)))
+fault_marks scopes at UseTooLarge mark none circle large = subst (λ (m : Bool). Marks scopes at m) (sym none) (inr (inr (large refl)))
+
+pub marks_fault : {E : Type 0} (scopes : Scopes) (at : Use) (inputs outputs : List (List ℕ)) (edge : ReadEdge) (rule : Rule) (fault : UseFault) (r : Result Bool E) → IsPlainUse inputs outputs edge rule at
+    → (fault ≡ UseCircle → HasCircle (opened at) generator) → (fault ≡ UseTooLarge → IsTooLargeIn scopes at generator) → IfOk r (LeavesNoMark fault) → IfOk r (MarksRule scopes inputs outputs edge rule)
+marks_fault scopes at inputs outputs edge rule fault (Ok mark) uses circle large none = record { at = at; uses = uses; marks = fault_marks scopes at fault mark none circle large }
+marks_fault scopes at inputs outputs edge rule fault (Err error) uses circle large none = tt
 
 -- ---- beside what was read
 

@@ -4,6 +4,8 @@ use Rattle.std.specs.Map.Iter.{deref}
 use Rattle.std.specs.Option.{option_map}
 use Rattle.scopes.specs.declared.all_scopes.Scopes.{Scopes}
 use Rattle.scopes.specs.declared.template.Rule.{Rule}
+use Rattle.scopes.specs.declared.fault.UseFault.{UseFault}
+use Rattle.scopes.specs.declared.fault.UseFault.TheVariants.{Memory, Circle, TooLarge}
 use Rattle.scopes.specs.declared.usage.Use.{Use}
 use Rattle.scopes.specs.Large.{IsTooLargeIn, IsValueIn}
 use Rattle.scopes.specs.Texts.{largest_value}
@@ -32,17 +34,26 @@ abbrev pub Marks : Scopes → Use → Bool → Type 0
 Marks scopes at true = (text : List ℕ) × IsValueIn scopes at generator text × (length text ≤ largest_value) × (text ≢ [])
 Marks scopes at false = IsValueIn scopes at generator [] ⊎ (HasCircle (opened at) generator ⊎ IsTooLargeIn scopes at generator)
 
--- So it does where the edge uses the rule, the inputs and outputs of its line being these. They are taken as they are: whether a value is
--- empty does not depend on quotes.
-pub record MarksRule (scopes : Scopes) (inputs outputs : List (List ℕ)) (edge : ReadEdge) (rule : Rule) (mark : Bool) : Type 0 where
-  pub at : Use
+-- the edge uses the rule with these inputs and outputs, taken as they are: whether a value is empty does not depend on quotes
+pub record IsPlainUse (inputs outputs : List (List ℕ)) (edge : ReadEdge) (rule : Rule) (at : Use) : Type 0 where
   pub scope : at.scope ≡ edge.scope
   pub block : at.block.now ≡ edge.block
   pub rule_is : at.rule.now ≡ rule
   pub inputs_are : map deref at.plain.inputs.now ≡ inputs
   pub outputs_are : map deref at.plain.outputs.now ≡ outputs
   pub unquoted : at.quoted ≡ at.plain
+
+-- so the mark says of that use
+pub record MarksRule (scopes : Scopes) (inputs outputs : List (List ℕ)) (edge : ReadEdge) (rule : Rule) (mark : Bool) : Type 0 where
+  pub at : Use
+  pub uses : IsPlainUse inputs outputs edge rule at
   pub marks : Marks scopes at mark
+
+-- a fault of an expansion leaves no mark
+abbrev pub LeavesNoMark : UseFault → Bool → Type 0
+LeavesNoMark Memory mark = ⊥
+LeavesNoMark Circle mark = mark ≡ false
+LeavesNoMark TooLarge mark = mark ≡ false
 
 -- an alias has no mark
 abbrev pub MarksIfRule : Declared → Line → ReadEdge → Option Rule → Bool → Type 0

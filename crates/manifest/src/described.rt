@@ -5,7 +5,8 @@ ghost use Rattle.std.specs.List.{AllByRecursion};
 ghost use Rattle.std.specs.Map.Iter.{deref};
 ghost use Rattle.paths.specs.Lists.{line_at};
 ghost use Rattle.manifest.specs.Declarations.{most_edges};
-ghost use Rattle.manifest.specs.Described.{manifest_in, mark_in, rule_in, AreNamesOf, DescribesLines, MarksEdge, MarksEdges, MarksRule};
+ghost use Rattle.manifest.specs.Described.{manifest_in, mark_in, rule_in, AreNamesOf, DescribesLines, IsPlainUse, MarksEdge, MarksEdges, MarksRule};
+ghost use Rattle.manifest.specs.Described.{LeavesNoMark};
 ghost use Rattle.manifest.specs.Held.{IsFormed, IsInScope};
 ghost use Rattle.manifest.specs.InNumbers.{IsWithin};
 ghost use Rattle.manifest.specs.Seen.{IsStated};
@@ -170,19 +171,35 @@ impl ReadEdge {
             inputs: shown.inputs.as_slice(),
             outputs: shown.outputs.as_slice(),
         };
-        let at = Use {
+        let at = self.plain_use(rule, plain);
+        match expand_use(alloc, scopes, &at, "generator", room) {
+            Ok(value) => Ok(!value.is_empty()),
+            Err(fault) => no_mark(fault),
+        }
+    }
+
+    /// The use of the rule with these paths as they are: whether a value is empty does not depend on quotes.
+    fn plain_use<'a>(&'a self, rule: &'a Rule, plain: Paths<'a>) -> Use<'a>
+        ensures { IsPlainUse (map deref plain.entry.inputs.now) (map deref plain.entry.outputs.now) self.now rule.now result }
+    {
+        Use {
             scope: self.scope,
             block: &self.block,
             rule,
             plain,
-            // whether a value is empty does not depend on quotes
             quoted: plain,
-        };
-        match expand_use(alloc, scopes, &at, "generator", room) {
-            Ok(value) => Ok(!value.is_empty()),
-            Err(UseFault::Memory) => Err(AllocError),
-            Err(_) => Ok(false),
         }
+    }
+}
+
+/// What cannot be expanded has no mark.
+fn no_mark(fault: UseFault) -> Result<bool, AllocError>
+    ensures { IfOk result (LeavesNoMark fault) }
+{
+    match fault {
+        UseFault::Memory => Err(AllocError),
+        UseFault::Circle => Ok(false),
+        UseFault::TooLarge => Ok(false),
     }
 }
 
