@@ -1,6 +1,6 @@
 -- Texts that are added to a table, whatever their order.
 use Rattle.std.proofs.Common.{◌≡◌, ◌≢◌, ◌⊎◌, ◌↔◌, inl, inr, ℕ, zero, suc, ◌+◌, ◌<◌, ◌==◌, ◌||◌, Bool, true, false, if◌then◌else◌, List, [], ◌∷◌, ◌++◌, length, take, get_or, map, refl, sym, ap, ◌∙◌, subst, arith, bytes_eq}
-use Rattle.std.proofs.lemmas.Bool.{cases_Bool, cases_lt, eqb-true, eq-eqb, or_cases, or_left, or_right}
+use Rattle.std.proofs.lemmas.Bool.{cases_Bool, cases_lt, eqb-true, eq-eqb, false≢true, or_cases, or_left, or_right}
 use Rattle.std.proofs.lemmas.List.{map-append, take_more}
 use Rattle.std.proofs.lemmas.Slice.Eq.{bytes_eq-Decides}
 use Rattle.std.specs.Map.Iter.{deref}
@@ -49,6 +49,17 @@ has_either (x ∷ xs) ys t h = elim (or_cases (bytes_eq x t) (has (xs ++ ys) t) 
     | inr two ↦ inr two
   ]
 ]
+
+pub has_left : (xs ys : List (List ℕ)) (t : List ℕ) → has xs t ≡ true → has (xs ++ ys) t ≡ true
+has_left [] ys t h = absurd (false≢true h)
+has_left (x ∷ xs) ys t h = elim (or_cases (bytes_eq x t) (has xs t) h) [
+  | inl here ↦ or_left (bytes_eq x t) (has (xs ++ ys) t) here
+  | inr later ↦ or_right (bytes_eq x t) (has (xs ++ ys) t) (has_left xs ys t later)
+]
+
+pub has_right : (xs ys : List (List ℕ)) (t : List ℕ) → has ys t ≡ true → has (xs ++ ys) t ≡ true
+has_right [] ys t h = h
+has_right (x ∷ xs) ys t h = or_right (bytes_eq x t) (has (xs ++ ys) t) (has_right xs ys t h)
 
 -- ---- what is added
 

@@ -63,7 +63,7 @@ flat_none declared level (p ∷ paths) = flat_none declared level paths
 
 drop_at : (paths : List ℕ) (place p : ℕ) → place < length paths → p ≡ get_or paths place p → drop place paths ≡ p ∷ drop (place + 1) paths
 drop_at [] place p low is = absurd (omega (arith, low))
-drop_at (q ∷ paths) zero p low is = ap (λ (n : ℕ). n ∷ paths) (sym is)
+drop_at (q ∷ paths) zero p low is = let one : zero + 1 ≡ suc zero = omega arith in ap (λ (n : ℕ). n ∷ paths) (sym is) ∙ ap (λ (n : ℕ). p ∷ drop n (q ∷ paths)) (sym one)
 drop_at (q ∷ paths) (suc place) p low is = let same : suc place + 1 ≡ suc (place + 1) = omega arith in drop_at paths place p (omega (arith, low)) is ∙ ap (λ (n : ℕ). p ∷ drop n (q ∷ paths)) (sym same)
 
 -- what is above a path
@@ -191,3 +191,22 @@ levels_are declared (suc depth) some = refl
 pub levels_some : (declared : Declared) (depth deepest : ℕ) → deepest ≡ levels declared depth → 0 < deepest
 levels_some declared zero deepest is = omega (arith, is)
 levels_some declared (suc depth) deepest is = omega (arith, is)
+
+-- what is left where one level was put in
+pub shown_first : (declared : Declared) (depth : ℕ) (before levels : List Level) (one : Level) (paths told : List ℕ) → told ≡ [] → before ≡ [] → levels ≡ before ++ one ∷ [] → one.paths.now ≡ paths → one.place ≡ 0
+    → told ++ lines (left_lines declared depth levels) ≡ lines (flat_map (tree declared depth 0) paths)
+shown_first declared depth before levels one paths told none empty is same place =
+    ap (λ (l : List ℕ). l ++ lines (left_lines declared depth levels)) none
+    ∙ (ap (λ (l : List Level). lines (left_lines declared depth l)) (is ∙ ap (λ (l : List Level). l ++ one ∷ []) empty) ∙ ap lines (left_first declared depth one paths same place))
+
+-- nothing is left where there is no level
+pub all_shown : (declared : Declared) (depth : ℕ) (levels : List Level) (told whole : List ℕ) → length levels ≡ 0 → told ++ lines (left_lines declared depth levels) ≡ whole → told ≡ whole
+all_shown declared depth [] told whole none is = sym (append-nil told) ∙ is
+all_shown declared depth (one ∷ levels) told whole none is = absurd (omega (arith, none))
+
+-- a level of which nothing is left
+pub level_past : (paths : List ℕ) (place : ℕ) → length paths ≤ place → drop place paths ≡ []
+level_past [] zero past = refl
+level_past [] (suc place) past = refl
+level_past (q ∷ paths) zero past = absurd (omega (arith, past))
+level_past (q ∷ paths) (suc place) past = level_past paths place (omega (arith, past))

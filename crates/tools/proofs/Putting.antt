@@ -1,10 +1,13 @@
 -- Lines that are put behind a text, and lists that grow while another is gone through.
-use Rattle.std.proofs.Common.{◌≡◌, ℕ, zero, suc, ◌+◌, ◌<◌, ◌≤◌, ◌==◌, ◌||◌, Bool, true, false, cond, List, [], ◌∷◌, ◌++◌, Option, None, Some, length, take, get_or, map, filter, OnOk, Result, Ok, Err, refl, sym, ap, ◌∙◌, subst, arith, append_assoc, append-nil}
+use Rattle.std.proofs.Common.{◌≡◌, ℕ, zero, suc, ◌+◌, ◌<◌, ◌≤◌, ◌==◌, ◌||◌, Bool, true, false, cond, List, [], ◌∷◌, ◌++◌, Option, None, Some, length, take, drop, get_or, map, filter, IfOk, OnOk, Result, Ok, Err, refl, sym, ap, ◌∙◌, subst, arith, append_assoc, append-nil}
 use Rattle.std.specs.List.{flat_map, list_any, range_with_len}
-use Rattle.std.proofs.lemmas.List.{map-append, take_more}
+use Rattle.std.specs.Map.Iter.{deref}
+use denote.Ref.{Bor}
+use Rattle.std.proofs.lemmas.List.{length-map, map-append, take_more}
 use Rattle.std.proofs.lemmas.List.Concat.{flat_map-append}
 use Rattle.model.specs.Graph.{has_number}
 use Rattle.tools.specs.Answers.{if_some, line, lines, Puts}
+use Rattle.tools.specs.Showing.{unless_same, unrepeated}
 
 -- ---- lines
 
@@ -90,6 +93,10 @@ pub on_ok : {T E : Type 0} (r : Result T E) {P Q : Type 0} → (P → Q) → OnO
 on_ok (Ok value) on is = on is
 on_ok (Err error) on is = tt
 
+pub if_ok_then : {T E : Type 0} {P Q : T → Type 0} (r : Result T E) → IfOk r P → ((x : T) → P x → Q x) → IfOk r Q
+if_ok_then (Ok x) is on = on x is
+if_ok_then (Err error) is on = tt
+
 -- lines that stand only where there is one of those
 
 pub if_some_none : (paths : List ℕ) (told : List (List ℕ)) → length paths ≡ 0 → if_some paths told ≡ []
@@ -107,3 +114,33 @@ take_item paths i p low is = take_at paths i p low is
 pub any_has : (numbers : List ℕ) (p : ℕ) → list_any (λ n. n == p) numbers ≡ has_number numbers p
 any_has [] p = refl
 any_has (n ∷ numbers) p = ap (λ (b : Bool). (n == p) || b) (any_has numbers p)
+
+-- ---- texts that are borrowed
+
+drop_mapped : (texts : List (Bor (List ℕ))) (i : ℕ) (d : Bor (List ℕ)) → i < length texts → drop i (map deref texts) ≡ (get_or texts i d).now ∷ drop (i + 1) (map deref texts)
+drop_mapped [] i d low = absurd (omega (arith, low))
+drop_mapped (t ∷ texts) zero d low = let one : zero + 1 ≡ suc zero = omega arith in ap (λ (n : ℕ). t.now ∷ drop n (map deref (t ∷ texts))) (sym one)
+drop_mapped (t ∷ texts) (suc i) d low =
+    let more : suc i + 1 ≡ suc (i + 1) = omega arith in
+    drop_mapped texts i d (omega (arith, low)) ∙ ap (λ (n : ℕ). (get_or texts i d).now ∷ drop n (map deref (t ∷ texts))) (sym more)
+
+drop_past : (texts : List (List ℕ)) (i : ℕ) → length texts ≤ i → drop i texts ≡ []
+drop_past [] zero past = refl
+drop_past [] (suc i) past = refl
+drop_past (t ∷ texts) zero past = absurd (omega (arith, past))
+drop_past (t ∷ texts) (suc i) past = drop_past texts i (omega (arith, past))
+
+-- one text more, of those that are told each once
+pub told_next : (texts : List (Bor (List ℕ))) (i : ℕ) (d : Bor (List ℕ)) (last : Option (List ℕ)) (old new whole : List ℕ) → i < length texts → Puts old new (unless_same last (get_or texts i d).now)
+    → old ++ lines (unrepeated last (drop i (map deref texts))) ≡ whole → new ++ lines (unrepeated (Some (get_or texts i d).now) (drop (i + 1) (map deref texts))) ≡ whole
+told_next texts i d last old new whole low put was =
+    let one = unless_same last (get_or texts i d).now in
+    let rest = unrepeated (Some (get_or texts i d).now) (drop (i + 1) (map deref texts)) in
+    ap (λ (l : List ℕ). l ++ lines rest) put ∙ (append_assoc old (lines one) (lines rest)
+    ∙ (ap (λ (l : List ℕ). old ++ l) (sym (flat_map-append line one rest) ∙ ap (λ (l : List (List ℕ)). lines (unrepeated last l)) (sym (drop_mapped texts i d low))) ∙ was))
+
+pub told_all : (texts : List (Bor (List ℕ))) (i : ℕ) (last : Option (List ℕ)) (told whole : List ℕ) → length texts ≤ i → told ++ lines (unrepeated last (drop i (map deref texts))) ≡ whole → told ≡ whole
+told_all texts i last told whole past was =
+    let count : length (map deref texts) ≡ length texts = length-map texts deref in
+    let none = drop_past (map deref texts) i (omega (arith, past, count)) in
+    sym (append-nil told) ∙ (ap (λ (l : List (List ℕ)). told ++ lines (unrepeated last l)) (sym none) ∙ was)

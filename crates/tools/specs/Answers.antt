@@ -1,13 +1,13 @@
 -- What tools print of a graph, line by line (the forms are real ninja's).
-use Rattle.std.specs.Prelude.{◌≡◌, ◌<◌, ℕ, zero, suc, if◌then◌else◌, Bool, true, false, List, [], ◌∷◌, ◌++◌, ◌↔◌, ◌⊎◌, IsSorted, map, filter, flat_map, codes, length, Option, Some, None, is_none, get_or}
+use Rattle.std.specs.Prelude.{◌≡◌, ◌<◌, ℕ, zero, suc, if◌then◌else◌, Bool, true, false, List, [], ◌∷◌, ◌++◌, ◌↔◌, ◌⊎◌, map, filter, flat_map, codes, length, Option, Some, None, is_none, get_or, bytes_eq}
 use Rattle.std.specs.List.{range_with_len}
-use Rattle.std.specs.Ordering.{nat_cmp}
+use Rattle.std.specs.Ordering.{nat_cmp, Less}
 use Rattle.std.specs.Cmp.Lexicographic.{slice_cmp}
 use Rattle.lexer.specs.Quote.{quoted}
 use Rattle.model.specs.Graph.{has, has_number}
 use Rattle.paths.specs.Commands.{no_action}
 use Rattle.paths.specs.Lists.{line_at}
-use Rattle.paths.specs.Told.{text_at}
+use Rattle.paths.specs.Told.{text_at, texts_at}
 use Rattle.paths.specs.declared.manifest.Action.{Action}
 use Rattle.paths.specs.declared.manifest.Action.TheVariants.{Alias, Command}
 use Rattle.links.specs.Held.{StandOnce}
@@ -38,10 +38,15 @@ places graph = range_with_len 0 (length graph.manifest.lines)
 abbrev pub path_text : Declared → ℕ → List ℕ
 path_text declared p = text_at declared.graph.manifest.paths p
 
--- each stands once, in the order of their bytes
-pub record AreInOrder (texts : List (List ℕ)) : Type 0 where
-  pub sorted : IsSorted (slice_cmp nat_cmp) texts
-  pub once : (before between after : List (List ℕ)) (text : List ℕ) → texts ≡ before ++ (text ∷ between) ++ (text ∷ after) → ⊥
+-- each of these texts comes behind the one before it in the order of their bytes, the first behind this one
+abbrev pub AreAfter : List ℕ → List (List ℕ) → Type 0
+AreAfter last [] = Unit {0}
+AreAfter last (text ∷ texts) = (slice_cmp nat_cmp last text ≡ Less) × AreAfter text texts
+
+-- they stand in the order of their bytes, so none of them twice
+abbrev pub AreInOrder : List (List ℕ) → Type 0
+AreInOrder [] = Unit {0}
+AreInOrder (text ∷ texts) = AreAfter text texts
 
 -- a line for each of these texts, in the order of their bytes, each once
 pub record PrintsEach (texts : List (List ℕ)) (text : List ℕ) : Type 0 where
@@ -112,13 +117,14 @@ abbrev pub all_sources : Declared → List (List ℕ)
 all_sources declared =
     map (path_text declared) (filter (λ p. is_none ((links_of declared.graph).maker p)) (flat_map (λ e. (links_of declared.graph).inputs e) (places declared.graph)))
 
--- the outputs of a rule, by name
-pub record PrintsOfRule (declared : Declared) (rule text : List ℕ) : Type 0 where
-  pub outputs : List (List ℕ)
-  pub order : AreInOrder outputs
-  pub just : (output : List ℕ) → has outputs output ≡ true
-      ↔ ((e p : ℕ) × (has_number (places declared.graph) e ≡ true) × (rule_of declared e ≡ rule) × (has_number ((links_of declared.graph).outputs e) p ≡ true) × (output ≡ path_text declared p))
-  pub is : text ≡ lines outputs
+-- the outputs of the edge, where that is its rule
+abbrev pub outputs_of_rule : Declared → List ℕ → ℕ → List (List ℕ)
+outputs_of_rule declared rule e =
+    if bytes_eq (rule_of declared e) rule then texts_at declared.graph.manifest.paths ((links_of declared.graph).outputs e) else []
+
+-- the outputs of the edges of a rule, by name
+abbrev pub PrintsOfRule : Declared → List ℕ → List ℕ → Type 0
+PrintsOfRule declared rule text = PrintsEach (flat_map (outputs_of_rule declared rule) (places declared.graph)) text
 
 -- a line so many levels deep
 abbrev pub indented : ℕ → List ℕ → List ℕ

@@ -1,5 +1,5 @@
--- Trees of paths, line by line: what is still to be printed between two lines.
-use Rattle.std.specs.Prelude.{◌≡◌, ℕ, zero, suc, ◌+◌, ◌-◌, ◌*◌, ◌<◌, ◌≤◌, List, [], ◌∷◌, ◌++◌, Option, None, Some, drop, length, flat_map}
+-- Trees of paths and sorted texts, line by line: what is still to be printed between two lines.
+use Rattle.std.specs.Prelude.{◌≡◌, ℕ, zero, suc, ◌+◌, ◌-◌, ◌*◌, ◌<◌, ◌≤◌, List, [], ◌∷◌, ◌++◌, Option, None, Some, drop, length, get_or, flat_map, bytes_eq, if◌then◌else◌}
 use Rattle.links.specs.Links.{links_of}
 use Rattle.tools.specs.Answers.{indented, lines, path_text, tree, with_rule}
 use Rattle.tools.specs.declared.declared.Declared.{Declared}
@@ -46,3 +46,27 @@ pub record Shows (declared : Declared) (depth : ℕ) (level : Level) (old new : 
   pub same : more ++ lines (left_lines declared depth new) ≡ told ++ lines (left_lines declared depth (old ++ level ∷ []))
   pub nearer : to_show declared depth new < to_show declared depth (old ++ level ∷ [])
   pub fits : length new ≤ depth
+
+-- So the level goes on: its next path, and the level behind that.
+pub record Goes (level : Level) (next : ℕ × Level) : Type 0 where
+  pub within : level.place < length level.paths.now
+  pub path : next.0 ≡ get_or level.paths.now level.place next.0
+  pub paths : next.1.paths.now ≡ level.paths.now
+  pub place : next.1.place ≡ level.place + 1
+
+-- nothing of a level is left, or it goes on so
+abbrev pub IsGoneOn : Level → Option (ℕ × Level) → Type 0
+IsGoneOn level None = length level.paths.now ≤ level.place
+IsGoneOn level (Some next) = Goes level next
+
+-- ---- texts, each once
+
+-- a text, unless it is the last one again
+abbrev pub unless_same : Option (List ℕ) → List ℕ → List (List ℕ)
+unless_same None text = text ∷ []
+unless_same (Some last) text = if bytes_eq last text then [] else text ∷ []
+
+-- these texts, of equal ones that stand side by side one
+abbrev pub unrepeated : Option (List ℕ) → List (List ℕ) → List (List ℕ)
+unrepeated last [] = []
+unrepeated last (text ∷ texts) = unless_same last text ++ unrepeated (Some text) texts

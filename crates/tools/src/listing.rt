@@ -1,11 +1,12 @@
 //! `-t targets`: outputs by depth, by rule, or all.
 
-ghost use Rattle.std.specs.Prelude.{◌≡◌, ◌<◌, ◌++◌, ◌∷◌, [], IfOk, OnOk, filter, flat_map, is_none, length, map, string_bytes};
+ghost use Rattle.std.specs.Prelude.{◌≡◌, ◌<◌, ◌++◌, ◌∷◌, [], IfOk, None, OnOk, filter, flat_map, is_none, length, map, string_bytes};
 ghost use Rattle.std.specs.Map.Iter.{deref};
+ghost use Rattle.std.specs.Option.{option_map};
 ghost use Rattle.links.specs.Links.{links_of};
 ghost use Rattle.paths.specs.Told.{texts_at};
-ghost use Rattle.tools.specs.Answers.{PrintsEach, PrintsOfRule, PrintsTargets, Puts, all_sources, all_targets, levels, lines, tree, with_rule};
-ghost use Rattle.tools.specs.Showing.{Opens, Shows, head_line, indentation};
+ghost use Rattle.tools.specs.Answers.{PrintsEach, PrintsOfRule, PrintsTargets, Puts, all_sources, all_targets, levels, lines, outputs_of_rule, tree, with_rule};
+ghost use Rattle.tools.specs.Showing.{IsGoneOn, Opens, Shows, head_line, indentation, unless_same, unrepeated};
 ghost use Rattle.tools.specs.declared.listing.Wanted.TheVariants as wanted;
 
 use crate::access::{inputs_at, outputs_at, text_at};
@@ -113,12 +114,24 @@ fn of_rule(alloc: Global, declared: &Declared, rule: &str) -> Result<String, All
 {
     let mut paths = Vec::new(alloc);
     for place in 0..declared.graph.edges() {
-        let edge = declared.graph.manifest.edge(place);
-        if declared.rule(edge) == rule {
-            push_texts(&declared.graph, declared.graph.outputs(edge), &mut paths)?;
-        }
+        push_if_of_rule(declared, declared.graph.manifest.edge(place), rule, &mut paths)?;
     }
     sorted_lines(alloc, paths)
+}
+
+/// Puts the outputs of an edge behind others, where that is its rule.
+fn push_if_of_rule<'a>(
+    declared: &'a Declared,
+    edge: EdgeId,
+    rule: &str,
+    paths: &mut Vec<&'a str>,
+) -> Result<(), AllocError>
+    ensures { OnOk result (map deref paths.new.items ≡ map deref paths.old.items ++ outputs_of_rule declared.now rule.now edge) }
+{
+    if declared.rule(edge) == rule {
+        return push_texts(&declared.graph, outputs_at(&declared.graph, edge), paths);
+    }
+    Ok(())
 }
 
 fn push_texts<'a>(
@@ -140,15 +153,33 @@ pub fn sorted_lines(alloc: Global, texts: Vec<&str>) -> Result<String, AllocErro
 {
     let mut texts = texts;
     texts.sort()?;
+    unrepeated_lines(alloc, texts.as_slice())
+}
+
+/// A line for each of the texts, of equal ones that stand side by side one.
+fn unrepeated_lines(alloc: Global, texts: &[&str]) -> Result<String, AllocError>
+    ensures { IfOk result (λ told. string_bytes told ≡ lines (unrepeated None (map deref texts.now))) }
+{
     let mut told = String::new(alloc);
     let mut last = None;
     for text in texts {
-        if last != Some(text) {
-            push_line(&mut told, &[text])?;
-        }
-        last = Some(text);
+        push_unless_same(last, text, &mut told)?;
+        last = Some(*text);
     }
     Ok(told)
+}
+
+/// The line of a text, unless it is the last one again.
+fn push_unless_same(last: Option<&str>, text: &str, told: &mut String) -> Result<(), AllocError>
+    ensures { OnOk result (Puts (string_bytes told.old) (string_bytes told.new) (unless_same (option_map deref last.entry) text.now)) }
+{
+    let Some(last) = last else {
+        return push_line(told, &[text]);
+    };
+    if last == text {
+        return Ok(());
+    }
+    push_line(told, &[text])
 }
 
 /// Each output with the name of its rule, in reading order.
@@ -177,6 +208,24 @@ fn push_outputs(declared: &Declared, edge: EdgeId, told: &mut String) -> Result<
 struct Level<'a> {
     paths: &'a [PathId],
     place: usize,
+}
+
+impl<'a> Level<'a> {
+    /// The next path, and what is still to be shown behind it.
+    fn next(self) -> Option<(PathId, Level<'a>)>
+        ensures { IsGoneOn self.entry result }
+    {
+        match self.paths.get(self.place) {
+            Some(path) => Some((
+                *path,
+                Level {
+                    paths: self.paths,
+                    place: self.place + 1,
+                },
+            )),
+            None => None,
+        }
+    }
 }
 
 /// The outputs that no edge reads, each with what is above it to this depth.
@@ -236,15 +285,11 @@ fn show_next<'a>(
     requires { length levels.old.items < depth }
     ensures { OnOk result (Shows declared.now depth level.entry levels.old.items levels.new.items (string_bytes told.old) (string_bytes told.new)) }
 {
-    let Level { paths, place } = level;
-    let Some(path) = paths.get(place).copied() else {
+    let Some((path, next)) = level.next() else {
         return Ok(());
     };
     push_path(declared, path, levels.len(), told)?;
-    levels.push(Level {
-        paths,
-        place: place + 1,
-    })?;
+    levels.push(next)?;
     open_above(declared, depth, path, levels)
 }
 
