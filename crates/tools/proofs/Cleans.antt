@@ -1,13 +1,15 @@
 -- What is cleaned, edge by edge and whole.
-use Rattle.std.proofs.Common.{◌≡◌, ◌≢◌, ◌⊎◌, ◌↔◌, inl, inr, ℕ, zero, suc, ◌<◌, ◌≤◌, ◌==◌, ◌||◌, Bool, true, false, List, [], ◌∷◌, Option, Some, None, is_some, length, map, get_or, refl, sym, ap, ◌∙◌, subst, arith, bytes_eq}
+use Rattle.std.proofs.Common.{◌≡◌, ◌≢◌, ◌⊎◌, ◌↔◌, inl, inr, ℕ, zero, suc, ◌<◌, ◌≤◌, ◌==◌, ◌||◌, Bool, true, false, List, [], ◌∷◌, Option, Some, None, is_some, length, map, get_or, slice_get, refl, sym, ap, ◌∙◌, subst, arith, bytes_eq}
 use Rattle.std.specs.Map.Iter.{deref}
 use denote.Ref.{Bor}
 use Rattle.std.proofs.lemmas.Bool.{cases_lt, eqb-true, eq-eqb, false≢true, or_cases, or_left, or_right}
 use Rattle.std.proofs.lemmas.List.{get_or_past}
+use Rattle.std.proofs.lemmas.Option.{none-some, same_Some}
 use Rattle.std.proofs.lemmas.Slice.Eq.{bytes_eq-Decides}
 use Rattle.model.specs.Graph.{has, has_number}
 use Rattle.paths.specs.Commands.{no_action}
 use Rattle.paths.specs.Lists.{line_at, line_outputs, no_line}
+use Rattle.paths.specs.Numbers.{IsAdded}
 use Rattle.paths.specs.Told.{text_at, texts_at}
 use Rattle.paths.specs.declared.line.Line.{Line}
 use Rattle.paths.specs.declared.manifest.Action.{Action}
@@ -16,12 +18,13 @@ use Rattle.paths.specs.declared.manifest.Command.{Command as EdgeCommand}
 use Rattle.links.specs.Held.{AreMakers}
 use Rattle.links.specs.Links.{links_of}
 use Rattle.tools.specs.Above.{IsNamedAbove, AreNamedMade}
-use Rattle.tools.specs.Clean.{AddsJust, AreCleaned, IsAnyRule, IsAsked, IsCleanedOutput, IsCleanedRule, IsCleanedTarget, IsFileOf, IsFree, IsOwnFileOf, LacksJust, MayClean, MayCleanPath}
+use Rattle.tools.specs.Clean.{AddsJust, AreCleaned, IsAnyRule, IsAsked, IsCleanedOutput, IsCleanedRule, IsCleanedTarget, IsFileOf, IsFree, IsOtherAt, IsOwnFileOf, LacksJust, MayClean, MayCleanPath}
 use Rattle.tools.specs.Files.{command_at, files_of, own_files, rule_of}
 use Rattle.tools.specs.declared.cleaning.Cleaning.{Cleaning}
 use Rattle.tools.specs.declared.cleaning.Cleaning.TheVariants.{All, Targets, Rules}
 use Rattle.tools.specs.declared.declared.Declared.{Declared}
-use Rattle.tools.proofs.Adding.{adds_as, adds_none, adds_then}
+use Rattle.tools.proofs.Adding.{adds_as, adds_none, adds_path, adds_then}
+use Rattle.tools.proofs.Removed.{has_at}
 
 -- ---- the files of a command
 
@@ -188,8 +191,8 @@ module _ (declared : Declared) (making : AreMakers declared.graph.manifest decla
   pub rules_adds : (rules : List (Bor (List ℕ))) (which : Bor (List (Bor (List ℕ)))) → which.now ≡ rules → AddsJust old new (IsCleanedRule declared (map deref rules) generated) → AddsJust old new (IsCleanedOutput declared (Rules which) generated)
   rules_adds rules which same adds =
       adds_as old new _ _
-      (λ t any. cleaned_of declared making (Rules which) generated any.0 t any.3 (λ p maker. subst (λ (l : List (Bor (List ℕ))). has (map deref l) (rule_of declared any.0) ≡ true) (sym same) any.2))
-      (λ t cleaned. let may = of_cleaned declared making (Rules which) generated t cleaned in (cleaned.edge, may.0, subst (λ (l : List (Bor (List ℕ))). has (map deref l) (rule_of declared cleaned.edge) ≡ true) same cleaned.asked, may.1)) adds
+      (λ t any. cleaned_of declared making (Rules which) generated any.0 t any.2.1 (λ p maker. subst (λ (l : List (Bor (List ℕ))). has (map deref l) (rule_of declared any.0) ≡ true) (sym same) any.2.0))
+      (λ t cleaned. let may = of_cleaned declared making (Rules which) generated t cleaned in (cleaned.edge, may.0, (subst (λ (l : List (Bor (List ℕ))). has (map deref l) (rule_of declared cleaned.edge) ≡ true) same cleaned.asked, may.1))) adds
 
   pub targets_adds : (targets : List ℕ) (which : Bor (List ℕ)) → which.now ≡ targets → AddsJust old new (IsCleanedTarget declared targets generated) → AddsJust old new (IsCleanedOutput declared (Targets which) generated)
   targets_adds targets which same adds =
@@ -222,3 +225,40 @@ pub named_adds : (declared : Declared) (targets outputs : List ℕ) (generated :
 named_adds declared targets outputs generated old new named adds =
     adds_as old new _ _ (λ t all. (all.0, ((named all.0).0 all.1).0, all.2))
     (λ t all. (all.0, (named all.0).1 (all.1, ap is_some all.2.made), all.2)) adds
+
+-- ---- the others
+
+-- one of the first so many texts, unless it is this one
+abbrev pub IsOtherBelow : List (List ℕ) → List ℕ → ℕ → List ℕ → Type 0
+IsOtherBelow paths file n t = (k : ℕ) × (k < n) × IsOtherAt paths file k t
+
+pub others_none : (paths new : List (List ℕ)) (file : List ℕ) → new ≡ [] → AddsJust [] new (IsOtherBelow paths file 0)
+others_none paths new file none = subst (λ (l : List (List ℕ)). AddsJust [] l (IsOtherBelow paths file 0)) (sym none) (adds_none [] (IsOtherBelow paths file 0) (λ t below. absurd (omega (arith, below.1))))
+
+text_place : (paths : List (List ℕ)) (t : List ℕ) → has paths t ≡ true → (k : ℕ) × (k < length paths) × (slice_get paths k ≡ Some t)
+text_place [] t h = absurd (false≢true h)
+text_place (path ∷ paths) t h = elim (or_cases (bytes_eq path t) (has paths t) h) [
+  | inl here ↦ (zero, omega arith, ap (λ (l : List ℕ). Some l) (same_text path t here))
+  | inr later ↦ let rest = text_place paths t later in (suc rest.0, omega (arith, rest.1), rest.2)
+]
+
+pub lacks_all : (paths new : List (List ℕ)) (file : List ℕ) (n : ℕ) → n ≡ length paths → AddsJust [] new (IsOtherBelow paths file n) → LacksJust paths new file
+lacks_all paths new file n count adds t = (
+  λ h. elim ((adds t).0 h) [
+    | inl none ↦ absurd (false≢true none)
+    | inr there ↦ (there.2.1, has_at paths there.0 t there.2.0)
+  ],
+  λ both. let at = text_place paths t both.1 in (adds t).1 (inr (at.0, omega (arith, at.1, count), (at.2, both.0))),
+)
+
+pub other_past : (paths : List (List ℕ)) (file : List ℕ) (k : ℕ) (old : List (List ℕ)) → None ≡ slice_get paths k → AddsJust old old (IsOtherAt paths file k)
+other_past paths file k old past = adds_none old (IsOtherAt paths file k) (λ t other. none-some t (past ∙ other.0))
+
+pub other_same : (paths : List (List ℕ)) (file path : List ℕ) (k : ℕ) (old : List (List ℕ)) → Some path ≡ slice_get paths k → bytes_eq path file ≡ true → AddsJust old old (IsOtherAt paths file k)
+other_same paths file path k old at same = adds_none old (IsOtherAt paths file k) (λ t other. other.1 (sym (same_Some path t (at ∙ other.0)) ∙ same_text path file same))
+
+pub other_adds : (paths : List (List ℕ)) (file path : List ℕ) (k n : ℕ) (old new : List (List ℕ)) → Some path ≡ slice_get paths k → bytes_eq path file ≡ false → IsAdded old new path n → AddsJust old new (IsOtherAt paths file k)
+other_adds paths file path k n old new at other added =
+    adds_as old new _ (IsOtherAt paths file k)
+    (λ t is. (sym at ∙ ap (λ (l : List ℕ). Some l) (sym is), λ same. false≢true (sym other ∙ (bytes_eq-Decides path file).1 (sym is ∙ same))))
+    (λ t both. sym (same_Some path t (at ∙ both.0))) (adds_path old new path n added)

@@ -1,5 +1,8 @@
 -- Files that are removed one after another.
-use Rattle.std.proofs.Common.{◌≡◌, ◌⊎◌, inl, inr, ℕ, zero, suc, Bool, true, false, List, [], ◌∷◌, ◌++◌, Option, Some, None, slice_get, subst}
+use Rattle.std.proofs.Common.{◌≡◌, ◌⊎◌, inl, inr, ℕ, zero, suc, Bool, true, false, List, [], ◌∷◌, ◌++◌, Option, Some, None, IfSome, slice_get, sym, subst}
+use Rattle.std.specs.Map.Iter.{deref}
+use Rattle.std.specs.Option.{option_map}
+use denote.Ref.{Bor}
 use Rattle.model.specs.Calls.{OnlyLooks, WritesOrNot}
 use Rattle.model.specs.Graph.{has}
 use Rattle.model.specs.World.{World}
@@ -69,3 +72,11 @@ removes_then tells false paths old mid new first second = (first.0 ++ second.0, 
     by : (path : List ℕ) → (has first.0 path ≡ true) ⊎ (has second.0 path ≡ true) → has paths path ≡ true
     by path (inl one) = first.1 path one
     by path (inr two) = second.1 path two
+
+-- one file at a place, if there is one
+pub some_has : (paths : List (List ℕ)) (i : ℕ) (o : Option (Bor (List ℕ))) → option_map deref o ≡ slice_get paths i → IfSome o (λ one. has paths one.now ≡ true)
+some_has paths i None is = tt
+some_has paths i (Some text) is = has_at paths i text.now (sym is)
+
+pub removes_here : (tells only_count : Bool) (paths : List (List ℕ)) (path : List ℕ) (old new : World) → has paths path ≡ true → RemovesOne tells only_count path old new → RemovesOf tells only_count paths old new
+removes_here tells only_count paths path old new is one = removes_more tells only_count paths path old old new is (removes_none tells only_count paths old) one

@@ -1,5 +1,5 @@
 -- What `-t clean` removes.
-use Rattle.std.specs.Prelude.{◌≡◌, ◌≢◌, ◌<◌, ℕ, Bool, true, false, List, [], ◌↔◌, ◌⊎◌, Some, map, length}
+use Rattle.std.specs.Prelude.{◌≡◌, ◌≢◌, ◌<◌, ℕ, Bool, true, false, List, [], ◌↔◌, ◌⊎◌, Some, map, length, slice_get}
 use Rattle.std.specs.Map.Iter.{deref}
 use Rattle.model.specs.Graph.{has}
 use Rattle.links.specs.Links.{links_of}
@@ -52,10 +52,12 @@ pub record MayClean (declared : Declared) (generated : Bool) (e : ℕ) (text : L
 abbrev pub IsAnyRule : Declared → Bool → List ℕ → Type 0
 IsAnyRule declared generated text = (e : ℕ) × (e < length declared.graph.manifest.lines) × MayClean declared generated e text
 
--- of some edge of these rules
+-- of an edge of these rules
+abbrev pub MayCleanOfRule : Declared → List (List ℕ) → Bool → ℕ → List ℕ → Type 0
+MayCleanOfRule declared rules generated e text = (has rules (rule_of declared e) ≡ true) × MayClean declared generated e text
+
 abbrev pub IsCleanedRule : Declared → List (List ℕ) → Bool → List ℕ → Type 0
-IsCleanedRule declared rules generated text =
-    (e : ℕ) × (e < length declared.graph.manifest.lines) × (has rules (rule_of declared e) ≡ true) × MayClean declared generated e text
+IsCleanedRule declared rules generated text = (e : ℕ) × (e < length declared.graph.manifest.lines) × MayCleanOfRule declared rules generated e text
 
 -- the path is this one, or a depfile or response file of the edge that makes it, and may be removed
 pub record MayCleanPath (declared : Declared) (generated : Bool) (p : ℕ) (text : List ℕ) : Type 0 where
@@ -72,6 +74,10 @@ IsCleanedTarget declared targets generated text = (p : ℕ) × IsNamedAbove decl
 -- there are the old ones and just these
 abbrev pub AddsJust : (old new : List (List ℕ)) → (List ℕ → Type 0) → Type 0
 AddsJust old new added = (text : List ℕ) → has new text ≡ true ↔ ((has old text ≡ true) ⊎ added text)
+
+-- the text at a place, unless it is this one
+abbrev pub IsOtherAt : List (List ℕ) → List ℕ → ℕ → List ℕ → Type 0
+IsOtherAt paths left_out k text = (slice_get paths k ≡ Some text) × (text ≢ left_out)
 
 -- there are the old ones but for this one
 abbrev pub LacksJust : (old new : List (List ℕ)) → List ℕ → Type 0

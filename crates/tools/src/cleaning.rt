@@ -1,11 +1,11 @@
 //! `-t clean`: what is removed.
 
-ghost use Rattle.std.specs.Prelude.{◌≡◌, ◌≢◌, ◌↔◌, ◌<◌, ◌^◌, ℕ, List, [], IfOk, IfSome, IsTrue, OnOk, Some, map, slice_get, true};
+ghost use Rattle.std.specs.Prelude.{◌≡◌, ◌≢◌, ◌↔◌, ◌<◌, ◌^◌, ℕ, List, [], IfOk, IfSome, IsTrue, OnOk, map, true};
 ghost use Rattle.std.specs.Map.Iter.{deref};
 ghost use Rattle.model.specs.Graph.{has};
 ghost use Rattle.paths.specs.Told.{texts_at};
-ghost use Rattle.tools.specs.Clean.{AddsJust, AreCleaned, IsAnyRule, IsCleanedOutput, IsCleanedRule, IsCleanedTarget, IsFree, IsOwnFileOf, LacksJust, MayClean, MayCleanPath};
-ghost use Rattle.tools.specs.Files.{rule_of};
+ghost use Rattle.tools.specs.Clean.{AddsJust, AreCleaned, IsAnyRule, IsCleanedOutput, IsCleanedRule, IsCleanedTarget, IsFree, IsOtherAt, IsOwnFileOf, LacksJust};
+ghost use Rattle.tools.specs.Clean.{MayClean, MayCleanOfRule, MayCleanPath};
 ghost use Rattle.tools.specs.Moves.{RemovesOf, RemovesOne};
 
 use crate::access::{is_phony_at, outputs_at, path_at, text_at};
@@ -81,12 +81,19 @@ fn add_asked(
 fn without(alloc: Global, paths: Paths, file: &str) -> Result<Paths, AllocError>
     ensures { IfOk result (λ others. LacksJust paths others file.now) }
 {
-    if paths.number_of(file).is_none() {
-        return Ok(paths);
+    match paths.number_of(file) {
+        None => Ok(paths),
+        Some(_) => all_others(alloc, &paths, file),
     }
+}
+
+/// The paths of another table without this one.
+fn all_others(alloc: Global, paths: &Paths, file: &str) -> Result<Paths, AllocError>
+    ensures { IfOk result (λ others. LacksJust paths.now others file.now) }
+{
     let mut others = Paths::new(alloc);
     for place in 0..paths.len() {
-        add_other(alloc, &paths, place, file, &mut others)?;
+        add_other(alloc, paths, place, file, &mut others)?;
     }
     Ok(others)
 }
@@ -100,7 +107,7 @@ fn add_other(
     others: &mut Paths,
 ) -> Result<(), AllocError>
     requires { place < 2 ^ 32 }
-    ensures { OnOk result (AddsJust others.old others.new (λ text. (slice_get paths.now place ≡ Some text) × (text ≢ file.now))) }
+    ensures { OnOk result (AddsJust others.old others.new (IsOtherAt paths.now file.now place)) }
 {
     let Some(path) = path_at(paths, place) else {
         return Ok(());
@@ -172,7 +179,7 @@ fn add_if_asked(
     generated: bool,
     paths: &mut Paths,
 ) -> Result<(), AllocError>
-    ensures { OnOk result (AddsJust paths.old paths.new (λ text. (has (map deref rules.now) (rule_of declared.now edge) ≡ true) × MayClean declared.now generated edge text)) }
+    ensures { OnOk result (AddsJust paths.old paths.new (MayCleanOfRule declared.now (map deref rules.now) generated edge)) }
 {
     if !is_among(rules, declared.rule(edge)) {
         return Ok(());
