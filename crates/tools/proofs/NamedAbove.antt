@@ -1,14 +1,14 @@
 -- The outputs that paths are, or that edges above them name.
-use Rattle.std.proofs.Common.{◌≡◌, ◌≢◌, ◌⊎◌, ◌↔◌, inl, inr, ℕ, zero, suc, ◌+◌, ◌<◌, ◌≤◌, ◌==◌, ◌||◌, Bool, true, false, cond, List, [], ◌∷◌, ◌++◌, Option, Some, None, IsSome, is_some, length, take, get_or, filter, refl, sym, ap, ◌∙◌, subst, arith}
+use Rattle.std.proofs.Common.{◌≡◌, ◌≢◌, ◌⊎◌, ◌↔◌, inl, inr, ℕ, zero, suc, ◌+◌, ◌<◌, ◌≤◌, ◌==◌, ◌||◌, Bool, true, false, cond, List, [], ◌∷◌, ◌++◌, Option, Some, None, IsSome, is_some, length, take, get_or, filter, replicate, refl, sym, ap, ◌∙◌, subst, arith}
 use Rattle.std.specs.List.{flat_map}
 use Rattle.std.proofs.Math.ListN.{set}
 use Rattle.std.proofs.lemmas.Bool.{cases_Bool, cases_lt, eqb-true, eq-eqb, false≢true, or_cases, or_left, or_right}
-use Rattle.std.proofs.lemmas.List.{get_or-set_same, get_or-set_other, get_or_past, take_more}
+use Rattle.std.proofs.lemmas.List.{get_or-replicate, get_or-set_same, get_or-set_other, get_or_past, length-replicate, take_more}
 use Rattle.model.specs.Graph.{has_number}
 use Rattle.links.specs.Held.{AreMakers, maker_in}
 use Rattle.links.specs.Links.{Links, links_of}
 use Rattle.links.specs.declared.graph.Graph.{Graph}
-use Rattle.tools.specs.Above.{AreAbove, AreNamedMade, IsNamedAbove, IsNeededFor, Makes, Further}
+use Rattle.tools.specs.Above.{AreAbove, AreNamedBy, AreNamedMade, IsNamedAbove, IsNeededFor, Makes, Further}
 use Rattle.tools.proofs.Putting.{flat_next}
 use Rattle.tools.proofs.Rises.{has_push}
 
@@ -114,31 +114,49 @@ mark_past old now paths i q low is count past before p inside =
     ]
 
 -- all inputs of one more edge are marked
-pub marks_more : (f : ℕ → List ℕ) (edges paths : List ℕ) (i e p : ℕ) (one two : Bool) → i < length edges → e ≡ get_or edges i e → one ≡ (has_number paths p || has_number (flat_map f (take i edges)) p)
-    → two ≡ (one || has_number (f e) p) → two ≡ (has_number paths p || has_number (flat_map f (take (i + 1) edges)) p)
-marks_more f edges paths i e p one two low is was now =
-    now ∙ (ap (λ (b : Bool). b || has_number (f e) p) was ∙ (or_assoc (has_number paths p) (has_number (flat_map f (take i edges)) p) (has_number (f e) p)
-    ∙ ap (λ (b : Bool). has_number paths p || b) (sym (has_both (flat_map f (take i edges)) (f e) p) ∙ ap (λ (l : List ℕ). has_number l p) (sym (flat_next f edges i e low is)))))
+pub marks_more : (f : ℕ → List ℕ) (edges : List ℕ) (i e p : ℕ) (was_marked one two : Bool) → i < length edges → e ≡ get_or edges i e → one ≡ (was_marked || has_number (flat_map f (take i edges)) p)
+    → two ≡ (one || has_number (f e) p) → two ≡ (was_marked || has_number (flat_map f (take (i + 1) edges)) p)
+marks_more f edges i e p was_marked one two low is was now =
+    now ∙ (ap (λ (b : Bool). b || has_number (f e) p) was ∙ (or_assoc was_marked (has_number (flat_map f (take i edges)) p) (has_number (f e) p)
+    ∙ ap (λ (b : Bool). was_marked || b) (sym (has_both (flat_map f (take i edges)) (f e) p) ∙ ap (λ (l : List ℕ). has_number l p) (sym (flat_next f edges i e low is)))))
   where
     or_assoc : (a b c : Bool) → ((a || b) || c) ≡ (a || (b || c))
     or_assoc true b c = refl
     or_assoc false b c = refl
 
+-- no edge was looked at
+pub marks_first : (f : ℕ → List ℕ) (edges : List ℕ) (p : ℕ) (was_marked : Bool) → was_marked ≡ (was_marked || has_number (flat_map f (take zero edges)) p)
+marks_first f edges p true = refl
+marks_first f edges p false = refl
+
+-- first the paths, then the inputs
+pub marks_both : (graph : Graph) (paths edges : List ℕ) (n : ℕ) (start mid new : List Bool) → start ≡ replicate n false → n ≡ length graph.manifest.paths → length mid ≡ length start
+    → ((p : ℕ) → p < length start → get_or mid p false ≡ (get_or start p false || has_number paths p)) → length new ≡ length mid
+    → ((p : ℕ) → p < length mid → get_or new p false ≡ (get_or mid p false || has_number (flat_map (links_of graph).inputs edges) p)) → AreNamedBy graph paths edges new
+marks_both graph paths edges n start mid new none count one first two then =
+    let size : length start ≡ n = ap length none ∙ length-replicate n false in
+    record {
+      count = omega (arith, size, count, one, two);
+      marked = λ p low.
+          let within : p < n = omega (arith, low, count) in
+          let unmarked : get_or start p false ≡ false = ap (λ (l : List Bool). get_or l p false) none ∙ get_or-replicate n p false false within in
+          then p (omega (arith, within, size, one)) ∙ ap (λ (b : Bool). b || has_number (flat_map (links_of graph).inputs edges) p) (first p (omega (arith, within, size)) ∙ ap (λ (b : Bool). b || has_number paths p) unmarked);
+    }
+
 -- ---- outputs
 
-module _ (graph : Graph) (paths edges : List ℕ) (marks : List Bool) (making : AreMakers graph.manifest graph.makers.items) (above : AreAbove graph paths edges) (count : length marks ≡ length graph.manifest.paths)
-    (marked : (p : ℕ) → p < length graph.manifest.paths → get_or marks p false ≡ (has_number paths p || has_number (flat_map (links_of graph).inputs edges) p)) where
+module _ (graph : Graph) (paths edges : List ℕ) (marks : List Bool) (making : AreMakers graph.manifest graph.makers.items) (above : AreAbove graph paths edges) (by : AreNamedBy graph paths edges marks) where
   made_outputs : List ℕ
   made_outputs = flat_map (λ e. filter (λ p. get_or marks p false) ((links_of graph).outputs e)) edges
 
   within : (p : ℕ) → get_or marks p false ≡ true → p < length graph.manifest.paths
   within p h = elim (cases_lt p (length marks)) [
-    | inl low ↦ omega (arith, low, count)
+    | inl low ↦ omega (arith, low, by.count)
     | inr past ↦ absurd (false≢true (sym (get_or_past marks p false past) ∙ h))
   ]
 
   named : (p : ℕ) → get_or marks p false ≡ true → IsNamedAbove graph paths p
-  named p h = elim (or_cases (has_number paths p) (has_number (flat_map (links_of graph).inputs edges) p) (sym (marked p (within p h)) ∙ h)) [
+  named p h = elim (or_cases (has_number paths p) (has_number (flat_map (links_of graph).inputs edges) p) (sym (by.marked p (within p h)) ∙ h)) [
     | inl asked ↦ inl asked
     | inr input ↦ let at = has_flat (links_of graph).inputs edges p input in inr (at.0, (above.just at.0).0 at.1, at.2)
   ]
@@ -159,7 +177,7 @@ module _ (graph : Graph) (paths edges : List ℕ) (marks : List Bool) (making : 
             | inl asked ↦ Makes e p asked makes
             | inr input ↦ Further e input.0 p input.1 input.2 makes
           ] in
-          let mark : get_or marks p false ≡ true = marked p inside ∙ elim names [
+          let mark : get_or marks p false ≡ true = by.marked p inside ∙ elim names [
             | inl asked ↦ or_left (has_number paths p) (has_number (flat_map (links_of graph).inputs edges) p) asked
             | inr input ↦ or_right (has_number paths p) (has_number (flat_map (links_of graph).inputs edges) p) (flat_has (links_of graph).inputs edges input.0 p ((above.just input.0).1 input.1) input.2)
           ] in

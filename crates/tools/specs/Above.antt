@@ -1,5 +1,5 @@
 -- Which edges are above paths, by the lines of build files alone (this project's own; what real ninja's tools go through).
-use Rattle.std.specs.Prelude.{◌≡◌, ◌⊎◌, ℕ, true, List, ◌++◌, ◌∷◌, ◌↔◌, IsSome, Some}
+use Rattle.std.specs.Prelude.{◌≡◌, ◌⊎◌, ℕ, ◌<◌, ◌||◌, Bool, true, false, List, ◌++◌, ◌∷◌, ◌↔◌, IsSome, Some, flat_map, get_or, length}
 use Rattle.model.specs.Graph.{has_number}
 use Rattle.links.specs.Links.{Links, links_of}
 use Rattle.links.specs.declared.graph.Graph.{Graph}
@@ -32,3 +32,8 @@ IsNamedAbove graph paths p = (has_number paths p ≡ true) ⊎ ((e : ℕ) × IsN
 -- the outputs that the paths are, or that edges above them name
 abbrev pub AreNamedMade : Graph → List ℕ → List ℕ → Type 0
 AreNamedMade graph paths outputs = (p : ℕ) → has_number outputs p ≡ true ↔ (IsNamedAbove graph paths p × IsSome ((links_of graph).maker p))
+
+-- the marks are those of these paths and of the inputs of these edges
+pub record AreNamedBy (graph : Graph) (paths edges : List ℕ) (marks : List Bool) : Type 0 where
+  pub count : length marks ≡ length graph.manifest.paths
+  pub marked : (p : ℕ) → p < length graph.manifest.paths → get_or marks p false ≡ (has_number paths p || has_number (flat_map (links_of graph).inputs edges) p)

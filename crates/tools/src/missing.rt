@@ -1,8 +1,9 @@
 //! `-t missingdeps`: recorded inputs that are made, and whose maker is not above.
 
-ghost use Rattle.std.specs.Prelude.{◌≡◌, ◌<◌, ◌||◌, ◌++◌, ◌∷◌, [], ℕ, IfOk, OnOk, false, filter, get_or, length};
+ghost use Rattle.std.specs.Prelude.{◌≡◌, ◌<◌, ◌||◌, ◌++◌, ◌∷◌, [], ℕ, IfOk, OnOk, false, filter, flat_map, get_or, length};
 ghost use Rattle.model.specs.Graph.{has_number};
-ghost use Rattle.tools.specs.Above.{AreNamedMade};
+ghost use Rattle.links.specs.Links.{links_of};
+ghost use Rattle.tools.specs.Above.{AreNamedBy, AreNamedMade};
 ghost use Rattle.tools.specs.Missing.{Misses};
 
 use crate::above::edges_above;
@@ -61,14 +62,47 @@ pub fn outputs_above(
     ensures { IfOk result (λ outputs. AreNamedMade graph.now paths.now outputs.items) }
 {
     let edges = edges_above(alloc, graph, paths)?;
+    let named = named_by(alloc, graph, paths, edges.as_slice())?;
+    marked_outputs(alloc, graph, edges.as_slice(), named.as_slice())
+}
+
+/// For each path whether it is one of these, or an input of one of these edges.
+fn named_by(
+    alloc: Global,
+    graph: &Graph,
+    paths: &[PathId],
+    edges: &[EdgeId],
+) -> Result<Vec<bool>, AllocError>
+    ensures { IfOk result (λ named. AreNamedBy graph.now paths.now edges.now named.items) }
+{
     let mut named = vec![in alloc; false; graph.paths()]?;
     mark(&mut named, paths);
-    for edge in edges.as_slice() {
-        mark(&mut named, inputs_at(graph, *edge));
+    mark_inputs(graph, edges, &mut named);
+    Ok(named)
+}
+
+/// Marks the inputs of these edges.
+fn mark_inputs(graph: &Graph, edges: &[EdgeId], marks: &mut Vec<bool>)
+    ensures count { length marks.new.items ≡ length marks.old.items }
+    ensures marks { (p : ℕ) → p < length marks.old.items → get_or marks.new.items p false ≡ (get_or marks.old.items p false || has_number (flat_map (links_of graph.now).inputs edges.now) p) }
+{
+    for edge in edges {
+        mark(marks, inputs_at(graph, *edge));
     }
+}
+
+/// The outputs of these edges that are marked.
+fn marked_outputs(
+    alloc: Global,
+    graph: &Graph,
+    edges: &[EdgeId],
+    marks: &[bool],
+) -> Result<Vec<PathId>, AllocError>
+    ensures { IfOk result (λ outputs. outputs.items ≡ flat_map (λ e. filter (λ p. get_or marks.now p false) ((links_of graph.now).outputs e)) edges.now) }
+{
     let mut outputs = Vec::new(alloc);
-    for edge in edges.as_slice() {
-        push_marked(&named, outputs_at(graph, *edge), &mut outputs)?;
+    for edge in edges {
+        push_marked(marks, outputs_at(graph, *edge), &mut outputs)?;
     }
     Ok(outputs)
 }
