@@ -27,10 +27,13 @@ IsMarked path front = path ≡ front ++ 94 ∷ []
 abbrev pub IsUnmarked : List ℕ → Type 0
 IsUnmarked path = (front : List ℕ) → IsMarked path front → ⊥
 
--- the word names the path: by its canonical form, with or without the mark
+-- a canonical path names the other, with or without the mark
+abbrev pub IsNamedBy : Graph → List ℕ → ℕ → Type 0
+IsNamedBy graph path p = ((front : List ℕ) × IsMarked path front × IsFirstMadeOf graph front p) ⊎ (IsUnmarked path × HasText graph path p)
+
+-- so a word names a path by its canonical form
 abbrev pub IsNamed : Graph → List ℕ → ℕ → Type 0
-IsNamed graph word p =
-    (path : List ℕ) × IsCanonical word path × (((front : List ℕ) × IsMarked path front × IsFirstMadeOf graph front p) ⊎ (IsUnmarked path × HasText graph path p))
+IsNamed graph word p = (path : List ℕ) × IsCanonical word path × IsNamedBy graph path p
 
 -- each path is what the word at its place names
 abbrev pub AreAsked : Graph → List (List ℕ) → List ℕ → Type 0

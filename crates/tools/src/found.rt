@@ -2,7 +2,7 @@
 
 ghost use Rattle.std.specs.Prelude.{IfOk, IfSome, MatchOption, map};
 ghost use Rattle.std.specs.Map.Iter.{deref};
-ghost use Rattle.tools.specs.Found.{HasText, IsFirstMade, IsFirstMadeOf, IsMarked, IsNamed, IsUnmarked, AreAsked};
+ghost use Rattle.tools.specs.Found.{HasText, IsFirstMade, IsFirstMadeOf, IsMarked, IsNamed, IsNamedBy, IsUnmarked, AreAsked};
 
 use crate::access::{outputs_at, users_at};
 use crate::declared::Declared;
@@ -22,14 +22,20 @@ use text::Text;
 pub fn target(alloc: Global, graph: &Graph, word: &str) -> Result<PathId, Fault>
     ensures { IfOk result (IsNamed graph.now word.now) }
 {
-    let path = match canonical(alloc, word) {
-        Ok(path) => path,
-        Err(ReadFault::EmptyPath) => return Err(Fault::EmptyPath),
-        Err(ReadFault::Memory) => return Err(Fault::Memory),
-    };
-    match without_mark(path.as_str()) {
+    match canonical(alloc, word) {
+        Ok(path) => named(alloc, graph, path.as_str()),
+        Err(ReadFault::EmptyPath) => Err(Fault::EmptyPath),
+        Err(ReadFault::Memory) => Err(Fault::Memory),
+    }
+}
+
+/// The path that a canonical one names, with or without the mark.
+fn named(alloc: Global, graph: &Graph, path: &str) -> Result<PathId, Fault>
+    ensures { IfOk result (IsNamedBy graph.now path.now) }
+{
+    match without_mark(path) {
         Some(read) => first_made_of(alloc, graph, read),
-        None => known(alloc, graph, path.as_str()),
+        None => known(alloc, graph, path),
     }
 }
 
@@ -37,10 +43,7 @@ pub fn target(alloc: Global, graph: &Graph, word: &str) -> Result<PathId, Fault>
 fn without_mark(path: &str) -> Option<&str>
     ensures { MatchOption result (IsUnmarked path.now) (λ front. IsMarked path.now front.now) }
 {
-    match path.as_bytes() {
-        [.., b'^'] => Some(&path[..path.len() - 1]),
-        _ => None,
-    }
+    path.strip_suffix('^')
 }
 
 /// The path of this text.
