@@ -10,3 +10,4 @@ pub mod Answers
 pub mod Showing
 pub mod Moves
 pub mod Joined
+pub mod Told

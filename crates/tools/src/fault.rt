@@ -81,22 +81,38 @@ fn write_near<W: fmt::Write>(f: &mut fmt::Formatter<W>, near: &Near) -> fmt::Res
 impl Error for Fault {}
 
 impl From<AllocError> for Fault {
+    ghost use Rattle.std.specs.Prelude.{◌≡◌};
+    ghost use Rattle.tools.specs.declared.fault.Fault.TheVariants.{Memory};
+
+    ghost from_gives = { λ _ fault. fault ≡ Memory };
+
     fn from(_: AllocError) -> Fault {
         Fault::Memory
     }
 }
 
 impl<T: Drop> From<AllocFailed<T>> for Fault {
+    ghost use Rattle.std.specs.Prelude.{◌≡◌};
+    ghost use Rattle.tools.specs.declared.fault.Fault.TheVariants.{Memory};
+
+    ghost from_gives = { λ _ fault. fault ≡ Memory };
+
     fn from(_: AllocFailed<T>) -> Fault {
         Fault::Memory
     }
 }
 
 impl From<SiteFault> for Fault {
+    ghost use Rattle.std.specs.Prelude.{◌≡◌};
+    ghost use Rattle.tools.specs.Told.{told_fault};
+
+    ghost from_gives = { λ fault told. told ≡ told_fault fault };
+
     fn from(fault: SiteFault) -> Fault {
         match fault {
             SiteFault::Memory => Fault::Memory,
-            fault => Fault::Site(fault),
+            SiteFault::Device => Fault::Site(SiteFault::Device),
+            SiteFault::Stopped => Fault::Site(SiteFault::Stopped),
         }
     }
 }

@@ -39,10 +39,16 @@ pub fn read_records<S: Site>(alloc: Global, site: &mut S, graph: &Graph) -> Resu
     ensures memory { IfErr result (λ fault. fault ≡ Fault.Memory → (S.world site.new).stopped ≡ false) }
     ensures known { IfOk result (λ records. SomeOfBoth (Knows graph.now records)) }
 {
+    let (build_log, deps_log) = own_paths(alloc, graph)?;
+    Ok(Records::read(alloc, site, graph, build_log, deps_log)?)
+}
+
+/// The paths of the logs of the graph's build files.
+fn own_paths(alloc: Global, graph: &Graph) -> Result<(String, String), AllocError> {
     let folder = own_folder(alloc, graph)?;
     let build_log = own_path(alloc, folder.as_str(), LOG)?;
     let deps_log = own_path(alloc, folder.as_str(), DEPS_LOG)?;
-    Ok(Records::read(alloc, site, graph, build_log, deps_log)?)
+    Ok((build_log, deps_log))
 }
 
 /// The same, where each path of the deps log has a number, so that words may name it.
@@ -78,7 +84,7 @@ fn join_paths(alloc: Global, graph: &mut Graph, records: &Records) -> Result<(),
 {
     for number in 0..usize::MAX {
         let Some(path) = records.deps_path(number) else {
-            break;
+            return Ok(());
         };
         graph.add_path(alloc, path)?;
     }

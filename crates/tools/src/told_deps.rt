@@ -70,9 +70,27 @@ fn push_record<S: Site>(
 {
     let Logged { declared, records } = logged;
     let text = text_at(&declared.graph, path);
-    let Some(deps) = records.deps(path) else {
-        return Ok(push_line(told, &[text, ": deps not found"])?);
-    };
+    match records.deps(path) {
+        Some(deps) => push_found(alloc, site, records, text, deps, told),
+        None => push_none(text, told),
+    }
+}
+
+fn push_none(text: &str, told: &mut String) -> Result<(), Fault> {
+    Ok(push_line(told, &[text, ": deps not found"])?)
+}
+
+/// Tells a record of the output with this path.
+fn push_found<S: Site>(
+    alloc: Global,
+    site: &mut S,
+    records: &Records,
+    text: &str,
+    deps: &Deps,
+    told: &mut String,
+) -> Result<(), Fault>
+    ensures { OnlyLooks S.tells (S.world site.old) (S.world site.new) }
+{
     let written = site.stat(text)?;
     let count = deps.paths.as_slice().len();
     let start = deps.start;
