@@ -1,12 +1,16 @@
 -- The edges that make paths, each once.
-use Rattle.std.proofs.Common.{◌≡◌, ◌≢◌, ◌⊎◌, ◌↔◌, inl, inr, ℕ, zero, suc, ◌+◌, ◌<◌, ◌≤◌, ◌==◌, ◌||◌, Bool, true, false, List, [], ◌∷◌, ◌++◌, Option, Some, None, length, take, get_or, refl, sym, ap, ◌∙◌, subst, arith}
+use Rattle.std.proofs.Common.{◌≡◌, ◌≢◌, ◌⊎◌, ◌↔◌, inl, inr, ℕ, zero, suc, ◌+◌, ◌<◌, ◌≤◌, ◌==◌, ◌||◌, Bool, true, false, List, [], ◌∷◌, ◌++◌, Option, Some, None, length, take, get_or, replicate, refl, sym, ap, ◌∙◌, subst, arith}
 use Rattle.std.proofs.Math.ListN.{set}
-use Rattle.std.proofs.lemmas.Bool.{cases_Bool, eqb-true, eq-eqb, false≢true, or_cases, or_left, or_right}
-use Rattle.std.proofs.lemmas.List.{get_or-set_same, get_or-set_other, length-set}
+use Rattle.std.proofs.lemmas.Bool.{cases_Bool, cases_lt, eqb-true, eq-eqb, false≢true, or_cases, or_left, or_right}
+use Rattle.std.proofs.lemmas.List.{get_or-replicate, get_or-set_same, get_or-set_other, get_or_past, length-replicate, length-set}
 use Rattle.model.specs.Graph.{has_number}
+use Rattle.paths.specs.declared.manifest.Action.{Action}
+use Rattle.paths.specs.declared.manifest.Action.TheVariants.{Alias, Command}
+use Rattle.paths.specs.declared.manifest.Command.{Command as EdgeCommand}
 use Rattle.links.specs.Links.{links_of}
 use Rattle.links.specs.declared.graph.Graph.{Graph}
-use Rattle.tools.specs.Answers.{AreMakers, AreMet}
+use Rattle.tools.specs.Answers.{AreMakers, AreMet, command_in}
+use Rattle.tools.specs.Files.{command_at}
 use Rattle.tools.proofs.Rises.{has_push, once_push, once_none}
 
 -- no path was looked at
@@ -99,3 +103,25 @@ module _ (graph : Graph) (paths : List ℕ) (path : ℕ) (met : List Bool) (edge
       or_nothing : (a b : Bool) → b ≡ false → (a || b) ≡ a
       or_nothing true b h = refl
       or_nothing false b h = h
+
+-- no edge was met
+pub none_marked : (n e : ℕ) → get_or (replicate n false) e false ≡ false
+none_marked n e = elim (cases_lt e n) [
+  | inl low ↦ get_or-replicate n e false false low
+  | inr past ↦ let size : length (replicate n false) ≡ n = length-replicate n false in get_or_past (replicate n false) e false (omega (arith, past, size))
+]
+
+pub met_first : (graph : Graph) (n : ℕ) (met : List Bool) (edges : List ℕ) → met ≡ replicate n false → n ≡ length graph.manifest.lines → edges ≡ [] → AreMet graph [] met edges
+met_first graph n met edges is count none =
+    subst (λ (l : List ℕ). AreMet graph [] met l) (sym none)
+    (subst (λ (l : List Bool). AreMet graph [] l []) (sym is) (met_none graph (replicate n false) (length-replicate n false ∙ count) (none_marked n)))
+
+-- ---- the commands of edges
+
+pub command_told : (action : Action) (command : EdgeCommand) → command_at action ≡ Some command → command_in action ≡ command.act.command ∷ []
+command_told Alias command is = absurd (cc)
+command_told (Command own) command is = let same : own ≡ command = cc in ap (λ (c : EdgeCommand). c.act.command ∷ []) same
+
+pub no_command_told : (action : Action) → command_at action ≡ None → command_in action ≡ []
+no_command_told Alias is = refl
+no_command_told (Command own) is = absurd (cc)

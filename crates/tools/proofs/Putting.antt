@@ -60,6 +60,9 @@ filter-append {X} test (x ∷ xs) ys = by (test x) (filter-append test xs ys)
     by true rest = ap (λ (l : List X). x ∷ l) rest
     by false rest = rest
 
+pub filter_next : (test : ℕ → Bool) (xs : List ℕ) (i x : ℕ) → i < length xs → x ≡ get_or xs i x → filter test (take (i + 1) xs) ≡ filter test (take i xs) ++ filter test (x ∷ [])
+filter_next test xs i x low is = ap (filter test) (take_at xs i x low is) ∙ filter-append test (take i xs) (x ∷ [])
+
 -- ---- numbers that are counted up
 
 range_last : (from count : ℕ) → range_with_len from (suc count) ≡ range_with_len from count ++ (from + count) ∷ []
