@@ -63,6 +63,28 @@ has_right (x ∷ xs) ys t h = or_right (bytes_eq x t) (has (xs ++ ys) t) (has_ri
 
 -- ---- what is added
 
+-- the text is the one or the other
+abbrev pub Or : (List ℕ → Type 0) → (List ℕ → Type 0) → List ℕ → Type 0
+Or P Q t = P t ⊎ Q t
+
+-- it is this one, and not empty
+abbrev pub IsText : List ℕ → List ℕ → Type 0
+IsText path t = (t ≢ []) × (t ≡ path)
+
+abbrev pub IsTextOf : List (List ℕ) → List ℕ → Type 0
+IsTextOf texts t = (t ≢ []) × (has texts t ≡ true)
+
+abbrev pub IsSame : List ℕ → List ℕ → Type 0
+IsSame path t = t ≡ path
+
+-- one of those below a bound
+abbrev pub IsBelow : (ℕ → List ℕ → Type 0) → ℕ → List ℕ → Type 0
+IsBelow P i t = (e : ℕ) × (e < i) × P e t
+
+-- one of a list of numbers
+abbrev pub IsListed : (ℕ → List ℕ → Type 0) → List ℕ → List ℕ → Type 0
+IsListed P numbers t = (p : ℕ) × (has_number numbers p ≡ true) × P p t
+
 pub adds_none : (old : List (List ℕ)) (P : List ℕ → Type 0) → ((t : List ℕ) → P t → ⊥) → AddsJust old old P
 adds_none old P none t = (λ h. inl h, λ h. elim h [
   | inl is ↦ is
@@ -81,7 +103,7 @@ adds_as old new P Q on back adds t = (
   ],
 )
 
-pub adds_then : (old mid new : List (List ℕ)) (P Q : List ℕ → Type 0) → AddsJust old mid P → AddsJust mid new Q → AddsJust old new (λ t. P t ⊎ Q t)
+pub adds_then : (old mid new : List (List ℕ)) (P Q : List ℕ → Type 0) → AddsJust old mid P → AddsJust mid new Q → AddsJust old new (Or P Q)
 adds_then old mid new P Q first second t = (
   λ h. elim ((second t).0 h) [
     | inl was ↦ elim ((first t).0 was) [
@@ -121,7 +143,7 @@ adds_path old new path n added t = elim (cases_Bool (has old path)) [
 
 -- one that is not empty
 pub adds_text : (old new : List (List ℕ)) (path : List ℕ) (n : ℕ) → IsAdded old new path n → path ≢ [] → AddsJust old new (λ t. (t ≢ []) × (t ≡ path))
-adds_text old new path n added some = adds_as old new _ _ (λ t is. (λ empty. some (sym is ∙ empty), is)) (λ t both. both.1) (adds_path old new path n added)
+adds_text old new path n added some = adds_as old new (IsSame path) (IsText path) (λ t is. (λ empty. some (sym is ∙ empty), is)) (λ t both. both.1) (adds_path old new path n added)
 
 -- ---- lists that are gone through
 
@@ -130,7 +152,7 @@ pub adds_next : (f : ℕ → List ℕ) (numbers : List ℕ) (i n : ℕ) (old mid
     → AddsJust old mid (λ t. (t ≢ []) × (has (map f (take i numbers)) t ≡ true)) → AddsJust mid new (λ t. (t ≢ []) × (t ≡ text))
     → AddsJust old new (λ t. (t ≢ []) × (has (map f (take (i + 1) numbers)) t ≡ true))
 adds_next f numbers i n old mid new text low is same before adds =
-    adds_as old new _ _
+    adds_as old new (Or (IsTextOf (map f (take i numbers))) (IsText text)) (IsTextOf (map f (take (i + 1) numbers)))
     (λ t either. elim either [
       | inl p ↦ (p.0, subst (λ (l : List (List ℕ)). has l t ≡ true) (sym more) (has_old (map f (take i numbers)) (f n) t p.1))
       | inr q ↦ (q.0, subst (λ (l : List (List ℕ)). has l t ≡ true) (sym more) (subst (λ (u : List ℕ). has (map f (take i numbers) ++ f n ∷ []) u ≡ true) (sym (q.1 ∙ same)) (has_new (map f (take i numbers)) (f n))))
@@ -139,7 +161,7 @@ adds_next f numbers i n old mid new text low is same before adds =
       | inl was ↦ inl (p.0, was)
       | inr now ↦ inr (p.0, sym now ∙ sym same)
     ])
-    (adds_then old mid new _ _ before adds)
+    (adds_then old mid new (IsTextOf (map f (take i numbers))) (IsText text) before adds)
   where
     more : map f (take (i + 1) numbers) ≡ map f (take i numbers) ++ f n ∷ []
     more = ap (map f) (take_more numbers i n low ∙ ap (λ (m : ℕ). take i numbers ++ m ∷ []) (sym is)) ∙ map-append f (take i numbers) (n ∷ [])
@@ -148,7 +170,7 @@ adds_next f numbers i n old mid new text low is same before adds =
 pub adds_counted : (P : ℕ → List ℕ → Type 0) (i : ℕ) (old mid new : List (List ℕ)) → AddsJust old mid (λ t. (e : ℕ) × (e < i) × P e t) → AddsJust mid new (P i)
     → AddsJust old new (λ t. (e : ℕ) × (e < i + 1) × P e t)
 adds_counted P i old mid new before adds =
-    adds_as old new _ _
+    adds_as old new (Or (IsBelow P i) (P i)) (IsBelow P (i + 1))
     (λ t either. elim either [
       | inl p ↦ (p.0, omega (arith, p.1), p.2)
       | inr q ↦ (i, omega arith, q)
@@ -157,7 +179,7 @@ adds_counted P i old mid new before adds =
       | inl below ↦ inl (p.0, below, p.2)
       | inr last ↦ inr (subst (λ (e : ℕ). P e t) last p.2)
     ])
-    (adds_then old mid new _ _ before adds)
+    (adds_then old mid new (IsBelow P i) (P i) before adds)
   where
     by : (e : ℕ) → e < i + 1 → (e < i) ⊎ (e ≡ i)
     by e low = elim (cases_lt e i) [
@@ -186,7 +208,7 @@ length_none (n ∷ numbers) none = absurd (omega (arith, none))
 pub adds_listed : (P : ℕ → List ℕ → Type 0) (numbers : List ℕ) (i n : ℕ) (old mid new : List (List ℕ)) → i < length numbers → n ≡ get_or numbers i n
     → AddsJust old mid (λ t. (p : ℕ) × (has_number (take i numbers) p ≡ true) × P p t) → AddsJust mid new (P n) → AddsJust old new (λ t. (p : ℕ) × (has_number (take (i + 1) numbers) p ≡ true) × P p t)
 adds_listed P numbers i n old mid new low is before adds =
-    adds_as old new _ _
+    adds_as old new (Or (IsListed P (take i numbers)) (P n)) (IsListed P (take (i + 1) numbers))
     (λ t either. elim either [
       | inl was ↦ (was.0, subst (λ (l : List ℕ). has_number l was.0 ≡ true) (sym more) (number_push (take i numbers) n was.0 ∙ or_left (has_number (take i numbers) was.0) (n == was.0) was.1), was.2)
       | inr now ↦ (n, subst (λ (l : List ℕ). has_number l n ≡ true) (sym more) (number_push (take i numbers) n n ∙ or_right (has_number (take i numbers) n) (n == n) (eq-eqb n n refl)), now)
@@ -195,7 +217,7 @@ adds_listed P numbers i n old mid new low is before adds =
       | inl was ↦ inl (all.0, was, all.2)
       | inr now ↦ inr (subst (λ (p : ℕ). P p t) (sym (eqb-true n all.0 now)) all.2)
     ])
-    (adds_then old mid new _ _ before adds)
+    (adds_then old mid new (IsListed P (take i numbers)) (P n) before adds)
   where
     more : take (i + 1) numbers ≡ take i numbers ++ n ∷ []
     more = take_more numbers i n low ∙ ap (λ (m : ℕ). take i numbers ++ m ∷ []) (sym is)

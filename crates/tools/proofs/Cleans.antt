@@ -23,7 +23,7 @@ use Rattle.tools.specs.Files.{command_at, files_of, own_files, rule_of}
 use Rattle.tools.specs.declared.cleaning.Cleaning.{Cleaning}
 use Rattle.tools.specs.declared.cleaning.Cleaning.TheVariants.{All, Targets, Rules}
 use Rattle.tools.specs.declared.declared.Declared.{Declared}
-use Rattle.tools.proofs.Adding.{adds_as, adds_none, adds_path, adds_then}
+use Rattle.tools.proofs.Adding.{IsListed, IsSame, IsText, IsTextOf, Or, adds_as, adds_none, adds_path, adds_then}
 use Rattle.tools.proofs.Removed.{has_at}
 
 -- ---- the files of a command
@@ -52,7 +52,7 @@ has_one t a h = elim (or_cases (bytes_eq a t) false h) [
 pub own_adds : (declared : Declared) (e : ℕ) (command : EdgeCommand) (old mid new : List (List ℕ)) → command_at (get_or declared.graph.manifest.actions e no_action) ≡ Some command
     → AddsJust old mid (λ t. (t ≢ []) × (t ≡ command.act.depfile)) → AddsJust mid new (λ t. (t ≢ []) × (t ≡ command.act.response_path)) → AddsJust old new (IsOwnFileOf declared e)
 own_adds declared e command old mid new is first second =
-    adds_as old new _ (IsOwnFileOf declared e)
+    adds_as old new (Or (IsText command.act.depfile) (IsText command.act.response_path)) (IsOwnFileOf declared e)
     (λ t either. elim either [
       | inl p ↦ (p.0, subst (λ (l : List (List ℕ)). has l t ≡ true) (sym files) (or_left (bytes_eq command.act.depfile t) (has (command.act.response_path ∷ []) t) (subst (λ (q : List ℕ). bytes_eq q t ≡ true) p.1 (text_same t))))
       | inr p ↦ (p.0, subst (λ (l : List (List ℕ)). has l t ≡ true) (sym files) (or_right (bytes_eq command.act.depfile t) (has (command.act.response_path ∷ []) t) (or_left (bytes_eq command.act.response_path t) false (subst (λ (q : List ℕ). bytes_eq q t ≡ true) p.1 (text_same t)))))
@@ -61,7 +61,7 @@ own_adds declared e command old mid new is first second =
       | inl dep ↦ inl (own.0, sym (same_text command.act.depfile t dep))
       | inr response ↦ inr (own.0, has_one t command.act.response_path response)
     ])
-    (adds_then old mid new _ _ first second)
+    (adds_then old mid new (IsText command.act.depfile) (IsText command.act.response_path) first second)
   where
     files : own_files declared e ≡ command.act.depfile ∷ command.act.response_path ∷ []
     files = files_are (get_or declared.graph.manifest.actions e no_action) command is
@@ -75,7 +75,7 @@ own_none declared e old is =
 pub edge_adds : (declared : Declared) (generated : Bool) (e : ℕ) (old mid new : List (List ℕ)) → IsFree declared generated e → (links_of declared.graph).outputs e ≢ []
     → AddsJust old mid (λ t. (t ≢ []) × (has (texts_at declared.graph.manifest.paths ((links_of declared.graph).outputs e)) t ≡ true)) → AddsJust mid new (IsOwnFileOf declared e) → AddsJust old new (MayClean declared generated e)
 edge_adds declared generated e old mid new free makes first second =
-    adds_as old new _ (MayClean declared generated e)
+    adds_as old new (Or (IsTextOf (texts_at declared.graph.manifest.paths ((links_of declared.graph).outputs e))) (IsOwnFileOf declared e)) (MayClean declared generated e)
     (λ t either. elim either [
       | inl p ↦ record { free = free; file = record { makes = makes; some = p.0; file = inl p.1 } }
       | inr q ↦ record { free = free; file = record { makes = makes; some = q.0; file = inr q.1 } }
@@ -84,7 +84,7 @@ edge_adds declared generated e old mid new free makes first second =
       | inl made ↦ inl (may.file.some, made)
       | inr own ↦ inr (may.file.some, own)
     ])
-    (adds_then old mid new _ _ first second)
+    (adds_then old mid new (IsTextOf (texts_at declared.graph.manifest.paths ((links_of declared.graph).outputs e))) (IsOwnFileOf declared e) first second)
 
 pub edge_none : (declared : Declared) (generated : Bool) (e : ℕ) (old : List (List ℕ)) → (links_of declared.graph).outputs e ≡ [] → AddsJust old old (MayClean declared generated e)
 edge_none declared generated e old none = adds_none old (MayClean declared generated e) (λ t may. may.file.makes none)
@@ -110,7 +110,7 @@ path_kept declared generated p e old made not =
 pub path_adds : (declared : Declared) (generated : Bool) (p e : ℕ) (old mid new : List (List ℕ)) → (links_of declared.graph).maker p ≡ Some e → IsFree declared generated e
     → AddsJust old mid (λ t. (t ≢ []) × (t ≡ text_at declared.graph.manifest.paths p)) → AddsJust mid new (IsOwnFileOf declared e) → AddsJust old new (MayCleanPath declared generated p)
 path_adds declared generated p e old mid new made free first second =
-    adds_as old new _ (MayCleanPath declared generated p)
+    adds_as old new (Or (IsText (text_at declared.graph.manifest.paths p)) (IsOwnFileOf declared e)) (MayCleanPath declared generated p)
     (λ t either. elim either [
       | inl one ↦ record { edge = e; made = made; free = free; some = one.0; file = inl one.1 }
       | inr own ↦ record { edge = e; made = made; free = free; some = own.0; file = inr own.1 }
@@ -119,7 +119,7 @@ path_adds declared generated p e old mid new made free first second =
       | inl one ↦ inl (may.some, one)
       | inr own ↦ inr (may.some, subst (λ (n : ℕ). has (own_files declared n) t ≡ true) (same_edge may.edge e (sym may.made ∙ made)) own)
     ])
-    (adds_then old mid new _ _ first second)
+    (adds_then old mid new (IsText (text_at declared.graph.manifest.paths p)) (IsOwnFileOf declared e) first second)
 
 -- ---- whole
 
@@ -186,17 +186,17 @@ module _ (declared : Declared) (making : AreMakers declared.graph.manifest decla
 module _ (declared : Declared) (making : AreMakers declared.graph.manifest declared.graph.makers.items) (generated : Bool) (old new : List (List ℕ)) where
   pub all_adds : AddsJust old new (IsAnyRule declared generated) → AddsJust old new (IsCleanedOutput declared All generated)
   all_adds adds =
-      adds_as old new _ _ (λ t any. cleaned_of declared making All generated any.0 t any.2 (λ p maker. tt)) (λ t cleaned. let may = of_cleaned declared making All generated t cleaned in (cleaned.edge, may.0, may.1)) adds
+      adds_as old new (IsAnyRule declared generated) (IsCleanedOutput declared All generated) (λ t any. cleaned_of declared making All generated any.0 t any.2 (λ p maker. tt)) (λ t cleaned. let may = of_cleaned declared making All generated t cleaned in (cleaned.edge, may.0, may.1)) adds
 
   pub rules_adds : (rules : List (Bor (List ℕ))) (which : Bor (List (Bor (List ℕ)))) → which.now ≡ rules → AddsJust old new (IsCleanedRule declared (map deref rules) generated) → AddsJust old new (IsCleanedOutput declared (Rules which) generated)
   rules_adds rules which same adds =
-      adds_as old new _ _
+      adds_as old new (IsCleanedRule declared (map deref rules) generated) (IsCleanedOutput declared (Rules which) generated)
       (λ t any. cleaned_of declared making (Rules which) generated any.0 t any.2.1 (λ p maker. subst (λ (l : List (Bor (List ℕ))). has (map deref l) (rule_of declared any.0) ≡ true) (sym same) any.2.0))
       (λ t cleaned. let may = of_cleaned declared making (Rules which) generated t cleaned in (cleaned.edge, may.0, (subst (λ (l : List (Bor (List ℕ))). has (map deref l) (rule_of declared cleaned.edge) ≡ true) same cleaned.asked, may.1))) adds
 
   pub targets_adds : (targets : List ℕ) (which : Bor (List ℕ)) → which.now ≡ targets → AddsJust old new (IsCleanedTarget declared targets generated) → AddsJust old new (IsCleanedOutput declared (Targets which) generated)
   targets_adds targets which same adds =
-      adds_as old new _ _
+      adds_as old new (IsCleanedTarget declared targets generated) (IsCleanedOutput declared (Targets which) generated)
       (λ t any. record {
         path = any.0; edge = any.2.edge; made = any.2.made; command = any.2.free.command; asked = subst (λ (l : List ℕ). IsNamedAbove declared.graph l any.0) (sym same) any.1; free = any.2.free.free; some = any.2.some; file = any.2.file;
       })
@@ -223,7 +223,7 @@ lacks_same paths file none t = (λ h. (λ same. false≢true (sym none ∙ subst
 pub named_adds : (declared : Declared) (targets outputs : List ℕ) (generated : Bool) (old new : List (List ℕ)) → AreNamedMade declared.graph targets outputs
     → AddsJust old new (λ t. (p : ℕ) × (has_number outputs p ≡ true) × MayCleanPath declared generated p t) → AddsJust old new (IsCleanedTarget declared targets generated)
 named_adds declared targets outputs generated old new named adds =
-    adds_as old new _ _ (λ t all. (all.0, ((named all.0).0 all.1).0, all.2))
+    adds_as old new (IsListed (MayCleanPath declared generated) outputs) (IsCleanedTarget declared targets generated) (λ t all. (all.0, ((named all.0).0 all.1).0, all.2))
     (λ t all. (all.0, (named all.0).1 (all.1, ap is_some all.2.made), all.2)) adds
 
 -- ---- the others
@@ -259,6 +259,6 @@ other_same paths file path k old at same = adds_none old (IsOtherAt paths file k
 
 pub other_adds : (paths : List (List ℕ)) (file path : List ℕ) (k n : ℕ) (old new : List (List ℕ)) → Some path ≡ slice_get paths k → bytes_eq path file ≡ false → IsAdded old new path n → AddsJust old new (IsOtherAt paths file k)
 other_adds paths file path k n old new at other added =
-    adds_as old new _ (IsOtherAt paths file k)
+    adds_as old new (IsSame path) (IsOtherAt paths file k)
     (λ t is. (sym at ∙ ap (λ (l : List ℕ). Some l) (sym is), λ same. false≢true (sym other ∙ (bytes_eq-Decides path file).1 (sym is ∙ same))))
     (λ t both. sym (same_Some path t (at ∙ both.0))) (adds_path old new path n added)

@@ -146,7 +146,7 @@ marks_both graph paths edges n start mid new none count one first two then =
 -- ---- outputs
 
 module _ (graph : Graph) (paths edges : List ℕ) (marks : List Bool) (making : AreMakers graph.manifest graph.makers.items) (above : AreAbove graph paths edges) (by : AreNamedBy graph paths edges marks) where
-  made_outputs : List ℕ
+  abbrev made_outputs : List ℕ
   made_outputs = flat_map (λ e. filter (λ p. get_or marks p false) ((links_of graph).outputs e)) edges
 
   within : (p : ℕ) → get_or marks p false ≡ true → p < length graph.manifest.paths

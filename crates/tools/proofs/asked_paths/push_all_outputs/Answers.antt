@@ -1,4 +1,4 @@
-use Rattle.std.proofs.Common.{ℕ, List, codes, sym, ap, ◌∙◌, subst, string_bytes}
+use Rattle.std.proofs.Common.{ℕ, List, codes, sym, ap, ◌∙◌, subst, string_bytes, take}
 use Rattle.std.proofs.lemmas.List.{take_all}
 use Rattle.links.specs.Links.{links_of}
 use Rattle.tools.specs.Answers.{Puts, marked, outputs_of}
@@ -17,7 +17,7 @@ loop-edge-preserved c =
     let one = subst (λ (l : List ℕ). Puts (string_bytes c.loop-edge.told) new (marked declared (codes "    ") l)) c.outputs_at.ensures c.in_ok-push_paths.ensures in
     subst (Puts old new)
     (sym (flat_next (λ (e : ℕ). marked declared (codes "    ") ((links_of declared.graph).outputs e)) c.args.edges.now c.loop-edge.edge-index edge c.loop-edge-test.true c.edge-item.is))
-    (puts_then _ _ _ _ _ c.loop-edge.invariant one)
+    (puts_then old (string_bytes c.loop-edge.told) new (outputs_of declared (take c.loop-edge.edge-index c.args.edges.now)) (marked declared (codes "    ") ((links_of declared.graph).outputs edge)) c.loop-edge.invariant one)
 
 pub returns : goal.returns
 returns c =

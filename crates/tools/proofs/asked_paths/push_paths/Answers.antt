@@ -1,4 +1,4 @@
-use Rattle.std.proofs.Common.{◌++◌, ℕ, List, refl, sym, subst, string_bytes}
+use Rattle.std.proofs.Common.{◌++◌, ◌∷◌, [], ℕ, List, refl, sym, subst, string_bytes, take}
 use Rattle.std.proofs.lemmas.List.{take_all}
 use Rattle.tools.specs.Answers.{Puts, marked, path_text}
 use Rattle.tools.proofs.Putting.{map_next, puts_none, puts_then, two_parts}
@@ -15,7 +15,7 @@ loop-path-preserved c =
     let one = two_parts (string_bytes c.loop-path.told) (string_bytes c.push_line.new.text) mark c.text_at.result.now mark (path_text declared path) c.in_ok-push_line.ensures refl c.text_at.ensures in
     subst (Puts (string_bytes c.args.told.now) (string_bytes c.push_line.new.text))
     (sym (map_next (λ (p : ℕ). mark ++ path_text declared p) c.args.paths.now c.loop-path.path-index path c.loop-path-test.true c.path-item.is))
-    (puts_then _ _ _ _ _ c.loop-path.invariant one)
+    (puts_then (string_bytes c.args.told.now) (string_bytes c.loop-path.told) (string_bytes c.push_line.new.text) (marked declared mark (take c.loop-path.path-index c.args.paths.now)) ((mark ++ path_text declared path) ∷ []) c.loop-path.invariant one)
 
 pub returns : goal.returns
 returns c =

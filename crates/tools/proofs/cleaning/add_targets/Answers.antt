@@ -8,4 +8,4 @@ use Rattle.tools.proofs.cleaning.add_targets.Goals as goal
 
 pub loop-output-preserved : goal.loop-output-preserved
 loop-output-preserved c =
-    adds_listed (MayCleanPath c.args.declared.now c.args.generated) _ c.loop-output.output-index c.output-item.result c.args.paths.now c.loop-output.paths c.add_target.new.paths c.loop-output-test.true c.output-item.is c.loop-output.invariant c.in_ok-add_target.ensures
+    adds_listed (MayCleanPath c.args.declared.now c.args.generated) c.as_slice-output-items.result.now c.loop-output.output-index c.output-item.result c.args.paths.now c.loop-output.paths c.add_target.new.paths c.loop-output-test.true c.output-item.is c.loop-output.invariant c.in_ok-add_target.ensures

@@ -1,4 +1,4 @@
-use Rattle.std.proofs.Common.{◌≡◌, ◌<◌, ℕ, List, codes, get_or, length, map, refl, string_bytes, subst, sym}
+use Rattle.std.proofs.Common.{◌≡◌, ◌<◌, ℕ, List, codes, ◌∷◌, [], get_or, length, map, refl, string_bytes, subst, sym, take}
 use Rattle.std.proofs.lemmas.List.{take_all}
 use Rattle.links.specs.Links.{links_of}
 use Rattle.tools.specs.Answers.{Puts, path_text, with_rule}
@@ -20,7 +20,7 @@ loop-output-preserved c =
     let old = string_bytes c.loop-output.told in
     let new = string_bytes c.push_line.new.text in
     let one = three_parts old new c.text_at-text.result.now (codes ": ") c.rule.result.now (path_text declared output) (codes ": ") (rule_of declared edge) c.in_ok-push_line.ensures c.text_at-text.ensures refl c.rule.ensures in
-    subst (Puts (string_bytes c.args.told.now) new) (sym (map_next (with_rule declared edge) outputs c.loop-output.output-index output low is)) (puts_then _ _ _ _ _ c.loop-output.invariant one)
+    subst (Puts (string_bytes c.args.told.now) new) (sym (map_next (with_rule declared edge) outputs c.loop-output.output-index output low is)) (puts_then (string_bytes c.args.told.now) old new (map (with_rule declared edge) (take c.loop-output.output-index outputs)) (with_rule declared edge output ∷ []) c.loop-output.invariant one)
 
 pub returns : goal.returns
 returns c =

@@ -1,4 +1,4 @@
-use Rattle.std.proofs.Common.{[], ◌∷◌, ℕ, List, filter, is_none, map, sym, ap, ◌∙◌, subst, string_bytes}
+use Rattle.std.proofs.Common.{[], ◌∷◌, ℕ, List, filter, is_none, map, sym, ap, ◌∙◌, subst, string_bytes, take}
 use Rattle.std.proofs.lemmas.List.{map-append, take_all}
 use Rattle.links.specs.Links.{links_of}
 use Rattle.paths.specs.Told.{text_at, texts_at}
@@ -16,9 +16,11 @@ loop-path-preserved c =
     let path = c.path-item.result in
     let paths = c.args.paths.now in
     let more = filter_next test paths c.loop-path.path-index path c.loop-path-test.true c.path-item.is in
+    let before = filter test (take c.loop-path.path-index paths) in
     let old = string_bytes c.args.told.now in
     let new = string_bytes c.push_source.new.told in
-    subst (Puts old new) (sym (ap (texts_at graph.manifest.paths) more ∙ map-append (text_at graph.manifest.paths) _ (filter test (path ∷ [])))) (puts_then _ _ _ _ _ c.loop-path.invariant c.in_ok-push_source.ensures)
+    subst (Puts old new) (sym (ap (texts_at graph.manifest.paths) more ∙ map-append (text_at graph.manifest.paths) before (filter test (path ∷ []))))
+    (puts_then old (string_bytes c.loop-path.told) new (texts_at graph.manifest.paths before) (texts_at graph.manifest.paths (filter test (path ∷ []))) c.loop-path.invariant c.in_ok-push_source.ensures)
 
 pub returns : goal.returns
 returns c =
