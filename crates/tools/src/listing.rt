@@ -215,16 +215,13 @@ impl<'a> Level<'a> {
     fn next(self) -> Option<(PathId, Level<'a>)>
         ensures { IsGoneOn self.entry result }
     {
-        match self.paths.get(self.place) {
-            Some(path) => Some((
-                *path,
-                Level {
-                    paths: self.paths,
-                    place: self.place + 1,
-                },
-            )),
-            None => None,
+        if self.place >= self.paths.len() {
+            return None;
         }
+        let path = self.paths[self.place];
+        let place = self.place + 1;
+        let paths = self.paths;
+        Some((path, Level { paths, place }))
     }
 }
 
