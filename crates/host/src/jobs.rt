@@ -182,7 +182,8 @@ fn run_alone(
         some_held: false,
     };
     let place = wait_first(rt, &mut commands, &mut round, watch)?;
-    let End { ok, signal, .. } = commands[place].end();
+    let command = commands.swap_remove(place);
+    let End { ok, signal, .. } = command.end();
     tell_signal(alloc, rt, signal);
     Ok(ok)
 }
