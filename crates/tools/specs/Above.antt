@@ -1,5 +1,5 @@
 -- Which edges are above paths, by the lines of build files alone (this project's own; what real ninja's tools go through).
-use Rattle.std.specs.Prelude.{◌≡◌, ◌⊎◌, ℕ, ◌<◌, ◌||◌, Bool, true, false, List, ◌++◌, ◌∷◌, ◌↔◌, IsSome, Some, flat_map, get_or, length}
+use Rattle.std.specs.Prelude.{◌≡◌, ◌⊎◌, ℕ, ◌<◌, ◌||◌, Bool, true, false, List, ◌++◌, ◌∷◌, ◌↔◌, IsSome, Some, filter, flat_map, get_or, length}
 use Rattle.model.specs.Graph.{has_number}
 use Rattle.links.specs.Links.{Links, links_of}
 use Rattle.links.specs.declared.graph.Graph.{Graph}
@@ -37,3 +37,11 @@ AreNamedMade graph paths outputs = (p : ℕ) → has_number outputs p ≡ true �
 pub record AreNamedBy (graph : Graph) (paths edges : List ℕ) (marks : List Bool) : Type 0 where
   pub count : length marks ≡ length graph.manifest.paths
   pub marked : (p : ℕ) → p < length graph.manifest.paths → get_or marks p false ≡ (has_number paths p || has_number (flat_map (links_of graph).inputs edges) p)
+
+-- these are marked, too
+abbrev pub MarksAlso : (old new : List Bool) → List ℕ → Type 0
+MarksAlso old new also = (p : ℕ) → p < length old → get_or new p false ≡ (get_or old p false || has_number also p)
+
+-- the outputs of these edges that are marked
+abbrev pub marked_outputs : Graph → List Bool → List ℕ → List ℕ
+marked_outputs graph marks edges = flat_map (λ e. filter (λ p. get_or marks p false) ((links_of graph).outputs e)) edges

@@ -1,6 +1,7 @@
 -- What tools print of a graph, line by line (the forms are real ninja's).
-use Rattle.std.specs.Prelude.{◌≡◌, ◌<◌, ℕ, zero, suc, if◌then◌else◌, Bool, true, false, List, [], ◌∷◌, ◌++◌, ◌↔◌, ◌⊎◌, map, filter, flat_map, codes, length, Option, Some, None, is_none, get_or, bytes_eq}
+use Rattle.std.specs.Prelude.{◌≡◌, ◌<◌, ℕ, zero, suc, if◌then◌else◌, Bool, true, false, List, [], ◌∷◌, ◌++◌, ◌↔◌, ◌⊎◌, map, filter, flat_map, codes, length, Option, Some, None, is_none, get_or, bytes_eq, String, string_bytes}
 use Rattle.std.specs.List.{range_with_len}
+use Rattle.std.specs.declared.alloc.Global.{Global}
 use Rattle.std.specs.Ordering.{nat_cmp, Less}
 use Rattle.std.specs.Cmp.Lexicographic.{slice_cmp}
 use Rattle.lexer.specs.Quote.{quoted}
@@ -29,6 +30,10 @@ lines texts = flat_map line texts
 -- these lines were put behind a text
 abbrev pub Puts : (old new : List ℕ) → List (List ℕ) → Type 0
 Puts old new told = new ≡ old ++ lines told
+
+-- the same of texts that grow
+abbrev pub Tells : (old new : String Global) → List (List ℕ) → Type 0
+Tells old new told = Puts (string_bytes old) (string_bytes new) told
 
 -- all edges, in reading order
 abbrev pub places : Graph → List ℕ
@@ -112,10 +117,17 @@ with_rule declared e p = path_text declared p ++ codes ": " ++ rule_of declared 
 abbrev pub all_targets : Declared → List (List ℕ)
 all_targets declared = flat_map (λ e. map (with_rule declared e) ((links_of declared.graph).outputs e)) (places declared.graph)
 
+-- those of the paths that no edge makes
+abbrev pub sources_of : Graph → List ℕ → List (List ℕ)
+sources_of graph paths = texts_at graph.manifest.paths (filter (λ p. is_none ((links_of graph).maker p)) paths)
+
 -- the inputs that no edge makes, in reading order, as often as they are named
 abbrev pub all_sources : Declared → List (List ℕ)
-all_sources declared =
-    map (path_text declared) (filter (λ p. is_none ((links_of declared.graph).maker p)) (flat_map (λ e. (links_of declared.graph).inputs e) (places declared.graph)))
+all_sources declared = sources_of declared.graph (flat_map (λ e. (links_of declared.graph).inputs e) (places declared.graph))
+
+-- the outputs of the edge, each with the name of its rule
+abbrev pub targets_of : Declared → ℕ → List (List ℕ)
+targets_of declared e = map (with_rule declared e) ((links_of declared.graph).outputs e)
 
 -- the outputs of the edge, where that is its rule
 abbrev pub outputs_of_rule : Declared → List ℕ → ℕ → List (List ℕ)

@@ -1,7 +1,7 @@
 -- A walk up to the edges that are needed for paths, between its steps.
-use Rattle.std.specs.Prelude.{◌≡◌, ◌≢◌, ℕ, suc, ◌+◌, ◌-◌, ◌*◌, ◌<◌, ◌≤◌, true, false, List, length, slice_index, count_by, sum}
+use Rattle.std.specs.Prelude.{◌≡◌, ◌≢◌, ℕ, suc, ◌+◌, ◌-◌, ◌*◌, ◌<◌, ◌≤◌, true, false, List, length, slice_index, count_by, sum, Some}
 use Rattle.model.specs.Graph.{has_number}
-use Rattle.links.specs.Cone.{mark_at, is_listed, is_unseen, maker_seen}
+use Rattle.links.specs.Cone.{IsLast, mark_at, is_listed, is_unseen, maker_seen}
 use Rattle.links.specs.Held.{StandOnce}
 use Rattle.links.specs.Links.{Links, links_of}
 use Rattle.links.specs.declared.cone.Mark.{Mark}
@@ -51,3 +51,22 @@ pub record IsNext (links : Links) (left e p : ℕ) : Type 0 where
 -- the path is the first of the edge's inputs that are left
 abbrev pub IsNextOf : Walk → ℕ → ℕ → Type 0
 IsNextOf walk e p = IsNext (links_of walk.graph.now) (left_at walk e) e p
+
+-- the edge makes an input of each last open one
+abbrev pub IsAwaited : Walk → ℕ → Type 0
+IsAwaited walk e = (last : ℕ) → IsLast walk.stack.items last → MakesInputOf (links_of walk.graph.now) e last
+
+-- so does the edge that makes the path, and it is needed
+abbrev pub MakerIsAwaited : Walk → ℕ → Type 0
+MakerIsAwaited walk p = (m last : ℕ) → (links_of walk.graph.now).maker p ≡ Some m → IsLast walk.stack.items last → MakesInputOf (links_of walk.graph.now) m last
+
+abbrev pub MakerIsNeeded : Walk → ℕ → Type 0
+MakerIsNeeded walk p = (m : ℕ) → (links_of walk.graph.now).maker p ≡ Some m → IsNeededFor (links_of walk.graph.now) walk.paths.now m
+
+-- the maker of the edge's next input was seen
+abbrev pub HasSeenNext : Walk → ℕ → Type 0
+HasSeenNext walk e = (p : ℕ) → IsNextOf walk e p → maker_seen walk.marks.items ((links_of walk.graph.now).maker p)
+
+-- all inputs of each edge are counted
+abbrev pub CountsInputs : Graph → List ℕ → Type 0
+CountsInputs graph counts = (e : ℕ) → e < length graph.manifest.lines → slice_index counts e ≡ length ((links_of graph).inputs e)

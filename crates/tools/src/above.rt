@@ -1,12 +1,12 @@
 //! The edges above targets.
 
-ghost use Rattle.std.specs.Prelude.{◌≡◌, ◌<◌, ◌≤◌, ◌-◌, ℕ, IfOk, MatchOption, OnOk, Some, false, length, slice_index, true};
+ghost use Rattle.std.specs.Prelude.{◌≡◌, ◌<◌, ◌≤◌, IfOk, MatchOption, OnOk, false, length, true};
 ghost use Rattle.model.specs.Graph.{has_number};
 ghost use Rattle.links.specs.Cone.{IsLast, Keeps, is_unseen, mark_at, maker_seen};
 ghost use Rattle.links.specs.Links.{links_of};
 ghost use Rattle.links.specs.declared.cone.Mark;
-ghost use Rattle.tools.specs.Above.{AreAbove, IsNeededFor, MakesInputOf};
-ghost use Rattle.tools.specs.Rising.{IsNextOf, IsRise, left_at, work};
+ghost use Rattle.tools.specs.Above.{AreAbove, IsNeededFor};
+ghost use Rattle.tools.specs.Rising.{CountsInputs, HasSeenNext, IsAwaited, IsNextOf, IsRise, MakerIsAwaited, MakerIsNeeded, left_at, work};
 
 use links::{Graph, Mark};
 use paths::{EdgeId, PathId};
@@ -144,8 +144,8 @@ impl<'a> Walk<'a> {
     /// Opens the edge that makes the path, unless it was seen. It is needed, and makes an input of the last open one, if one is open.
     fn enter(&mut self, path: PathId) -> Result<(), AllocError>
         requires at { IsRise self.old.graph.now self.old.paths.now self.old }
-        requires needed { (m : ℕ) → (links_of self.old.graph.now).maker path ≡ Some m → IsNeededFor (links_of self.old.graph.now) self.old.paths.now m }
-        requires awaited { (m last : ℕ) → (links_of self.old.graph.now).maker path ≡ Some m → IsLast self.old.stack.items last → MakesInputOf (links_of self.old.graph.now) m last }
+        requires needed { MakerIsNeeded self.old path }
+        requires awaited { MakerIsAwaited self.old path }
         ensures walk { OnOk result (IsRise self.old.graph.now self.old.paths.now self.new) }
         ensures keeps { OnOk result (Keeps self.old.marks.items self.new.marks.items) }
         ensures left { OnOk result (self.new.left.items ≡ self.old.left.items) }
@@ -163,7 +163,7 @@ impl<'a> Walk<'a> {
         requires at { IsRise self.old.graph.now self.old.paths.now self.old }
         requires within { edge < length self.old.graph.now.manifest.lines }
         requires needed { IsNeededFor (links_of self.old.graph.now) self.old.paths.now edge }
-        requires awaited { (last : ℕ) → IsLast self.old.stack.items last → MakesInputOf (links_of self.old.graph.now) edge last }
+        requires awaited { IsAwaited self.old edge }
         ensures walk { OnOk result (IsRise self.old.graph.now self.old.paths.now self.new) }
         ensures keeps { OnOk result (Keeps self.old.marks.items self.new.marks.items) }
         ensures left { OnOk result (self.new.left.items ≡ self.old.left.items) }
@@ -182,7 +182,7 @@ impl<'a> Walk<'a> {
         requires within { edge < length self.old.graph.now.manifest.lines }
         requires needed { IsNeededFor (links_of self.old.graph.now) self.old.paths.now edge }
         requires unseen { mark_at self.old.marks.items edge ≡ Mark.Unseen }
-        requires awaited { (last : ℕ) → IsLast self.old.stack.items last → MakesInputOf (links_of self.old.graph.now) edge last }
+        requires awaited { IsAwaited self.old edge }
         ensures walk { OnOk result (IsRise self.old.graph.now self.old.paths.now self.new) }
         ensures keeps { OnOk result (Keeps self.old.marks.items self.new.marks.items) }
         ensures left { OnOk result (self.new.left.items ≡ self.old.left.items) }
@@ -199,7 +199,7 @@ impl<'a> Walk<'a> {
         requires at { IsRise self.old.graph.now self.old.paths.now self.old }
         requires within { edge < length self.old.graph.now.manifest.lines }
         requires left { 0 < left_at self.old edge }
-        requires seen { (path : ℕ) → IsNextOf self.old edge path → maker_seen self.old.marks.items ((links_of self.old.graph.now).maker path) }
+        requires seen { HasSeenNext self.old edge }
         ensures walk { IsRise self.old.graph.now self.old.paths.now self.new }
         ensures marks { self.new.marks ≡ self.old.marks }
         ensures nearer { work self.new < work self.old }
@@ -226,7 +226,7 @@ impl<'a> Walk<'a> {
 /// How many inputs each edge has.
 fn input_counts(alloc: Global, graph: &Graph) -> Result<Vec<usize>, AllocError>
     ensures fits { IfOk result (λ counts. length counts.items ≡ length graph.now.manifest.lines) }
-    ensures counts { IfOk result (λ counts. (e : ℕ) → e < length graph.now.manifest.lines → slice_index counts.items e ≡ length ((links_of graph.now).inputs e)) }
+    ensures counts { IfOk result (λ counts. CountsInputs graph.now counts.items) }
 {
     let mut counts = Vec::with_capacity(alloc, graph.edges())?;
     for place in 0..graph.edges() {

@@ -3,7 +3,7 @@
 ghost use Rattle.std.specs.Prelude.{◌≡◌, ◌<◌, ◌++◌, ◌∷◌, [], IfOk, OnOk, Some, codes, filter, flat_map, length, string_bytes};
 ghost use Rattle.model.specs.Graph.{has_number};
 ghost use Rattle.links.specs.Links.{links_of};
-ghost use Rattle.tools.specs.Answers.{Puts, if_some, lines, maker_lines, marked, outputs_of, query_lines, validated_by};
+ghost use Rattle.tools.specs.Answers.{Tells, if_some, lines, maker_lines, marked, outputs_of, query_lines, validated_by};
 
 use crate::access::{outputs_at, text_at, users_at};
 use crate::declared::Declared;
@@ -28,7 +28,7 @@ fn push_path(
     path: PathId,
     told: &mut String,
 ) -> Result<(), AllocError>
-    ensures { OnOk result (Puts (string_bytes told.old) (string_bytes told.new) (query_lines declared.now path)) }
+    ensures { OnOk result (Tells told.old told.new (query_lines declared.now path)) }
 {
     let graph = &declared.graph;
     push_line(told, &[text_at(graph, path), ":"])?;
@@ -41,7 +41,7 @@ fn push_path(
 
 /// What makes the path, with its inputs.
 fn push_if_made(declared: &Declared, path: PathId, told: &mut String) -> Result<(), AllocError>
-    ensures { OnOk result (Puts (string_bytes told.old) (string_bytes told.new) (maker_lines declared.now ((links_of declared.now.graph).maker path))) }
+    ensures { OnOk result (Tells told.old told.new (maker_lines declared.now ((links_of declared.now.graph).maker path))) }
 {
     match declared.graph.maker(path) {
         Some(edge) => push_maker(declared, edge, told),
@@ -55,7 +55,7 @@ fn push_validated(
     edges: &[EdgeId],
     told: &mut String,
 ) -> Result<(), AllocError>
-    ensures { OnOk result (Puts (string_bytes told.old) (string_bytes told.new) (if_some edges.now (codes "  validation for:" ∷ outputs_of declared.now edges.now))) }
+    ensures { OnOk result (Tells told.old told.new (if_some edges.now (codes "  validation for:" ∷ outputs_of declared.now edges.now))) }
 {
     if edges.is_empty() {
         return Ok(());
@@ -66,7 +66,7 @@ fn push_validated(
 
 fn push_maker(declared: &Declared, edge: EdgeId, told: &mut String) -> Result<(), AllocError>
     requires { edge < length declared.now.graph.manifest.lines }
-    ensures { OnOk result (Puts (string_bytes told.old) (string_bytes told.new) (maker_lines declared.now (Some edge))) }
+    ensures { OnOk result (Tells told.old told.new (maker_lines declared.now (Some edge))) }
 {
     let lines = &declared.graph.manifest.lines;
     push_line(told, &["  input: ", declared.rule(edge)])?;
@@ -82,7 +82,7 @@ fn push_validations(
     paths: &[PathId],
     told: &mut String,
 ) -> Result<(), AllocError>
-    ensures { OnOk result (Puts (string_bytes told.old) (string_bytes told.new) (if_some paths.now (codes "  validations:" ∷ marked declared.now (codes "    ") paths.now))) }
+    ensures { OnOk result (Tells told.old told.new (if_some paths.now (codes "  validations:" ∷ marked declared.now (codes "    ") paths.now))) }
 {
     if paths.is_empty() {
         return Ok(());
@@ -97,7 +97,7 @@ fn push_paths(
     paths: &[PathId],
     told: &mut String,
 ) -> Result<(), AllocError>
-    ensures { OnOk result (Puts (string_bytes told.old) (string_bytes told.new) (marked declared.now mark.now paths.now)) }
+    ensures { OnOk result (Tells told.old told.new (marked declared.now mark.now paths.now)) }
 {
     for path in paths {
         push_line(told, &[mark, text_at(&declared.graph, *path)])?;
@@ -110,7 +110,7 @@ fn push_all_outputs(
     edges: &[EdgeId],
     told: &mut String,
 ) -> Result<(), AllocError>
-    ensures { OnOk result (Puts (string_bytes told.old) (string_bytes told.new) (outputs_of declared.now edges.now)) }
+    ensures { OnOk result (Tells told.old told.new (outputs_of declared.now edges.now)) }
 {
     for edge in edges {
         push_paths(declared, "    ", outputs_at(&declared.graph, *edge), told)?;

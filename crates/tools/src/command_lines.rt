@@ -1,7 +1,7 @@
 //! `-t commands`: the commands that make targets.
 
 ghost use Rattle.std.specs.Prelude.{◌++◌, ◌∷◌, ℕ, List, [], IfOk, OnOk, string_bytes};
-ghost use Rattle.tools.specs.Answers.{AreMakers, AreMeant, AreMet, PrintsCommands, Puts, commands_of};
+ghost use Rattle.tools.specs.Answers.{AreMakers, AreMeant, AreMet, PrintsCommands, Tells, commands_of};
 
 use crate::above::edges_above;
 use crate::declared::Declared;
@@ -31,7 +31,7 @@ pub fn commands(
 
 /// The line of an edge's command, where it has one.
 fn push_command(declared: &Declared, edge: EdgeId, told: &mut String) -> Result<(), AllocError>
-    ensures { OnOk result (Puts (string_bytes told.old) (string_bytes told.new) (commands_of declared.now (edge ∷ []))) }
+    ensures { OnOk result (Tells told.old told.new (commands_of declared.now (edge ∷ []))) }
 {
     match declared.command(edge) {
         Some(command) => push_line(told, &[command.act.command.as_str()]),

@@ -5,7 +5,7 @@ ghost use Rattle.std.specs.Map.Iter.{deref};
 ghost use Rattle.std.specs.Option.{option_map};
 ghost use Rattle.links.specs.Links.{links_of};
 ghost use Rattle.paths.specs.Told.{texts_at};
-ghost use Rattle.tools.specs.Answers.{PrintsEach, PrintsOfRule, PrintsTargets, Puts, all_sources, all_targets, levels, lines, outputs_of_rule, tree, with_rule};
+ghost use Rattle.tools.specs.Answers.{PrintsEach, PrintsOfRule, PrintsTargets, Tells, all_sources, all_targets, levels, lines, outputs_of_rule, sources_of, targets_of, tree};
 ghost use Rattle.tools.specs.Showing.{IsGoneOn, Opens, Shows, head_line, indentation, unless_same, unrepeated};
 ghost use Rattle.tools.specs.declared.listing.Wanted.TheVariants as wanted;
 
@@ -90,7 +90,7 @@ fn sources(alloc: Global, declared: &Declared) -> Result<String, AllocError>
 }
 
 fn push_sources(graph: &Graph, paths: &[PathId], told: &mut String) -> Result<(), AllocError>
-    ensures { OnOk result (Puts (string_bytes told.old) (string_bytes told.new) (texts_at graph.now.manifest.paths (filter (λ p. is_none ((links_of graph.now).maker p)) paths.now))) }
+    ensures { OnOk result (Tells told.old told.new (sources_of graph.now paths.now)) }
 {
     for path in paths {
         push_source(graph, *path, told)?;
@@ -100,7 +100,7 @@ fn push_sources(graph: &Graph, paths: &[PathId], told: &mut String) -> Result<()
 
 /// The line of a path, unless an edge makes it.
 fn push_source(graph: &Graph, path: PathId, told: &mut String) -> Result<(), AllocError>
-    ensures { OnOk result (Puts (string_bytes told.old) (string_bytes told.new) (texts_at graph.now.manifest.paths (filter (λ p. is_none ((links_of graph.now).maker p)) (path ∷ [])))) }
+    ensures { OnOk result (Tells told.old told.new (sources_of graph.now (path ∷ []))) }
 {
     match graph.maker(path) {
         Some(_) => Ok(()),
@@ -171,7 +171,7 @@ fn unrepeated_lines(alloc: Global, texts: &[&str]) -> Result<String, AllocError>
 
 /// The line of a text, unless it is the last one again.
 fn push_unless_same(last: Option<&str>, text: &str, told: &mut String) -> Result<(), AllocError>
-    ensures { OnOk result (Puts (string_bytes told.old) (string_bytes told.new) (unless_same (option_map deref last.entry) text.now)) }
+    ensures { OnOk result (Tells told.old told.new (unless_same (option_map deref last.entry) text.now)) }
 {
     let Some(last) = last else {
         return push_line(told, &[text]);
@@ -194,7 +194,7 @@ fn all(alloc: Global, declared: &Declared) -> Result<String, AllocError>
 }
 
 fn push_outputs(declared: &Declared, edge: EdgeId, told: &mut String) -> Result<(), AllocError>
-    ensures { OnOk result (Puts (string_bytes told.old) (string_bytes told.new) (map (with_rule declared.now edge) ((links_of declared.now.graph).outputs edge))) }
+    ensures { OnOk result (Tells told.old told.new (targets_of declared.now edge)) }
 {
     for output in outputs_at(&declared.graph, edge) {
         let text = text_at(&declared.graph, *output);
@@ -297,7 +297,7 @@ fn push_path(
     level: usize,
     told: &mut String,
 ) -> Result<(), AllocError>
-    ensures { OnOk result (Puts (string_bytes told.old) (string_bytes told.new) (head_line declared.now level path ((links_of declared.now.graph).maker path) ∷ [])) }
+    ensures { OnOk result (Tells told.old told.new (head_line declared.now level path ((links_of declared.now.graph).maker path) ∷ [])) }
 {
     push_indent(told, level)?;
     let text = text_at(&declared.graph, path);

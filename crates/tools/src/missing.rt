@@ -1,9 +1,8 @@
 //! `-t missingdeps`: recorded inputs that are made, and whose maker is not above.
 
-ghost use Rattle.std.specs.Prelude.{◌≡◌, ◌<◌, ◌||◌, ◌++◌, ◌∷◌, [], ℕ, IfOk, OnOk, false, filter, flat_map, get_or, length};
-ghost use Rattle.model.specs.Graph.{has_number};
+ghost use Rattle.std.specs.Prelude.{◌≡◌, ◌++◌, ◌∷◌, [], IfOk, OnOk, false, filter, flat_map, get_or, length};
 ghost use Rattle.links.specs.Links.{links_of};
-ghost use Rattle.tools.specs.Above.{AreNamedBy, AreNamedMade};
+ghost use Rattle.tools.specs.Above.{AreNamedBy, AreNamedMade, MarksAlso, marked_outputs};
 ghost use Rattle.tools.specs.Missing.{Misses};
 
 use crate::above::edges_above;
@@ -84,7 +83,7 @@ fn named_by(
 /// Marks the inputs of these edges.
 fn mark_inputs(graph: &Graph, edges: &[EdgeId], marks: &mut Vec<bool>)
     ensures count { length marks.new.items ≡ length marks.old.items }
-    ensures marks { (p : ℕ) → p < length marks.old.items → get_or marks.new.items p false ≡ (get_or marks.old.items p false || has_number (flat_map (links_of graph.now).inputs edges.now) p) }
+    ensures marks { MarksAlso marks.old.items marks.new.items (flat_map (links_of graph.now).inputs edges.now) }
 {
     for edge in edges {
         mark(marks, inputs_at(graph, *edge));
@@ -98,7 +97,7 @@ fn marked_outputs(
     edges: &[EdgeId],
     marks: &[bool],
 ) -> Result<Vec<PathId>, AllocError>
-    ensures { IfOk result (λ outputs. outputs.items ≡ flat_map (λ e. filter (λ p. get_or marks.now p false) ((links_of graph.now).outputs e)) edges.now) }
+    ensures { IfOk result (λ outputs. outputs.items ≡ marked_outputs graph.now marks.now edges.now) }
 {
     let mut outputs = Vec::new(alloc);
     for edge in edges {
@@ -110,7 +109,7 @@ fn marked_outputs(
 /// Marks each of these.
 fn mark(marks: &mut Vec<bool>, paths: &[PathId])
     ensures count { length marks.new.items ≡ length marks.old.items }
-    ensures marks { (p : ℕ) → p < length marks.old.items → get_or marks.new.items p false ≡ (get_or marks.old.items p false || has_number paths.now p) }
+    ensures marks { MarksAlso marks.old.items marks.new.items paths.now }
 {
     for path in paths {
         set_mark(marks, path.index());
