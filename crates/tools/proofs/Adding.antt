@@ -1,5 +1,5 @@
 -- Texts that are added to a table, whatever their order.
-use Rattle.std.proofs.Common.{◌≡◌, ◌≢◌, ◌⊎◌, ◌↔◌, inl, inr, ℕ, zero, suc, ◌+◌, ◌<◌, ◌==◌, ◌||◌, Bool, true, false, if◌then◌else◌, List, [], ◌∷◌, ◌++◌, length, take, get_or, map, refl, sym, ap, ◌∙◌, subst, arith, bytes_eq}
+use Rattle.std.proofs.Common.{◌≡◌, ◌≢◌, ◌⊎◌, ◌↔◌, inl, inr, ℕ, zero, suc, ◌+◌, ◌<◌, ◌≤◌, ◌==◌, ◌||◌, Bool, true, false, if◌then◌else◌, List, [], ◌∷◌, ◌++◌, length, take, get_or, map, refl, sym, ap, ◌∙◌, subst, arith, bytes_eq}
 use Rattle.std.proofs.lemmas.Bool.{cases_Bool, cases_lt, eqb-true, eq-eqb, false≢true, or_cases, or_left, or_right}
 use Rattle.std.proofs.lemmas.List.{map-append, take_more}
 use Rattle.std.proofs.lemmas.Slice.Eq.{bytes_eq-Decides}
@@ -76,6 +76,9 @@ IsTextOf texts t = (t ≢ []) × (has texts t ≡ true)
 
 abbrev pub IsSame : List ℕ → List ℕ → Type 0
 IsSame path t = t ≡ path
+
+abbrev pub IsHad : List (List ℕ) → List ℕ → Type 0
+IsHad texts t = has texts t ≡ true
 
 -- one of those below a bound
 abbrev pub IsBelow : (ℕ → List ℕ → Type 0) → ℕ → List ℕ → Type 0
@@ -167,30 +170,31 @@ adds_next f numbers i n old mid new text low is same before adds =
     more = ap (map f) (take_more numbers i n low ∙ ap (λ (m : ℕ). take i numbers ++ m ∷ []) (sym is)) ∙ map-append f (take i numbers) (n ∷ [])
 
 -- one number more of those below a bound
+pub below_on : (P : ℕ → List ℕ → Type 0) (i : ℕ) (t : List ℕ) → Or (IsBelow P i) (P i) t → IsBelow P (i + 1) t
+below_on P i t (inl p) = (p.0, omega (arith, p.1), p.2)
+below_on P i t (inr q) = (i, omega arith, q)
+
+pub below_back : (P : ℕ → List ℕ → Type 0) (i : ℕ) (t : List ℕ) → IsBelow P (i + 1) t → Or (IsBelow P i) (P i) t
+below_back P i t p = elim (cases_lt p.0 i) [
+  | inl below ↦ inl (p.0, below, p.2)
+  | inr above ↦ inr (subst (λ (e : ℕ). P e t) (last p.0 p.1 above) p.2)
+]
+  where
+    last : (e : ℕ) → e < i + 1 → i ≤ e → e ≡ i
+    last e low above = omega (arith, low, above)
+
 pub adds_counted : (P : ℕ → List ℕ → Type 0) (i : ℕ) (old mid new : List (List ℕ)) → AddsJust old mid (λ t. (e : ℕ) × (e < i) × P e t) → AddsJust mid new (P i)
     → AddsJust old new (λ t. (e : ℕ) × (e < i + 1) × P e t)
 adds_counted P i old mid new before adds =
-    adds_as old new (Or (IsBelow P i) (P i)) (IsBelow P (i + 1))
-    (λ t either. elim either [
-      | inl p ↦ (p.0, omega (arith, p.1), p.2)
-      | inr q ↦ (i, omega arith, q)
-    ])
-    (λ t p. elim (by p.0 p.1) [
-      | inl below ↦ inl (p.0, below, p.2)
-      | inr last ↦ inr (subst (λ (e : ℕ). P e t) last p.2)
-    ])
-    (adds_then old mid new (IsBelow P i) (P i) before adds)
-  where
-    by : (e : ℕ) → e < i + 1 → (e < i) ⊎ (e ≡ i)
-    by e low = elim (cases_lt e i) [
-      | inl below ↦ inl below
-      | inr above ↦ inr (omega (arith, low, above))
-    ]
+    adds_as old new (Or (IsBelow P i) (P i)) (IsBelow P (i + 1)) (below_on P i) (below_back P i) (adds_then old mid new (IsBelow P i) (P i) before adds)
 
 -- ---- texts that are borrowed
 
+pub deref_more : (texts : List (Bor (List ℕ))) (i : ℕ) (d : Bor (List ℕ)) → i < length texts → map deref (take (i + 1) texts) ≡ map deref (take i texts) ++ (get_or texts i d).now ∷ []
+deref_more texts i d low = ap (map deref) (take_more texts i d low) ∙ map-append deref (take i texts) (get_or texts i d ∷ [])
+
 has_next : (texts : List (Bor (List ℕ))) (i : ℕ) (d : Bor (List ℕ)) (text : List ℕ) → i < length texts → has (map deref (take (i + 1) texts)) text ≡ (has (map deref (take i texts)) text || bytes_eq (get_or texts i d).now text)
-has_next texts i d text low = ap (λ (l : List (List ℕ)). has l text) (ap (map deref) (take_more texts i d low) ∙ map-append deref (take i texts) (get_or texts i d ∷ [])) ∙ has_push (map deref (take i texts)) (get_or texts i d).now text
+has_next texts i d text low = ap (λ (l : List (List ℕ)). has l text) (deref_more texts i d low) ∙ has_push (map deref (take i texts)) (get_or texts i d).now text
 
 pub not_among : (texts : List (Bor (List ℕ))) (i : ℕ) (d : Bor (List ℕ)) (text : List ℕ) → i < length texts → bytes_eq (get_or texts i d).now text ≡ false → has (map deref (take i texts)) text ≡ false → has (map deref (take (i + 1) texts)) text ≡ false
 not_among texts i d text low other none = has_next texts i d text low ∙ (ap (λ (b : Bool). b || bytes_eq (get_or texts i d).now text) none ∙ (ap (λ (b : Bool). false || b) other))

@@ -18,6 +18,10 @@ pub record IsLeft (manifest : Manifest) (records : List Record) (text : List ℕ
   pub made : IsSome (in_force records text)
   pub unnamed : IsUnnamed manifest text
 
+-- the deps record with this number lists it as an input
+abbrev pub IsListedAt : List DepsRecord → ℕ → List ℕ → Type 0
+IsListedAt records k text = (told : DepsRecord) × (slice_get records k ≡ Some told) × (has told.paths text ≡ true)
+
 -- a deps record lists it as an input
 abbrev pub IsListed : List DepsRecord → List ℕ → Type 0
 IsListed records text = (k : ℕ) × (told : DepsRecord) × (slice_get records k ≡ Some told) × (has told.paths text ≡ true)
@@ -30,6 +34,11 @@ ListsAll records listed = (ds : List DepsRecord) (text : List ℕ) → Keeps ds 
 pub record AddsLeft (manifest : Manifest) (listed : List (List ℕ)) (made : List ℕ → Type 0) (old new : Dead) : Type 0 where
   pub dead : AddsJust old.dead new.dead (λ text. made text × IsUnnamed manifest text × (has listed text ≡ false))
   pub kept : AddsJust old.kept new.kept (λ text. made text × IsUnnamed manifest text × (has listed text ≡ true))
+
+-- the text was added to the dead ones, or, where it is listed, to those that are kept
+pub record AddsEither (listed : List (List ℕ)) (text : List ℕ) (old new : Dead) : Type 0 where
+  pub dead : AddsJust old.dead new.dead (λ added. (added ≡ text) × (has listed text ≡ false))
+  pub kept : AddsJust old.kept new.kept (λ added. (added ≡ text) × (has listed text ≡ true))
 
 -- what is left is removed where no deps record lists it, and else kept
 pub record AreBuried (manifest : Manifest) (records : List Record) (deps : List DepsRecord) (dead kept : List (List ℕ)) : Type 0 where

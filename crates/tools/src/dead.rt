@@ -1,11 +1,13 @@
 //! `-t cleandead`: what a build made once and no line names any more.
 
-ghost use Rattle.std.specs.Prelude.{◌≡◌, IfOk, OnOk, map, true};
+ghost use Rattle.std.specs.Prelude.{◌≡◌, IfOk, OnOk, map, slice_get, Some, true};
 ghost use Rattle.std.specs.Map.Iter.{deref};
 ghost use Rattle.model.specs.Graph.{has};
+ghost use Rattle.build_log.specs.Keeping.{OfKept};
 ghost use Rattle.build_log.specs.Kept.{texts_at};
+ghost use Rattle.deps_log.specs.Log.{Keeps};
 ghost use Rattle.tools.specs.Clean.{AddsJust};
-ghost use Rattle.tools.specs.Dead.{AddsLeft, Buries, ListsAll};
+ghost use Rattle.tools.specs.Dead.{AddsEither, AddsLeft, Buries, IsListedAt, ListsAll};
 
 use crate::declared::Declared;
 use paths::Paths;
@@ -26,10 +28,9 @@ pub fn to_bury(alloc: Global, declared: &Declared, records: &Records) -> Result<
     ensures { IfOk result (λ found. Buries declared.now.graph records.now found.dead found.kept) }
 {
     let listed = listed(alloc, records)?;
-    let mut found = Dead {
-        dead: Paths::new(alloc),
-        kept: Paths::new(alloc),
-    };
+    let dead = Paths::new(alloc);
+    let kept = Paths::new(alloc);
+    let mut found = Dead { dead, kept };
     let log = records.logs.build_log.log();
     for number in 0..log.done_records() {
         let outputs = log.outputs_at(alloc, number)?;
@@ -64,14 +65,21 @@ fn add(
 ) -> Result<(), AllocError>
     ensures { OnOk result (AddsLeft declared.now.graph.manifest listed.now (λ text. text ≡ output.now) found.old found.new) }
 {
-    if declared.graph.manifest.number_of(output).is_some() {
-        return Ok(());
+    match declared.graph.manifest.number_of(output) {
+        Some(_) => Ok(()),
+        None => bury(alloc, listed, output, found),
     }
-    if listed.number_of(output).is_some() {
-        found.kept.add(alloc, output)?;
-    } else {
+}
+
+/// Adds it to those that are kept where it is listed, and else to those that are removed.
+fn bury(alloc: Global, listed: &Paths, output: &str, found: &mut Dead) -> Result<(), AllocError>
+    ensures { OnOk result (AddsEither listed.now output.now found.old found.new) }
+{
+    let Some(_) = listed.number_of(output) else {
         found.dead.add(alloc, output)?;
-    }
+        return Ok(());
+    };
+    found.kept.add(alloc, output)?;
     Ok(())
 }
 
@@ -82,11 +90,24 @@ fn listed(alloc: Global, records: &Records) -> Result<Paths, AllocError>
     let mut listed = Paths::new(alloc);
     let log = records.logs.deps_log.log();
     for number in 0..log.deps_records() {
-        if let Some(deps) = log.deps_at(number) {
-            add_listed(alloc, records, deps.paths.as_slice(), &mut listed)?;
-        }
+        add_record(alloc, records, number, &mut listed)?;
     }
     Ok(listed)
+}
+
+/// Adds the paths that the deps record with this number lists, if there is one.
+fn add_record(
+    alloc: Global,
+    records: &Records,
+    number: usize,
+    listed: &mut Paths,
+) -> Result<(), AllocError>
+    ensures { OnOk result (OfKept Keeps records.now.logs.deps_log.log (λ all. AddsJust listed.old listed.new (IsListedAt all number))) }
+{
+    let Some(deps) = records.logs.deps_log.log().deps_at(number) else {
+        return Ok(());
+    };
+    add_listed(alloc, records, deps.paths.as_slice(), listed)
 }
 
 fn add_listed(
@@ -98,9 +119,23 @@ fn add_listed(
     ensures { OnOk result (AddsJust listed.old listed.new (λ text. has (texts_at records.now.logs.deps_log.log.outputs numbers.now) text ≡ true)) }
 {
     for number in numbers {
-        if let Some(path) = records.deps_path(*number) {
-            listed.add(alloc, path)?;
-        }
+        add_number(alloc, records, *number, listed)?;
     }
+    Ok(())
+}
+
+/// Adds the path that deps records name by this number, if there is one.
+fn add_number(
+    alloc: Global,
+    records: &Records,
+    number: usize,
+    listed: &mut Paths,
+) -> Result<(), AllocError>
+    ensures { OnOk result (AddsJust listed.old listed.new (λ text. Some text ≡ slice_get records.now.logs.deps_log.log.outputs number)) }
+{
+    let Some(path) = records.deps_path(number) else {
+        return Ok(());
+    };
+    listed.add(alloc, path)?;
     Ok(())
 }
