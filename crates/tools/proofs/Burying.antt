@@ -257,31 +257,32 @@ pub number_some : (texts old new : List (List ℕ)) (number n : ℕ) (path : Lis
 number_some texts old new number n path at added =
     adds_as old new (IsSame path) (IsAt texts number) (λ t is. ap (λ (u : List ℕ). Some u) is ∙ at) (λ t there. same_Some t path (there ∙ sym at)) (adds_path old new path n added)
 
-at_or : (found : Option (List ℕ)) (t : List ℕ) → has (if_some found) t ≡ true → Some t ≡ found
+pub at_or : (found : Option (List ℕ)) (t : List ℕ) → has (if_some found) t ≡ true → Some t ≡ found
 at_or None t is = absurd (false≢true is)
 at_or (Some u) t is = elim (has_cases [] u t is) [
   | inl none ↦ absurd (false≢true none)
   | inr same ↦ ap (λ (v : List ℕ). Some v) (sym same)
 ]
 
-or_at : (found : Option (List ℕ)) (t : List ℕ) → Some t ≡ found → has (if_some found) t ≡ true
+pub or_at : (found : Option (List ℕ)) (t : List ℕ) → Some t ≡ found → has (if_some found) t ≡ true
 or_at None t is = absurd (none-some t (sym is))
 or_at (Some u) t is = subst (λ (v : List ℕ). has (v ∷ []) t ≡ true) (same_Some t u is) (has_new [] t)
 
 -- one number more of a deps record
+pub texts_more : (texts : List (List ℕ)) (numbers : List ℕ) (i number : ℕ) → i < length numbers → number ≡ get_or numbers i 0 → texts_at texts (take i numbers) ++ if_some (slice_get texts number) ≡ texts_at texts (take (i + 1) numbers)
+texts_more texts numbers i number low is =
+    texts_next texts numbers i (texts_at texts (take i numbers)) (texts_at texts (take i numbers) ++ if_some (slice_get texts number)) low refl (ap (λ (n : ℕ). texts_at texts (take i numbers) ++ if_some (slice_get texts n)) is)
+
 pub numbers_more : (texts : List (List ℕ)) (numbers : List ℕ) (i number : ℕ) (old mid new : List (List ℕ)) → i < length numbers → number ≡ get_or numbers i 0
     → AddsJust old mid (λ t. has (texts_at texts (take i numbers)) t ≡ true) → AddsJust mid new (λ t. Some t ≡ slice_get texts number) → AddsJust old new (λ t. has (texts_at texts (take (i + 1) numbers)) t ≡ true)
 numbers_more texts numbers i number old mid new low is before adds =
     adds_as old new (Or (IsHad (texts_at texts (take i numbers))) (IsAt texts number)) (IsHad (texts_at texts (take (i + 1) numbers)))
-    (λ t either. subst (λ (l : List (List ℕ)). has l t ≡ true) more (elim either [
+    (λ t either. subst (λ (l : List (List ℕ)). has l t ≡ true) (texts_more texts numbers i number low is) (elim either [
       | inl was ↦ has_left (texts_at texts (take i numbers)) (if_some (slice_get texts number)) t was
       | inr now ↦ has_right (texts_at texts (take i numbers)) (if_some (slice_get texts number)) t (or_at (slice_get texts number) t now)
     ]))
-    (λ t there. elim (has_either (texts_at texts (take i numbers)) (if_some (slice_get texts number)) t (subst (λ (l : List (List ℕ)). has l t ≡ true) (sym more) there)) [
+    (λ t there. elim (has_either (texts_at texts (take i numbers)) (if_some (slice_get texts number)) t (subst (λ (l : List (List ℕ)). has l t ≡ true) (sym (texts_more texts numbers i number low is)) there)) [
       | inl was ↦ inl was
       | inr now ↦ inr (at_or (slice_get texts number) t now)
     ])
     (adds_then old mid new (IsHad (texts_at texts (take i numbers))) (IsAt texts number) before adds)
-  where
-    more : texts_at texts (take i numbers) ++ if_some (slice_get texts number) ≡ texts_at texts (take (i + 1) numbers)
-    more = texts_next texts numbers i (texts_at texts (take i numbers)) (texts_at texts (take i numbers) ++ if_some (slice_get texts number)) low refl (ap (λ (n : ℕ). texts_at texts (take i numbers) ++ if_some (slice_get texts n)) is)

@@ -1,5 +1,5 @@
 -- Recorded inputs that an edge makes which is not above: a build could make them later than what reads them.
-use Rattle.std.specs.Prelude.{◌≡◌, ◌≢◌, ℕ, true, List, ◌++◌, ◌∷◌, [], IsSome, Some}
+use Rattle.std.specs.Prelude.{◌≡◌, ◌≢◌, ◌⊎◌, ◌↔◌, ℕ, Bool, true, false, List, ◌++◌, ◌∷◌, [], IsSome, Some, get_or}
 use Rattle.model.specs.declared.record.DepsRecord.{DepsRecord}
 use Rattle.model.specs.Graph.{has}
 use Rattle.model.specs.Records.{deps_in_force, paths_in}
@@ -32,3 +32,35 @@ pub record AreMissing (graph : Graph) (records : List DepsRecord) (file : List �
 -- the same of whatever the logs tell
 abbrev pub Misses : Graph → Records → (file : List ℕ) → (paths : List ℕ) → List MissingDep → Type 0
 Misses graph records file paths found = (rs : List Record) (ds : List DepsRecord) → Knows graph records rs ds → AreMissing graph ds file paths found
+
+-- ---- on the way
+
+-- an input among these recorded paths that this edge makes, and that is not the file
+pub record IsMadeOf (graph : Graph) (texts : List (List ℕ)) (file : List ℕ) (dep : MissingDep) : Type 0 where
+  pub told : has texts (text_at graph.manifest.paths dep.input) ≡ true
+  pub made : (links_of graph).maker dep.input ≡ Some dep.maker
+  pub other : text_at graph.manifest.paths dep.input ≢ file
+
+-- one of this output
+abbrev pub IsMadeFor : Graph → ℕ → List (List ℕ) → List ℕ → MissingDep → Type 0
+IsMadeFor graph output texts file dep = (dep.output ≡ output) × IsMadeOf graph texts file dep
+
+-- one whose maker is not above the output
+abbrev pub IsApart : Graph → ℕ → List (List ℕ) → List ℕ → MissingDep → Type 0
+IsApart graph output texts file dep = (dep.output ≡ output) × IsMadeOf graph texts file dep × (IsNeededFor (links_of graph) (output ∷ []) dep.maker → ⊥)
+
+-- one of these, whose maker has no mark
+abbrev pub IsUnmarked : List Bool → List MissingDep → MissingDep → Type 0
+IsUnmarked marks made dep = IsOneOf dep made × (get_or marks dep.maker false ≡ false)
+
+-- the marks are those of the edges that are needed for the output
+abbrev pub AreNeeded : Graph → ℕ → List Bool → Type 0
+AreNeeded graph output marks = (e : ℕ) → get_or marks e false ≡ true ↔ IsNeededFor (links_of graph) (output ∷ []) e
+
+-- just these were added
+abbrev pub AddsDeps : (old new : List MissingDep) → (MissingDep → Type 0) → Type 0
+AddsDeps old new added = (dep : MissingDep) → IsOneOf dep new ↔ (IsOneOf dep old ⊎ added dep)
+
+-- the missing ones of an output were added, whatever the logs tell
+abbrev pub AddsMissing : Graph → Records → (file : List ℕ) → ℕ → (old new : List MissingDep) → Type 0
+AddsMissing graph records file output old new = (rs : List Record) (ds : List DepsRecord) → Knows graph records rs ds → AddsDeps old new (λ dep. (dep.output ≡ output) × IsMissing graph ds file dep)

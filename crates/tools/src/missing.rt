@@ -1,9 +1,10 @@
 //! `-t missingdeps`: recorded inputs that are made, and whose maker is not above.
 
-ghost use Rattle.std.specs.Prelude.{◌≡◌, ◌++◌, ◌∷◌, [], IfOk, OnOk, false, filter, flat_map, get_or, length};
+ghost use Rattle.std.specs.Prelude.{◌≡◌, ◌++◌, ◌∷◌, [], IfOk, IsSome, OnOk, false, filter, flat_map, get_or, length, slice_get};
+ghost use Rattle.build_log.specs.Kept.{if_some, texts_at};
 ghost use Rattle.links.specs.Links.{links_of};
 ghost use Rattle.tools.specs.Above.{AreNamedBy, AreNamedMade, MarksAlso, marked_outputs};
-ghost use Rattle.tools.specs.Missing.{Misses};
+ghost use Rattle.tools.specs.Missing.{AddsDeps, AddsMissing, AreNeeded, IsApart, IsMadeFor, IsUnmarked, Misses};
 
 use crate::above::edges_above;
 use crate::access::{inputs_at, outputs_at};
@@ -151,65 +152,127 @@ fn add_missing(
     output: PathId,
     file: &str,
     missing: &mut Vec<MissingDep>,
-) -> Result<(), AllocError> {
+) -> Result<(), AllocError>
+    requires { IsSome ((links_of logged.entry.declared.now.graph).maker output) }
+    ensures { OnOk result (AddsMissing logged.entry.declared.now.graph logged.entry.records.now file.now output missing.old.items missing.new.items) }
+{
     let Some(deps) = logged.records.deps(output) else {
         return Ok(());
     };
-    let made = made_inputs(alloc, logged, deps.paths.as_slice(), file)?;
+    add_apart(alloc, logged, output, deps.paths.as_slice(), file, missing)
+}
+
+/// Adds those of the recorded paths of an output that edges make which are not above it.
+fn add_apart(
+    alloc: Global,
+    logged: Logged<'_>,
+    output: PathId,
+    numbers: &[usize],
+    file: &str,
+    missing: &mut Vec<MissingDep>,
+) -> Result<(), AllocError>
+    ensures { OnOk result (AddsDeps missing.old.items missing.new.items (IsApart logged.entry.declared.now.graph output (texts_at logged.entry.records.now.logs.deps_log.log.outputs numbers.now) file.now)) }
+{
+    let made = made_inputs(alloc, logged, output, numbers, file)?;
     if made.is_empty() {
         return Ok(());
     }
-    let above = marks(alloc, &logged.declared.graph, output)?;
-    for (input, maker) in made {
-        if !is_marked(&above, maker.index()) {
-            missing.push(MissingDep {
-                output,
-                input,
-                maker,
-            })?;
-        }
+    let above = needed(alloc, &logged.declared.graph, output)?;
+    push_unmarked(made.as_slice(), above.as_slice(), missing)
+}
+
+/// Adds those whose makers have no mark.
+fn push_unmarked(
+    made: &[MissingDep],
+    marks: &[bool],
+    missing: &mut Vec<MissingDep>,
+) -> Result<(), AllocError>
+    ensures { OnOk result (AddsDeps missing.old.items missing.new.items (IsUnmarked marks.now made.now)) }
+{
+    for dep in made {
+        push_if_unmarked(*dep, marks, missing)?;
     }
     Ok(())
 }
 
-/// Those of the recorded paths that edges make, with these edges.
+fn push_if_unmarked(
+    dep: MissingDep,
+    marks: &[bool],
+    missing: &mut Vec<MissingDep>,
+) -> Result<(), AllocError>
+    ensures { OnOk result (AddsDeps missing.old.items missing.new.items (IsUnmarked marks.now (dep ∷ []))) }
+{
+    if is_marked(marks, dep.maker.index()) {
+        return Ok(());
+    }
+    missing.push(dep)?;
+    Ok(())
+}
+
+/// Those of the recorded paths of an output that edges make, with these edges.
 fn made_inputs(
     alloc: Global,
     logged: Logged<'_>,
+    output: PathId,
     numbers: &[usize],
     file: &str,
-) -> Result<Vec<(PathId, EdgeId)>, AllocError> {
+) -> Result<Vec<MissingDep>, AllocError>
+    ensures { IfOk result (λ made. AddsDeps [] made.items (IsMadeFor logged.entry.declared.now.graph output (texts_at logged.entry.records.now.logs.deps_log.log.outputs numbers.now) file.now)) }
+{
     let mut made = Vec::new(alloc);
     for number in numbers {
-        let path = logged.records.deps_path(*number).unwrap_or(file);
-        if path != file {
-            push_maker(&logged.declared.graph, path, &mut made)?;
-        }
+        push_made(logged, output, *number, file, &mut made)?;
     }
     Ok(made)
 }
 
-fn push_maker(
-    graph: &Graph,
-    path: &str,
-    made: &mut Vec<(PathId, EdgeId)>,
-) -> Result<(), AllocError> {
+fn push_made(
+    logged: Logged<'_>,
+    output: PathId,
+    number: usize,
+    file: &str,
+    made: &mut Vec<MissingDep>,
+) -> Result<(), AllocError>
+    ensures { OnOk result (AddsDeps made.old.items made.new.items (IsMadeFor logged.entry.declared.now.graph output (if_some (slice_get logged.entry.records.now.logs.deps_log.log.outputs number)) file.now)) }
+{
+    let Some(path) = logged.records.deps_path(number) else {
+        return Ok(());
+    };
+    if path == file {
+        return Ok(());
+    }
+    let graph = &logged.declared.graph;
     let Some(input) = graph.manifest.paths.number_of(path) else {
         return Ok(());
     };
-    if let Some(maker) = graph.maker(input) {
-        made.push((input, maker))?;
-    }
+    let Some(maker) = graph.maker(input) else {
+        return Ok(());
+    };
+    made.push(MissingDep {
+        output,
+        input,
+        maker,
+    })?;
     Ok(())
 }
 
 /// For each edge whether it is above the output's edge, or that itself.
-fn marks(alloc: Global, graph: &Graph, output: PathId) -> Result<Vec<bool>, AllocError> {
-    let mut marks = vec![in alloc; false; graph.edges()]?;
+fn needed(alloc: Global, graph: &Graph, output: PathId) -> Result<Vec<bool>, AllocError>
+    ensures { IfOk result (λ marks. AreNeeded graph.now output marks.items) }
+{
     let one = [output];
     let edges = edges_above(alloc, graph, one.as_slice())?;
-    for edge in edges.as_slice() {
-        set_mark(&mut marks, edge.index());
-    }
+    let mut marks = vec![in alloc; false; graph.edges()]?;
+    mark_edges(&mut marks, edges.as_slice());
     Ok(marks)
+}
+
+/// Marks each of these edges.
+fn mark_edges(marks: &mut Vec<bool>, edges: &[EdgeId])
+    ensures count { length marks.new.items ≡ length marks.old.items }
+    ensures marks { MarksAlso marks.old.items marks.new.items edges.now }
+{
+    for edge in edges {
+        set_mark(marks, edge.index());
+    }
 }
