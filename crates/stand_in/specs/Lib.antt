@@ -3,3 +3,4 @@ pub mod Heading
 pub mod Ends
 pub mod Above
 pub mod Tools
+pub mod Laws

@@ -65,9 +65,10 @@ WasUnreadAlone tells outcome name old new report = (entry : World) × OnlyLooks 
 abbrev pub IsOneBuild : Bool → (Act → View → Outcome) → Options → World → World → Report → Type 0
 IsOneBuild tells outcome options old new report = (targets : List (List ℕ)) × IsBuild tells outcome options.file (limits_of options) targets old new report
 
--- it was built, and the site started again, so that no command runs
+-- it was built with success, and the site started again, so that no command runs
 pub record WasBuiltFirst (tells : Bool) (outcome : Act → View → Outcome) (options : Options) (old new : World) : Type 0 where
   pub report : Report
+  pub success : (started : ℕ) × (report ≡ Success started)
   pub end : World
   pub built : IsOneBuild tells outcome options old end report
   pub restarted : IsRestart tells end new
