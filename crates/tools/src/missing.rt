@@ -153,7 +153,7 @@ fn add_missing(
     file: &str,
     missing: &mut Vec<MissingDep>,
 ) -> Result<(), AllocError>
-    requires { IsSome ((links_of logged.entry.declared.now.graph).maker output) }
+    requires { IsSome ((links_of logged.declared.now.graph).maker output) }
     ensures { OnOk result (AddsMissing logged.entry.declared.now.graph logged.entry.records.now file.now output missing.old.items missing.new.items) }
 {
     let Some(deps) = logged.records.deps(output) else {
