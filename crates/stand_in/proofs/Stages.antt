@@ -22,7 +22,7 @@ use Rattle.stand_in.specs.declared.build.Ended.{Ended}
 use Rattle.stand_in.specs.declared.build.Next.{Next}
 use Rattle.stand_in.specs.declared.build.Next.TheVariants.{Build, ReadAnew, End as EndsBy}
 use Rattle.stand_in.specs.declared.build.Outcome.{Outcome as End}
-use Rattle.stand_in.specs.declared.build.Outcome.TheVariants.{Built, NotRebuilt, Refused}
+use Rattle.stand_in.specs.declared.build.Outcome.TheVariants.{Built}
 
 -- ---- calls
 
@@ -100,6 +100,11 @@ module _ (tells : Bool) (outcome : Act → View → Outcome) (options : Options)
     was_read = was.was_read;
     since = looked_then tells was.read now new was.since since;
   }
+
+  -- and is prepared, whatever the build files say
+  pub ready_prepared : (old now : World) (declared : Declared) → IsReady tells outcome options old now declared → IsPrepared tells outcome options old now
+  ready_prepared old now declared ready =
+      prepared_then old ready.read now (prepared_then old ready.entry ready.read ready.prepared ready.was_read.looked.looks) ready.since.looks
 
   -- ---- by results
 
