@@ -1,5 +1,5 @@
 -- How a run goes from stage to stage.
-use Rattle.std.proofs.Common.{◌≡◌, ◌⊎◌, inl, inr, ℕ, Bool, true, false, IsTrue, List, [], Option, None, Some, Result, Ok, Err, IfErr, IsErrAnd, refl, sym, ap, ◌∙◌, subst, arith}
+use Rattle.std.proofs.Common.{◌≡◌, ◌⊎◌, inl, inr, ℕ, Bool, true, false, IsTrue, List, [], Option, None, Some, Result, Ok, Err, IfErr, IfOk, IsErrAnd, refl, sym, ap, ◌∙◌, subst, arith}
 use Rattle.std.proofs.lemmas.Bool.{false≢true}
 use Rattle.model.specs.declared.act.Act.{Act}
 use Rattle.model.specs.declared.event.Event.{Event}
@@ -17,6 +17,7 @@ use Rattle.builder.specs.Build.{IsBuild, limits_of}
 use Rattle.builder.specs.declared.report.Options.{Options}
 use Rattle.builder.specs.declared.report.Report.{Report}
 use Rattle.builder.specs.declared.report.Report.TheVariants.{Fault, Success}
+use Rattle.nj_run.specs.Alone.{Passes}
 use Rattle.stand_in.specs.Moves.{EndsFirst, FailedAt, IsEndOf, IsNext, IsOneBuild, IsPrepared, IsReady, MayBeBuiltFirst, WasReadAlone, WasReadHere, WasUnreadAlone, WasUnreadHere, end_in, outcome_in}
 use Rattle.stand_in.specs.declared.build.Ended.{Ended}
 use Rattle.stand_in.specs.declared.build.Next.{Next}
@@ -45,6 +46,25 @@ memory_cause w runs = record {
   after_stop = λ is. absurd (false≢true (sym runs ∙ is));
   earlier = refl;
 }
+
+-- time went by before it was read, and then again
+pub alone_by : (tells : Bool) (name : List ℕ) (old entry read now : World) (declared : Declared) → OnlyLooks tells old entry → WasReadHere tells name entry read declared → Passes tells read now → WasReadAlone tells name old now declared
+alone_by tells name old entry read now declared before was passes = record {
+  entry = entry;
+  before = before;
+  read = read;
+  was_read = was;
+  since = record { looks = passes.looks; unrefused = record { failures = passes.failures; began = was.looked.unrefused.goes_on; goes_on = passes.stopped ∙ was.looked.unrefused.goes_on; earlier = passes.earlier } };
+}
+
+-- and nothing since
+pub alone_last : (tells : Bool) (name : List ℕ) (old entry now : World) (r : Result Declared Report) → OnlyLooks tells old entry → IfOk r (WasReadHere tells name entry now) → IfOk r (WasReadAlone tells name old now)
+alone_last tells name old entry now (Ok declared) before was = record { entry = entry; before = before; read = now; was_read = was; since = looked_nothing tells now was.looked.unrefused.goes_on }
+alone_last tells name old entry now (Err report) before was = tt
+
+pub unread_last : (tells : Bool) (outcome : Act → View → Outcome) (name : List ℕ) (old entry now : World) (r : Result Declared Report) → OnlyLooks tells old entry → IfErr r (WasUnreadHere tells outcome name entry now) → IfErr r (WasUnreadAlone tells outcome name old now)
+unread_last tells outcome name old entry now (Ok declared) before unread = tt
+unread_last tells outcome name old entry now (Err report) before unread = (entry, before, unread)
 
 module _ (tells : Bool) (outcome : Act → View → Outcome) (options : Options) where
   -- nothing was built first
