@@ -138,13 +138,7 @@ impl Jobs {
         ensures ended { IfOk result EndedSo }
     {
         read_once(self.alloc, &mut self.environment)?;
-        run_alone(
-            self.alloc,
-            rt,
-            command,
-            known(&self.environment),
-            watch,
-        )
+        run_alone(self.alloc, rt, command, known(&self.environment), watch)
     }
 
     /// Waits until all commands have ended. What was told so far is told of before, and no command runs.

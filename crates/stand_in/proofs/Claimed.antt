@@ -71,8 +71,7 @@ module _ (tells : Bool) (outcome : Act → View → Outcome) (way : Way) (tell :
   prepared_keeps {old = old} {entry = entry} prepared ended faith keeps =
       let B = behaviour_in outcome way in
       let at_entry = nothing_keeps B way.format way.own [] old prepared.entry faith prepared.before.events ended keeps.before (prepared.before.history tell) in
-      let after = first_keeps prepared.built (λ job. ap (λ (l : List Event). runs job l) prepared.before.events ∙ ended job) at_entry keeps.built in
-      (
+      let after = first_keeps prepared.built (λ job. ap (λ (l : List Event). runs job l) prepared.before.events ∙ ended job) at_entry keeps.built in (
         nothing_keeps B way.format way.own [] prepared.first entry after.0 prepared.edits.events after.1 keeps.edits (prepared.edits.history tell),
         λ job. ap (λ (l : List Event). runs job l) prepared.edits.events ∙ after.1 job,
       )

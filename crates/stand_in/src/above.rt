@@ -64,11 +64,7 @@ fn add_edge(
 }
 
 /// The path of a file, where a line names it.
-fn file_path(
-    alloc: Global,
-    declared: &Declared,
-    name: &str,
-) -> Result<Option<PathId>, AllocError>
+fn file_path(alloc: Global, declared: &Declared, name: &str) -> Result<Option<PathId>, AllocError>
     ensures { IfOk result (IsFileOf declared.now name.now) }
 {
     match canonical(alloc, name) {

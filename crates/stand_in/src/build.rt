@@ -275,9 +275,7 @@ fn build_these<S: Place>(
     has_dyndeps();
     let graph = &mut declared.graph;
     let asked = Asked::new(alloc, options, targets, &graph.manifest.builddir)?;
-    Ok(Outcome::Built(build_graph_read(
-        alloc, site, graph, &asked, options,
-    )))
+    Ok(Outcome::Built(build_graph_read(alloc, site, graph, &asked, options)))
 }
 
 /// Says of targets that generators make whether one would run. Of others nothing can be said yet.

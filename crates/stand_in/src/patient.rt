@@ -6,8 +6,8 @@ use crate::place::Place;
 use model::{Act, Event, Finished, SiteFault};
 use nj_run::Alone;
 use site::{Site, Texts};
-use std::time::Duration;
 use std::thread;
+use std::time::Duration;
 use text::Bytes;
 
 /// How long it is waited between two looks, in thousandths of a second.

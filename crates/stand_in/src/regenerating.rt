@@ -197,8 +197,7 @@ fn texts<'a>(
     alloc: Global,
     declared: &'a Declared,
     edge: EdgeId,
-) -> Result<Vec<&'a str>, AllocError>
-{
+) -> Result<Vec<&'a str>, AllocError> {
     let mut texts = Vec::new(alloc);
     for output in outputs_at(&declared.graph, edge) {
         texts.push(text_at(&declared.graph, *output))?;

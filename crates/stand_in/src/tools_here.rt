@@ -16,8 +16,8 @@ use std::alloc::{AllocError, Global};
 use tools::{
     Answer, Cleaned, Cleaning, Declared, Entries, Fault, Logged, Missed, MissingDep, Switches,
     Tool, asked, asked_in_logs, clean, commands, compdb, compdb_targets, deps, edges_above, graph,
-    inputs, load_dyndeps, missing_deps, push_line, query, read_joined, read_mode,
-    path_at, recorded_outputs, rules, targets, text_at, to_bury, to_clean,
+    inputs, load_dyndeps, missing_deps, path_at, push_line, query, read_joined, read_mode,
+    recorded_outputs, rules, targets, text_at, to_bury, to_clean,
 };
 
 /// What is told behind the counts of missing dependencies.
@@ -469,11 +469,7 @@ fn push_refused(text: &mut String, cleaned: &Cleaned) -> Result<(), AllocError> 
 }
 
 /// Tells which of the paths are there and kept.
-fn push_kept<S: Site>(
-    site: &mut S,
-    text: &mut String,
-    kept: &Paths,
-) -> Result<(), Fault> {
+fn push_kept<S: Site>(site: &mut S, text: &mut String, kept: &Paths) -> Result<(), Fault> {
     for place in 0..kept.len() {
         if let Some(path) = path_at(kept, place) {
             push_kept_path(site, text, path)?;

@@ -89,10 +89,13 @@ abbrev pub IsListed : (ℕ → List ℕ → Type 0) → List ℕ → List ℕ �
 IsListed P numbers t = (p : ℕ) × (has_number numbers p ≡ true) × P p t
 
 pub adds_none : (old : List (List ℕ)) (P : List ℕ → Type 0) → ((t : List ℕ) → P t → ⊥) → AddsJust old old P
-adds_none old P none t = (λ h. inl h, λ h. elim h [
-  | inl is ↦ is
-  | inr p ↦ absurd (none t p)
-])
+adds_none old P none t = (
+  λ h. inl h,
+  λ h. elim h [
+    | inl is ↦ is
+    | inr p ↦ absurd (none t p)
+  ],
+)
 
 pub adds_as : (old new : List (List ℕ)) (P Q : List ℕ → Type 0) → ((t : List ℕ) → P t → Q t) → ((t : List ℕ) → Q t → P t) → AddsJust old new P → AddsJust old new Q
 adds_as old new P Q on back adds t = (
@@ -128,20 +131,24 @@ adds_then old mid new P Q first second t = (
 pub adds_path : (old new : List (List ℕ)) (path : List ℕ) (n : ℕ) → IsAdded old new path n → AddsJust old new (λ t. t ≡ path)
 adds_path old new path n added t = elim (cases_Bool (has old path)) [
   | inl known ↦
-      let same : new ≡ old = added.grows ∙ ap (λ (b : Bool). if b then old else old ++ path ∷ []) known in
-      (λ h. inl (subst (λ (l : List (List ℕ)). has l t ≡ true) same h), λ h. subst (λ (l : List (List ℕ)). has l t ≡ true) (sym same) (elim h [
-        | inl is ↦ is
-        | inr is ↦ subst (λ (q : List ℕ). has old q ≡ true) (sym is) known
-      ]))
+      let same : new ≡ old = added.grows ∙ ap (λ (b : Bool). if b then old else old ++ path ∷ []) known in (
+        λ h. inl (subst (λ (l : List (List ℕ)). has l t ≡ true) same h),
+        λ h. subst (λ (l : List (List ℕ)). has l t ≡ true) (sym same) (elim h [
+          | inl is ↦ is
+          | inr is ↦ subst (λ (q : List ℕ). has old q ≡ true) (sym is) known
+        ]),
+      )
   | inr unknown ↦
-      let same : new ≡ old ++ path ∷ [] = added.grows ∙ ap (λ (b : Bool). if b then old else old ++ path ∷ []) unknown in
-      (λ h. elim (has_cases old path t (subst (λ (l : List (List ℕ)). has l t ≡ true) same h)) [
-        | inl is ↦ inl is
-        | inr is ↦ inr (sym is)
-      ], λ h. subst (λ (l : List (List ℕ)). has l t ≡ true) (sym same) (elim h [
-        | inl is ↦ has_old old path t is
-        | inr is ↦ subst (λ (q : List ℕ). has (old ++ path ∷ []) q ≡ true) (sym is) (has_new old path)
-      ]))
+      let same : new ≡ old ++ path ∷ [] = added.grows ∙ ap (λ (b : Bool). if b then old else old ++ path ∷ []) unknown in (
+        λ h. elim (has_cases old path t (subst (λ (l : List (List ℕ)). has l t ≡ true) same h)) [
+          | inl is ↦ inl is
+          | inr is ↦ inr (sym is)
+        ],
+        λ h. subst (λ (l : List (List ℕ)). has l t ≡ true) (sym same) (elim h [
+          | inl is ↦ has_old old path t is
+          | inr is ↦ subst (λ (q : List ℕ). has (old ++ path ∷ []) q ≡ true) (sym is) (has_new old path)
+        ]),
+      )
 ]
 
 -- one that is not empty

@@ -186,10 +186,14 @@ buried graph records listed n found rs ds known all lists adds = record {
       | inl none ↦ absurd (false≢true none)
       | inr one ↦ (left t one.0 one.1, λ is. false≢true (sym one.2 ∙ (lists ds t keeps).1 is))
     ],
-    λ both. (adds.dead t).1 (inr (below t both.0, both.0.unnamed, elim (cases_Bool (has listed t)) [
-      | inl is ↦ absurd (both.1 ((lists ds t keeps).0 is))
-      | inr none ↦ none
-    ])),
+    λ both. (adds.dead t).1 (inr (
+      below t both.0,
+      both.0.unnamed,
+      elim (cases_Bool (has listed t)) [
+        | inl is ↦ absurd (both.1 ((lists ds t keeps).0 is))
+        | inr none ↦ none
+      ],
+    )),
   );
   kept = λ t. (
     λ h. elim ((adds.kept t).0 h) [

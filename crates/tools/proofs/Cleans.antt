@@ -167,8 +167,7 @@ module _ (declared : Declared) (making : AreMakers declared.graph.manifest decla
 
   pub of_cleaned : (t : List ℕ) (cleaned : IsCleanedOutput declared cleaning generated t) → (cleaned.edge < length declared.graph.manifest.lines) × MayClean declared generated cleaned.edge t
   of_cleaned t cleaned =
-      let makes = making.made cleaned.path cleaned.edge cleaned.made in
-      (
+      let makes = making.made cleaned.path cleaned.edge cleaned.made in (
         makes_within declared.graph.manifest.lines cleaned.edge cleaned.path makes,
         record {
           free = record { command = cleaned.command; free = cleaned.free };
@@ -198,20 +197,31 @@ module _ (declared : Declared) (making : AreMakers declared.graph.manifest decla
   targets_adds targets which same adds =
       adds_as old new (IsCleanedTarget declared targets generated) (IsCleanedOutput declared (Targets which) generated)
       (λ t any. record {
-        path = any.0; edge = any.2.edge; made = any.2.made; command = any.2.free.command; asked = subst (λ (l : List ℕ). IsNamedAbove declared.graph l any.0) (sym same) any.1; free = any.2.free.free; some = any.2.some; file = any.2.file;
+        path = any.0;
+        edge = any.2.edge;
+        made = any.2.made;
+        command = any.2.free.command;
+        asked = subst (λ (l : List ℕ). IsNamedAbove declared.graph l any.0) (sym same) any.1;
+        free = any.2.free.free;
+        some = any.2.some;
+        file = any.2.file;
       })
       (λ t cleaned. (
-        cleaned.path, subst (λ (l : List ℕ). IsNamedAbove declared.graph l cleaned.path) same cleaned.asked,
+        cleaned.path,
+        subst (λ (l : List ℕ). IsNamedAbove declared.graph l cleaned.path) same cleaned.asked,
         record { edge = cleaned.edge; made = cleaned.made; free = record { command = cleaned.command; free = cleaned.free }; some = cleaned.some; file = cleaned.file },
       )) adds
 
 -- the file that was read is none of them
 pub cleaned_all : (mid new : List (List ℕ)) (file : List ℕ) (P : List ℕ → Type 0) → AddsJust [] mid P → LacksJust mid new file → (t : List ℕ) → has new t ≡ true ↔ ((t ≢ file) × P t)
 cleaned_all mid new file P adds lacks t = (
-  λ h. let both = (lacks t).0 h in (both.0, elim ((adds t).0 both.1) [
-    | inl none ↦ absurd (false≢true none)
-    | inr p ↦ p
-  ]),
+  λ h. let both = (lacks t).0 h in (
+    both.0,
+    elim ((adds t).0 both.1) [
+      | inl none ↦ absurd (false≢true none)
+      | inr p ↦ p
+    ],
+  ),
   λ h. (lacks t).1 (h.0, (adds t).1 (inr h.1)),
 )
 

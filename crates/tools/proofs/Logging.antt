@@ -35,14 +35,18 @@ outputs_within graph e p made = elim (cases_lt p (length graph.makers.items)) [
 ]
 
 pub some_known : (tells : Bool) (old new : World) (graph : Graph) (records : Records) → AreRead tells old new graph.manifest.paths records → SomeOfBoth (Knows graph records)
-some_known tells old new graph records read = (read.0, read.1, record {
-  paths = graph.manifest.paths;
-  more = [];
-  grown = sym (append-nil graph.manifest.paths);
-  outputs = outputs_within graph;
-  known = read.2;
-  told = read.3;
-})
+some_known tells old new graph records read = (
+  read.0,
+  read.1,
+  record {
+    paths = graph.manifest.paths;
+    more = [];
+    grown = sym (append-nil graph.manifest.paths);
+    outputs = outputs_within graph;
+    known = read.2;
+    told = read.3;
+  },
+)
 
 -- ---- what the site did
 

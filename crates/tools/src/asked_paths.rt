@@ -119,11 +119,7 @@ fn push_all_outputs(
 }
 
 /// The edges that name the path for validation, in reading order.
-fn validated_by(
-    alloc: Global,
-    declared: &Declared,
-    path: PathId,
-) -> Result<Vec<EdgeId>, AllocError>
+fn validated_by(alloc: Global, declared: &Declared, path: PathId) -> Result<Vec<EdgeId>, AllocError>
     ensures { IfOk result (λ edges. edges.items ≡ validated_by declared.now path) }
 {
     let mut edges = Vec::new(alloc);

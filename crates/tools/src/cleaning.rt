@@ -148,7 +148,13 @@ fn add_all(
     ensures { OnOk result (AddsJust paths.old paths.new (IsAnyRule declared.now generated)) }
 {
     for place in 0..declared.graph.edges() {
-        add_edge(alloc, declared, declared.graph.manifest.edge(place), generated, paths)?;
+        add_edge(
+            alloc,
+            declared,
+            declared.graph.manifest.edge(place),
+            generated,
+            paths,
+        )?;
     }
     Ok(())
 }

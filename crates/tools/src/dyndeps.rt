@@ -45,12 +45,7 @@ fn files_of(
     Ok(files)
 }
 
-fn load<S: Site>(
-    alloc: Global,
-    site: &mut S,
-    graph: &mut Graph,
-    file: PathId,
-) -> Result<(), Fault>
+fn load<S: Site>(alloc: Global, site: &mut S, graph: &mut Graph, file: PathId) -> Result<(), Fault>
     ensures { OnlyLooks S.tells (S.world site.old) (S.world site.new) }
 {
     match site.read(text_at(graph, file)) {

@@ -114,7 +114,12 @@ fn of_rule(alloc: Global, declared: &Declared, rule: &str) -> Result<String, All
 {
     let mut paths = Vec::new(alloc);
     for place in 0..declared.graph.edges() {
-        push_if_of_rule(declared, declared.graph.manifest.edge(place), rule, &mut paths)?;
+        push_if_of_rule(
+            declared,
+            declared.graph.manifest.edge(place),
+            rule,
+            &mut paths,
+        )?;
     }
     sorted_lines(alloc, paths)
 }

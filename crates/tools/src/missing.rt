@@ -131,11 +131,7 @@ fn push_marked(
     Ok(())
 }
 
-fn push_if_marked(
-    marks: &[bool],
-    path: PathId,
-    outputs: &mut Vec<PathId>,
-) -> Result<(), AllocError>
+fn push_if_marked(marks: &[bool], path: PathId, outputs: &mut Vec<PathId>) -> Result<(), AllocError>
     ensures { OnOk result (outputs.new.items ≡ outputs.old.items ++ filter (λ p. get_or marks.now p false) (path ∷ [])) }
 {
     if is_marked(marks, path.index()) {

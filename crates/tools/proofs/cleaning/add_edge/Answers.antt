@@ -24,5 +24,5 @@ returns c =
     let some = λ (none : c.outputs_at-outputs.result.now ≡ []). false≢true (sym c.if-is_empty.false ∙ (c.is_empty.ensures ∙ eq-eqb _ 0 (ap length none))) in
     on_ok c.add_own_files.result
     (λ own. edge_adds declared c.args.generated c.args.edge old mid new (c.may_clean.ensures.0 c.if-not-may_clean.false) (subst (λ (l : List ℕ). l ≢ []) c.outputs_at-outputs.ensures some)
-        (subst (λ (l : List ℕ). AddsJust old mid (λ t. (t ≢ []) × (has (texts_at declared.graph.manifest.paths l) t ≡ true))) c.outputs_at-outputs.ensures c.in_ok-add_outputs.ensures) own)
+    (subst (λ (l : List ℕ). AddsJust old mid (λ t. (t ≢ []) × (has (texts_at declared.graph.manifest.paths l) t ≡ true))) c.outputs_at-outputs.ensures c.in_ok-add_outputs.ensures) own)
     c.add_own_files.ensures

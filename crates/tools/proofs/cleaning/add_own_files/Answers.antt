@@ -14,6 +14,6 @@ returns c =
     let new = c.add_text-2.new.paths in
     on_ok c.add_text-2.result
     (λ second. own_adds c.args.declared.now c.args.edge c.in-Some.command.now old mid new (sym c.in-Some.ensures)
-        (subst (λ (q : List ℕ). AddsJust old mid (λ t. (t ≢ []) × (t ≡ q))) c.as_str.ensures c.in_ok-add_text.ensures)
-        (subst (λ (q : List ℕ). AddsJust mid new (λ t. (t ≢ []) × (t ≡ q))) c.as_str-2.ensures second))
+    (subst (λ (q : List ℕ). AddsJust old mid (λ t. (t ≢ []) × (t ≡ q))) c.as_str.ensures c.in_ok-add_text.ensures)
+    (subst (λ (q : List ℕ). AddsJust mid new (λ t. (t ≢ []) × (t ≡ q))) c.as_str-2.ensures second))
     c.add_text-2.ensures

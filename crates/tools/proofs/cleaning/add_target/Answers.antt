@@ -19,5 +19,5 @@ returns c =
     let new = c.add_own_files.new.paths in
     on_ok c.add_own_files.result
     (λ own. path_adds c.args.declared.now c.args.generated c.args.output c.in-Some.edge old mid new (sym c.in-Some.ensures.value) (c.may_clean.ensures.0 c.if-not-may_clean.false)
-        (subst (λ (q : List ℕ). AddsJust old mid (λ t. (t ≢ []) × (t ≡ q))) c.text_at.ensures c.in_ok-add_text.ensures) own)
+    (subst (λ (q : List ℕ). AddsJust old mid (λ t. (t ≢ []) × (t ≡ q))) c.text_at.ensures c.in_ok-add_text.ensures) own)
     c.add_own_files.ensures

@@ -17,7 +17,7 @@ returns c =
     let old = c.args.listed.now in
     let new = c.add_listed.new.listed in
     on_ok c.add_listed.result (λ adds. λ ds keeps.
-        let told = c.in-Some.ensures ds (subst (λ (t : Table Deps). Keeps ds t) (sym c.log.ensures) keeps) in
-        lists_some log.outputs c.in-Some.deps.now ds c.args.number old new (subst (λ (t : Table Deps). told_found t (Some c.in-Some.deps) ≡ slice_get (tolds ds) c.args.number) c.log.ensures told)
-        (subst (λ (numbers : List ℕ). AddsJust old new (λ text. has (texts_at log.outputs numbers) text ≡ true)) c.as_slice.ensures adds))
+    let told = c.in-Some.ensures ds (subst (λ (t : Table Deps). Keeps ds t) (sym c.log.ensures) keeps) in
+    lists_some log.outputs c.in-Some.deps.now ds c.args.number old new (subst (λ (t : Table Deps). told_found t (Some c.in-Some.deps) ≡ slice_get (tolds ds) c.args.number) c.log.ensures told)
+    (subst (λ (numbers : List ℕ). AddsJust old new (λ text. has (texts_at log.outputs numbers) text ≡ true)) c.as_slice.ensures adds))
     c.add_listed.ensures

@@ -16,8 +16,8 @@ returns-in-Some c =
     let new = string_bytes c.push_line.new.text in
     on_ok c.push_line.result
     (λ put. subst (λ (o : Option ℕ). Puts start new (head_line declared c.args.level path o ∷ [])) c.in-Some.ensures.value
-        (line_indented c.args.level start mid new (with_rule declared edge path) c.in_ok-push_indent.ensures
-        (three_parts mid new c.text_at-text.result.now (codes ": ") c.rule.result.now (path_text declared path) (codes ": ") (rule_of declared edge) put c.text_at-text.ensures refl c.rule.ensures)))
+    (line_indented c.args.level start mid new (with_rule declared edge path) c.in_ok-push_indent.ensures
+    (three_parts mid new c.text_at-text.result.now (codes ": ") c.rule.result.now (path_text declared path) (codes ": ") (rule_of declared edge) put c.text_at-text.ensures refl c.rule.ensures)))
     c.push_line.ensures
 
 pub returns-in-None : goal.returns-in-None
@@ -29,5 +29,5 @@ returns-in-None c =
     let new = string_bytes c.push_line-in-None.new.text in
     on_ok c.push_line-in-None.result
     (λ put. subst (λ (o : Option ℕ). Puts start new (head_line declared c.args.level path o ∷ [])) c.in-None.ensures.value
-        (line_indented c.args.level start mid new (path_text declared path) c.in_ok-push_indent.ensures (one_part mid new c.text_at-text.result.now (path_text declared path) put c.text_at-text.ensures)))
+    (line_indented c.args.level start mid new (path_text declared path) c.in_ok-push_indent.ensures (one_part mid new c.text_at-text.result.now (path_text declared path) put c.text_at-text.ensures)))
     c.push_line-in-None.ensures

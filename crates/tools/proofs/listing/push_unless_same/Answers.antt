@@ -29,5 +29,5 @@ returns c =
     let other : bytes_eq c.in-Some.last.now c.args.text.now ≡ false = sym c.eq.ensures ∙ c.if-eq.false in
     on_ok c.push_line-2.result
     (λ put. subst (λ (o : Option (Bor (List ℕ))). Puts old new (unless_same (option_map deref o) c.args.text.now)) (sym c.in-Some.is)
-        (subst (λ (b : Bool). Puts old new (if b then [] else c.args.text.now ∷ [])) (sym other) (one_part old new c.args.text.now c.args.text.now put refl)))
+    (subst (λ (b : Bool). Puts old new (if b then [] else c.args.text.now ∷ [])) (sym other) (one_part old new c.args.text.now c.args.text.now put refl)))
     c.push_line-2.ensures

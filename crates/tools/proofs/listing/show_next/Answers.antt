@@ -25,6 +25,6 @@ returns c =
     let goes = c.in-Some.ensures in
     on_ok c.open_above.result
     (λ opens. shows_one declared depth c.args.level c.in-Some.next old new c.requires path told more goes.within goes.path goes.paths goes.place
-        (subst (λ (l : List Level). Opens declared depth path l new) c.in_ok-push.ensures.items opens)
-        (subst (λ (n : ℕ). Puts told more (head_line declared n path ((links_of declared.graph).maker path) ∷ [])) count c.in_ok-push_path.ensures))
+    (subst (λ (l : List Level). Opens declared depth path l new) c.in_ok-push.ensures.items opens)
+    (subst (λ (n : ℕ). Puts told more (head_line declared n path ((links_of declared.graph).maker path) ∷ [])) count c.in_ok-push_path.ensures))
     c.open_above.ensures

@@ -24,5 +24,5 @@ returns c =
     let new = c.push_unmarked.new.missing.items in
     on_ok c.push_unmarked.result
     (λ adds. apart_all graph c.args.output c.args.file.now texts made marks old new c.in_ok-made.ensures c.in_ok-above.ensures
-        (subst (λ (l : List MissingDep). AddsDeps old new (IsUnmarked marks l)) c.as_slice.ensures.value (subst (λ (l : List Bool). AddsDeps old new (IsUnmarked l c.as_slice.result.now)) c.as_slice-2.ensures.value adds)))
+    (subst (λ (l : List MissingDep). AddsDeps old new (IsUnmarked marks l)) c.as_slice.ensures.value (subst (λ (l : List Bool). AddsDeps old new (IsUnmarked l c.as_slice.result.now)) c.as_slice-2.ensures.value adds)))
     c.push_unmarked.ensures

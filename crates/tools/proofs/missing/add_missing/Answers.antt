@@ -16,5 +16,5 @@ returns c =
     let new = c.add_apart.new.missing.items in
     on_ok c.add_apart.result
     (λ adds. missing_some graph records c.args.file.now c.args.output c.in-Some.deps old new c.requires c.in-Some.ensures.told
-        (subst (λ (numbers : List ℕ). AddsDeps old new (IsApart graph c.args.output (texts_at records.logs.deps_log.log.outputs numbers) c.args.file.now)) c.as_slice.ensures adds))
+    (subst (λ (numbers : List ℕ). AddsDeps old new (IsApart graph c.args.output (texts_at records.logs.deps_log.log.outputs numbers) c.args.file.now)) c.as_slice.ensures adds))
     c.add_apart.ensures

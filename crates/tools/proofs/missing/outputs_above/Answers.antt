@@ -15,4 +15,4 @@ returns c =
     let named = subst (λ (l : List ℕ). AreNamedBy graph c.args.paths.now l marks) c.as_slice.ensures.value c.in_ok-named.ensures in
     if_ok_then c.marked_outputs.result c.marked_outputs.ensures
     (λ outputs is. named_made graph c.args.paths.now edges marks graph.making c.in_ok-edges.ensures named outputs.items
-        (is ∙ (ap (λ (l : List ℕ). kept c.as_slice-3.result.now l) c.as_slice-2.ensures.value ∙ ap (λ (l : List Bool). kept l edges) c.as_slice-3.ensures.value)))
+    (is ∙ (ap (λ (l : List ℕ). kept c.as_slice-3.result.now l) c.as_slice-2.ensures.value ∙ ap (λ (l : List Bool). kept l edges) c.as_slice-3.ensures.value)))
