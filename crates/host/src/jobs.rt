@@ -2,6 +2,7 @@
 
 ghost use Rattle.std.specs.Prelude.{◌≡◌, ◌+◌, ◌<◌, ◌≤◌, ℕ, ◌++◌, ◌∷◌, [], true, false, IfOk, IfSome, IsSome, OnOk, OnErr, length, vec_capacity, vec_len};
 ghost use Rattle.model.specs.World.{runs};
+ghost use Rattle.host.specs.Process.{EndedSo};
 ghost use Rattle.host.specs.Told.{nothing_told, with_start, with_finish, restarted};
 
 use crate::commands;
@@ -9,7 +10,7 @@ use crate::commands::{End, Running};
 use crate::environment::variables;
 use crate::files::{Files, Opened, Taken};
 use crate::signals::tell_signal;
-use crate::waiting::{Round, wait_all, wait_first};
+use crate::waiting::{Round, some_runs, wait_all, wait_first};
 use crate::watch::Watch;
 use model::{Act, Event, Finished};
 use std::alloc::{AllocError, Global};
@@ -124,6 +125,27 @@ impl Jobs {
         !self.commands.is_empty()
     }
 
+    /// Whether a command runs that has not ended, also if it was not taken in.
+    pub fn some_go_on(&mut self, rt: &HostRuntime) -> bool
+        ensures { self.new ≡ self.old }
+    {
+        some_runs(rt, &mut self.commands)
+    }
+
+    /// Runs a command alone, with the program's own input and output, and answers whether it ended well. It is none of those that are told.
+    pub fn run_apart(
+        &mut self,
+        rt: &HostRuntime,
+        command: &str,
+        watch: &mut Watch<'_>,
+    ) -> io::Result<bool>
+        ensures same { self.new ≡ self.old }
+        ensures ended { IfOk result EndedSo }
+    {
+        read_once(self.alloc, &mut self.environment)?;
+        run_alone(self.alloc, rt, command, known(&self.environment), watch)
+    }
+
     /// Waits until all commands have ended. What was told so far is told of before, and no command runs.
     pub fn restart(&mut self, rt: &HostRuntime, watch: &mut Watch<'_>)
         ensures { self.new ≡ restarted self.old }
@@ -135,6 +157,34 @@ impl Jobs {
         );
         self.before = self.events.len();
     }
+}
+
+/// Runs a command, and answers whether it ended well.
+fn run_alone(
+    alloc: Global,
+    rt: &HostRuntime,
+    command: &str,
+    environment: &[u8],
+    watch: &mut Watch<'_>,
+) -> io::Result<bool>
+    ensures { IfOk result EndedSo }
+{
+    let mut commands = Vec::new(alloc);
+    reserve(&mut commands, 1)?;
+    push_reserved(
+        &mut commands,
+        commands::start(alloc, 0, command, environment, &mut None)?,
+    );
+    let mut round = Round {
+        place: 0,
+        left: 0,
+        some_held: false,
+    };
+    let place = wait_first(rt, &mut commands, &mut round, watch)?;
+    let command = commands.swap_remove(place);
+    let End { ok, signal, .. } = command.end();
+    tell_signal(alloc, rt, signal);
+    Ok(ok)
 }
 
 /// Reads the variables that commands get, where they are not known yet. Once they are, they stay.

@@ -27,6 +27,7 @@ mod places;
 mod script_asked;
 mod script_rows;
 mod script_sweeps;
+mod stand_in_runs;
 mod toy_calls;
 mod toys;
 mod trial;

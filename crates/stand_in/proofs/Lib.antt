@@ -1,0 +1,3 @@
+pub mod Claimed
+pub mod Ready
+pub mod Stages

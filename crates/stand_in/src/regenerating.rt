@@ -1,0 +1,222 @@
+//! Regenerating: what the program does between two builds, in the user's place.
+
+ghost use Rattle.std.specs.Prelude.{◌≡◌, false, IfErr, IfOk, OnOk};
+ghost use Rattle.build_theory.specs.Seen.{Looked};
+ghost use Rattle.model.specs.Calls.{OnlyLooks};
+ghost use Rattle.stand_in.specs.Above.{AreEdges};
+ghost use Rattle.stand_in.specs.Moves.{Fails, GoesOn};
+
+use crate::above::Above;
+use crate::judge::is_out_of_date;
+use crate::place::Place;
+use builder::Options;
+use model::SiteFault;
+use paths::{Command, EdgeId};
+use site::Site;
+use status::{Counts, Ending, Failure, line, push_ending, said_of};
+use std::alloc::{AllocError, Global};
+use tools::{Declared, outputs_at, text_at};
+
+/// What became of the generators of a file.
+#[derive(Clone, Copy, Debug, PartialEq, Eq)]
+pub enum Regenerated {
+    /// None was out of date.
+    Nothing,
+    /// Some ran, and ended well. `old` says that the file is out of date still.
+    Ran { old: bool },
+    /// One failed, and none was run behind it.
+    Failed,
+}
+
+/// Runs those of the generators that are out of date by stamps, makers first, one after the other, each with the program's own input and
+/// output. None of it is put into a log.
+///
+/// As moves this is a list of edits: to the site nobody but others wrote, no command was started, and all that was has ended. Where nothing
+/// was out of date, no call was refused: what cannot be looked at counts as later.
+pub fn regenerate<S: Place>(
+    alloc: Global,
+    site: &mut S,
+    declared: &Declared,
+    above: &Above,
+    options: &Options,
+) -> Result<Regenerated, SiteFault>
+    requires edges { AreEdges declared.now above.now.generators.items }
+    requires running { (S.world site.old).stopped ≡ false }
+    ensures looks { OnlyLooks S.tells (S.world site.old) (S.world site.new) }
+    ensures goes { OnOk result (GoesOn (S.world site.old) (S.world site.new)) }
+    ensures fault { IfErr result (Fails S.tells (S.world site.old) (S.world site.new)) }
+    ensures nothing { IfOk result (λ ran. ran ≡ Regenerated.Nothing → Looked S.tells (S.world site.old) (S.world site.new)) }
+{
+    let mut ran = 0usize;
+    for generator in above.generators.as_slice() {
+        if is_out_of_date(alloc, site, declared, *generator, above.file)? {
+            let turn = Turn {
+                options,
+                done: ran,
+                total: above.generators.len(),
+            };
+            if !run_one(alloc, site, declared, *generator, turn)? {
+                return Ok(Regenerated::Failed);
+            }
+            ran = ran.saturating_add(1);
+        }
+    }
+    if ran == 0 {
+        return Ok(Regenerated::Nothing);
+    }
+    let old = is_last_old(alloc, site, declared, above)?;
+    Ok(Regenerated::Ran { old })
+}
+
+/// Whether the generator that is nearest to the file is out of date.
+fn is_last_old<S: Site>(
+    alloc: Global,
+    site: &mut S,
+    declared: &Declared,
+    above: &Above,
+) -> Result<bool, SiteFault>
+    requires edges { AreEdges declared.now above.now.generators.items }
+    requires running { (S.world site.old).stopped ≡ false }
+    ensures looks { OnlyLooks S.tells (S.world site.old) (S.world site.new) }
+    ensures goes { OnOk result (GoesOn (S.world site.old) (S.world site.new)) }
+    ensures fault { IfErr result (Fails S.tells (S.world site.old) (S.world site.new)) }
+{
+    match above.generators.last() {
+        Some(last) => is_out_of_date(alloc, site, declared, *last, above.file),
+        None => Ok(false),
+    }
+}
+
+/// Whether one of the generators is out of date.
+pub fn would_run<S: Site>(
+    alloc: Global,
+    site: &mut S,
+    declared: &Declared,
+    above: &Above,
+) -> Result<bool, SiteFault>
+    requires edges { AreEdges declared.now above.now.generators.items }
+    requires running { (S.world site.old).stopped ≡ false }
+    ensures looks { OnlyLooks S.tells (S.world site.old) (S.world site.new) }
+    ensures goes { OnOk result (GoesOn (S.world site.old) (S.world site.new)) }
+    ensures fault { IfErr result (Fails S.tells (S.world site.old) (S.world site.new)) }
+{
+    for generator in above.generators.as_slice() {
+        if is_out_of_date(alloc, site, declared, *generator, above.file)? {
+            return Ok(true);
+        }
+    }
+    Ok(false)
+}
+
+/// How lines are shown, how many generators ran, and how many there are.
+#[derive(Clone, Copy)]
+struct Turn<'a> {
+    options: &'a Options,
+    done: usize,
+    total: usize,
+}
+
+/// Runs one, and answers whether it ended well.
+fn run_one<S: Place>(
+    alloc: Global,
+    site: &mut S,
+    declared: &Declared,
+    edge: EdgeId,
+    turn: Turn<'_>,
+) -> Result<bool, SiteFault>
+    ensures looks { OnlyLooks S.tells (S.world site.old) (S.world site.new) }
+    ensures goes { OnOk result (GoesOn (S.world site.old) (S.world site.new)) }
+    ensures fault { IfErr result (Fails S.tells (S.world site.old) (S.world site.new)) }
+{
+    let Some(command) = declared.command(edge) else {
+        return Ok(true);
+    };
+    show_line(alloc, site, command, turn)?;
+    make_folders(site, declared, edge)?;
+    let ok = site.run_generator(&command.act)?;
+    if !ok {
+        show_failure(alloc, site, declared, edge, command)?;
+    }
+    Ok(ok)
+}
+
+/// Shows the line of a command that is about to be started.
+fn show_line<S: Site>(
+    alloc: Global,
+    site: &mut S,
+    command: &Command,
+    turn: Turn<'_>,
+) -> Result<(), SiteFault>
+    ensures looks { OnlyLooks S.tells (S.world site.old) (S.world site.new) }
+    ensures goes { OnOk result (GoesOn (S.world site.old) (S.world site.new)) }
+    ensures fault { IfErr result (Fails S.tells (S.world site.old) (S.world site.new)) }
+{
+    let started = turn.done.saturating_add(1);
+    let counts = Counts {
+        started,
+        total: turn.total.max(started),
+        running: 1,
+        finished: turn.done,
+    };
+    let said = said_of(
+        turn.options.verbose,
+        command.description.as_str(),
+        command.act.command.as_str(),
+    );
+    let line = line(alloc, &turn.options.pattern, &counts, said)?;
+    site.show(line.as_slice())
+}
+
+/// Shows which command failed. What it printed stands there already.
+fn show_failure<S: Site>(
+    alloc: Global,
+    site: &mut S,
+    declared: &Declared,
+    edge: EdgeId,
+    command: &Command,
+) -> Result<(), SiteFault>
+    ensures looks { OnlyLooks S.tells (S.world site.old) (S.world site.new) }
+    ensures goes { OnOk result (GoesOn (S.world site.old) (S.world site.new)) }
+    ensures fault { IfErr result (Fails S.tells (S.world site.old) (S.world site.new)) }
+{
+    let outputs = texts(alloc, declared, edge)?;
+    let ending = Ending {
+        failure: Some(Failure {
+            outputs: outputs.as_slice(),
+            command: command.act.command.as_str(),
+            depfile: None,
+        }),
+        output: b"",
+    };
+    let mut shown = Vec::new(alloc);
+    push_ending(&mut shown, &ending)?;
+    site.show(shown.as_slice())
+}
+
+fn texts<'a>(
+    alloc: Global,
+    declared: &'a Declared,
+    edge: EdgeId,
+) -> Result<Vec<&'a str>, AllocError> {
+    let mut texts = Vec::new(alloc);
+    for output in outputs_at(&declared.graph, edge) {
+        texts.push(text_at(&declared.graph, *output))?;
+    }
+    Ok(texts)
+}
+
+/// Makes the folders of the outputs.
+fn make_folders<S: Site>(site: &mut S, declared: &Declared, edge: EdgeId) -> Result<(), SiteFault>
+    ensures looks { OnlyLooks S.tells (S.world site.old) (S.world site.new) }
+    ensures goes { OnOk result (GoesOn (S.world site.old) (S.world site.new)) }
+    ensures fault { IfErr result (Fails S.tells (S.world site.old) (S.world site.new)) }
+{
+    for output in outputs_at(&declared.graph, edge) {
+        if let Some((folder, _)) = text_at(&declared.graph, *output).rsplit_once('/') {
+            if !folder.is_empty() {
+                site.make_dirs(folder)?;
+            }
+        }
+    }
+    Ok(())
+}
