@@ -220,9 +220,12 @@ impl<'a, W: Write> Host<'a, W> {
         // where the clock stands still for seconds there is nothing more to do about it
         let _ = self.wait_for_clock();
         self.put_response(act)?;
-        let ran = self
-            .jobs
-            .run_apart(self.rt, act.command.as_str(), &mut self.watch);
+        let ran = self.jobs.run_apart(
+            self.rt,
+            act.command.as_str(),
+            &mut self.watch,
+            &mut self.screen,
+        );
         let ok = self.noted(SHELL, ran)?;
         if ok {
             self.remove_response(act)?;

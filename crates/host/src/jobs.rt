@@ -133,17 +133,21 @@ impl Jobs {
     }
 
     /// Runs a command alone, with the program's own input and output, and answers whether it ended well. It is none of those that are told.
-    pub fn run_apart(
+    pub fn run_apart<W: Write>(
         &mut self,
         rt: &HostRuntime,
         command: &str,
         watch: &mut Watch<'_>,
+        screen: &mut Terminal<W>,
     ) -> io::Result<bool>
         ensures same { self.new ≡ self.old }
         ensures ended { IfOk result EndedSo }
     {
         read_once(self.alloc, &mut self.environment)?;
-        run_alone(self.alloc, rt, command, known(&self.environment), watch)
+        let mut commands = start_alone(self.alloc, command, known(&self.environment))?;
+        let End { ok, signal, .. } = end_of(rt, &mut commands, watch, screen)?;
+        tell_signal(self.alloc, rt, signal, screen);
+        Ok(ok)
     }
 
     /// Waits until all commands have ended. What was told so far is told of before, and no command runs.
@@ -159,15 +163,9 @@ impl Jobs {
     }
 }
 
-/// Runs a command, and answers whether it ended well.
-fn run_alone(
-    alloc: Global,
-    rt: &HostRuntime,
-    command: &str,
-    environment: &[u8],
-    watch: &mut Watch<'_>,
-) -> io::Result<bool>
-    ensures { IfOk result EndedSo }
+/// Starts a command with the program's own input and output.
+fn start_alone(alloc: Global, command: &str, environment: &[u8]) -> io::Result<Vec<Running>>
+    ensures { IfOk result (λ commands. 0 < vec_len commands) }
 {
     let mut commands = Vec::new(alloc);
     reserve(&mut commands, 1)?;
@@ -175,16 +173,26 @@ fn run_alone(
         &mut commands,
         commands::start(alloc, 0, command, environment, &mut None)?,
     );
+    Ok(commands)
+}
+
+/// Waits until one of the commands has ended, and takes it from them.
+fn end_of<W: Write>(
+    rt: &HostRuntime,
+    commands: &mut Vec<Running>,
+    watch: &mut Watch<'_>,
+    screen: &mut Terminal<W>,
+) -> io::Result<End>
+    requires { 0 < vec_len commands.old }
+    ensures { IfOk result (λ end. EndedSo end.ok) }
+{
     let mut round = Round {
         place: 0,
         left: 0,
         some_held: false,
     };
-    let place = wait_first(rt, &mut commands, &mut round, watch)?;
-    let command = commands.swap_remove(place);
-    let End { ok, signal, .. } = command.end();
-    tell_signal(alloc, rt, signal);
-    Ok(ok)
+    let place = wait_first(rt, commands, &mut round, watch, screen)?;
+    Ok(commands.swap_remove(place).end())
 }
 
 /// Reads the variables that commands get, where they are not known yet. Once they are, they stay.

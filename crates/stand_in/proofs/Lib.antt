@@ -1,3 +1,6 @@
+pub mod Calls
 pub mod Claimed
+pub mod Gathering
 pub mod Ready
 pub mod Stages
+pub mod Turning

@@ -3,6 +3,7 @@ use Rattle.std.specs.Prelude.{◌≡◌, ◌<◌, ℕ, List, [], ◌∷◌, ◌+
 use Rattle.lexer.specs.Path.{IsCanonical}
 use Rattle.paths.specs.Told.{IsUnnamed, text_at}
 use Rattle.links.specs.Links.{links_of}
+use Rattle.links.specs.declared.graph.Graph.{Graph}
 use Rattle.tools.specs.declared.declared.Declared.{Declared}
 use Rattle.tools.specs.Above.{AreAbove}
 use Rattle.tools.specs.Files.{runs_generator}
@@ -15,9 +16,9 @@ IsFileOf declared name file =
     (λ p. (path : List ℕ) × IsCanonical name path × (slice_get declared.graph.manifest.paths p ≡ Some path))
 
 -- the edges that are above it
-abbrev pub AreAboveFile : Declared → Option ℕ → List ℕ → Type 0
-AreAboveFile declared None edges = edges ≡ []
-AreAboveFile declared (Some p) edges = AreAbove declared.graph (p ∷ []) edges
+abbrev pub AreAboveFile : Graph → Option ℕ → List ℕ → Type 0
+AreAboveFile graph None edges = edges ≡ []
+AreAboveFile graph (Some p) edges = AreAbove graph (p ∷ []) edges
 
 -- the first output of an edge with a command and without `generator`
 abbrev pub first_of : List ℕ → List ℕ
@@ -28,13 +29,18 @@ abbrev pub made_first : Declared → ℕ → List (List ℕ)
 made_first declared e =
     if runs_generator declared e then [] else if (links_of declared.graph).phony e then [] else flat_map (λ p. text_at declared.graph.manifest.paths p ∷ []) (first_of ((links_of declared.graph).outputs e))
 
--- Of the edges above the file those with `generator`, and of the others what is built first; nothing is, where there is no generator.
+-- Of these edges those with `generator`, and of the others what is built first; nothing is, where there is no generator.
+pub record IsOfEdges (declared : Declared) (file : Option ℕ) (edges : List ℕ) (above : Above) : Type 0 where
+  pub file_is : above.file ≡ file
+  pub generators : above.generators.items ≡ filter (runs_generator declared) edges
+  pub first : above.first.items ≡ if length above.generators.items == 0 then [] else flat_map (made_first declared) edges
+
+-- it is what the edges above the file give
 pub record IsAllAbove (declared : Declared) (name : List ℕ) (above : Above) : Type 0 where
   pub edges : List ℕ
   pub file : IsFileOf declared name above.file
-  pub are : AreAboveFile declared above.file edges
-  pub generators : above.generators.items ≡ filter (runs_generator declared) edges
-  pub first : above.first.items ≡ if length above.generators.items == 0 then [] else flat_map (made_first declared) edges
+  pub are : AreAboveFile declared.graph above.file edges
+  pub of : IsOfEdges declared above.file edges above
 
 -- one edge more was looked at
 pub record AddsEdge (declared : Declared) (edge : ℕ) (old new : Above) : Type 0 where

@@ -21,10 +21,6 @@ use Rattle.stand_in.specs.declared.build.Next.TheVariants.{Build, ReadAnew, End 
 use Rattle.stand_in.specs.declared.build.Outcome.{Outcome as End}
 use Rattle.stand_in.specs.declared.build.Outcome.TheVariants.{Built, Refused, NotRebuilt, WouldRun}
 
--- the site has not stopped since
-abbrev pub GoesOn : World → World → Type 0
-GoesOn old new = old.stopped ≡ false → new.stopped ≡ false
-
 -- it only looked, and the last call was answered by this fault, or there was no memory for what came behind it
 pub record FailedAt (tells : Bool) (old new : World) (fault : SiteFault) : Type 0 where
   pub mid : World
@@ -32,8 +28,15 @@ pub record FailedAt (tells : Bool) (old new : World) (fault : SiteFault) : Type 
   pub looks : OnlyLooks tells mid new
   pub cause : HasCause {T = Unit {0}} mid new (Err fault)
 
-abbrev pub Fails : Bool → World → World → SiteFault → Type 0
-Fails tells old new fault = old.stopped ≡ false → FailedAt tells old new fault
+-- It only looked. Where it ended well and was no end before, the site goes on, and no call was refused where the answer says so; else this
+-- fault was the last.
+abbrev pub OnlyAsks : {T : Type 0} → Bool → (T → Type 0) → World → World → Result T SiteFault → Type 0
+OnlyAsks tells Says old new (Ok value) = OnlyLooks tells old new × (old.stopped ≡ false → (new.stopped ≡ false) × (Says value → Looked tells old new))
+OnlyAsks tells Says old new (Err fault) = OnlyLooks tells old new × (old.stopped ≡ false → FailedAt tells old new fault)
+
+-- no call was refused, whatever the answer
+abbrev pub AsksWell : {T : Type 0} → Bool → World → World → Result T SiteFault → Type 0
+AsksWell {T} tells old new result = OnlyAsks {T} tells (λ value. Unit {0}) old new result
 
 -- ---- reading
 

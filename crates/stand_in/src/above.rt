@@ -1,9 +1,10 @@
 //! What stands above the file that was read.
 
 ghost use Rattle.std.specs.Prelude.{OnOk, IfOk};
-ghost use Rattle.stand_in.specs.Above.{AddsEdge, AreEdges, IsAllAbove, IsFileOf};
+ghost use Rattle.stand_in.specs.Above.{AddsEdge, AreAboveFile, AreEdges, IsAllAbove, IsFileOf, IsOfEdges};
 
 use lexer::{ReadFault, canonical};
+use links::Graph;
 use paths::{EdgeId, PathId};
 use std::alloc::{AllocError, Global};
 use text::Text;
@@ -25,17 +26,40 @@ pub fn all_above(alloc: Global, declared: &Declared, name: &str) -> Result<Above
     ensures all { IfOk result (IsAllAbove declared.now name.now) }
     ensures within { IfOk result (λ above. AreEdges declared.now above.generators.items) }
 {
+    let file = file_path(alloc, declared, name)?;
+    let edges = above_file(alloc, &declared.graph, file)?;
+    of_edges(alloc, declared, file, edges.as_slice())
+}
+
+/// The edges that are above the file, makers first.
+fn above_file(alloc: Global, graph: &Graph, file: Option<PathId>) -> Result<Vec<EdgeId>, AllocError>
+    ensures { IfOk result (λ edges. AreAboveFile graph.now file edges.items) }
+{
+    match file {
+        Some(file) => {
+            let one = [file];
+            edges_above(alloc, graph, one.as_slice())
+        }
+        None => Ok(Vec::new(alloc)),
+    }
+}
+
+/// Of these edges the generators, and of the others what is built first.
+fn of_edges(
+    alloc: Global,
+    declared: &Declared,
+    file: Option<PathId>,
+    edges: &[EdgeId],
+) -> Result<Above, AllocError>
+    ensures { IfOk result (IsOfEdges declared.now file edges.now) }
+{
     let mut above = Above {
-        file: file_path(alloc, declared, name)?,
+        file,
         generators: Vec::new(alloc),
         first: Vec::new(alloc),
     };
-    let Some(file) = above.file else {
-        return Ok(above);
-    };
-    let one = [file];
-    for edge in edges_above(alloc, &declared.graph, one.as_slice())? {
-        add_edge(alloc, declared, edge, &mut above)?;
+    for edge in edges {
+        add_edge(alloc, declared, *edge, &mut above)?;
     }
     if above.generators.is_empty() {
         above.first.clear();

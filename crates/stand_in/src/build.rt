@@ -47,7 +47,10 @@ pub struct Ended {
 
 impl Ended {
     /// The end where the file is up to date, or was not asked for.
-    fn by(outcome: Outcome) -> Ended {
+    fn by(outcome: Outcome) -> Ended
+        ensures outcome { result.outcome ≡ outcome }
+        ensures old { result.old ≡ false }
+    {
         Ended {
             outcome,
             old: false,
@@ -304,7 +307,9 @@ fn only_say<S: Place>(
 }
 
 /// What is said where nothing is run.
-fn said_of(would_run: bool) -> Outcome {
+fn said_of(would_run: bool) -> Outcome
+    ensures { (result ≡ Outcome.WouldRun) ⊎ (result ≡ Outcome.Built (Report.Success 0)) }
+{
     if would_run {
         Outcome::WouldRun
     } else {

@@ -1,9 +1,7 @@
 //! Whether a generator is to be run: by stamps alone.
 
-ghost use Rattle.std.specs.Prelude.{◌≡◌, ◌<◌, false, length, IfErr, IfOk, IsSome, OnOk};
-ghost use Rattle.build_theory.specs.Seen.{Looked};
-ghost use Rattle.model.specs.Calls.{OnlyLooks};
-ghost use Rattle.stand_in.specs.Moves.{Fails, GoesOn};
+ghost use Rattle.std.specs.Prelude.{◌≡◌, ◌<◌, false, length, IsSome};
+ghost use Rattle.stand_in.specs.Moves.{OnlyAsks};
 
 use links::{Graph, Reading};
 use model::SiteFault;
@@ -23,12 +21,8 @@ pub fn is_out_of_date<S: Site>(
     edge: EdgeId,
     file: Option<PathId>,
 ) -> Result<bool, SiteFault>
-    requires edge { edge < length declared.now.graph.manifest.lines }
-    requires running { (S.world site.old).stopped ≡ false }
-    ensures looks { OnlyLooks S.tells (S.world site.old) (S.world site.new) }
-    ensures goes { OnOk result (GoesOn (S.world site.old) (S.world site.new)) }
-    ensures fault { IfErr result (Fails S.tells (S.world site.old) (S.world site.new)) }
-    ensures looked { IfOk result (λ later. later ≡ false → Looked S.tells (S.world site.old) (S.world site.new)) }
+    requires { edge < length declared.now.graph.manifest.lines }
+    ensures { OnlyAsks S.tells (λ later. later ≡ false) (S.world site.old) (S.world site.new) result }
 {
     let Some(made) = made_stamp(site, declared, edge, file)? else {
         return Ok(true);
@@ -46,11 +40,7 @@ fn made_stamp<S: Site>(
     edge: EdgeId,
     file: Option<PathId>,
 ) -> Result<Option<u64>, SiteFault>
-    requires { (S.world site.old).stopped ≡ false }
-    ensures looks { OnlyLooks S.tells (S.world site.old) (S.world site.new) }
-    ensures goes { OnOk result (GoesOn (S.world site.old) (S.world site.new)) }
-    ensures fault { IfErr result (Fails S.tells (S.world site.old) (S.world site.new)) }
-    ensures looked { IfOk result (λ stamp. IsSome stamp → Looked S.tells (S.world site.old) (S.world site.new)) }
+    ensures { OnlyAsks S.tells (λ stamp. IsSome stamp) (S.world site.old) (S.world site.new) result }
 {
     let outputs = outputs_at(&declared.graph, edge);
     if let Some(file) = file {
@@ -70,11 +60,7 @@ fn made_stamp<S: Site>(
 
 /// The stamp of a file; none where it is absent or cannot be looked at.
 fn stamp<S: Site>(site: &mut S, path: &str) -> Result<Option<u64>, SiteFault>
-    requires { (S.world site.old).stopped ≡ false }
-    ensures looks { OnlyLooks S.tells (S.world site.old) (S.world site.new) }
-    ensures goes { OnOk result (GoesOn (S.world site.old) (S.world site.new)) }
-    ensures fault { IfErr result (Fails S.tells (S.world site.old) (S.world site.new)) }
-    ensures looked { IfOk result (λ stamp. IsSome stamp → Looked S.tells (S.world site.old) (S.world site.new)) }
+    ensures { OnlyAsks S.tells (λ stamp. IsSome stamp) (S.world site.old) (S.world site.new) result }
 {
     match site.stat(path) {
         Err(SiteFault::Device) => Ok(None),
@@ -84,11 +70,7 @@ fn stamp<S: Site>(site: &mut S, path: &str) -> Result<Option<u64>, SiteFault>
 
 /// Whether the file is absent or later than this stamp.
 fn is_later<S: Site>(site: &mut S, path: &str, made: u64) -> Result<bool, SiteFault>
-    requires { (S.world site.old).stopped ≡ false }
-    ensures looks { OnlyLooks S.tells (S.world site.old) (S.world site.new) }
-    ensures goes { OnOk result (GoesOn (S.world site.old) (S.world site.new)) }
-    ensures fault { IfErr result (Fails S.tells (S.world site.old) (S.world site.new)) }
-    ensures looked { IfOk result (λ later. later ≡ false → Looked S.tells (S.world site.old) (S.world site.new)) }
+    ensures { OnlyAsks S.tells (λ later. later ≡ false) (S.world site.old) (S.world site.new) result }
 {
     match stamp(site, path)? {
         None => Ok(true),
@@ -104,12 +86,8 @@ fn has_later_input<S: Site>(
     edge: EdgeId,
     made: u64,
 ) -> Result<bool, SiteFault>
-    requires edge { edge < length graph.now.manifest.lines }
-    requires running { (S.world site.old).stopped ≡ false }
-    ensures looks { OnlyLooks S.tells (S.world site.old) (S.world site.new) }
-    ensures goes { OnOk result (GoesOn (S.world site.old) (S.world site.new)) }
-    ensures fault { IfErr result (Fails S.tells (S.world site.old) (S.world site.new)) }
-    ensures looked { IfOk result (λ later. later ≡ false → Looked S.tells (S.world site.old) (S.world site.new)) }
+    requires { edge < length graph.now.manifest.lines }
+    ensures { OnlyAsks S.tells (λ later. later ≡ false) (S.world site.old) (S.world site.new) result }
 {
     match graph.reading(alloc, edge)? {
         Reading::Itself(edge) => is_one_later(site, graph, regular_inputs_at(graph, edge), made),
@@ -130,11 +108,7 @@ fn is_one_later<S: Site>(
     paths: &[PathId],
     made: u64,
 ) -> Result<bool, SiteFault>
-    requires { (S.world site.old).stopped ≡ false }
-    ensures looks { OnlyLooks S.tells (S.world site.old) (S.world site.new) }
-    ensures goes { OnOk result (GoesOn (S.world site.old) (S.world site.new)) }
-    ensures fault { IfErr result (Fails S.tells (S.world site.old) (S.world site.new)) }
-    ensures looked { IfOk result (λ later. later ≡ false → Looked S.tells (S.world site.old) (S.world site.new)) }
+    ensures { OnlyAsks S.tells (λ later. later ≡ false) (S.world site.old) (S.world site.new) result }
 {
     for path in paths {
         if is_input_later(site, graph, *path, made)? {
@@ -151,11 +125,7 @@ fn is_input_later<S: Site>(
     path: PathId,
     made: u64,
 ) -> Result<bool, SiteFault>
-    requires { (S.world site.old).stopped ≡ false }
-    ensures looks { OnlyLooks S.tells (S.world site.old) (S.world site.new) }
-    ensures goes { OnOk result (GoesOn (S.world site.old) (S.world site.new)) }
-    ensures fault { IfErr result (Fails S.tells (S.world site.old) (S.world site.new)) }
-    ensures looked { IfOk result (λ later. later ≡ false → Looked S.tells (S.world site.old) (S.world site.new)) }
+    ensures { OnlyAsks S.tells (λ later. later ≡ false) (S.world site.old) (S.world site.new) result }
 {
     match site.stat(text_at(graph, path)) {
         Ok(Some(stamp)) => Ok(stamp > made),
@@ -173,11 +143,7 @@ fn has_later_told<S: Site>(
     edge: EdgeId,
     made: u64,
 ) -> Result<bool, SiteFault>
-    requires { (S.world site.old).stopped ≡ false }
-    ensures looks { OnlyLooks S.tells (S.world site.old) (S.world site.new) }
-    ensures goes { OnOk result (GoesOn (S.world site.old) (S.world site.new)) }
-    ensures fault { IfErr result (Fails S.tells (S.world site.old) (S.world site.new)) }
-    ensures looked { IfOk result (λ later. later ≡ false → Looked S.tells (S.world site.old) (S.world site.new)) }
+    ensures { OnlyAsks S.tells (λ later. later ≡ false) (S.world site.old) (S.world site.new) result }
 {
     let Some(command) = declared.command(edge) else {
         return Ok(false);
@@ -195,11 +161,7 @@ fn is_told_later<S: Site>(
     path: &str,
     made: u64,
 ) -> Result<bool, SiteFault>
-    requires { (S.world site.old).stopped ≡ false }
-    ensures looks { OnlyLooks S.tells (S.world site.old) (S.world site.new) }
-    ensures goes { OnOk result (GoesOn (S.world site.old) (S.world site.new)) }
-    ensures fault { IfErr result (Fails S.tells (S.world site.old) (S.world site.new)) }
-    ensures looked { IfOk result (λ later. later ≡ false → Looked S.tells (S.world site.old) (S.world site.new)) }
+    ensures { OnlyAsks S.tells (λ later. later ≡ false) (S.world site.old) (S.world site.new) result }
 {
     let content = match site.read(path) {
         Ok(Some(content)) => content,
@@ -216,11 +178,7 @@ fn is_told_later<S: Site>(
 
 /// Whether one of the paths is absent or later.
 fn is_some_later<S: Site>(site: &mut S, paths: &[Path], made: u64) -> Result<bool, SiteFault>
-    requires { (S.world site.old).stopped ≡ false }
-    ensures looks { OnlyLooks S.tells (S.world site.old) (S.world site.new) }
-    ensures goes { OnOk result (GoesOn (S.world site.old) (S.world site.new)) }
-    ensures fault { IfErr result (Fails S.tells (S.world site.old) (S.world site.new)) }
-    ensures looked { IfOk result (λ later. later ≡ false → Looked S.tells (S.world site.old) (S.world site.new)) }
+    ensures { OnlyAsks S.tells (λ later. later ≡ false) (S.world site.old) (S.world site.new) result }
 {
     for path in paths {
         if is_later(site, path.as_str(), made)? {

@@ -5,7 +5,9 @@ ghost use Rattle.std.specs.Prelude.{◌≡◌};
 use crate::place::Place;
 use model::{Act, Event, Finished, SiteFault};
 use nj_run::Alone;
+use paths::Manifest;
 use site::{Site, Texts};
+use std::alloc::Global;
 use std::thread;
 use std::time::Duration;
 use text::Bytes;
@@ -130,6 +132,10 @@ impl<'a, S: Place> Alone for Patient<'a, S> {
 
     fn has_waited(&mut self, folder: &str) -> bool {
         self.site.has_waited(folder)
+    }
+
+    fn learn(&mut self, alloc: Global, manifest: &Manifest, verbose: bool) {
+        self.site.learn(alloc, manifest, verbose)
     }
 }
 

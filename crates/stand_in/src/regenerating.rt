@@ -1,10 +1,8 @@
 //! Regenerating: what the program does between two builds, in the user's place.
 
-ghost use Rattle.std.specs.Prelude.{◌≡◌, false, IfErr, IfOk, OnOk};
-ghost use Rattle.build_theory.specs.Seen.{Looked};
-ghost use Rattle.model.specs.Calls.{OnlyLooks};
+ghost use Rattle.std.specs.Prelude.{◌≡◌, false};
 ghost use Rattle.stand_in.specs.Above.{AreEdges};
-ghost use Rattle.stand_in.specs.Moves.{Fails, GoesOn};
+ghost use Rattle.stand_in.specs.Moves.{AsksWell, OnlyAsks};
 
 use crate::above::Above;
 use crate::judge::is_out_of_date;
@@ -40,12 +38,8 @@ pub fn regenerate<S: Place>(
     above: &Above,
     options: &Options,
 ) -> Result<Regenerated, SiteFault>
-    requires edges { AreEdges declared.now above.now.generators.items }
-    requires running { (S.world site.old).stopped ≡ false }
-    ensures looks { OnlyLooks S.tells (S.world site.old) (S.world site.new) }
-    ensures goes { OnOk result (GoesOn (S.world site.old) (S.world site.new)) }
-    ensures fault { IfErr result (Fails S.tells (S.world site.old) (S.world site.new)) }
-    ensures nothing { IfOk result (λ ran. ran ≡ Regenerated.Nothing → Looked S.tells (S.world site.old) (S.world site.new)) }
+    requires { AreEdges declared.now above.now.generators.items }
+    ensures { OnlyAsks S.tells (λ ran. ran ≡ Regenerated.Nothing) (S.world site.old) (S.world site.new) result }
 {
     let mut ran = 0usize;
     for generator in above.generators.as_slice() {
@@ -75,11 +69,8 @@ fn is_last_old<S: Site>(
     declared: &Declared,
     above: &Above,
 ) -> Result<bool, SiteFault>
-    requires edges { AreEdges declared.now above.now.generators.items }
-    requires running { (S.world site.old).stopped ≡ false }
-    ensures looks { OnlyLooks S.tells (S.world site.old) (S.world site.new) }
-    ensures goes { OnOk result (GoesOn (S.world site.old) (S.world site.new)) }
-    ensures fault { IfErr result (Fails S.tells (S.world site.old) (S.world site.new)) }
+    requires { AreEdges declared.now above.now.generators.items }
+    ensures { OnlyAsks S.tells (λ later. later ≡ false) (S.world site.old) (S.world site.new) result }
 {
     match above.generators.last() {
         Some(last) => is_out_of_date(alloc, site, declared, *last, above.file),
@@ -94,11 +85,8 @@ pub fn would_run<S: Site>(
     declared: &Declared,
     above: &Above,
 ) -> Result<bool, SiteFault>
-    requires edges { AreEdges declared.now above.now.generators.items }
-    requires running { (S.world site.old).stopped ≡ false }
-    ensures looks { OnlyLooks S.tells (S.world site.old) (S.world site.new) }
-    ensures goes { OnOk result (GoesOn (S.world site.old) (S.world site.new)) }
-    ensures fault { IfErr result (Fails S.tells (S.world site.old) (S.world site.new)) }
+    requires { AreEdges declared.now above.now.generators.items }
+    ensures { OnlyAsks S.tells (λ later. later ≡ false) (S.world site.old) (S.world site.new) result }
 {
     for generator in above.generators.as_slice() {
         if is_out_of_date(alloc, site, declared, *generator, above.file)? {
@@ -124,9 +112,7 @@ fn run_one<S: Place>(
     edge: EdgeId,
     turn: Turn<'_>,
 ) -> Result<bool, SiteFault>
-    ensures looks { OnlyLooks S.tells (S.world site.old) (S.world site.new) }
-    ensures goes { OnOk result (GoesOn (S.world site.old) (S.world site.new)) }
-    ensures fault { IfErr result (Fails S.tells (S.world site.old) (S.world site.new)) }
+    ensures { AsksWell S.tells (S.world site.old) (S.world site.new) result }
 {
     let Some(command) = declared.command(edge) else {
         return Ok(true);
@@ -147,9 +133,7 @@ fn show_line<S: Site>(
     command: &Command,
     turn: Turn<'_>,
 ) -> Result<(), SiteFault>
-    ensures looks { OnlyLooks S.tells (S.world site.old) (S.world site.new) }
-    ensures goes { OnOk result (GoesOn (S.world site.old) (S.world site.new)) }
-    ensures fault { IfErr result (Fails S.tells (S.world site.old) (S.world site.new)) }
+    ensures { AsksWell S.tells (S.world site.old) (S.world site.new) result }
 {
     let started = turn.done.saturating_add(1);
     let counts = Counts {
@@ -175,9 +159,7 @@ fn show_failure<S: Site>(
     edge: EdgeId,
     command: &Command,
 ) -> Result<(), SiteFault>
-    ensures looks { OnlyLooks S.tells (S.world site.old) (S.world site.new) }
-    ensures goes { OnOk result (GoesOn (S.world site.old) (S.world site.new)) }
-    ensures fault { IfErr result (Fails S.tells (S.world site.old) (S.world site.new)) }
+    ensures { AsksWell S.tells (S.world site.old) (S.world site.new) result }
 {
     let outputs = texts(alloc, declared, edge)?;
     let ending = Ending {
@@ -207,9 +189,7 @@ fn texts<'a>(
 
 /// Makes the folders of the outputs.
 fn make_folders<S: Site>(site: &mut S, declared: &Declared, edge: EdgeId) -> Result<(), SiteFault>
-    ensures looks { OnlyLooks S.tells (S.world site.old) (S.world site.new) }
-    ensures goes { OnOk result (GoesOn (S.world site.old) (S.world site.new)) }
-    ensures fault { IfErr result (Fails S.tells (S.world site.old) (S.world site.new)) }
+    ensures { AsksWell S.tells (S.world site.old) (S.world site.new) result }
 {
     for output in outputs_at(&declared.graph, edge) {
         if let Some((folder, _)) = text_at(&declared.graph, *output).rsplit_once('/') {

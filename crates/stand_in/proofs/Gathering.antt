@@ -1,0 +1,92 @@
+-- What the edges above the file give, one after another.
+use Rattle.std.proofs.Common.{◌≡◌, ℕ, zero, suc, ◌+◌, ◌<◌, ◌==◌, Bool, true, false, if◌then◌else◌, List, [], ◌∷◌, ◌++◌, All, get_or, filter, flat_map, length, take, Option, None, Some, refl, sym, ap, ◌∙◌, subst, arith, append_assoc, append-nil}
+use Rattle.std.proofs.lemmas.Bool.{eq-eqb, false≢true, or_left, or_right}
+use Rattle.std.proofs.lemmas.Grind.{flat_map-append}
+use Rattle.std.proofs.lemmas.List.{take_more}
+use Rattle.std.proofs.lemmas.List.Elements.{All-cons, All-filter, All-nil, filter-append}
+use Rattle.model.specs.Graph.{has_number}
+use Rattle.paths.specs.Lists.{line_at, line_outputs}
+use Rattle.paths.specs.declared.line.Line.{Line}
+use Rattle.links.specs.Links.{links_of}
+use Rattle.links.specs.declared.graph.Graph.{Graph}
+use Rattle.tools.specs.Above.{AreAbove, Further, IsNeededFor, Makes}
+use Rattle.tools.specs.Files.{runs_generator}
+use Rattle.tools.specs.declared.declared.Declared.{Declared}
+use Rattle.stand_in.specs.Above.{AddsEdge, AreAboveFile, AreEdges, IsOfEdges, made_first}
+use Rattle.stand_in.specs.declared.above.Above.{Above}
+
+-- of so many edges
+pub record HasEdges (declared : Declared) (file : Option ℕ) (edges : List ℕ) (above : Above) : Type 0 where
+  pub file_is : above.file ≡ file
+  pub generators : above.generators.items ≡ filter (runs_generator declared) edges
+  pub first : above.first.items ≡ flat_map (made_first declared) edges
+
+take_at : (xs : List ℕ) (i x : ℕ) → i < length xs → x ≡ get_or xs i x → take (i + 1) xs ≡ take i xs ++ x ∷ []
+take_at xs i x low is = take_more xs i x low ∙ ap (λ y. take i xs ++ y ∷ []) (sym is)
+
+pub edges_none : (declared : Declared) (file : Option ℕ) (above : Above) → above.file ≡ file → above.generators.items ≡ [] → above.first.items ≡ [] → HasEdges declared file [] above
+edges_none declared file above is generators first = record { file_is = is; generators = generators; first = first }
+
+pub edges_more : (declared : Declared) (file : Option ℕ) (edges : List ℕ) (i e : ℕ) (old new : Above) → i < length edges → e ≡ get_or edges i e → HasEdges declared file (take i edges) old → AddsEdge declared e old new → HasEdges declared file (take (i + 1) edges) new
+edges_more declared file edges i e old new low is has adds = record {
+  file_is = adds.file ∙ has.file_is;
+  generators =
+      adds.generators
+      ∙ (ap (λ (l : List ℕ). l ++ filter (runs_generator declared) (e ∷ [])) has.generators
+      ∙ sym (ap (filter (runs_generator declared)) (take_at edges i e low is) ∙ filter-append (runs_generator declared) (take i edges) (e ∷ [])));
+  first =
+      adds.first
+      ∙ (ap (λ (l : List (List ℕ)). l ++ made_first declared e) has.first
+      ∙ sym (ap (flat_map (made_first declared)) (take_at edges i e low is)
+      ∙ (flat_map-append (made_first declared) (take i edges) (e ∷ []) ∙ ap (λ (l : List (List ℕ)). flat_map (made_first declared) (take i edges) ++ l) (append-nil (made_first declared e)))));
+}
+
+pub edges_all : (declared : Declared) (file : Option ℕ) (edges : List ℕ) (i : ℕ) (above : Above) → take i edges ≡ edges → HasEdges declared file (take i edges) above → HasEdges declared file edges above
+edges_all declared file edges i above all has = subst (λ (l : List ℕ). HasEdges declared file l above) all has
+
+-- there is a generator
+pub of_some : (declared : Declared) (file : Option ℕ) (edges : List ℕ) (above : Above) → HasEdges declared file edges above → (length above.generators.items == 0) ≡ false → IsOfEdges declared file edges above
+of_some declared file edges above has some = record {
+  file_is = has.file_is;
+  generators = has.generators;
+  first = has.first ∙ sym (ap (λ (b : Bool). if b then [] else flat_map (made_first declared) edges) some);
+}
+
+-- there is none, so that nothing is built first
+pub of_none : (declared : Declared) (file : Option ℕ) (edges : List ℕ) (old new : Above) → HasEdges declared file edges old → new.file ≡ old.file → new.generators ≡ old.generators → (length old.generators.items == 0) ≡ true → new.first.items ≡ [] → IsOfEdges declared file edges new
+of_none declared file edges old new has file_same generators none first = record {
+  file_is = file_same ∙ has.file_is;
+  generators = ap (λ v. v.items) generators ∙ has.generators;
+  first = first ∙ sym (ap (λ (b : Bool). if b then [] else flat_map (made_first declared) edges) (ap (λ v. length v.items == 0) generators ∙ none));
+}
+
+-- ---- they are edges
+
+below : (lines : List Line) (p e : ℕ) → has_number (line_outputs (line_at lines e)) p ≡ true → e < length lines
+below [] p e made = absurd (false≢true made)
+below (line ∷ lines) p zero made = omega arith
+below (line ∷ lines) p (suc e) made = let lt = below lines p e made in omega (arith, lt)
+
+maker_below : (graph : Graph) (p e : ℕ) → (links_of graph).maker p ≡ Some e → e < length graph.manifest.lines
+maker_below graph p e is = below graph.manifest.lines p e (graph.making.made p e is)
+
+needed_below : (graph : Graph) (paths : List ℕ) (e : ℕ) → IsNeededFor (links_of graph) paths e → e < length graph.manifest.lines
+needed_below graph paths e (Makes e p named made) = maker_below graph p e made
+needed_below graph paths e (Further e d p needed input made) = maker_below graph p e made
+
+all_of : (P : ℕ → Type 0) (xs : List ℕ) → ((x : ℕ) → has_number xs x ≡ true → P x) → All P xs
+all_of P [] each = All-nil P
+all_of P (x ∷ xs) each = All-cons P x xs (each x (has_head x xs)) (all_of P xs (λ y listed. each y (has_tail x y xs listed)))
+  where
+    has_head : (x : ℕ) (xs : List ℕ) → has_number (x ∷ xs) x ≡ true
+    has_head x xs = or_left (x == x) (has_number xs x) (eq-eqb x x refl)
+
+    has_tail : (x y : ℕ) (xs : List ℕ) → has_number xs y ≡ true → has_number (x ∷ xs) y ≡ true
+    has_tail x y xs listed = or_right (x == y) (has_number xs y) listed
+
+pub are_edges : (declared : Declared) (file : Option ℕ) (edges : List ℕ) → AreAboveFile declared.graph file edges → AreEdges declared edges
+are_edges declared None edges none = subst (λ (l : List ℕ). AreEdges declared l) (sym none) (All-nil _)
+are_edges declared (Some p) edges above = all_of _ edges (λ e listed. needed_below declared.graph (p ∷ []) e ((above.just e).0 listed))
+
+pub generators_are_edges : (declared : Declared) (file : Option ℕ) (edges : List ℕ) (above : Above) → AreAboveFile declared.graph file edges → IsOfEdges declared file edges above → AreEdges declared above.generators.items
+generators_are_edges declared file edges above are of = subst (λ (l : List ℕ). AreEdges declared l) (sym of.generators) (All-filter (runs_generator declared) _ edges (are_edges declared file edges are))
