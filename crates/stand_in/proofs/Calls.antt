@@ -92,3 +92,61 @@ module _ (tells : Bool) where
   pub asks_memory : {A B : Type 0} (First : A → Type 0) (Says : B → Type 0) (old new : World) (value : A) (r : Result B SiteFault) → OnlyAsks tells First old new (Ok value) → IsErrAnd r (λ (told : SiteFault). told ≡ Memory) → OnlyAsks tells Says old new r
   asks_memory First Says old new value (Ok told) first passed = absurd passed
   asks_memory First Says old new value (Err told) first passed = (first.0, λ runs. subst (λ (f : SiteFault). FailedAt tells old new f) (sym passed) (failed_memory old new first.0 (first.1 runs).0))
+
+  -- ---- calls of which none was refused so far
+
+  abbrev pub StillAsks : World → World → Type 0
+  StillAsks old now = AsksWell {T = Unit {0}} tells old now (Ok tt)
+
+  pub still_nothing : (w : World) → StillAsks w w
+  still_nothing w = asks_nothing (λ (told : Unit {0}). Unit {0}) w tt
+
+  -- one more call, and its answer
+  pub still_ask : {T : Type 0} (Says : T → Type 0) (old mid new : World) (r : Result T SiteFault) → StillAsks old mid → OnlyAsks tells Says mid new r → OnlyAsks tells Says old new r
+  still_ask Says old mid new (Ok value) first second = (
+    looks_then tells old mid new first.0 second.0,
+    λ runs. ((second.1 (first.1 runs).0).0, λ says. looked_then tells old mid new ((first.1 runs).1 tt) ((second.1 (first.1 runs).0).1 says)),
+  )
+  still_ask Says old mid new (Err fault) first second = (looks_then tells old mid new first.0 second.0, λ runs. failed_then old mid new fault first.0 (second.1 (first.1 runs).0))
+
+  -- one more call that was not refused
+  pub still_then : {T : Type 0} (Says : T → Type 0) (old mid new : World) (value : T) → StillAsks old mid → OnlyAsks tells Says mid new (Ok value) → Says value → StillAsks old new
+  still_then Says old mid new value first second says = asks_so Says (λ (told : Unit {0}). Unit {0}) old new value tt (still_ask Says old mid new (Ok value) first second) (λ any. says)
+
+  pub still_says : {T : Type 0} (Says : T → Type 0) (old new : World) (value : T) → StillAsks old new → OnlyAsks tells Says old new (Ok value)
+  still_says Says old new value still = asks_so (λ (told : Unit {0}). Unit {0}) Says old new tt value still (λ says. tt)
+
+  -- an answer that says nothing of what was refused
+  pub still_unsaid : {A T : Type 0} (First : A → Type 0) (Says : T → Type 0) (old mid new : World) (value : A) (told : T) → StillAsks old mid → OnlyAsks tells First mid new (Ok value) → (Says told → ⊥) → OnlyAsks tells Says old new (Ok told)
+  still_unsaid First Says old mid new value told first second unsaid =
+      (looks_then tells old mid new first.0 second.0, λ runs. ((second.1 (first.1 runs).0).0, λ says. absurd (unsaid says)))
+
+  pub still_err : {A B : Type 0} (First : A → Type 0) (Says : B → Type 0) (old mid new : World) (fault : SiteFault) (r : Result B SiteFault) → StillAsks old mid → OnlyAsks tells First mid new (Err fault) → IsErrAnd r (λ (told : SiteFault). told ≡ fault)
+      → OnlyAsks tells Says old new r
+  still_err First Says old mid new fault r first second passed = asks_err First Says old new fault r (still_ask First old mid new (Err fault) first second) passed
+
+  pub still_memory : {B : Type 0} (Says : B → Type 0) (old new : World) (r : Result B SiteFault) → StillAsks old new → IsErrAnd r (λ (told : SiteFault). told ≡ Memory) → OnlyAsks tells Says old new r
+  still_memory Says old new r still passed = asks_memory (λ (told : Unit {0}). Unit {0}) Says old new tt r still passed
+
+  -- ---- how many generators ran
+
+  abbrev pub Ran : World → World → ℕ → Type 0
+  Ran old now ran = OnlyAsks {T = ℕ} tells (λ n. n ≡ 0) old now (Ok ran)
+
+  -- one is up to date
+  pub ran_none : (old mid new : World) (ran : ℕ) (later : Bool) → Ran old mid ran → OnlyAsks tells (λ (l : Bool). l ≡ false) mid new (Ok later) → later ≡ false → Ran old new ran
+  ran_none old mid new ran later first second is =
+      asks_then (λ (n : ℕ). n ≡ 0) (λ (n : ℕ). n ≡ 0) old mid new ran (Ok ran) first (asks_so (λ (l : Bool). l ≡ false) (λ (n : ℕ). n ≡ 0) mid new later ran second (λ none. is)) (λ none. none)
+
+  -- one was asked of, and what comes of it says nothing of what was refused
+  pub ran_on : {A T : Type 0} (First : A → Type 0) (Says : T → Type 0) (old mid new : World) (ran : ℕ) (value : A) (told : T) → Ran old mid ran → OnlyAsks tells First mid new (Ok value) → (Says told → ⊥) → OnlyAsks tells Says old new (Ok told)
+  ran_on First Says old mid new ran value told first second unsaid =
+      (looks_then tells old mid new first.0 second.0, λ runs. ((second.1 (first.1 runs).0).0, λ says. absurd (unsaid says)))
+
+  pub ran_err : {A T : Type 0} (First : A → Type 0) (Says : T → Type 0) (old mid new : World) (ran : ℕ) (fault : SiteFault) (r : Result T SiteFault) → Ran old mid ran → OnlyAsks tells First mid new (Err fault) → IsErrAnd r (λ (told : SiteFault). told ≡ fault)
+      → OnlyAsks tells Says old new r
+  ran_err First Says old mid new ran fault r first second passed = asks_then_err (λ (n : ℕ). n ≡ 0) First Says old mid new ran fault r first second passed
+
+  -- two calls one after another, of which the second alone is let go
+  pub on_then : {A B : Type 0} (First : A → Type 0) (Second : B → Type 0) (old mid new : World) (value : A) (told : B) → OnlyAsks tells First old mid (Ok value) → OnlyAsks tells Second mid new (Ok told) → OnlyLooks tells old new × (old.stopped ≡ false → new.stopped ≡ false)
+  on_then First Second old mid new value told first second = (looks_then tells old mid new first.0 second.0, λ runs. (second.1 (first.1 runs).0).0)

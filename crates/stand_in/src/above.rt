@@ -28,7 +28,8 @@ pub fn all_above(alloc: Global, declared: &Declared, name: &str) -> Result<Above
 {
     let file = file_path(alloc, declared, name)?;
     let edges = above_file(alloc, &declared.graph, file)?;
-    of_edges(alloc, declared, file, edges.as_slice())
+    let above = of_edges(alloc, declared, file, edges.as_slice())?;
+    Ok(above)
 }
 
 /// The edges that are above the file, makers first.

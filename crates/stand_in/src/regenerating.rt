@@ -162,17 +162,27 @@ fn show_failure<S: Site>(
     ensures { AsksWell S.tells (S.world site.old) (S.world site.new) result }
 {
     let outputs = texts(alloc, declared, edge)?;
+    let mut shown = Vec::new(alloc);
+    push_failed(&mut shown, outputs.as_slice(), command.act.command.as_str())?;
+    site.show(shown.as_slice())
+}
+
+/// Puts behind a text that a command failed, which printed nothing that is to be shown.
+fn push_failed<'x>(
+    text: &mut Vec<u8>,
+    outputs: &'x [&'x str],
+    command: &'x str,
+) -> Result<(), AllocError> {
+    let failure = Failure {
+        outputs,
+        command,
+        depfile: None,
+    };
     let ending = Ending {
-        failure: Some(Failure {
-            outputs: outputs.as_slice(),
-            command: command.act.command.as_str(),
-            depfile: None,
-        }),
+        failure: Some(failure),
         output: b"",
     };
-    let mut shown = Vec::new(alloc);
-    push_ending(&mut shown, &ending)?;
-    site.show(shown.as_slice())
+    push_ending(text, &ending)
 }
 
 fn texts<'a>(

@@ -27,6 +27,16 @@ pub struct Front<'a> {
     pub jobs: u32,
 }
 
+/// How far a build has come, as its lines tell it.
+#[derive(Clone, Copy)]
+struct Counts {
+    started: u64,
+    total: u64,
+    running: u64,
+    unstarted: u64,
+    finished: u64,
+}
+
 /// A writer that puts a heading in the place of the counts with which lines begin. Nothing is replaced in what stands behind them,
 /// or in lines that begin otherwise.
 #[derive(Drop)]
@@ -81,8 +91,14 @@ impl<'a, W: Write> Screen<'a, W> {
     }
 
     /// The moment at which these counts are shown.
-    fn moment(&mut self, counts: [u64; 5]) -> io::Result<Moment> {
-        let [started, total, running, unstarted, finished] = counts;
+    fn moment(&mut self, counts: Counts) -> io::Result<Moment> {
+        let Counts {
+            started,
+            total,
+            running,
+            unstarted,
+            finished,
+        } = counts;
         let elapsed = u64::try_from(self.begun.elapsed(self.rt)?.as_millis()).unwrap_or(u64::MAX);
         if finished != self.finished {
             self.finished = finished;
@@ -151,7 +167,7 @@ fn split_line(text: &[u8]) -> (&[u8], &[u8])
 }
 
 /// The counts with which a line begins, if it does, and what stands behind them.
-fn split_counts(line: &[u8]) -> Option<([u64; 5], &[u8])> {
+fn split_counts(line: &[u8]) -> Option<(Counts, &[u8])> {
     let (first, behind) = line.split_first()?;
     if *first != MARK {
         return None;
@@ -159,19 +175,27 @@ fn split_counts(line: &[u8]) -> Option<([u64; 5], &[u8])> {
     let end = behind.iter().position(|byte| *byte == MARK)?;
     let (front, said) = behind.split_at(end);
     let (_, said) = said.split_first()?;
-    let counts = numbers(str::from_utf8(front).ok()?)?;
+    let counts = counts_of(str::from_utf8(front).ok()?)?;
     Some((counts, said))
 }
 
 /// Five numbers with slashes between them.
-fn numbers(text: &str) -> Option<[u64; 5]> {
-    let mut counts = [0u64; 5];
-    let mut rest = text;
-    for place in 0..4usize {
-        let (number, behind) = rest.split_once('/')?;
-        counts[place] = number.parse::<u64>().ok()?;
-        rest = behind;
-    }
-    counts[4] = rest.parse::<u64>().ok()?;
-    Some(counts)
+fn counts_of(text: &str) -> Option<Counts> {
+    let (started, rest) = split_number(text)?;
+    let (total, rest) = split_number(rest)?;
+    let (running, rest) = split_number(rest)?;
+    let (unstarted, finished) = split_number(rest)?;
+    Some(Counts {
+        started,
+        total,
+        running,
+        unstarted,
+        finished: finished.parse::<u64>().ok()?,
+    })
+}
+
+/// The number in front of a slash, and what stands behind that.
+fn split_number(text: &str) -> Option<(u64, &str)> {
+    let (number, behind) = text.split_once('/')?;
+    Some((number.parse::<u64>().ok()?, behind))
 }
