@@ -150,3 +150,17 @@ module _ (tells : Bool) where
   -- two calls one after another, of which the second alone is let go
   pub on_then : {A B : Type 0} (First : A → Type 0) (Second : B → Type 0) (old mid new : World) (value : A) (told : B) → OnlyAsks tells First old mid (Ok value) → OnlyAsks tells Second mid new (Ok told) → OnlyLooks tells old new × (old.stopped ≡ false → new.stopped ≡ false)
   on_then First Second old mid new value told first second = (looks_then tells old mid new first.0 second.0, λ runs. (second.1 (first.1 runs).0).0)
+
+  -- ---- one call more
+
+  -- a call that answered
+  pub still_call : {T : Type 0} (old new : World) (value : T) → OnlyLooks tells old new → HasCause old new (Ok value) → StillAsks old new
+  still_call old new value looks cause = (looks, λ runs. (cause.stopped, λ says. record { looks = looks; unrefused = unrefused_call old new value cause }))
+
+  -- there was no memory for what comes behind it
+  pub still_fails : {T : Type 0} (Says : T → Type 0) (old new : World) → StillAsks old new → OnlyAsks tells Says old new (Err Memory)
+  still_fails Says old new still = (still.0, λ runs. failed_memory old new still.0 (still.1 runs).0)
+
+  -- it changed nothing that contracts see
+  pub still_same : (old new : World) → new ≡ old → StillAsks old new
+  still_same old new same = subst (λ (w : World). StillAsks old w) (sym same) (still_nothing old)
