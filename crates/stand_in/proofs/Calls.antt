@@ -1,5 +1,5 @@
 -- Calls that only look, one after another.
-use Rattle.std.proofs.Common.{◌≡◌, ℕ, Bool, true, false, Option, None, Some, Result, Ok, Err, IfOk, IsSome, IsErrAnd, refl, sym, ap, ◌∙◌, subst, arith}
+use Rattle.std.proofs.Common.{◌≡◌, ℕ, Bool, true, false, Option, None, Some, Result, Ok, Err, IfErr, IfOk, OnOk, IsSome, IsErrAnd, refl, sym, ap, ◌∙◌, subst, arith}
 use Rattle.std.specs.Result.{IsErrOf}
 use Rattle.std.proofs.lemmas.Bool.{false≢true, true≢false}
 use Rattle.model.specs.declared.fault.SiteFault.{SiteFault}
@@ -11,6 +11,21 @@ use Rattle.build_theory.proofs.Calls.{unrefused_call}
 use Rattle.build_theory.proofs.Looks.{looks_nothing, looks_then}
 use Rattle.stand_in.specs.Moves.{AsksWell, FailedAt, OnlyAsks}
 use Rattle.stand_in.proofs.Stages.{looked_nothing, looked_then}
+
+-- ---- results
+
+pub on_ok : {T E : Type 0} {P : Type 0} (r : Result T E) → P → OnOk r P
+on_ok (Ok value) is = is
+on_ok (Err error) is = tt
+
+pub if_err_each : {T E : Type 0} {P : E → Type 0} (r : Result T E) → ((error : E) → P error) → IfErr r P
+if_err_each (Ok value) each = tt
+if_err_each (Err error) each = each error
+
+-- an error that is passed on
+pub if_err_by : {T E : Type 0} (P : E → Type 0) (error : E) (r : Result T E) → P error → IsErrAnd r (λ (told : E). told ≡ error) → IfErr r P
+if_err_by P error (Ok value) is passed = tt
+if_err_by P error (Err told) is passed = subst P (sym passed) is
 
 -- ---- causes
 
@@ -164,3 +179,23 @@ module _ (tells : Bool) where
   -- it changed nothing that contracts see
   pub still_same : (old new : World) → new ≡ old → StillAsks old new
   still_same old new same = subst (λ (w : World). StillAsks old w) (sym same) (still_nothing old)
+
+  -- a fault of a call is the fault that is told
+  pub asks_passed : {A B : Type 0} (Says : B → Type 0) (old new : World) (fault : SiteFault) → OnlyLooks tells old new → HasCause {T = A} old new (Err fault) → OnlyAsks tells Says old new (Err fault)
+  asks_passed Says old new fault looks cause = (looks, λ runs. failed_call old new fault looks cause)
+
+  -- one was asked of, and one ran
+  pub ran_two : {A B T : Type 0} (First : A → Type 0) (Says : T → Type 0) (old mid next new : World) (ran : ℕ) (later : A) (ok : B) (told : T)
+      → Ran old mid ran → OnlyAsks tells First mid next (Ok later) → AsksWell tells next new (Ok ok) → (Says told → ⊥) → OnlyAsks tells Says old new (Ok told)
+  ran_two First Says old mid next new ran later ok told first second third unsaid = (
+    looks_then tells old next new (looks_then tells old mid next first.0 second.0) third.0,
+    λ runs. ((third.1 (second.1 (first.1 runs).0).0).0, λ says. absurd (unsaid says)),
+  )
+
+  pub ran_two_err : {A B T : Type 0} (First : A → Type 0) (Says : T → Type 0) (old mid next new : World) (ran : ℕ) (later : A) (fault : SiteFault) (r : Result T SiteFault)
+      → Ran old mid ran → OnlyAsks tells First mid next (Ok later) → AsksWell {T = B} tells next new (Err fault) → IsErrAnd r (λ (told : SiteFault). told ≡ fault) → OnlyAsks tells Says old new r
+  ran_two_err {B = B} First Says old mid next new ran later fault r first second third passed =
+      asks_err (λ (any : B). Unit {0}) Says old new fault r (
+        looks_then tells old next new (looks_then tells old mid next first.0 second.0) third.0,
+        λ runs. failed_then old next new fault (looks_then tells old mid next first.0 second.0) (third.1 (second.1 (first.1 runs).0).0),
+      ) passed

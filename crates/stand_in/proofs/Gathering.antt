@@ -1,18 +1,20 @@
 -- What the edges above the file give, one after another.
-use Rattle.std.proofs.Common.{◌≡◌, ℕ, zero, suc, ◌+◌, ◌<◌, ◌==◌, Bool, true, false, if◌then◌else◌, List, [], ◌∷◌, ◌++◌, All, get_or, filter, flat_map, length, take, Option, None, Some, refl, sym, ap, ◌∙◌, subst, arith, append_assoc, append-nil}
+use Rattle.std.proofs.Common.{◌≡◌, ℕ, zero, suc, ◌+◌, ◌-◌, ◌<◌, ◌==◌, Bool, true, false, if◌then◌else◌, List, [], ◌∷◌, ◌++◌, All, get_or, slice_get, filter, flat_map, length, take, Option, None, Some, MatchOption, refl, sym, ap, ◌∙◌, subst, arith, append_assoc, append-nil}
 use Rattle.std.proofs.lemmas.Bool.{eq-eqb, false≢true, or_left, or_right}
 use Rattle.std.proofs.lemmas.Grind.{flat_map-append}
 use Rattle.std.proofs.lemmas.List.{take_more}
 use Rattle.std.proofs.lemmas.List.Elements.{All-cons, All-filter, All-nil, filter-append}
 use Rattle.model.specs.Graph.{has_number}
+use Rattle.lexer.specs.Path.{IsCanonical}
 use Rattle.paths.specs.Lists.{line_at, line_outputs}
+use Rattle.paths.specs.Told.{IsNamedNumber, IsUnnamed, text_at}
 use Rattle.paths.specs.declared.line.Line.{Line}
 use Rattle.links.specs.Links.{links_of}
 use Rattle.links.specs.declared.graph.Graph.{Graph}
 use Rattle.tools.specs.Above.{AreAbove, Further, IsNeededFor, Makes}
 use Rattle.tools.specs.Files.{runs_generator}
 use Rattle.tools.specs.declared.declared.Declared.{Declared}
-use Rattle.stand_in.specs.Above.{AddsEdge, AreAboveFile, AreEdges, IsOfEdges, made_first}
+use Rattle.stand_in.specs.Above.{AddsEdge, AreAboveFile, AreEdges, IsAllAbove, IsFileOf, IsOfEdges, first_of, made_first}
 use Rattle.stand_in.specs.declared.above.Above.{Above}
 
 -- of so many edges
@@ -90,3 +92,103 @@ are_edges declared (Some p) edges above = all_of _ edges (λ e listed. needed_be
 
 pub generators_are_edges : (declared : Declared) (file : Option ℕ) (edges : List ℕ) (above : Above) → AreAboveFile declared.graph file edges → IsOfEdges declared file edges above → AreEdges declared above.generators.items
 generators_are_edges declared file edges above are of = subst (λ (l : List ℕ). AreEdges declared l) (sym of.generators) (All-filter (runs_generator declared) _ edges (are_edges declared file edges are))
+
+pub edge_in : (declared : Declared) (edges : List ℕ) (i e : ℕ) → AreEdges declared edges → i < length edges → e ≡ get_or edges i e → e < length declared.graph.manifest.lines
+edge_in declared edges i e are low is = subst (λ (x : ℕ). x < length declared.graph.manifest.lines) (sym is) (are i e low)
+
+pub last_in : (declared : Declared) (edges : List ℕ) (e : ℕ) → AreEdges declared edges → slice_get edges (length edges - 1) ≡ Some e → e < length declared.graph.manifest.lines
+last_in declared edges e are is = by_place (length edges - 1) is
+  where
+    at_place : (xs : List ℕ) (k : ℕ) → slice_get xs k ≡ Some e → k < length xs
+    at_place [] k is = cc
+    at_place (x ∷ xs) zero is = omega arith
+    at_place (x ∷ xs) (suc k) is = let low = at_place xs k is in omega (arith, low)
+
+    same : (xs : List ℕ) (k : ℕ) → slice_get xs k ≡ Some e → e ≡ get_or xs k e
+    same [] k is = refl
+    same (x ∷ xs) zero is = cc
+    same (x ∷ xs) (suc k) is = same xs k is
+
+    by_place : (k : ℕ) → slice_get edges k ≡ Some e → e < length declared.graph.manifest.lines
+    by_place k is = edge_in declared edges k e are (at_place edges k is) (same edges k is)
+
+-- ---- one edge
+
+module _ (declared : Declared) (edge : ℕ) (old new : Above) (file : new.file ≡ old.file) where
+  pub adds_generator : runs_generator declared edge ≡ true → new.generators.items ≡ old.generators.items ++ edge ∷ [] → new.first ≡ old.first → AddsEdge declared edge old new
+  adds_generator runs pushed same = record {
+    file = file;
+    generators = pushed ∙ ap (λ (b : Bool). old.generators.items ++ (if b then edge ∷ [] else [])) (sym runs);
+    first = ap (λ v. v.items) same ∙ (sym (append-nil old.first.items) ∙ ap (λ (b : Bool). old.first.items ++ (if b then [] else if (links_of declared.graph).phony edge then [] else made)) (sym runs));
+  }
+    where
+      made : List (List ℕ)
+      made = flat_map (λ p. text_at declared.graph.manifest.paths p ∷ []) (first_of ((links_of declared.graph).outputs edge))
+
+  module _ (none : runs_generator declared edge ≡ false) (same : new.generators ≡ old.generators) where
+    kept : new.generators.items ≡ old.generators.items ++ filter (runs_generator declared) (edge ∷ [])
+    kept = ap (λ v. v.items) same ∙ (sym (append-nil old.generators.items) ∙ ap (λ (b : Bool). old.generators.items ++ (if b then edge ∷ [] else [])) (sym none))
+
+    made : List (List ℕ)
+    made = flat_map (λ p. text_at declared.graph.manifest.paths p ∷ []) (first_of ((links_of declared.graph).outputs edge))
+
+    without : (first : List (List ℕ)) → (if (links_of declared.graph).phony edge then [] else made) ≡ first → made_first declared edge ≡ first
+    without first is = ap (λ (b : Bool). if b then [] else if (links_of declared.graph).phony edge then [] else made) none ∙ is
+
+    pub adds_alias : (links_of declared.graph).phony edge ≡ true → new.first ≡ old.first → AddsEdge declared edge old new
+    adds_alias alias first = record {
+      file = file;
+      generators = kept;
+      first = ap (λ v. v.items) first ∙ (sym (append-nil old.first.items) ∙ ap (λ l. old.first.items ++ l) (sym (without [] (ap (λ (b : Bool). if b then [] else made) alias))));
+    }
+
+    module _ (command : (links_of declared.graph).phony edge ≡ false) where
+      made_is : (outputs : List ℕ) → outputs ≡ first_of ((links_of declared.graph).outputs edge) → made_first declared edge ≡ flat_map (λ p. text_at declared.graph.manifest.paths p ∷ []) outputs
+      made_is outputs are = without _ (ap (λ (b : Bool). if b then [] else made) command ∙ ap (λ (l : List ℕ). flat_map (λ p. text_at declared.graph.manifest.paths p ∷ []) l) (sym are))
+
+      first_none : (outputs : List ℕ) → slice_get outputs 0 ≡ None → [] ≡ first_of outputs
+      first_none [] is = refl
+      first_none (p ∷ outputs) is = cc
+
+      first_some : (outputs : List ℕ) (p : ℕ) → slice_get outputs 0 ≡ Some p → p ∷ [] ≡ first_of outputs
+      first_some [] p is = cc
+      first_some (o ∷ outputs) p is = ap (λ (x : Option ℕ). x_of x) (sym is)
+        where
+          x_of : Option ℕ → List ℕ
+          x_of None = []
+          x_of (Some x) = x ∷ []
+
+      pub adds_nothing : slice_get ((links_of declared.graph).outputs edge) 0 ≡ None → new.first ≡ old.first → AddsEdge declared edge old new
+      adds_nothing is first = record {
+        file = file;
+        generators = kept;
+        first = ap (λ v. v.items) first ∙ (sym (append-nil old.first.items) ∙ ap (λ l. old.first.items ++ l) (sym (made_is [] (first_none ((links_of declared.graph).outputs edge) is))));
+      }
+
+      pub adds_output : (p : ℕ) → slice_get ((links_of declared.graph).outputs edge) 0 ≡ Some p → new.first.items ≡ old.first.items ++ text_at declared.graph.manifest.paths p ∷ [] → AddsEdge declared edge old new
+      adds_output p is pushed = record {
+        file = file;
+        generators = kept;
+        first = pushed ∙ ap (λ l. old.first.items ++ l) (sym (made_is (p ∷ []) (first_some ((links_of declared.graph).outputs edge) p is)));
+      }
+
+-- ---- the file
+
+pub all_of_file : (declared : Declared) (name : List ℕ) (file : Option ℕ) (edges : List ℕ) (above : Above) → IsFileOf declared name file → AreAboveFile declared.graph file edges → IsOfEdges declared file edges above → IsAllAbove declared name above
+all_of_file declared name file edges above file_of are of = record {
+  edges = edges;
+  file = subst (λ (f : Option ℕ). IsFileOf declared name f) (sym of.file_is) file_of;
+  are = subst (λ (f : Option ℕ). AreAboveFile declared.graph f edges) (sym of.file_is) are;
+  of = record { file_is = refl; generators = of.generators; first = of.first };
+}
+
+-- a name with this canonical path is that of no file where no edge names that
+pub no_file : (declared : Declared) (name path : List ℕ) → ((text a b : List ℕ) → IsCanonical text a → IsCanonical text b → a ≡ b) → IsCanonical name path → IsUnnamed declared.graph.manifest path → IsFileOf declared name None
+no_file declared name path one is unnamed = λ other some canonical. subst (λ (p : List ℕ). IsUnnamed declared.graph.manifest p) (one name path other is canonical) unnamed
+
+pub file_by : (declared : Declared) (name path : List ℕ) → ((text a b : List ℕ) → IsCanonical text a → IsCanonical text b → a ≡ b) → IsCanonical name path → (file : Option ℕ) → MatchOption file (IsUnnamed declared.graph.manifest path) (IsNamedNumber declared.graph.manifest path) → IsFileOf declared name file
+file_by declared name path one is None unnamed = no_file declared name path one is unnamed
+file_by declared name path one is (Some p) named = (path, is, named.0)
+
+pub empty_file : (declared : Declared) (name : List ℕ) → name ≡ [] → IsFileOf declared name None
+empty_file declared name empty = λ other some canonical. absurd (some empty)

@@ -1,5 +1,5 @@
 -- Reading build files, and what a build of them would report.
-use Rattle.std.proofs.Common.{◌≡◌, inl, inr, ℕ, Bool, IsTrue, List, [], ◌++◌, OnOk, Result, Ok, Err, refl, sym, ap, ◌∙◌, subst, append-nil}
+use Rattle.std.proofs.Common.{◌≡◌, inl, inr, ℕ, Bool, IsTrue, List, [], ◌++◌, OnOk, IfErr, IsErrAnd, Result, Ok, Err, refl, sym, ap, ◌∙◌, subst, append-nil}
 use Rattle.model.specs.declared.act.Act.{Act}
 use Rattle.model.specs.declared.fault.SiteFault.TheVariants.{Memory}
 use Rattle.model.specs.declared.graph.BuildGraph.{BuildGraph}
@@ -84,3 +84,8 @@ module _ (tells : Bool) (outcome : Act → View → Outcome) (name : List ℕ) (
       file = subst (λ (m : Manifest). IsTrue tells → ReadsFile name old.history new.history (Ok (graph_of m))) (sym is) file;
       looked = looked;
     }
+
+-- what is passed on says the same
+pub unread_by : {T : Type 0} {tells : Bool} {outcome : Act → View → Outcome} {name : List ℕ} {old new : World} {report : Report} (r : Result T Report) → WasUnreadHere tells outcome name old new report → IsErrAnd r (λ (told : Report). told ≡ report) → IfErr r (WasUnreadHere tells outcome name old new)
+unread_by (Ok value) is passed = tt
+unread_by {tells = tells} {outcome = outcome} {name = name} {old = old} {new = new} (Err told) is passed = subst (λ (r : Report). WasUnreadHere tells outcome name old new r) (sym passed) is

@@ -1,5 +1,5 @@
 -- The last build of a run, of what was read.
-use Rattle.std.proofs.Common.{◌≡◌, inl, inr, ℕ, Bool, true, false, IsTrue, List, [], ◌++◌, Option, Result, Ok, Err, refl, sym, ap, ◌∙◌, subst, append_assoc, map}
+use Rattle.std.proofs.Common.{◌≡◌, inl, inr, ℕ, Bool, true, false, IsTrue, List, [], ◌++◌, Option, Result, Ok, Err, refl, sym, ap, ◌∙◌, subst, append_assoc, append-nil, map}
 use Rattle.std.specs.Option.{option_map}
 use Rattle.model.specs.declared.act.Act.{Act}
 use Rattle.model.specs.declared.event.Event.{Event}
@@ -18,6 +18,7 @@ use Rattle.depfile.specs.Depfile.{HasReading}
 use Rattle.dyndep_law.specs.Readings.{HasReading as HasDyndeps}
 use Rattle.links.specs.Extended.{addition_of}
 use Rattle.links.specs.Told.{declared_by}
+use Rattle.links.specs.declared.graph.Graph.{Graph}
 use Rattle.manifest.specs.Answer.{IsGraph, ReadsFile}
 use Rattle.tools.specs.Joined.{KeepsEdges}
 use Rattle.tools.specs.declared.declared.Declared.{Declared}
@@ -31,6 +32,10 @@ use Rattle.builder.specs.declared.report.Report.{Report}
 use Rattle.stand_in.specs.Moves.{IsEndOf, IsReady, WasReadHere}
 use Rattle.stand_in.specs.declared.build.Outcome.TheVariants.{Built}
 use Rattle.stand_in.proofs.Stages.{built_end, looked_nothing, looked_then}
+
+-- a graph keeps its edges where nothing is done
+pub keeps_none : (graph : Graph) → KeepsEdges graph graph
+keeps_none graph = record { more = []; paths = sym (append-nil graph.manifest.paths); lines = refl; declared = refl; recorded = λ none. none }
 
 -- what was read stays so where its paths get more numbers
 read_kept : (tells : Bool) (name : List ℕ) (old new : World) (before after : Declared) → KeepsEdges before.graph after.graph → WasReadHere tells name old new before → WasReadHere tells name old new after

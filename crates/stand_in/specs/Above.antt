@@ -1,5 +1,5 @@
 -- What stands above the file that was read.
-use Rattle.std.specs.Prelude.{◌≡◌, ◌<◌, ℕ, List, [], ◌∷◌, ◌++◌, All, filter, flat_map, length, Option, Some, None, MatchOption, slice_get, if◌then◌else◌, ◌==◌}
+use Rattle.std.specs.Prelude.{◌≡◌, ◌≢◌, ◌<◌, ℕ, List, [], ◌∷◌, ◌++◌, All, filter, flat_map, length, Option, Some, None, MatchOption, slice_get, if◌then◌else◌, ◌==◌}
 use Rattle.lexer.specs.Path.{IsCanonical}
 use Rattle.paths.specs.Told.{IsUnnamed, text_at}
 use Rattle.links.specs.Links.{links_of}
@@ -12,7 +12,7 @@ use Rattle.stand_in.specs.declared.above.Above.{Above}
 -- the path of the file of this name, where a line names it; the empty name is that of no file
 abbrev pub IsFileOf : Declared → List ℕ → Option ℕ → Type 0
 IsFileOf declared name file =
-    MatchOption file ((path : List ℕ) → IsCanonical name path → IsUnnamed declared.graph.manifest path)
+    MatchOption file ((path : List ℕ) → name ≢ [] → IsCanonical name path → IsUnnamed declared.graph.manifest path)
     (λ p. (path : List ℕ) × IsCanonical name path × (slice_get declared.graph.manifest.paths p ≡ Some path))
 
 -- the edges that are above it

@@ -3,7 +3,7 @@
 ghost use Rattle.std.specs.Prelude.{OnOk, IfOk};
 ghost use Rattle.stand_in.specs.Above.{AddsEdge, AreAboveFile, AreEdges, IsAllAbove, IsFileOf, IsOfEdges};
 
-use lexer::{ReadFault, canonical};
+use lexer::{ReadFault, canonical, one_form};
 use links::Graph;
 use paths::{EdgeId, PathId};
 use std::alloc::{AllocError, Global};
@@ -79,12 +79,16 @@ fn add_edge(
 {
     if declared.described.is_generator(edge) {
         above.generators.push(edge)?;
-    } else if !is_phony_at(&declared.graph, edge) {
-        if let Some(output) = outputs_at(&declared.graph, edge).first() {
-            let text = text_at(&declared.graph, *output);
-            above.first.push(Text::from_str(alloc, text)?)?;
-        }
+        return Ok(());
     }
+    if is_phony_at(&declared.graph, edge) {
+        return Ok(());
+    }
+    let Some(output) = outputs_at(&declared.graph, edge).first() else {
+        return Ok(());
+    };
+    let text = Text::from_str(alloc, text_at(&declared.graph, *output))?;
+    above.first.push(text)?;
     Ok(())
 }
 
@@ -92,6 +96,7 @@ fn add_edge(
 fn file_path(alloc: Global, declared: &Declared, name: &str) -> Result<Option<PathId>, AllocError>
     ensures { IfOk result (IsFileOf declared.now name.now) }
 {
+    one_form();
     match canonical(alloc, name) {
         Ok(path) => Ok(declared.graph.manifest.number_of(path.as_str())),
         Err(ReadFault::EmptyPath) => Ok(None),

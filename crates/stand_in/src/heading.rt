@@ -103,7 +103,7 @@ impl Heading {
     {
         let mut parts = Vec::new(alloc);
         let mut rest = text.as_bytes();
-        while let Some((part, behind)) = split_part(rest)? {
+        'parts: while let Some((part, behind)) = split_part(rest)? {
             parts.push(part).map_err(AllocError::from)?;
             rest = behind;
         }

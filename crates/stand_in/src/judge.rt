@@ -27,10 +27,10 @@ pub fn is_out_of_date<S: Site>(
     let Some(made) = made_stamp(site, declared, edge, file)? else {
         return Ok(true);
     };
-    Ok(
-        has_later_input(alloc, site, &declared.graph, edge, made)?
-            || has_later_told(alloc, site, declared, edge, made)?,
-    )
+    if has_later_input(alloc, site, &declared.graph, edge, made)? {
+        return Ok(true);
+    }
+    has_later_told(alloc, site, declared, edge, made)
 }
 
 /// The stamp of what the edge makes; none where that is absent.
@@ -91,15 +91,25 @@ fn has_later_input<S: Site>(
 {
     match graph.reading(alloc, edge)? {
         Reading::Itself(edge) => is_one_later(site, graph, regular_inputs_at(graph, edge), made),
-        Reading::Through(edges) => {
-            for edge in edges.as_slice() {
-                if is_one_later(site, graph, regular_inputs_at(graph, *edge), made)? {
-                    return Ok(true);
-                }
-            }
-            Ok(false)
+        Reading::Through(edges) => has_later_of(site, graph, edges.as_slice(), made),
+    }
+}
+
+/// Whether a regular input of one of these edges is absent or later.
+fn has_later_of<S: Site>(
+    site: &mut S,
+    graph: &Graph,
+    edges: &[EdgeId],
+    made: u64,
+) -> Result<bool, SiteFault>
+    ensures { OnlyAsks S.tells (λ later. later ≡ false) (S.world site.old) (S.world site.new) result }
+{
+    for edge in edges {
+        if is_one_later(site, graph, regular_inputs_at(graph, *edge), made)? {
+            return Ok(true);
         }
     }
+    Ok(false)
 }
 
 fn is_one_later<S: Site>(

@@ -43,17 +43,18 @@ pub fn regenerate<S: Place>(
 {
     let mut ran = 0usize;
     for generator in above.generators.as_slice() {
-        if is_out_of_date(alloc, site, declared, *generator, above.file)? {
-            let turn = Turn {
-                options,
-                done: ran,
-                total: above.generators.len(),
-            };
-            if !run_one(alloc, site, declared, *generator, turn)? {
-                return Ok(Regenerated::Failed);
-            }
-            ran = ran.saturating_add(1);
+        if !is_out_of_date(alloc, site, declared, *generator, above.file)? {
+            continue;
         }
+        let turn = Turn {
+            options,
+            done: ran,
+            total: above.generators.len(),
+        };
+        if !run_one(alloc, site, declared, *generator, turn)? {
+            return Ok(Regenerated::Failed);
+        }
+        ran = ran.saturating_add(1);
     }
     if ran == 0 {
         return Ok(Regenerated::Nothing);
@@ -120,10 +121,11 @@ fn run_one<S: Place>(
     show_line(alloc, site, command, turn)?;
     make_folders(site, declared, edge)?;
     let ok = site.run_generator(&command.act)?;
-    if !ok {
-        show_failure(alloc, site, declared, edge, command)?;
+    if ok {
+        return Ok(true);
     }
-    Ok(ok)
+    show_failure(alloc, site, declared, edge, command)?;
+    Ok(false)
 }
 
 /// Shows the line of a command that is about to be started.

@@ -140,7 +140,7 @@ impl<'a, W: Write> Screen<'a, W> {
 impl<'a, W: Write> Write for Screen<'a, W> {
     fn write(&mut self, buf: &[u8]) -> io::Result<usize> {
         let mut rest = buf;
-        while !rest.is_empty() {
+        'lines: while !rest.is_empty() {
             let (line, behind) = split_line(rest);
             self.show_line(line)?;
             rest = behind;

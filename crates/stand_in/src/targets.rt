@@ -38,13 +38,8 @@ pub fn left_targets<S: Site>(
     ensures memory { IfErr result (λ fault. fault ≡ Fault.Memory → (S.world site.new).stopped ≡ false) }
     ensures kept { KeepsEdges declared.old.graph declared.new.graph }
 {
-    let paths = if words.is_empty() {
-        meant(alloc, &declared.graph, above)?
-    } else {
-        asked_here(alloc, site, declared, words)?
-    };
-    let graph = &declared.graph;
-    let left = others(alloc, graph, &paths, above)?;
+    let paths = paths_of(alloc, site, declared, words, above)?;
+    let left = others(alloc, &declared.graph, &paths, above)?;
     if words.is_empty() && left.len() == paths.len() {
         return Ok(Targets::Default);
     }
@@ -52,6 +47,26 @@ pub fn left_targets<S: Site>(
         return Ok(Targets::Nothing);
     }
     Ok(Targets::Named(left))
+}
+
+/// The paths that words ask for, or what is meant where there are none.
+fn paths_of<S: Site>(
+    alloc: Global,
+    site: &mut S,
+    declared: &mut Declared,
+    words: &[&str],
+    above: &Above,
+) -> Result<Vec<PathId>, Fault>
+    requires running { (S.world site.old).stopped ≡ false }
+    ensures looks { OnlyLooks S.tells (S.world site.old) (S.world site.new) }
+    ensures looked { OnOk result (Looked S.tells (S.world site.old) (S.world site.new)) }
+    ensures memory { IfErr result (λ fault. fault ≡ Fault.Memory → (S.world site.new).stopped ≡ false) }
+    ensures kept { KeepsEdges declared.old.graph declared.new.graph }
+{
+    if words.is_empty() {
+        return meant(alloc, &declared.graph, above);
+    }
+    asked_here(alloc, site, declared, words)
 }
 
 /// The paths that these words name. The logs are read where a word ends in `^`.

@@ -39,7 +39,7 @@ enum Taken {
 pub fn asked<'a>(alloc: Global, words: &[&'a str]) -> Result<Asked<'a>, WordFault<'a>> {
     let mut options = Options::new(alloc);
     let mut place = 0usize;
-    while place < words.len() {
+    'words: while place < words.len() {
         match take(alloc, &words[place..], &mut options)? {
             Taken::Words(count) => place = place.saturating_add(count.max(1)),
             Taken::Told(information) => return Ok(Asked::Told(information)),
@@ -96,7 +96,7 @@ fn take_letters<'a>(
     options: &mut Options<'a>,
 ) -> Result<Taken, WordFault<'a>> {
     let mut rest = letters;
-    while let Some(letter) = rest.chars().next() {
+    'letters: while let Some(letter) = rest.chars().next() {
         rest = rest.strip_prefix(letter).unwrap_or("");
         match letter {
             'v' => options.shown = Shown::Commands,
