@@ -1,7 +1,7 @@
 //! What stands in front of each line: a text with fields (manual, "Environment variables": `NINJA_STATUS`).
 
 ghost use Rattle.std.specs.Prelude.{◌≡◌, ◌++◌, [], IfOk, IfSome, IfNone};
-ghost use Rattle.stand_in.specs.Heading.{IsHeadingOf, spelled};
+ghost use Rattle.stand_in.specs.Heading.{IsHeadingOf, letter, spelled};
 
 use std::alloc::{AllocError, Global};
 
@@ -73,8 +73,11 @@ pub struct Moment {
 }
 
 impl Field {
-    fn of_letter(letter: u8) -> Option<Field> {
-        match letter {
+    /// The field of this letter.
+    fn of_letter(byte: u8) -> Option<Field>
+        ensures { IfSome result (λ field. letter field ≡ byte) }
+    {
+        match byte {
             b's' => Some(Field::Started),
             b't' => Some(Field::Total),
             b'r' => Some(Field::Running),

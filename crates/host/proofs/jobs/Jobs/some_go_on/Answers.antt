@@ -3,8 +3,8 @@ use Rattle.host.specs.Inside.{times}
 use Rattle.host.proofs.Listed.{as_many}
 use Rattle.host.proofs.jobs.Jobs.some_go_on.Goals as goal
 
-pub invariant_of-self-2 : goal.invariant_of-self-2
-invariant_of-self-2 c = record {
+pub invariant_of-self : goal.invariant_of-self
+invariant_of-self c = record {
   restart = c.self.invariant.restart;
   room =
       let room = c.self.invariant.room in
