@@ -48,6 +48,10 @@ pub record AddsEdge (declared : Declared) (edge : ℕ) (old new : Above) : Type 
   pub generators : new.generators.items ≡ old.generators.items ++ filter (runs_generator declared) (edge ∷ [])
   pub first : new.first.items ≡ old.first.items ++ made_first declared edge
 
+-- all of these were looked at, where there was nothing before
+abbrev pub AddsEdges : Declared → List ℕ → Above → Above → Type 0
+AddsEdges declared edges old new = old.generators.items ≡ [] → old.first.items ≡ [] → IsOfEdges declared old.file edges new
+
 -- they are edges
 abbrev pub AreEdges : Declared → List ℕ → Type 0
 AreEdges declared edges = All (λ e. e < length declared.graph.manifest.lines) edges

@@ -36,7 +36,7 @@ OnlyAsks tells Says old new (Err fault) = OnlyLooks tells old new × (old.stoppe
 
 -- no call was refused, whatever the answer
 abbrev pub AsksWell : {T : Type 0} → Bool → World → World → Result T SiteFault → Type 0
-AsksWell {T} tells old new result = OnlyAsks {T} tells (λ value. Unit {0}) old new result
+AsksWell {T = T} tells old new result = OnlyAsks {T = T} tells (λ value. Unit {0}) old new result
 
 -- ---- reading
 

@@ -1,7 +1,7 @@
 //! What stands above the file that was read.
 
 ghost use Rattle.std.specs.Prelude.{OnOk, IfOk};
-ghost use Rattle.stand_in.specs.Above.{AddsEdge, AreAboveFile, AreEdges, IsAllAbove, IsFileOf, IsOfEdges};
+ghost use Rattle.stand_in.specs.Above.{AddsEdge, AddsEdges, AreAboveFile, AreEdges, IsAllAbove, IsFileOf};
 
 use lexer::{ReadFault, canonical, one_form};
 use links::Graph;
@@ -27,8 +27,13 @@ pub fn all_above(alloc: Global, declared: &Declared, name: &str) -> Result<Above
     ensures within { IfOk result (λ above. AreEdges declared.now above.generators.items) }
 {
     let file = file_path(alloc, declared, name)?;
-    let edges = above_file(alloc, &declared.graph, file)?;
-    let above = of_edges(alloc, declared, file, edges.as_slice())?;
+    let mut above = Above {
+        file,
+        generators: Vec::new(alloc),
+        first: Vec::new(alloc),
+    };
+    let edges = above_file(alloc, &declared.graph, above.file)?;
+    add_edges(alloc, declared, edges.as_slice(), &mut above)?;
     Ok(above)
 }
 
@@ -45,27 +50,22 @@ fn above_file(alloc: Global, graph: &Graph, file: Option<PathId>) -> Result<Vec<
     }
 }
 
-/// Of these edges the generators, and of the others what is built first.
-fn of_edges(
+/// Adds of these edges the generators, and of the others what is built first, where there was nothing yet.
+fn add_edges(
     alloc: Global,
     declared: &Declared,
-    file: Option<PathId>,
     edges: &[EdgeId],
-) -> Result<Above, AllocError>
-    ensures { IfOk result (IsOfEdges declared.now file edges.now) }
+    above: &mut Above,
+) -> Result<(), AllocError>
+    ensures { OnOk result (AddsEdges declared.now edges.now above.old above.new) }
 {
-    let mut above = Above {
-        file,
-        generators: Vec::new(alloc),
-        first: Vec::new(alloc),
-    };
     for edge in edges {
-        add_edge(alloc, declared, *edge, &mut above)?;
+        add_edge(alloc, declared, *edge, above)?;
     }
     if above.generators.is_empty() {
         above.first.clear();
     }
-    Ok(above)
+    Ok(())
 }
 
 /// Adds an edge to those of a generator, or what it makes to what is built first. An alias makes nothing.

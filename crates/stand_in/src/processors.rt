@@ -16,6 +16,7 @@ const GROUP: &str = "/proc/self/cgroup";
 
 /// How many commands run at once where nothing is said: the processors on which this process may run, as far as the time of its
 /// group reaches, and two more; three for two processors, and two for one, or where it cannot be told.
+#[tactic(auto, using(crate::proofs::Looking::looking))]
 pub fn default_jobs<R: Texts>(alloc: Global, texts: &mut R) -> u32
     ensures some { 2 ≤ result }
     ensures looks { OnlyLooks R.tells (R.world texts.old) (R.world texts.new) }
@@ -32,6 +33,7 @@ pub fn default_jobs<R: Texts>(alloc: Global, texts: &mut R) -> u32
 }
 
 /// The processors on which this process may run; 0 where it cannot be told.
+#[tactic(auto, using(crate::proofs::Looking::looking))]
 fn allowed<R: Texts>(texts: &mut R) -> u32
     ensures { OnlyLooks R.tells (R.world texts.old) (R.world texts.new) }
 {
@@ -72,6 +74,7 @@ fn count_in(part: &str) -> u32 {
 }
 
 /// How many processors the group of this process may use in full; none where it has no limit.
+#[tactic(auto, using(crate::proofs::Looking::looking))]
 fn granted<R: Texts>(alloc: Global, texts: &mut R) -> Option<u32>
     ensures { OnlyLooks R.tells (R.world texts.old) (R.world texts.new) }
 {

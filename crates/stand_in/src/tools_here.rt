@@ -72,6 +72,7 @@ impl<'a> Asking<'a> {
 /// What a tool answers in the working folder, which is this one: it reads the build files, and the logs where it wants them. None but
 /// `clean` and `cleandead` writes; these wait until nobody else is at work in the folder. `restat` and `recompact` only have their words
 /// checked, so that a generator may call them while a build has the logs open.
+#[tactic(auto, using(crate::proofs::Looking::looking))]
 pub fn answer<S: Alone>(
     alloc: Global,
     site: &mut S,
@@ -96,6 +97,7 @@ pub fn answer<S: Alone>(
 }
 
 /// What a tool answers of what was read.
+#[tactic(auto, using(crate::proofs::Looking::looking))]
 fn answer_read<S: Site>(
     alloc: Global,
     site: &mut S,
@@ -123,6 +125,7 @@ fn answer_read<S: Site>(
 }
 
 /// What a tool answers that reads the logs: all paths that they name may be asked for.
+#[tactic(auto, using(crate::proofs::Looking::looking))]
 fn with_records<S: Site>(
     alloc: Global,
     site: &mut S,
@@ -172,6 +175,7 @@ fn told(
 }
 
 /// Gives all edges what their dyndep files tell.
+#[tactic(auto, using(crate::proofs::Looking::looking))]
 fn load_all<S: Site>(alloc: Global, site: &mut S, declared: &mut Declared) -> Result<(), Fault>
     ensures { OnlyLooks S.tells (S.world site.old) (S.world site.new) }
 {
@@ -183,6 +187,7 @@ fn load_all<S: Site>(alloc: Global, site: &mut S, declared: &mut Declared) -> Re
 }
 
 /// What `graph` prints: the edges above have what their dyndep files tell.
+#[tactic(auto, using(crate::proofs::Looking::looking))]
 fn drawn<S: Site>(
     alloc: Global,
     site: &mut S,
@@ -198,6 +203,7 @@ fn drawn<S: Site>(
 }
 
 /// What `query` prints: the edges that make the paths have what their dyndep files tell.
+#[tactic(auto, using(crate::proofs::Looking::looking))]
 fn queried<S: Site>(
     alloc: Global,
     site: &mut S,
@@ -222,6 +228,7 @@ fn queried<S: Site>(
 }
 
 /// What a tool tells of the graph and the logs.
+#[tactic(auto, using(crate::proofs::Looking::looking))]
 fn with_logs<S: Site>(
     alloc: Global,
     site: &mut S,
