@@ -9,7 +9,7 @@ use Rattle.model.specs.declared.record.DepsRecord.{DepsRecord}
 use Rattle.model.specs.Graph.{has, has_number}
 use Rattle.model.specs.Records.{deps_in_force, paths_in}
 use Rattle.build_log.specs.Kept.{if_some, texts_at}
-use Rattle.build_log.proofs.Distinct.{has_at}
+use Rattle.tools.proofs.Removed.{has_at}
 use Rattle.deps_log.specs.Log.{told_found}
 use Rattle.deps_log.specs.declared.deps.Deps.{Deps}
 use Rattle.links.specs.Links.{links_of}
