@@ -9,7 +9,7 @@ use Rattle.model.specs.declared.record.DepsRecord.{DepsRecord}
 use Rattle.model.specs.Graph.{has, has_number}
 use Rattle.model.specs.Records.{deps_in_force, paths_in}
 use Rattle.build_log.specs.Kept.{if_some, texts_at}
-use Rattle.build_log.proofs.Distinct.{has_at}
+use Rattle.tools.proofs.Removed.{has_at}
 use Rattle.deps_log.specs.Log.{told_found}
 use Rattle.deps_log.specs.declared.deps.Deps.{Deps}
 use Rattle.links.specs.Links.{links_of}
@@ -66,10 +66,13 @@ abbrev EitherDep : (MissingDep → Type 0) → (MissingDep → Type 0) → Missi
 EitherDep P Q dep = P dep ⊎ Q dep
 
 pub deps_none : (old : List MissingDep) (P : MissingDep → Type 0) → ((dep : MissingDep) → P dep → ⊥) → AddsDeps old old P
-deps_none old P none dep = (λ one. inl one, λ either. elim either [
-  | inl one ↦ one
-  | inr p ↦ absurd (none dep p)
-])
+deps_none old P none dep = (
+  λ one. inl one,
+  λ either. elim either [
+    | inl one ↦ one
+    | inr p ↦ absurd (none dep p)
+  ],
+)
 
 pub deps_as : (old new : List MissingDep) (P Q : MissingDep → Type 0) → ((dep : MissingDep) → P dep → Q dep) → ((dep : MissingDep) → Q dep → P dep) → AddsDeps old new P → AddsDeps old new Q
 deps_as old new P Q on back adds dep = (
@@ -166,7 +169,7 @@ module _ (graph : Graph) (output : ℕ) (file : List ℕ) where
       deps_as old new (λ dep. dep ≡ dep_of output input maker) (IsMadeFor graph output (if_some found) file)
       (λ dep same. subst (λ (d : MissingDep). IsMadeFor graph output (if_some found) file d) (sym same) (refl, one))
       (λ dep both. dep_is dep output input maker both.0 (is_input found path input dep at once place both.1)
-          (same_Some dep.maker maker (sym both.1.made ∙ (ap (links_of graph).maker (is_input found path input dep at once place both.1) ∙ sym made))))
+      (same_Some dep.maker maker (sym both.1.made ∙ (ap (links_of graph).maker (is_input found path input dep at once place both.1) ∙ sym made))))
       (deps_push old new (dep_of output input maker) is)
     where
       text_is : text_at graph.manifest.paths input ≡ path
@@ -194,10 +197,10 @@ module _ (graph : Graph) (output : ℕ) (file : List ℕ) where
       ])
       (deps_then old mid new (IsMadeFor graph output first file) (IsMadeFor graph output second file) before adds)
     where
-      abbrev first : List (List ℕ)
+      first : List (List ℕ)
       first = texts_at outputs (take i numbers)
 
-      abbrev second : List (List ℕ)
+      second : List (List ℕ)
       second = if_some (slice_get outputs number)
 
       more : texts_at outputs (take i numbers) ++ if_some (slice_get outputs number) ≡ texts_at outputs (take (i + 1) numbers)
@@ -281,7 +284,7 @@ marks_needed graph output n paths edges start new is none count above same marks
     | inr past ↦ absurd (false≢true (sym (get_or_past new e false (omega (arith, past, same))) ∙ marked))
   ],
   λ needed. let low : e < length start = omega (arith, size, count, needed_within graph (output ∷ []) e needed) in
-  marked_as low ∙ (above.just e).1 (subst (λ (l : List ℕ). IsNeededFor (links_of graph) l e) (sym is) needed),
+      marked_as low ∙ (above.just e).1 (subst (λ (l : List ℕ). IsNeededFor (links_of graph) l e) (sym is) needed),
 )
   where
     size : length start ≡ n
@@ -317,18 +320,25 @@ pub missing_some : (graph : Graph) (records : Records) (file : List ℕ) (p : �
     → AddsDeps old new (IsApart graph p (texts_at records.logs.deps_log.log.outputs deps.now.paths) file) → AddsMissing graph records file p old new
 missing_some graph records file p deps old new some told adds rs ds known =
     deps_as old new (IsApart graph p (texts_at records.logs.deps_log.log.outputs deps.now.paths) file) (λ dep. (dep.output ≡ p) × IsMissing graph ds file dep)
-    (λ dep is. (is.0, record {
-      output = subst (λ (q : ℕ). IsSome ((links_of graph).maker q)) (sym is.0) some;
-      told = subst (λ (l : List (List ℕ)). has l (text_at graph.manifest.paths dep.input) ≡ true) (sym (at dep is.0)) is.1.told;
-      made = is.1.made;
-      other = is.1.other;
-      apart = λ needed. is.2 (subst (λ (q : ℕ). IsNeededFor (links_of graph) (q ∷ []) dep.maker) is.0 needed);
-    }))
-    (λ dep is. (is.0, record {
-      told = subst (λ (l : List (List ℕ)). has l (text_at graph.manifest.paths dep.input) ≡ true) (at dep is.0) is.1.told;
-      made = is.1.made;
-      other = is.1.other;
-    }, λ needed. is.1.apart (subst (λ (q : ℕ). IsNeededFor (links_of graph) (q ∷ []) dep.maker) (sym is.0) needed)))
+    (λ dep is. (
+      is.0,
+      record {
+        output = subst (λ (q : ℕ). IsSome ((links_of graph).maker q)) (sym is.0) some;
+        told = subst (λ (l : List (List ℕ)). has l (text_at graph.manifest.paths dep.input) ≡ true) (sym (at dep is.0)) is.1.told;
+        made = is.1.made;
+        other = is.1.other;
+        apart = λ needed. is.2 (subst (λ (q : ℕ). IsNeededFor (links_of graph) (q ∷ []) dep.maker) is.0 needed);
+      },
+    ))
+    (λ dep is. (
+      is.0,
+      record {
+        told = subst (λ (l : List (List ℕ)). has l (text_at graph.manifest.paths dep.input) ≡ true) (at dep is.0) is.1.told;
+        made = is.1.made;
+        other = is.1.other;
+      },
+      λ needed. is.1.apart (subst (λ (q : ℕ). IsNeededFor (links_of graph) (q ∷ []) dep.maker) (sym is.0) needed),
+    ))
     adds
   where
     at : (dep : MissingDep) → dep.output ≡ p → paths_in (deps_in_force ds (text_at graph.manifest.paths dep.output)) ≡ texts_at records.logs.deps_log.log.outputs deps.now.paths

@@ -432,8 +432,8 @@ module _ (links : Links) (paths order : List ℕ) (marks : List Mark) (left stac
 
       -- an open edge that makes an input of the last one needs it itself
       round : (m : ℕ) → MakesInputOf links m e → mark_at marks m ≡ Open → IsNeededFor links (links.inputs m) e
-      round m makes open =
-          let on = at.stacked m open in
+      round m makes opened =
+          let on = at.stacked m opened in
           elim (same_or_other (length stack - 1) on.0) [
             | inl top ↦
                 let same : m ≡ e = sym on.2 ∙ (ap (slice_index stack) top ∙ last.is) in

@@ -63,7 +63,7 @@ impl<'a> Walk<'a> {
     fn list_all(&mut self) -> Result<(), AllocError>
         requires at { IsRise self.old.graph.now self.old.paths.now self.old }
         requires none { length self.old.stack.items ≡ 0 }
-        ensures above { OnOk result (AreAbove self.old.graph.now self.old.paths.now self.new.order.items) }
+        ensures { OnOk result (AreAbove self.old.graph.now self.old.paths.now self.new.order.items) }
     {
         for path in self.paths {
             self.list_maker(*path)?;

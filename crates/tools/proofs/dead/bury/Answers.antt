@@ -1,4 +1,4 @@
-use Rattle.build_log.proofs.Distinct.{has_at}
+use Rattle.tools.proofs.Removed.{has_at}
 use Rattle.tools.proofs.Burying.{either_dead, either_kept}
 use Rattle.tools.proofs.dead.bury.Goals as goal
 
