@@ -1,5 +1,5 @@
 -- What the edges above the file give, one after another.
-use Rattle.std.proofs.Common.{◌≡◌, ℕ, zero, suc, ◌+◌, ◌-◌, ◌<◌, ◌==◌, Bool, true, false, if◌then◌else◌, List, [], ◌∷◌, ◌++◌, All, get_or, slice_get, filter, flat_map, length, take, Option, None, Some, MatchOption, refl, sym, ap, ◌∙◌, subst, arith, append_assoc, append-nil}
+use Rattle.std.proofs.Common.{◌≡◌, ℕ, zero, suc, ◌+◌, ◌-◌, ◌<◌, ◌==◌, Bool, true, false, if◌then◌else◌, List, [], ◌∷◌, ◌++◌, All, get_or, slice_get, filter, flat_map, length, take, Option, None, Some, MatchOption, Result, Err, refl, sym, ap, ◌∙◌, subst, arith, append_assoc, append-nil}
 use Rattle.std.proofs.lemmas.Bool.{eq-eqb, false≢true, or_left, or_right}
 use Rattle.std.proofs.lemmas.Grind.{flat_map-append}
 use Rattle.std.proofs.lemmas.List.{take_more}
@@ -186,9 +186,13 @@ all_of_file declared name file edges above file_of are of = record {
 pub no_file : (declared : Declared) (name path : List ℕ) → ((text a b : List ℕ) → IsCanonical text a → IsCanonical text b → a ≡ b) → IsCanonical name path → IsUnnamed declared.graph.manifest path → IsFileOf declared name None
 no_file declared name path one is unnamed = λ other some canonical. subst (λ (p : List ℕ). IsUnnamed declared.graph.manifest p) (one name path other is canonical) unnamed
 
-pub file_by : (declared : Declared) (name path : List ℕ) → ((text a b : List ℕ) → IsCanonical text a → IsCanonical text b → a ≡ b) → IsCanonical name path → (file : Option ℕ) → MatchOption file (IsUnnamed declared.graph.manifest path) (IsNamedNumber declared.graph.manifest path) → IsFileOf declared name file
-file_by declared name path one is None unnamed = no_file declared name path one is unnamed
-file_by declared name path one is (Some p) named = (path, is, named.0)
+pub file_by : (declared : Declared) (name path text : List ℕ) → ((text a b : List ℕ) → IsCanonical text a → IsCanonical text b → a ≡ b) → IsCanonical name path → text ≡ path → (file : Option ℕ)
+    → MatchOption file (IsUnnamed declared.graph.manifest text) (IsNamedNumber declared.graph.manifest text) → IsFileOf declared name file
+file_by declared name path text one is same None unnamed = no_file declared name path one is (subst (λ (p : List ℕ). IsUnnamed declared.graph.manifest p) same unnamed)
+file_by declared name path text one is same (Some p) named = (path, is, named.0 ∙ ap (λ (t : List ℕ). Some t) same)
+
+pub err_is : {T E : Type 0} (r : Result T E) (error other : E) → r ≡ Err error → error ≡ other → r ≡ Err other
+err_is r error other is same = is ∙ ap (λ e. Err e) same
 
 pub empty_file : (declared : Declared) (name : List ℕ) → name ≡ [] → IsFileOf declared name None
 empty_file declared name empty = λ other some canonical. absurd (some empty)

@@ -63,8 +63,9 @@ fn stamp<S: Site>(site: &mut S, path: &str) -> Result<Option<u64>, SiteFault>
     ensures { OnlyAsks S.tells (λ stamp. IsSome stamp) (S.world site.old) (S.world site.new) result }
 {
     match site.stat(path) {
+        Ok(found) => Ok(found),
         Err(SiteFault::Device) => Ok(None),
-        found => found,
+        Err(fault) => Err(fault),
     }
 }
 

@@ -13,7 +13,7 @@ pub returns-in-Some-clause-next : goal.returns-in-Some-clause-next
 returns-in-Some-clause-next g c = λ entry was. ((g.S.Texts.world c.args.site.now), alone_looks g.S.Texts.tells g.S.Site.outcome c.args.options.now entry (g.S.Texts.world c.args.site.now) c.args.declared.now was, c.in-Some.ensures.some)
 
 pub returns-in_err-regenerate-clause-next : goal.returns-in_err-regenerate-clause-next
-returns-in_err-regenerate-clause-next g c = λ entry was. next_by g.S.Texts.tells g.S.Site.outcome c.args.options.now entry (g.S.Texts.world c.args.site.now) (g.S.Texts.world c.regenerate.new.site) (Fault c.in_err-regenerate.field-0) (turn_failed g.S.Texts.tells g.S.Site.outcome c.args.options.now entry (g.S.Texts.world c.args.site.now) (g.S.Texts.world c.build_first.new.site) c.args.declared.now was c.in-None.ensures.none (g.S.Texts.world c.regenerate.new.site) c.in_err-regenerate.field-0 c.in_err-regenerate.ensures.0 (c.in_err-regenerate.ensures.1 (first_runs g.S.Texts.tells g.S.Site.outcome c.args.options.now (g.S.Texts.world c.args.site.now) (g.S.Texts.world c.build_first.new.site) c.in-None.ensures.none was.since.unrefused.goes_on))) c.from_residual.result c.from_residual.ensures.1
+returns-in_err-regenerate-clause-next g c = λ entry was. next_by g.S.Texts.tells g.S.Site.outcome c.args.options.now entry (g.S.Texts.world c.args.site.now) (g.S.Texts.world c.regenerate.new.site) (Fault c.in_err-regenerate.field-0.0) (turn_failed g.S.Texts.tells g.S.Site.outcome c.args.options.now entry (g.S.Texts.world c.args.site.now) (g.S.Texts.world c.build_first.new.site) c.args.declared.now was c.in-None.ensures.none (g.S.Texts.world c.regenerate.new.site) c.in_err-regenerate.field-0.0 c.in_err-regenerate.ensures.0 (c.in_err-regenerate.ensures.1 (first_runs g.S.Texts.tells g.S.Site.outcome c.args.options.now (g.S.Texts.world c.args.site.now) (g.S.Texts.world c.build_first.new.site) c.in-None.ensures.none was.since.unrefused.goes_on))) c.from_residual.result c.from_residual.ensures.1
 
 pub returns-in-Nothing-clause-idle : goal.returns-in-Nothing-clause-idle
 returns-in-Nothing-clause-idle g c = idle_then g.S.Texts.tells (g.S.Texts.world c.build_first.new.site) (g.S.Texts.world c.regenerate.new.site) c.in-Nothing.ensures.0 c.build_first.ensures.idle

@@ -7,7 +7,7 @@ pub returns-in_err-declared : goal.returns-in_err-declared
 returns-in_err-declared g c = λ entry prepared.
     let old = g.S.Texts.world c.args.site.now in
     let new = g.S.Texts.world c.read_here.new.site in
-    let report = c.in_err-declared.field-0 in
+    let report = c.in_err-declared.field-0.0 in
     outcome_by g.S.Texts.tells g.S.Site.outcome c.args.options.now entry new report (unread_here_end g.S.Texts.tells g.S.Site.outcome c.args.options.now entry old new report prepared c.requires c.in_err-declared.ensures.unread) c.from_residual.result c.from_residual.ensures.1
 
 pub returns-in_err-above : goal.returns-in_err-above

@@ -10,7 +10,7 @@ pub returns-in_err-above : goal.returns-in_err-above
 returns-in_err-above g c = λ entry was. end_by g.S.Texts.tells g.S.Site.outcome c.args.options.now entry (g.S.Texts.world c.args.site.now) (Fault Memory) (memory_end g.S.Texts.tells g.S.Site.outcome c.args.options.now entry (g.S.Texts.world c.args.site.now) (prepared_at g.S.Texts.tells g.S.Site.outcome c.args.options.now entry (g.S.Texts.world c.args.site.now) (alone_looks g.S.Texts.tells g.S.Site.outcome c.args.options.now entry (g.S.Texts.world c.args.site.now) c.args.declared.now was)) was.since.unrefused.goes_on) c.from_residual.result c.from_residual.ensures.1
 
 pub returns-in_err-would_run-in-Ok-Nothing : goal.returns-in_err-would_run-in-Ok-Nothing
-returns-in_err-would_run-in-Ok-Nothing g c = λ entry was. end_by g.S.Texts.tells g.S.Site.outcome c.args.options.now entry (g.S.Texts.world c.would_run.new.site) (Fault c.in_err-would_run-in-Ok-Nothing.field-0) (fault_end g.S.Texts.tells g.S.Site.outcome c.args.options.now entry (g.S.Texts.world c.left_targets.new.site) (g.S.Texts.world c.would_run.new.site) c.in_err-would_run-in-Ok-Nothing.field-0 (prepared_then g.S.Texts.tells g.S.Site.outcome c.args.options.now entry (g.S.Texts.world c.args.site.now) (g.S.Texts.world c.left_targets.new.site) (prepared_at g.S.Texts.tells g.S.Site.outcome c.args.options.now entry (g.S.Texts.world c.args.site.now) (alone_looks g.S.Texts.tells g.S.Site.outcome c.args.options.now entry (g.S.Texts.world c.args.site.now) c.args.declared.now was)) c.left_targets.ensures.looks) (c.in_err-would_run-in-Ok-Nothing.ensures.1 c.in-Ok-Nothing.ensures.looked.unrefused.goes_on)) c.from_residual-in_err-would_run-in-Ok-Nothing.result c.from_residual-in_err-would_run-in-Ok-Nothing.ensures.1
+returns-in_err-would_run-in-Ok-Nothing g c = λ entry was. end_by g.S.Texts.tells g.S.Site.outcome c.args.options.now entry (g.S.Texts.world c.would_run.new.site) (Fault c.in_err-would_run-in-Ok-Nothing.field-0.0) (fault_end g.S.Texts.tells g.S.Site.outcome c.args.options.now entry (g.S.Texts.world c.left_targets.new.site) (g.S.Texts.world c.would_run.new.site) c.in_err-would_run-in-Ok-Nothing.field-0.0 (prepared_then g.S.Texts.tells g.S.Site.outcome c.args.options.now entry (g.S.Texts.world c.args.site.now) (g.S.Texts.world c.left_targets.new.site) (prepared_at g.S.Texts.tells g.S.Site.outcome c.args.options.now entry (g.S.Texts.world c.args.site.now) (alone_looks g.S.Texts.tells g.S.Site.outcome c.args.options.now entry (g.S.Texts.world c.args.site.now) c.args.declared.now was)) c.left_targets.ensures.looks) (c.in_err-would_run-in-Ok-Nothing.ensures.1 c.in-Ok-Nothing.ensures.looked.unrefused.goes_on)) c.from_residual-in_err-would_run-in-Ok-Nothing.result c.from_residual-in_err-would_run-in-Ok-Nothing.ensures.1
 
 pub returns-in-Ok-Nothing : goal.returns-in-Ok-Nothing
 returns-in-Ok-Nothing g c = λ entry was. let looks = looks_then g.S.Texts.tells (g.S.Texts.world c.args.site.now) (g.S.Texts.world c.left_targets.new.site) (g.S.Texts.world c.would_run.new.site) c.left_targets.ensures.looks c.in_ok-would_run-in-Ok-Nothing.ensures.0 in end_as g.S.Texts.tells g.S.Site.outcome c.args.options.now entry (g.S.Texts.world c.would_run.new.site) c.by.result c.said_of.result c.by.ensures.outcome (said_end g.S.Texts.tells g.S.Site.outcome c.args.options.now entry (g.S.Texts.world c.would_run.new.site) (prepared_then g.S.Texts.tells g.S.Site.outcome c.args.options.now entry (g.S.Texts.world c.args.site.now) (g.S.Texts.world c.would_run.new.site) (prepared_at g.S.Texts.tells g.S.Site.outcome c.args.options.now entry (g.S.Texts.world c.args.site.now) (alone_looks g.S.Texts.tells g.S.Site.outcome c.args.options.now entry (g.S.Texts.world c.args.site.now) c.args.declared.now was)) looks) (looks_then g.S.Texts.tells entry (g.S.Texts.world c.args.site.now) (g.S.Texts.world c.would_run.new.site) (alone_looks g.S.Texts.tells g.S.Site.outcome c.args.options.now entry (g.S.Texts.world c.args.site.now) c.args.declared.now was) looks) c.said_of.result c.said_of.ensures)

@@ -5,7 +5,7 @@ pub returns-in_err-declared : goal.returns-in_err-declared
 returns-in_err-declared g c =
     let old = g.S.Texts.world c.args.site.now in
     let new = g.S.Texts.world c.read_alone.new.site in
-    let report = c.in_err-declared.field-0 in
+    let report = c.in_err-declared.field-0.0 in
     end_by g.S.Texts.tells g.S.Site.outcome c.args.options.now old new report (unread_end g.S.Texts.tells g.S.Site.outcome c.args.options.now old new report c.requires c.in_err-declared.ensures.unread) c.from_residual.result c.from_residual.ensures.1
 
 pub returns-then-dry : goal.returns-then-dry

@@ -4,7 +4,7 @@ use Rattle.stand_in.proofs.Calls.{asks_err, asks_so}
 use Rattle.stand_in.proofs.judge.is_later.Goals as goal
 
 pub returns-in_err-stamp : goal.returns-in_err-stamp
-returns-in_err-stamp g c = asks_err g.S.Texts.tells (λ (o : Option ℕ). IsSome o) (λ (b : Bool). b ≡ false) (g.S.Texts.world c.args.site.now) (g.S.Texts.world c.stamp.new.site) c.in_err-stamp.field-0 c.from_residual.result c.in_err-stamp.ensures c.from_residual.ensures.1
+returns-in_err-stamp g c = asks_err g.S.Texts.tells (λ (o : Option ℕ). IsSome o) (λ (b : Bool). b ≡ false) (g.S.Texts.world c.args.site.now) (g.S.Texts.world c.stamp.new.site) c.in_err-stamp.field-0.0 c.from_residual.result c.in_err-stamp.ensures c.from_residual.ensures.1
 
 pub returns-in_ok-stamp-in-None : goal.returns-in_ok-stamp-in-None
 returns-in_ok-stamp-in-None g c = asks_so g.S.Texts.tells (λ (o : Option ℕ). IsSome o) (λ (b : Bool). b ≡ false) (g.S.Texts.world c.args.site.now) (g.S.Texts.world c.stamp.new.site) None true c.in_ok-stamp.ensures (λ is. true≢false is)

@@ -4,13 +4,13 @@ use Rattle.stand_in.proofs.Calls.{asks_err, asks_so, still_ask, still_err, still
 use Rattle.stand_in.proofs.judge.is_out_of_date.Goals as goal
 
 pub returns-in_err-made_stamp : goal.returns-in_err-made_stamp
-returns-in_err-made_stamp g c = asks_err g.S.Texts.tells (λ (o : Option ℕ). IsSome o) (λ (b : Bool). b ≡ false) (g.S.Texts.world c.args.site.now) (g.S.Texts.world c.made_stamp.new.site) c.in_err-made_stamp.field-0 c.from_residual.result c.in_err-made_stamp.ensures c.from_residual.ensures.1
+returns-in_err-made_stamp g c = asks_err g.S.Texts.tells (λ (o : Option ℕ). IsSome o) (λ (b : Bool). b ≡ false) (g.S.Texts.world c.args.site.now) (g.S.Texts.world c.made_stamp.new.site) c.in_err-made_stamp.field-0.0 c.from_residual.result c.in_err-made_stamp.ensures c.from_residual.ensures.1
 
 pub returns-in_default : goal.returns-in_default
 returns-in_default g c = asks_so g.S.Texts.tells (λ (o : Option ℕ). IsSome o) (λ (b : Bool). b ≡ false) (g.S.Texts.world c.args.site.now) (g.S.Texts.world c.made_stamp.new.site) None true c.in_ok-made_stamp.ensures (λ is. true≢false is)
 
 pub returns-in_err-has_later_input : goal.returns-in_err-has_later_input
-returns-in_err-has_later_input g c = still_err g.S.Texts.tells (λ (b : Bool). b ≡ false) (λ (b : Bool). b ≡ false) (g.S.Texts.world c.args.site.now) (g.S.Texts.world c.made_stamp.new.site) (g.S.Texts.world c.has_later_input.new.site) c.in_err-has_later_input.field-0 c.from_residual-in_err-has_later_input.result (asks_so g.S.Texts.tells (λ (o : Option ℕ). IsSome o) (λ (u : Unit {0}). Unit {0}) (g.S.Texts.world c.args.site.now) (g.S.Texts.world c.made_stamp.new.site) (Some c.in-Some.made) tt c.in_ok-made_stamp.ensures (λ any. tt)) c.in_err-has_later_input.ensures c.from_residual-in_err-has_later_input.ensures.1
+returns-in_err-has_later_input g c = still_err g.S.Texts.tells (λ (b : Bool). b ≡ false) (λ (b : Bool). b ≡ false) (g.S.Texts.world c.args.site.now) (g.S.Texts.world c.made_stamp.new.site) (g.S.Texts.world c.has_later_input.new.site) c.in_err-has_later_input.field-0.0 c.from_residual-in_err-has_later_input.result (asks_so g.S.Texts.tells (λ (o : Option ℕ). IsSome o) (λ (u : Unit {0}). Unit {0}) (g.S.Texts.world c.args.site.now) (g.S.Texts.world c.made_stamp.new.site) (Some c.in-Some.made) tt c.in_ok-made_stamp.ensures (λ any. tt)) c.in_err-has_later_input.ensures c.from_residual-in_err-has_later_input.ensures.1
 
 pub returns-then-has_later_input : goal.returns-then-has_later_input
 returns-then-has_later_input g c = still_unsaid g.S.Texts.tells (λ (b : Bool). b ≡ false) (λ (b : Bool). b ≡ false) (g.S.Texts.world c.args.site.now) (g.S.Texts.world c.made_stamp.new.site) (g.S.Texts.world c.has_later_input.new.site) _ true (asks_so g.S.Texts.tells (λ (o : Option ℕ). IsSome o) (λ (u : Unit {0}). Unit {0}) (g.S.Texts.world c.args.site.now) (g.S.Texts.world c.made_stamp.new.site) (Some c.in-Some.made) tt c.in_ok-made_stamp.ensures (λ any. tt)) c.in_ok-has_later_input.ensures (λ is. true≢false is)

@@ -6,7 +6,7 @@ pub loop-output-init : goal.loop-output-init
 loop-output-init g c = still_nothing g.S.Texts.tells (g.S.Texts.world c.args.site.now)
 
 pub returns-in_err-stamp : goal.returns-in_err-stamp
-returns-in_err-stamp g c = still_err g.S.Texts.tells (λ (o : Option ℕ). IsSome o) (λ (o : Option ℕ). IsSome o) (g.S.Texts.world c.args.site.now) (g.S.Texts.world c.loop-output.site) (g.S.Texts.world c.stamp-2.new.site) c.in_err-stamp.field-0 c.from_residual.result c.loop-output.invariant c.in_err-stamp.ensures c.from_residual.ensures.1
+returns-in_err-stamp g c = still_err g.S.Texts.tells (λ (o : Option ℕ). IsSome o) (λ (o : Option ℕ). IsSome o) (g.S.Texts.world c.args.site.now) (g.S.Texts.world c.loop-output.site) (g.S.Texts.world c.stamp-2.new.site) c.in_err-stamp.field-0.0 c.from_residual.result c.loop-output.invariant c.in_err-stamp.ensures c.from_residual.ensures.1
 
 pub returns-in-None : goal.returns-in-None
 returns-in-None g c = still_unsaid g.S.Texts.tells (λ (o : Option ℕ). IsSome o) (λ (o : Option ℕ). IsSome o) (g.S.Texts.world c.args.site.now) (g.S.Texts.world c.loop-output.site) (g.S.Texts.world c.stamp-2.new.site) None None c.loop-output.invariant c.in_ok-stamp.ensures (λ some. some)

@@ -11,7 +11,7 @@ pub loop-generator-init : goal.loop-generator-init
 loop-generator-init g c = still_nothing g.S.Texts.tells (g.S.Texts.world c.args.site.now)
 
 pub returns-in_err-is_out_of_date : goal.returns-in_err-is_out_of_date
-returns-in_err-is_out_of_date g c = still_err g.S.Texts.tells (λ (b : Bool). b ≡ false) (λ (b : Bool). b ≡ false) (g.S.Texts.world c.args.site.now) (g.S.Texts.world c.loop-generator.site) (g.S.Texts.world c.is_out_of_date.new.site) c.in_err-is_out_of_date.field-0 c.from_residual.result c.loop-generator.invariant c.in_err-is_out_of_date.ensures c.from_residual.ensures.1
+returns-in_err-is_out_of_date g c = still_err g.S.Texts.tells (λ (b : Bool). b ≡ false) (λ (b : Bool). b ≡ false) (g.S.Texts.world c.args.site.now) (g.S.Texts.world c.loop-generator.site) (g.S.Texts.world c.is_out_of_date.new.site) c.in_err-is_out_of_date.field-0.0 c.from_residual.result c.loop-generator.invariant c.in_err-is_out_of_date.ensures c.from_residual.ensures.1
 
 pub returns-then-is_out_of_date : goal.returns-then-is_out_of_date
 returns-then-is_out_of_date g c = still_unsaid g.S.Texts.tells (λ (b : Bool). b ≡ false) (λ (b : Bool). b ≡ false) (g.S.Texts.world c.args.site.now) (g.S.Texts.world c.loop-generator.site) (g.S.Texts.world c.is_out_of_date.new.site) _ true c.loop-generator.invariant c.in_ok-is_out_of_date.ensures (λ is. true≢false is)

@@ -20,7 +20,7 @@ pub returns-then-not-any-clause-kept : goal.returns-then-not-any-clause-kept
 returns-then-not-any-clause-kept g c = keeps_none c.args.declared.now.graph
 
 pub returns-in_err-records-clause-memory : goal.returns-in_err-records-clause-memory
-returns-in_err-records-clause-memory g c = if_err_by (λ (f : Fault). f ≡ Memory → (g.S.Texts.world c.read_joined.new.site).stopped ≡ false) c.in_err-records.field-0 c.from_residual.result c.in_err-records.ensures.memory c.from_residual.ensures.1
+returns-in_err-records-clause-memory g c = if_err_by (λ (f : Fault). f ≡ Memory → (g.S.Texts.world c.read_joined.new.site).stopped ≡ false) c.in_err-records.field-0.0 c.from_residual.result c.in_err-records.ensures.memory c.from_residual.ensures.1
 
 pub returns-clause-looked : goal.returns-clause-looked
 returns-clause-looked g c = on_ok c.asked_in_logs.result c.in_ok-records.ensures.looked
