@@ -1,6 +1,6 @@
 //! What stands in front of each line: a text with fields (manual, "Environment variables": `NINJA_STATUS`).
 
-ghost use Rattle.std.specs.Prelude.{◌≡◌, ◌++◌, [], IfOk, IfSome, IfNone};
+ghost use Rattle.std.specs.Prelude.{◌≡◌, ◌<◌, ◌++◌, length, IfOk, IfSome};
 ghost use Rattle.stand_in.specs.Heading.{IsHeadingOf, letter, spelled};
 
 use std::alloc::{AllocError, Global};
@@ -106,7 +106,8 @@ impl Heading {
     {
         let mut parts = Vec::new(alloc);
         let mut rest = text.as_bytes();
-        'parts: while let Some((part, behind)) = split_part(rest)? {
+        'parts: while !rest.is_empty() {
+            let (part, behind) = split_part(rest)?;
             parts.push(part).map_err(AllocError::from)?;
             rest = behind;
         }
@@ -133,20 +134,20 @@ impl Heading {
     }
 }
 
-/// The first part of a text, and what stands behind it.
-fn split_part(text: &[u8]) -> Result<Option<(Part, &[u8])>, HeadingFault>
-    ensures some { IfOk result (λ found. IfSome found (λ first. text.now ≡ spelled first.0 ++ first.1.now)) }
-    ensures none { IfOk result (λ found. IfNone found (text.now ≡ [])) }
+/// The first part of a text, and what stands behind it. A text without a part ends within a field.
+fn split_part(text: &[u8]) -> Result<(Part, &[u8]), HeadingFault>
+    ensures is { IfOk result (λ first. text.now ≡ spelled first.0 ++ first.1.now) }
+    ensures shorter { IfOk result (λ first. length first.1.now < length text.now) }
 {
     match text {
-        [] => Ok(None),
+        [] => Err(HeadingFault::Unknown(b'%')),
         [b'%'] => Err(HeadingFault::Unknown(b'%')),
-        [b'%', b'%', behind @ ..] => Ok(Some((Part::Plain(b'%'), behind))),
+        [b'%', b'%', behind @ ..] => Ok((Part::Plain(b'%'), behind)),
         [b'%', letter, behind @ ..] => match Field::of_letter(*letter) {
-            Some(field) => Ok(Some((Part::Field(field), behind))),
+            Some(field) => Ok((Part::Field(field), behind)),
             None => Err(HeadingFault::Unknown(*letter)),
         },
-        [byte, behind @ ..] => Ok(Some((Part::Plain(*byte), behind))),
+        [byte, behind @ ..] => Ok((Part::Plain(*byte), behind)),
     }
 }
 

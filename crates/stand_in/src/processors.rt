@@ -78,10 +78,35 @@ fn count_in(part: &str) -> u32 {
 fn granted<R: Texts>(alloc: Global, texts: &mut R) -> Option<u32>
     ensures { OnlyLooks R.tells (R.world texts.old) (R.world texts.new) }
 {
-    let group = texts.read(GROUP).ok()??;
+    let path = limit_path(alloc, texts)?;
+    limit_at(texts, path.as_str())
+}
+
+/// The path of the file that tells the limit of the group of this process.
+#[tactic(auto, using(crate::proofs::Looking::looking))]
+fn limit_path<R: Texts>(alloc: Global, texts: &mut R) -> Option<String>
+    ensures { OnlyLooks R.tells (R.world texts.old) (R.world texts.new) }
+{
+    let Ok(Some(group)) = texts.read(GROUP) else {
+        return None;
+    };
     let folder = line_behind(&group, "0::")?;
-    let path = format!(in alloc; "/sys/fs/cgroup{folder}/cpu.max").ok()?;
-    let limit = texts.read(path.as_str()).ok()??;
+    format!(in alloc; "/sys/fs/cgroup{folder}/cpu.max").ok()
+}
+
+/// How many processors this file grants.
+#[tactic(auto, using(crate::proofs::Looking::looking))]
+fn limit_at<R: Texts>(texts: &mut R, path: &str) -> Option<u32>
+    ensures { OnlyLooks R.tells (R.world texts.old) (R.world texts.new) }
+{
+    let Ok(Some(limit)) = texts.read(path) else {
+        return None;
+    };
+    whole_processors(&limit)
+}
+
+/// How many processors such a file grants in full: a time, and the period in which it may be used.
+fn whole_processors(limit: &Bytes) -> Option<u32> {
     let (quota, period) = str::from_utf8(limit.as_slice())
         .ok()?
         .trim()
