@@ -204,11 +204,20 @@ fn make_folders<S: Site>(site: &mut S, declared: &Declared, edge: EdgeId) -> Res
     ensures { AsksWell S.tells (S.world site.old) (S.world site.new) result }
 {
     for output in outputs_at(&declared.graph, edge) {
-        if let Some((folder, _)) = text_at(&declared.graph, *output).rsplit_once('/') {
-            if !folder.is_empty() {
-                site.make_dirs(folder)?;
-            }
-        }
+        make_folder(site, text_at(&declared.graph, *output))?;
     }
     Ok(())
+}
+
+/// Makes the folder of a path, if it has one.
+fn make_folder<S: Site>(site: &mut S, path: &str) -> Result<(), SiteFault>
+    ensures { AsksWell S.tells (S.world site.old) (S.world site.new) result }
+{
+    let Some((folder, _)) = path.rsplit_once('/') else {
+        return Ok(());
+    };
+    if folder.is_empty() {
+        return Ok(());
+    }
+    site.make_dirs(folder)
 }
