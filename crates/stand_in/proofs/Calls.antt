@@ -143,24 +143,24 @@ module _ (tells : Bool) where
   pub still_memory : {B : Type 0} (Says : B → Type 0) (old new : World) (r : Result B SiteFault) → StillAsks old new → IsErrAnd r (λ (told : SiteFault). told ≡ Memory) → OnlyAsks tells Says old new r
   still_memory Says old new r still passed = asks_memory (λ (told : Unit {0}). Unit {0}) Says old new tt r still passed
 
-  -- ---- how many generators ran
+  -- ---- whether a generator ran
 
-  abbrev pub Ran : World → World → ℕ → Type 0
-  Ran old now ran = OnlyAsks {T = ℕ} tells (λ n. n ≡ 0) old now (Ok ran)
+  abbrev pub Ran : World → World → Bool → Type 0
+  Ran old now ran = OnlyAsks {T = Bool} tells (λ b. b ≡ false) old now (Ok ran)
 
   -- one is up to date
-  pub ran_none : (old mid new : World) (ran : ℕ) (later : Bool) → Ran old mid ran → OnlyAsks tells (λ (l : Bool). l ≡ false) mid new (Ok later) → later ≡ false → Ran old new ran
+  pub ran_none : (old mid new : World) (ran : Bool) (later : Bool) → Ran old mid ran → OnlyAsks tells (λ (l : Bool). l ≡ false) mid new (Ok later) → later ≡ false → Ran old new ran
   ran_none old mid new ran later first second is =
-      asks_then (λ (n : ℕ). n ≡ 0) (λ (n : ℕ). n ≡ 0) old mid new ran (Ok ran) first (asks_so (λ (l : Bool). l ≡ false) (λ (n : ℕ). n ≡ 0) mid new later ran second (λ none. is)) (λ none. none)
+      asks_then (λ (b : Bool). b ≡ false) (λ (b : Bool). b ≡ false) old mid new ran (Ok ran) first (asks_so (λ (l : Bool). l ≡ false) (λ (b : Bool). b ≡ false) mid new later ran second (λ none. is)) (λ none. none)
 
   -- one was asked of, and what comes of it says nothing of what was refused
-  pub ran_on : {A T : Type 0} (First : A → Type 0) (Says : T → Type 0) (old mid new : World) (ran : ℕ) (value : A) (told : T) → Ran old mid ran → OnlyAsks tells First mid new (Ok value) → (Says told → ⊥) → OnlyAsks tells Says old new (Ok told)
+  pub ran_on : {A T : Type 0} (First : A → Type 0) (Says : T → Type 0) (old mid new : World) (ran : Bool) (value : A) (told : T) → Ran old mid ran → OnlyAsks tells First mid new (Ok value) → (Says told → ⊥) → OnlyAsks tells Says old new (Ok told)
   ran_on First Says old mid new ran value told first second unsaid =
       (looks_then tells old mid new first.0 second.0, λ runs. ((second.1 (first.1 runs).0).0, λ says. absurd (unsaid says)))
 
-  pub ran_err : {A T : Type 0} (First : A → Type 0) (Says : T → Type 0) (old mid new : World) (ran : ℕ) (fault : SiteFault) (r : Result T SiteFault) → Ran old mid ran → OnlyAsks tells First mid new (Err fault) → IsErrAnd r (λ (told : SiteFault). told ≡ fault)
+  pub ran_err : {A T : Type 0} (First : A → Type 0) (Says : T → Type 0) (old mid new : World) (ran : Bool) (fault : SiteFault) (r : Result T SiteFault) → Ran old mid ran → OnlyAsks tells First mid new (Err fault) → IsErrAnd r (λ (told : SiteFault). told ≡ fault)
       → OnlyAsks tells Says old new r
-  ran_err First Says old mid new ran fault r first second passed = asks_then_err (λ (n : ℕ). n ≡ 0) First Says old mid new ran fault r first second passed
+  ran_err First Says old mid new ran fault r first second passed = asks_then_err (λ (b : Bool). b ≡ false) First Says old mid new ran fault r first second passed
 
   -- two calls one after another, of which the second alone is let go
   pub on_then : {A B : Type 0} (First : A → Type 0) (Second : B → Type 0) (old mid new : World) (value : A) (told : B) → OnlyAsks tells First old mid (Ok value) → OnlyAsks tells Second mid new (Ok told) → OnlyLooks tells old new × (old.stopped ≡ false → new.stopped ≡ false)
@@ -185,16 +185,16 @@ module _ (tells : Bool) where
   asks_passed Says old new fault looks cause = (looks, λ runs. failed_call old new fault looks cause)
 
   -- one was asked of, and one ran
-  pub ran_two : {A B T : Type 0} (First : A → Type 0) (Says : T → Type 0) (old mid next new : World) (ran : ℕ) (later : A) (ok : B) (told : T)
+  pub ran_two : {A B T : Type 0} (First : A → Type 0) (Says : T → Type 0) (old mid next new : World) (ran : Bool) (later : A) (ok : B) (told : T)
       → Ran old mid ran → OnlyAsks tells First mid next (Ok later) → AsksWell tells next new (Ok ok) → (Says told → ⊥) → OnlyAsks tells Says old new (Ok told)
   ran_two First Says old mid next new ran later ok told first second third unsaid = (
     looks_then tells old next new (looks_then tells old mid next first.0 second.0) third.0,
     λ runs. ((third.1 (second.1 (first.1 runs).0).0).0, λ says. absurd (unsaid says)),
   )
 
-  pub ran_two_err : {A B T : Type 0} (First : A → Type 0) (Says : T → Type 0) (old mid next new : World) (ran : ℕ) (later : A) (fault : SiteFault) (r : Result T SiteFault)
+  pub ran_two_err : {A T : Type 0} (B : Type 0) (First : A → Type 0) (Says : T → Type 0) (old mid next new : World) (ran : Bool) (later : A) (fault : SiteFault) (r : Result T SiteFault)
       → Ran old mid ran → OnlyAsks tells First mid next (Ok later) → AsksWell {T = B} tells next new (Err fault) → IsErrAnd r (λ (told : SiteFault). told ≡ fault) → OnlyAsks tells Says old new r
-  ran_two_err {B = B} First Says old mid next new ran later fault r first second third passed =
+  ran_two_err B First Says old mid next new ran later fault r first second third passed =
       asks_err (λ (any : B). Unit {0}) Says old new fault r (
         looks_then tells old next new (looks_then tells old mid next first.0 second.0) third.0,
         λ runs. failed_then old next new fault (looks_then tells old mid next first.0 second.0) (third.1 (second.1 (first.1 runs).0).0),

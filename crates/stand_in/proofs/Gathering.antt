@@ -1,5 +1,6 @@
 -- What the edges above the file give, one after another.
-use Rattle.std.proofs.Common.{◌≡◌, ℕ, zero, suc, ◌+◌, ◌-◌, ◌<◌, ◌==◌, Bool, true, false, if◌then◌else◌, List, [], ◌∷◌, ◌++◌, All, get_or, slice_get, filter, flat_map, length, take, Option, None, Some, MatchOption, Result, Err, refl, sym, ap, ◌∙◌, subst, arith, append_assoc, append-nil}
+use Rattle.std.proofs.Common.{◌≡◌, ℕ, zero, suc, ◌+◌, ◌-◌, ◌<◌, ◌==◌, Bool, true, false, if◌then◌else◌, List, [], ◌∷◌, ◌++◌, All, get_or, slice_get, filter, flat_map, length, take, Option, None, Some, MatchOption, option_copied, Result, Err, refl, sym, ap, ◌∙◌, subst, arith, append_assoc, append-nil}
+use denote.Ref.{Bor}
 use Rattle.std.proofs.lemmas.Bool.{eq-eqb, false≢true, or_left, or_right}
 use Rattle.std.proofs.lemmas.Grind.{flat_map-append}
 use Rattle.std.proofs.lemmas.List.{take_more}
@@ -73,8 +74,8 @@ maker_below : (graph : Graph) (p e : ℕ) → (links_of graph).maker p ≡ Some 
 maker_below graph p e is = below graph.manifest.lines p e (graph.making.made p e is)
 
 needed_below : (graph : Graph) (paths : List ℕ) (e : ℕ) → IsNeededFor (links_of graph) paths e → e < length graph.manifest.lines
-needed_below graph paths e (Makes e p named made) = maker_below graph p e made
-needed_below graph paths e (Further e d p needed input made) = maker_below graph p e made
+needed_below graph paths e (Makes f p named made) = maker_below graph p e made
+needed_below graph paths e (Further f d p needed input made) = maker_below graph p e made
 
 all_of : (P : ℕ → Type 0) (xs : List ℕ) → ((x : ℕ) → has_number xs x ≡ true → P x) → All P xs
 all_of P [] each = All-nil P
@@ -91,10 +92,13 @@ are_edges declared None edges none = subst (λ (l : List ℕ). AreEdges declared
 are_edges declared (Some p) edges above = all_of _ edges (λ e listed. needed_below declared.graph (p ∷ []) e ((above.just e).0 listed))
 
 pub generators_are_edges : (declared : Declared) (file : Option ℕ) (edges : List ℕ) (above : Above) → AreAboveFile declared.graph file edges → IsOfEdges declared file edges above → AreEdges declared above.generators.items
-generators_are_edges declared file edges above are of = subst (λ (l : List ℕ). AreEdges declared l) (sym of.generators) (All-filter (runs_generator declared) _ edges (are_edges declared file edges are))
+generators_are_edges declared file edges above are of = subst (λ (l : List ℕ). AreEdges declared l) (sym of.generators) (All-filter (runs_generator declared) (λ (e : ℕ). e < length declared.graph.manifest.lines) edges (are_edges declared file edges are))
 
 pub edge_in : (declared : Declared) (edges : List ℕ) (i e : ℕ) → AreEdges declared edges → i < length edges → e ≡ get_or edges i e → e < length declared.graph.manifest.lines
 edge_in declared edges i e are low is = subst (λ (x : ℕ). x < length declared.graph.manifest.lines) (sym is) (are i e low)
+
+pub edge_by : (declared : Declared) (edges slice : List ℕ) (i e : ℕ) → slice ≡ edges → AreEdges declared edges → i < length slice → e ≡ get_or slice i e → e < length declared.graph.manifest.lines
+edge_by declared edges slice i e same are low is = edge_in declared slice i e (subst (λ (l : List ℕ). AreEdges declared l) (sym same) are) low is
 
 pub last_in : (declared : Declared) (edges : List ℕ) (e : ℕ) → AreEdges declared edges → slice_get edges (length edges - 1) ≡ Some e → e < length declared.graph.manifest.lines
 last_in declared edges e are is = by_place (length edges - 1) is
@@ -114,37 +118,34 @@ last_in declared edges e are is = by_place (length edges - 1) is
 
 -- ---- one edge
 
+abbrev made_of : Declared → ℕ → List (List ℕ)
+made_of declared edge = flat_map (λ p. text_at declared.graph.manifest.paths p ∷ []) (first_of ((links_of declared.graph).outputs edge))
+
 module _ (declared : Declared) (edge : ℕ) (old new : Above) (file : new.file ≡ old.file) where
   pub adds_generator : runs_generator declared edge ≡ true → new.generators.items ≡ old.generators.items ++ edge ∷ [] → new.first ≡ old.first → AddsEdge declared edge old new
   adds_generator runs pushed same = record {
     file = file;
     generators = pushed ∙ ap (λ (b : Bool). old.generators.items ++ (if b then edge ∷ [] else [])) (sym runs);
-    first = ap (λ v. v.items) same ∙ (sym (append-nil old.first.items) ∙ ap (λ (b : Bool). old.first.items ++ (if b then [] else if (links_of declared.graph).phony edge then [] else made)) (sym runs));
+    first = ap (λ v. v.items) same ∙ (sym (append-nil old.first.items) ∙ ap (λ (b : Bool). old.first.items ++ (if b then [] else if (links_of declared.graph).phony edge then [] else (made_of declared edge))) (sym runs));
   }
-    where
-      made : List (List ℕ)
-      made = flat_map (λ p. text_at declared.graph.manifest.paths p ∷ []) (first_of ((links_of declared.graph).outputs edge))
 
   module _ (none : runs_generator declared edge ≡ false) (same : new.generators ≡ old.generators) where
     kept : new.generators.items ≡ old.generators.items ++ filter (runs_generator declared) (edge ∷ [])
     kept = ap (λ v. v.items) same ∙ (sym (append-nil old.generators.items) ∙ ap (λ (b : Bool). old.generators.items ++ (if b then edge ∷ [] else [])) (sym none))
 
-    made : List (List ℕ)
-    made = flat_map (λ p. text_at declared.graph.manifest.paths p ∷ []) (first_of ((links_of declared.graph).outputs edge))
-
-    without : (first : List (List ℕ)) → (if (links_of declared.graph).phony edge then [] else made) ≡ first → made_first declared edge ≡ first
-    without first is = ap (λ (b : Bool). if b then [] else if (links_of declared.graph).phony edge then [] else made) none ∙ is
+    without : (first : List (List ℕ)) → (if (links_of declared.graph).phony edge then [] else (made_of declared edge)) ≡ first → made_first declared edge ≡ first
+    without first is = ap (λ (b : Bool). if b then [] else if (links_of declared.graph).phony edge then [] else (made_of declared edge)) none ∙ is
 
     pub adds_alias : (links_of declared.graph).phony edge ≡ true → new.first ≡ old.first → AddsEdge declared edge old new
     adds_alias alias first = record {
       file = file;
       generators = kept;
-      first = ap (λ v. v.items) first ∙ (sym (append-nil old.first.items) ∙ ap (λ l. old.first.items ++ l) (sym (without [] (ap (λ (b : Bool). if b then [] else made) alias))));
+      first = ap (λ v. v.items) first ∙ (sym (append-nil old.first.items) ∙ ap (λ l. old.first.items ++ l) (sym (without [] (ap (λ (b : Bool). if b then [] else (made_of declared edge)) alias))));
     }
 
     module _ (command : (links_of declared.graph).phony edge ≡ false) where
       made_is : (outputs : List ℕ) → outputs ≡ first_of ((links_of declared.graph).outputs edge) → made_first declared edge ≡ flat_map (λ p. text_at declared.graph.manifest.paths p ∷ []) outputs
-      made_is outputs are = without _ (ap (λ (b : Bool). if b then [] else made) command ∙ ap (λ (l : List ℕ). flat_map (λ p. text_at declared.graph.manifest.paths p ∷ []) l) (sym are))
+      made_is outputs are = without _ (ap (λ (b : Bool). if b then [] else (made_of declared edge)) command ∙ ap (λ (l : List ℕ). flat_map (λ p. text_at declared.graph.manifest.paths p ∷ []) l) (sym are))
 
       first_none : (outputs : List ℕ) → slice_get outputs 0 ≡ None → [] ≡ first_of outputs
       first_none [] is = refl
@@ -196,3 +197,6 @@ err_is r error other is same = is ∙ ap (λ e. Err e) same
 
 pub empty_file : (declared : Declared) (name : List ℕ) → name ≡ [] → IsFileOf declared name None
 empty_file declared name empty = λ other some canonical. absurd (some empty)
+
+pub last_of : (declared : Declared) (edges slice : List ℕ) (o : Option (Bor ℕ)) (e : Bor ℕ) → slice ≡ edges → AreEdges declared edges → option_copied o ≡ slice_get slice (length slice - 1) → o ≡ Some e → e.now < length declared.graph.manifest.lines
+last_of declared edges slice o e same are value is = last_in declared slice e.now (subst (λ (l : List ℕ). AreEdges declared l) (sym same) are) (sym value ∙ ap option_copied is)

@@ -1,7 +1,9 @@
 -- Reading build files, and what a build of them would report.
-use Rattle.std.proofs.Common.{◌≡◌, inl, inr, ℕ, Bool, IsTrue, List, [], ◌++◌, OnOk, IfErr, IsErrAnd, Result, Ok, Err, refl, sym, ap, ◌∙◌, subst, append-nil}
+use Rattle.std.proofs.Common.{◌≡◌, inl, inr, ℕ, Bool, IsTrue, List, [], ◌++◌, OnOk, IfErr, IsErrAnd, Result, Ok, Err, refl, sym, ap, ◌∙◌, subst, append-nil, arith}
 use Rattle.model.specs.declared.act.Act.{Act}
-use Rattle.model.specs.declared.fault.SiteFault.TheVariants.{Memory}
+use Rattle.std.specs.Result.{IsErrOf}
+use Rattle.std.proofs.lemmas.Bool.{false≢true}
+use Rattle.model.specs.declared.fault.SiteFault.TheVariants.{Device, Memory}
 use Rattle.model.specs.declared.graph.BuildGraph.{BuildGraph}
 use Rattle.model.specs.declared.outcome.Outcome.{Outcome}
 use Rattle.model.specs.Calls.{HasCause, OnlyLooks}
@@ -24,18 +26,18 @@ use Rattle.builder.specs.Build.{Builds, unread}
 use Rattle.builder.specs.Parts.{IsReportOfNoGraph}
 use Rattle.builder.specs.declared.report.Report.{Report}
 use Rattle.builder.specs.declared.report.Report.TheVariants.{Fault}
-use Rattle.stand_in.specs.Moves.{WasReadHere, WasUnreadHere}
+use Rattle.stand_in.specs.Moves.{WasReadHere, WasUnreadAlone, WasUnreadHere}
 
 -- what the site has part in, whatever was read
-site_cause : {T U : Type 0} (old new : World) (error : ReadError) → HasCause old new (site_part {T = T} (Err error)) → HasCause old new (site_part {T = U} (Err error))
-site_cause old new read.Memory cause = cause
-site_cause old new (read.Site fault) cause = cause
-site_cause old new (read.Refused fault) cause = cause
+site_cause : (T U : Type 0) (old new : World) (error : ReadError) → HasCause old new (site_part {T = T} (Err error)) → HasCause old new (site_part {T = U} (Err error))
+site_cause T U old new read.Memory cause = cause
+site_cause T U old new (read.Site fault) cause = cause
+site_cause T U old new (read.Refused fault) cause = cause
 
-if_no_fault : {T : Type 0} (P : Type 0) (error : ReadError) → P → OnOk (site_part {T = T} (Err error)) P
-if_no_fault P read.Memory is = is
-if_no_fault P (read.Site fault) is = tt
-if_no_fault P (read.Refused fault) is = is
+if_no_fault : (T P : Type 0) (error : ReadError) → P → OnOk (site_part {T = T} (Err error)) P
+if_no_fault T P read.Memory is = is
+if_no_fault T P (read.Site fault) is = tt
+if_no_fault T P (read.Refused fault) is = is
 
 no_targets : AreTargets [] []
 no_targets = tt
@@ -44,7 +46,7 @@ module _ (tells : Bool) (outcome : Act → View → Outcome) (name : List ℕ) (
   -- the files were not read
   pub unread_here : (error : ReadError) (report : Report) → report ≡ unread error → HasCause old new (site_part {T = Manifest} (Err error)) → (IsTrue tells → ReadsFile name old.history new.history (Err error)) → WasUnreadHere tells outcome name old new report
   unread_here error report is cause file = λ idle limits.
-      inl record { error = error; is = is; looks = looks; cause = site_cause old new error cause; file = λ tell. if_no_fault (ReadsFile name old.history new.history (Err error)) error (file tell) }
+      inl record { error = error; is = is; looks = looks; cause = site_cause Manifest BuildGraph old new error cause; file = λ tell. if_no_fault BuildGraph (ReadsFile name old.history new.history (Err error)) error (file tell) }
 
   -- they were, and there was no memory for what came behind that
   pub unread_memory : (report : Report) → report ≡ Fault Memory → HasCause {T = Unit {0}} old new (Ok tt) → WasUnreadHere tells outcome name old new report
@@ -89,3 +91,23 @@ module _ (tells : Bool) (outcome : Act → View → Outcome) (name : List ℕ) (
 pub unread_by : {T : Type 0} {tells : Bool} {outcome : Act → View → Outcome} {name : List ℕ} {old new : World} {report : Report} (r : Result T Report) → WasUnreadHere tells outcome name old new report → IsErrAnd r (λ (told : Report). told ≡ report) → IfErr r (WasUnreadHere tells outcome name old new)
 unread_by (Ok value) is passed = tt
 unread_by {tells = tells} {outcome = outcome} {name = name} {old = old} {new = new} (Err told) is passed = subst (λ (r : Report). WasUnreadHere tells outcome name old new r) (sym passed) is
+
+-- the files were read, and there was no memory for what came behind that
+pub unread_since : (tells : Bool) (outcome : Act → View → Outcome) (name : List ℕ) (old new : World) (declared : Declared) (report : Report) → WasReadHere tells name old new declared → report ≡ Fault Memory → WasUnreadHere tells outcome name old new report
+unread_since tells outcome name old new declared report was is = unread_memory tells outcome name old new was.looked.looks report is
+    (record {
+      grows = let same = was.looked.unrefused.failures in omega (arith, same);
+      device = λ refused. absurd (no_error refused);
+      others = λ other. was.looked.unrefused.failures;
+      stopped = was.looked.unrefused.goes_on;
+      after_stop = λ stopped. absurd (false≢true (sym was.looked.unrefused.began ∙ stopped));
+      earlier = was.looked.unrefused.earlier;
+    })
+  where
+    no_error : IsErrOf {T = Unit {0}} (Ok tt) Device → ⊥
+    no_error refused = cc
+
+pub unread_alone : {T : Type 0} (tells : Bool) (outcome : Act → View → Outcome) (name : List ℕ) (old entry new : World) (declared : Declared) (r : Result T Report) → OnlyLooks tells old entry → WasReadHere tells name entry new declared → IsErrAnd r (λ (told : Report). told ≡ Fault Memory)
+    → IfErr r (WasUnreadAlone tells outcome name old new)
+unread_alone tells outcome name old entry new declared (Ok value) before was passed = tt
+unread_alone tells outcome name old entry new declared (Err report) before was passed = (entry, before, unread_since tells outcome name entry new declared report was passed)

@@ -135,6 +135,11 @@ abbrev pub ComesNext : Bool → (Act → View → Outcome) → Options → Decla
 ComesNext tells outcome options declared old new result =
     (entry : World) → WasReadAlone tells options.file entry old declared → IsNext tells outcome options entry old new result
 
+-- and so it does where what generators need was built before, or nothing of this was needed
+abbrev pub ComesOnceBuilt : Bool → (Act → View → Outcome) → Options → Declared → List (List ℕ) → World → World → Result Next Report → Type 0
+ComesOnceBuilt tells outcome options declared first mid new result =
+    (entry old : World) → WasReadAlone tells options.file entry old declared → MayBeBuiltFirst tells outcome options old mid → (first ≡ [] → mid ≡ old) → IsNext tells outcome options entry old new result
+
 abbrev pub EndsOnceRead : Bool → (Act → View → Outcome) → Options → Declared → World → World → End → Type 0
 EndsOnceRead tells outcome options declared old new end =
     (entry : World) → WasReadAlone tells options.file entry old declared → IsEndOf tells outcome options entry new end

@@ -6,7 +6,7 @@ ghost use Rattle.model.specs.Calls.{OnlyLooks};
 ghost use Rattle.stand_in.specs.Above.{AreEdges};
 ghost use Rattle.stand_in.specs.Moves.{EndsFirst, IsEndOf, IsReady, MayBeBuiltFirst, end_in, outcome_in};
 ghost use Rattle.stand_in.specs.Moves.{WasReadAlone, WasReadHere, WasUnreadAlone, WasUnreadHere};
-ghost use Rattle.stand_in.specs.Moves.{ComesNext, EndsOncePrepared, EndsOnceRead, EndsOnceReady};
+ghost use Rattle.stand_in.specs.Moves.{ComesNext, ComesOnceBuilt, EndsOncePrepared, EndsOnceRead, EndsOnceReady};
 
 use crate::above::{Above, all_above};
 use crate::given::Options as Given;
@@ -173,9 +173,27 @@ fn before_build<S: Place>(
     ensures goes { OnOk result ((S.world site.new).stopped ≡ false) }
     ensures next { ComesNext S.tells S.outcome options.now declared.now (S.world site.old) (S.world site.new) result }
 {
-    if let Some(report) = build_first(alloc, site, above, options) {
-        return Ok(Next::End(Outcome::NotRebuilt(Some(report))));
+    match build_first(alloc, site, above, options) {
+        Some(report) => Ok(Next::End(Outcome::NotRebuilt(Some(report)))),
+        None => turn_generators(alloc, site, declared, above, options),
     }
+}
+
+/// Runs the generators that are out of date, once what they need is built.
+fn turn_generators<S: Place>(
+    alloc: Global,
+    site: &mut S,
+    declared: &Declared,
+    above: &Above,
+    options: &Options,
+) -> Result<Next, Report>
+    requires idle { IsIdle (S.world site.old).events }
+    requires within { AreEdges declared.now above.now.generators.items }
+    requires running { (S.world site.old).stopped ≡ false }
+    ensures idle { IfOk result (λ next. IsIdle (S.world site.new).events) }
+    ensures goes { OnOk result ((S.world site.new).stopped ≡ false) }
+    ensures next { ComesOnceBuilt S.tells S.outcome options.now declared.now above.now.first.items (S.world site.old) (S.world site.new) result }
+{
     match regenerate(alloc, site, declared, above, options)? {
         Regenerated::Nothing => Ok(where_nothing_ran(above)),
         Regenerated::Ran { old } => Ok(Next::ReadAnew { old }),

@@ -41,22 +41,24 @@ pub fn regenerate<S: Place>(
     requires { AreEdges declared.now above.now.generators.items }
     ensures { OnlyAsks S.tells (λ ran. ran ≡ Regenerated.Nothing) (S.world site.old) (S.world site.new) result }
 {
-    let mut ran = 0usize;
+    let mut some = false;
+    let mut done = 0usize;
     for generator in above.generators.as_slice() {
         if !is_out_of_date(alloc, site, declared, *generator, above.file)? {
             continue;
         }
         let turn = Turn {
             options,
-            done: ran,
+            done,
             total: above.generators.len(),
         };
         if !run_one(alloc, site, declared, *generator, turn)? {
             return Ok(Regenerated::Failed);
         }
-        ran = ran.saturating_add(1);
+        some = true;
+        done = done.saturating_add(1);
     }
-    if ran == 0 {
+    if !some {
         return Ok(Regenerated::Nothing);
     }
     let old = is_last_old(alloc, site, declared, above)?;

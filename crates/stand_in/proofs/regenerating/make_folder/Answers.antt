@@ -2,8 +2,8 @@ use Rattle.std.proofs.Common.{ℕ, Bool, true, false, Option, None, Some, Result
 use Rattle.stand_in.proofs.Calls.{asks_call, still_nothing}
 use Rattle.stand_in.proofs.regenerating.make_folder.Goals as goal
 
-pub returns-else : goal.returns-else
-returns-else g c = still_nothing g.S.Texts.tells (g.S.Texts.world c.args.site.now)
+pub returns-in_default : goal.returns-in_default
+returns-in_default g c = still_nothing g.S.Texts.tells (g.S.Texts.world c.args.site.now)
 
 pub returns-then-is_empty : goal.returns-then-is_empty
 returns-then-is_empty g c = still_nothing g.S.Texts.tells (g.S.Texts.world c.args.site.now)
