@@ -1,0 +1,11 @@
+use Rattle.std.proofs.Common.{ℕ, map, subst}
+use Rattle.std.specs.Map.Iter.{deref}
+use Rattle.tools.specs.Clean.{AddsJust, MayCleanOfRule}
+use Rattle.tools.proofs.Adding.{adds_counted}
+use Rattle.tools.proofs.cleaning.add_rules.Goals as goal
+
+pub loop-place-preserved : goal.loop-place-preserved
+loop-place-preserved c =
+    let may = MayCleanOfRule c.args.declared.now (map deref c.args.rules.now) c.args.generated in
+    adds_counted may c.loop-place.place c.args.paths.now c.loop-place.paths c.add_if_asked.new.paths c.loop-place.invariant
+    (subst (λ (e : ℕ). AddsJust c.loop-place.paths c.add_if_asked.new.paths (may e)) c.edge-edge.ensures c.in_ok-add_if_asked.ensures)
