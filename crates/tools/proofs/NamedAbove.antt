@@ -52,17 +52,17 @@ has_filter test (x ∷ xs) n h = by (test x) refl
         (or_right (x == n) (has_number xs n) rest.0, rest.1)
 
 pub filter_has : (test : ℕ → Bool) (xs : List ℕ) (n : ℕ) → has_number xs n ≡ true → test n ≡ true → has_number (filter test xs) n ≡ true
-filter_has test [] n h yes = absurd (false≢true h)
-filter_has test (x ∷ xs) n h yes = by (test x) refl
+filter_has test [] n h passes = absurd (false≢true h)
+filter_has test (x ∷ xs) n h passes = by (test x) refl
   where
     by : (b : Bool) → test x ≡ b → has_number (filter test (x ∷ xs)) n ≡ true
     by true is = ap (λ (b : Bool). has_number (cond b (x ∷ filter test xs) (filter test xs)) n) is ∙ elim (or_cases (x == n) (has_number xs n) h) [
       | inl here ↦ or_left (x == n) (has_number (filter test xs) n) here
-      | inr later ↦ or_right (x == n) (has_number (filter test xs) n) (filter_has test xs n later yes)
+      | inr later ↦ or_right (x == n) (has_number (filter test xs) n) (filter_has test xs n later passes)
     ]
     by false is = ap (λ (b : Bool). has_number (cond b (x ∷ filter test xs) (filter test xs)) n) is ∙ elim (or_cases (x == n) (has_number xs n) h) [
-      | inl here ↦ absurd (false≢true (sym is ∙ (ap test (eqb-true x n here) ∙ yes)))
-      | inr later ↦ filter_has test xs n later yes
+      | inl here ↦ absurd (false≢true (sym is ∙ (ap test (eqb-true x n here) ∙ passes)))
+      | inr later ↦ filter_has test xs n later passes
     ]
 
 -- ---- marks

@@ -487,8 +487,8 @@ module _ (links : Links) (paths order : List ℕ) (marks : List Mark) (left stac
   ]
 
   needed_listed : length stack ≡ 0 → ((p : ℕ) → has_number paths p ≡ true → maker_seen marks (links.maker p)) → (e : ℕ) → IsNeededFor links paths e → has_number order e ≡ true
-  needed_listed empty asked e (Makes e p has makes) = all_listed empty e (subst (λ (o : Option ℕ). maker_seen marks o) makes (asked p has))
-  needed_listed empty asked e (Further e d p needed has makes) =
+  needed_listed empty asked e (Makes _ p has makes) = all_listed empty e (subst (λ (o : Option ℕ). maker_seen marks o) makes (asked p has))
+  needed_listed empty asked e (Further _ d p needed has makes) =
       let above = needed_listed empty asked d needed in
       let place = place_of (links.inputs d) p has in
       let seen : maker_seen marks (links.maker p) =
