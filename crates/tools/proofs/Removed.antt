@@ -16,10 +16,6 @@ removed_more tells gone path old mid new (NoMore _ _ looks) one =
     OneMore path [] old new new (record { before = one.before; looks = looks_then tells old mid one.before looks one.looks; removes = one.removes }) (NoMore new new (looks_nothing tells new))
 removed_more tells gone path old mid new (OneMore first rest _ between _ removed further) one = OneMore first (rest ++ path ∷ []) old between new removed (removed_more tells rest path between mid new further one)
 
-removed_looks : (tells : Bool) (gone : List (List ℕ)) (old mid new : World) → AreRemoved tells gone old mid → OnlyLooks tells mid new → AreRemoved tells gone old new
-removed_looks tells gone old mid new (NoMore _ _ looks) more = NoMore old new (looks_then tells old mid new looks more)
-removed_looks tells gone old mid new (OneMore first rest _ between _ removed further) more = OneMore first rest old between new removed (removed_looks tells rest between mid new further more)
-
 pub removes_none : (tells only_count : Bool) (paths : List (List ℕ)) (world : World) → RemovesOf tells only_count paths world world
 removes_none tells true paths world = looks_nothing tells world
 removes_none tells false paths world = ([], λ path h. absurd (not_true h), NoMore world world (looks_nothing tells world))

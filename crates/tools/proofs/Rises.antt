@@ -51,24 +51,22 @@ push_new (y ∷ xs) x (suc k) is = push_new xs x k (omega (arith, is))
 
 times_none : (xs : List ℕ) (n : ℕ) → has_number xs n ≡ false → times xs n ≡ 0
 times_none [] n none = refl
-times_none (x ∷ xs) n none = by (x == n) refl none
+times_none (x ∷ xs) n none = by (x == n) refl none (times_none xs n)
   where
-    by : (b : Bool) → (x == n) ≡ b → (b || has_number xs n) ≡ false → times (x ∷ xs) n ≡ 0
-    by true is h = absurd (false≢true (sym h))
-    by false is h = ap (λ (b : Bool). if b then suc (times xs n) else times xs n) is ∙ times_none xs n h
+    by : (b : Bool) → (x == n) ≡ b → (b || has_number xs n) ≡ false → (has_number xs n ≡ false → times xs n ≡ 0) → times (x ∷ xs) n ≡ 0
+    by true is h rest = absurd (false≢true (sym h))
+    by false is h rest = ap (λ (b : Bool). if b then suc (times xs n) else times xs n) is ∙ rest h
 
 times_push : (xs : List ℕ) (i n : ℕ) → times (xs ++ i ∷ []) n ≡ times xs n + times (i ∷ []) n
 times_push [] i n = refl
-times_push (x ∷ xs) i n = by (x == n) refl
+times_push (x ∷ xs) i n = by (x == n) refl (times_push xs i n)
   where
-    by : (b : Bool) → (x == n) ≡ b → times ((x ∷ xs) ++ i ∷ []) n ≡ times (x ∷ xs) n + times (i ∷ []) n
-    by true is =
-        let more = times_push xs i n in
+    by : (b : Bool) → (x == n) ≡ b → times (xs ++ i ∷ []) n ≡ times xs n + times (i ∷ []) n → times ((x ∷ xs) ++ i ∷ []) n ≡ times (x ∷ xs) n + times (i ∷ []) n
+    by true is more =
         let one : times ((x ∷ xs) ++ i ∷ []) n ≡ suc (times (xs ++ i ∷ []) n) = ap (λ (b : Bool). if b then suc (times (xs ++ i ∷ []) n) else times (xs ++ i ∷ []) n) is in
         let two : times (x ∷ xs) n ≡ suc (times xs n) = ap (λ (b : Bool). if b then suc (times xs n) else times xs n) is in
         omega (arith, more, one, two)
-    by false is =
-        let more = times_push xs i n in
+    by false is more =
         let one : times ((x ∷ xs) ++ i ∷ []) n ≡ times (xs ++ i ∷ []) n = ap (λ (b : Bool). if b then suc (times (xs ++ i ∷ []) n) else times (xs ++ i ∷ []) n) is in
         let two : times (x ∷ xs) n ≡ times xs n = ap (λ (b : Bool). if b then suc (times xs n) else times xs n) is in
         omega (arith, more, one, two)
