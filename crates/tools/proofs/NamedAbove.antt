@@ -184,14 +184,14 @@ module _ (graph : Graph) (paths edges : List ℕ) (marks : List Bool) (making : 
           subst (λ (l : List ℕ). has_number l p ≡ true) (sym is)
           (flat_has (λ d. filter (λ q. get_or marks q false) ((links_of graph).outputs d)) edges e p ((above.just e).1 needed) (filter_has (λ q. get_or marks q false) ((links_of graph).outputs e) p (making.made p e makes) mark))
         where
+          not_some : None ≡ Some e → ⊥
+          not_some clash = cc
+
           inside : p < length graph.manifest.paths
           inside = elim (cases_lt p (length graph.makers.items)) [
             | inl low ↦ omega (arith, low, making.fits)
             | inr past ↦ absurd (not_some (sym (get_or_past graph.makers.items p None past) ∙ makes))
           ]
-
-          not_some : None ≡ Some e → ⊥
-          not_some clash = cc
 
       back : IsNamedAbove graph paths p × IsSome ((links_of graph).maker p) → has_number outputs p ≡ true
       back both = by_maker ((links_of graph).maker p) refl both.1 both.0
