@@ -217,6 +217,13 @@ asked_all links paths marks i each all p has =
     let place = place_of paths p has in
     subst (λ (q : ℕ). maker_seen marks (links.maker q)) place.2 (each place.0 (omega (arith, place.1, all)))
 
+-- the maker of an edge's next input was seen, where nothing of the edge was passed since then
+pub next_seen : (links now : Links) (marks : List Mark) (left after : List ℕ) (e p q : ℕ) → now ≡ links → after ≡ left → IsNext links (slice_index left e) e p → IsNext now (slice_index after e) e q → maker_seen marks (links.maker p)
+    → maker_seen marks (now.maker q)
+next_seen links now marks left after e p q same kept next other seen =
+    let there : IsNext links (slice_index left e) e q = subst (λ (l : List ℕ). IsNext links (slice_index l e) e q) kept (subst (λ (k : Links). IsNext k (slice_index after e) e q) same other) in
+    subst (λ (k : Links). maker_seen marks (k.maker q)) (sym same) (subst (λ (n : ℕ). maker_seen marks (links.maker n)) (sym next.is ∙ there.is) seen)
+
 module _ (links : Links) (paths order : List ℕ) (marks : List Mark) (left stack : List ℕ) (at : IsRiseAt links paths order marks left stack) where
   pub rise_open : (e : ℕ) → e < links.count → mark_at marks e ≡ Unseen → IsNeededFor links paths e → ((last : ℕ) → IsLast stack last → MakesInputOf links e last) → IsRiseAt links paths order (set marks e Open) left (stack ++ e ∷ [])
   rise_open e lt unseen need waiting = record {
