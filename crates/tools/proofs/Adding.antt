@@ -195,6 +195,20 @@ pub adds_counted : (P : ℕ → List ℕ → Type 0) (i : ℕ) (old mid new : Li
 adds_counted P i old mid new before adds =
     adds_as old new (Or (IsBelow P i) (P i)) (IsBelow P (i + 1)) (below_on P i) (below_back P i) (adds_then old mid new (IsBelow P i) (P i) before adds)
 
+-- before the first of them, and where all were counted
+pub counted_start : (P : ℕ → List ℕ → Type 0) (old : List (List ℕ)) → AddsJust old old (IsBelow P 0)
+counted_start P old = adds_none old (IsBelow P 0) (λ t below. absurd (omega (arith, below.1)))
+
+pub counted_all : (P : ℕ → List ℕ → Type 0) (i n : ℕ) (old new : List (List ℕ)) → i ≡ n → AddsJust old new (IsBelow P i) → AddsJust old new (IsBelow P n)
+counted_all P i n old new same adds = subst (λ (m : ℕ). AddsJust old new (IsBelow P m)) same adds
+
+-- of no numbers, and of no texts
+pub listed_start : (P : ℕ → List ℕ → Type 0) (old : List (List ℕ)) → AddsJust old old (IsListed P [])
+listed_start P old = adds_none old (IsListed P []) (λ t one. false≢true one.1)
+
+pub texts_start : (old : List (List ℕ)) → AddsJust old old (IsTextOf [])
+texts_start old = adds_none old (IsTextOf []) (λ t one. false≢true one.1)
+
 -- ---- texts that are borrowed
 
 pub deref_more : (texts : List (Bor (List ℕ))) (i : ℕ) (d : Bor (List ℕ)) → i < length texts → map deref (take (i + 1) texts) ≡ map deref (take i texts) ++ (get_or texts i d).now ∷ []

@@ -29,12 +29,12 @@ use Rattle.tools.proofs.Removed.{has_at}
 -- ---- the files of a command
 
 pub files_are : (action : Action) (command : EdgeCommand) → command_at action ≡ Some command → files_of action ≡ command.act.depfile ∷ command.act.response_path ∷ []
-files_are Alias command is = absurd (cc)
-files_are (Command own) command is = let same : own ≡ command = cc in ap (λ (c : EdgeCommand). c.act.depfile ∷ c.act.response_path ∷ []) same
+files_are Alias command is = absurd (none-some command is)
+files_are (Command own) command is = let same : own ≡ command = same_Some own command is in ap (λ (c : EdgeCommand). c.act.depfile ∷ c.act.response_path ∷ []) same
 
 pub no_files : (action : Action) → command_at action ≡ None → files_of action ≡ []
 no_files Alias is = refl
-no_files (Command own) is = absurd (cc)
+no_files (Command own) is = absurd (none-some own (sym is))
 
 same_text : (a b : List ℕ) → bytes_eq a b ≡ true → a ≡ b
 same_text a b h = (bytes_eq-Decides a b).0 h

@@ -2,6 +2,7 @@
 use Rattle.std.proofs.Common.{◌≡◌, ◌≢◌, ◌⊎◌, ◌↔◌, inl, inr, ℕ, zero, suc, ◌+◌, ◌<◌, ◌≤◌, ◌==◌, ◌||◌, Bool, true, false, List, [], ◌∷◌, ◌++◌, Option, Some, None, length, take, get_or, replicate, refl, sym, ap, ◌∙◌, subst, arith}
 use Rattle.std.proofs.Math.ListN.{set}
 use Rattle.std.proofs.lemmas.Bool.{cases_Bool, cases_lt, eqb-true, eq-eqb, false≢true, or_cases, or_left, or_right}
+use Rattle.std.proofs.lemmas.Option.{none-some, same_Some}
 use Rattle.std.proofs.lemmas.List.{get_or-replicate, get_or-set_same, get_or-set_other, get_or_past, length-replicate, length-set}
 use Rattle.model.specs.Graph.{has_number}
 use Rattle.paths.specs.declared.manifest.Action.{Action}
@@ -119,9 +120,9 @@ met_first graph n met edges is count none =
 -- ---- the commands of edges
 
 pub command_told : (action : Action) (command : EdgeCommand) → command_at action ≡ Some command → command_in action ≡ command.act.command ∷ []
-command_told Alias command is = absurd (cc)
-command_told (Command own) command is = let same : own ≡ command = cc in ap (λ (c : EdgeCommand). c.act.command ∷ []) same
+command_told Alias command is = absurd (none-some command is)
+command_told (Command own) command is = let same : own ≡ command = same_Some own command is in ap (λ (c : EdgeCommand). c.act.command ∷ []) same
 
 pub no_command_told : (action : Action) → command_at action ≡ None → command_in action ≡ []
 no_command_told Alias is = refl
-no_command_told (Command own) is = absurd (cc)
+no_command_told (Command own) is = absurd (none-some own (sym is))

@@ -38,31 +38,31 @@ flat_has f (x ∷ xs) e n at has = has_both (f x) (flat_map f xs) n ∙ elim (or
 
 pub has_filter : (test : ℕ → Bool) (xs : List ℕ) (n : ℕ) → has_number (filter test xs) n ≡ true → (has_number xs n ≡ true) × (test n ≡ true)
 has_filter test [] n h = absurd (false≢true h)
-has_filter test (x ∷ xs) n h = by (test x) refl
+has_filter test (x ∷ xs) n h = by (test x) refl (has_filter test xs n)
   where
-    by : (b : Bool) → test x ≡ b → (has_number (x ∷ xs) n ≡ true) × (test n ≡ true)
-    by true is =
+    by : (b : Bool) → test x ≡ b → (has_number (filter test xs) n ≡ true → (has_number xs n ≡ true) × (test n ≡ true)) → (has_number (x ∷ xs) n ≡ true) × (test n ≡ true)
+    by true is all =
         let kept : has_number (x ∷ filter test xs) n ≡ true = sym (ap (λ (b : Bool). has_number (cond b (x ∷ filter test xs) (filter test xs)) n) is) ∙ h in
         elim (or_cases (x == n) (has_number (filter test xs) n) kept) [
           | inl here ↦ (or_left (x == n) (has_number xs n) here, subst (λ (m : ℕ). test m ≡ true) (eqb-true x n here) is)
-          | inr later ↦ let rest = has_filter test xs n later in (or_right (x == n) (has_number xs n) rest.0, rest.1)
+          | inr later ↦ let rest = all later in (or_right (x == n) (has_number xs n) rest.0, rest.1)
         ]
-    by false is =
-        let rest = has_filter test xs n (sym (ap (λ (b : Bool). has_number (cond b (x ∷ filter test xs) (filter test xs)) n) is) ∙ h) in
+    by false is all =
+        let rest = all (sym (ap (λ (b : Bool). has_number (cond b (x ∷ filter test xs) (filter test xs)) n) is) ∙ h) in
         (or_right (x == n) (has_number xs n) rest.0, rest.1)
 
 pub filter_has : (test : ℕ → Bool) (xs : List ℕ) (n : ℕ) → has_number xs n ≡ true → test n ≡ true → has_number (filter test xs) n ≡ true
-filter_has test [] n h yes = absurd (false≢true h)
-filter_has test (x ∷ xs) n h yes = by (test x) refl
+filter_has test [] n h passes = absurd (false≢true h)
+filter_has test (x ∷ xs) n h passes = by (test x) refl (filter_has test xs n)
   where
-    by : (b : Bool) → test x ≡ b → has_number (filter test (x ∷ xs)) n ≡ true
-    by true is = ap (λ (b : Bool). has_number (cond b (x ∷ filter test xs) (filter test xs)) n) is ∙ elim (or_cases (x == n) (has_number xs n) h) [
+    by : (b : Bool) → test x ≡ b → (has_number xs n ≡ true → test n ≡ true → has_number (filter test xs) n ≡ true) → has_number (filter test (x ∷ xs)) n ≡ true
+    by true is all = ap (λ (b : Bool). has_number (cond b (x ∷ filter test xs) (filter test xs)) n) is ∙ elim (or_cases (x == n) (has_number xs n) h) [
       | inl here ↦ or_left (x == n) (has_number (filter test xs) n) here
-      | inr later ↦ or_right (x == n) (has_number (filter test xs) n) (filter_has test xs n later yes)
+      | inr later ↦ or_right (x == n) (has_number (filter test xs) n) (all later passes)
     ]
-    by false is = ap (λ (b : Bool). has_number (cond b (x ∷ filter test xs) (filter test xs)) n) is ∙ elim (or_cases (x == n) (has_number xs n) h) [
-      | inl here ↦ absurd (false≢true (sym is ∙ (ap test (eqb-true x n here) ∙ yes)))
-      | inr later ↦ filter_has test xs n later yes
+    by false is all = ap (λ (b : Bool). has_number (cond b (x ∷ filter test xs) (filter test xs)) n) is ∙ elim (or_cases (x == n) (has_number xs n) h) [
+      | inl here ↦ absurd (false≢true (sym is ∙ (ap test (eqb-true x n here) ∙ passes)))
+      | inr later ↦ all later passes
     ]
 
 -- ---- marks
@@ -184,14 +184,14 @@ module _ (graph : Graph) (paths edges : List ℕ) (marks : List Bool) (making : 
           subst (λ (l : List ℕ). has_number l p ≡ true) (sym is)
           (flat_has (λ d. filter (λ q. get_or marks q false) ((links_of graph).outputs d)) edges e p ((above.just e).1 needed) (filter_has (λ q. get_or marks q false) ((links_of graph).outputs e) p (making.made p e makes) mark))
         where
+          not_some : None ≡ Some e → ⊥
+          not_some clash = cc
+
           inside : p < length graph.manifest.paths
           inside = elim (cases_lt p (length graph.makers.items)) [
             | inl low ↦ omega (arith, low, making.fits)
             | inr past ↦ absurd (not_some (sym (get_or_past graph.makers.items p None past) ∙ makes))
           ]
-
-          not_some : None ≡ Some e → ⊥
-          not_some clash = cc
 
       back : IsNamedAbove graph paths p × IsSome ((links_of graph).maker p) → has_number outputs p ≡ true
       back both = by_maker ((links_of graph).maker p) refl both.1 both.0

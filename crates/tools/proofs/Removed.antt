@@ -12,13 +12,9 @@ use Rattle.tools.proofs.Adding.{has_cases, has_either, has_first, has_later}
 
 -- one more at the end
 removed_more : (tells : Bool) (gone : List (List ℕ)) (path : List ℕ) (old mid new : World) → AreRemoved tells gone old mid → IsRemoved tells path mid new → AreRemoved tells (gone ++ path ∷ []) old new
-removed_more tells gone path old mid new (NoMore old mid looks) one =
+removed_more tells gone path old mid new (NoMore _ _ looks) one =
     OneMore path [] old new new (record { before = one.before; looks = looks_then tells old mid one.before looks one.looks; removes = one.removes }) (NoMore new new (looks_nothing tells new))
-removed_more tells gone path old mid new (OneMore first rest old between mid removed further) one = OneMore first (rest ++ path ∷ []) old between new removed (removed_more tells rest path between mid new further one)
-
-removed_looks : (tells : Bool) (gone : List (List ℕ)) (old mid new : World) → AreRemoved tells gone old mid → OnlyLooks tells mid new → AreRemoved tells gone old new
-removed_looks tells gone old mid new (NoMore old mid looks) more = NoMore old new (looks_then tells old mid new looks more)
-removed_looks tells gone old mid new (OneMore first rest old between mid removed further) more = OneMore first rest old between new removed (removed_looks tells rest between mid new further more)
+removed_more tells gone path old mid new (OneMore first rest _ between _ removed further) one = OneMore first (rest ++ path ∷ []) old between new removed (removed_more tells rest path between mid new further one)
 
 pub removes_none : (tells only_count : Bool) (paths : List (List ℕ)) (world : World) → RemovesOf tells only_count paths world world
 removes_none tells true paths world = looks_nothing tells world
@@ -59,11 +55,14 @@ removes_one tells false path old mid new not looks removes = record { before = m
 
 -- ---- one after the other
 
-removed_then : (tells : Bool) (one two : List (List ℕ)) (old mid new : World) → AreRemoved tells one old mid → AreRemoved tells two mid new → AreRemoved tells (one ++ two) old new
-removed_then tells one two old mid new (NoMore old mid looks) (NoMore mid new more) = NoMore old new (looks_then tells old mid new looks more)
-removed_then tells one two old mid new (NoMore old mid looks) (OneMore path rest mid next new removed further) =
+looked_before : (tells : Bool) (gone : List (List ℕ)) (old mid new : World) → OnlyLooks tells old mid → AreRemoved tells gone mid new → AreRemoved tells gone old new
+looked_before tells gone old mid new looks (NoMore _ _ more) = NoMore old new (looks_then tells old mid new looks more)
+looked_before tells gone old mid new looks (OneMore path rest _ next _ removed further) =
     OneMore path rest old next new (record { before = removed.before; looks = looks_then tells old mid removed.before looks removed.looks; removes = removed.removes }) further
-removed_then tells one two old mid new (OneMore path rest old next mid removed further) after = OneMore path (rest ++ two) old next new removed (removed_then tells rest two next mid new further after)
+
+removed_then : (tells : Bool) (one two : List (List ℕ)) (old mid new : World) → AreRemoved tells one old mid → AreRemoved tells two mid new → AreRemoved tells (one ++ two) old new
+removed_then tells one two old mid new (NoMore _ _ looks) after = looked_before tells two old mid new looks after
+removed_then tells one two old mid new (OneMore path rest _ next _ removed further) after = OneMore path (rest ++ two) old next new removed (removed_then tells rest two next mid new further after)
 
 pub removes_then : (tells only_count : Bool) (paths : List (List ℕ)) (old mid new : World) → RemovesOf tells only_count paths old mid → RemovesOf tells only_count paths mid new → RemovesOf tells only_count paths old new
 removes_then tells true paths old mid new first second = looks_then tells old mid new first second

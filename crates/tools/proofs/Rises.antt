@@ -51,24 +51,22 @@ push_new (y ∷ xs) x (suc k) is = push_new xs x k (omega (arith, is))
 
 times_none : (xs : List ℕ) (n : ℕ) → has_number xs n ≡ false → times xs n ≡ 0
 times_none [] n none = refl
-times_none (x ∷ xs) n none = by (x == n) refl none
+times_none (x ∷ xs) n none = by (x == n) refl none (times_none xs n)
   where
-    by : (b : Bool) → (x == n) ≡ b → (b || has_number xs n) ≡ false → times (x ∷ xs) n ≡ 0
-    by true is h = absurd (false≢true (sym h))
-    by false is h = ap (λ (b : Bool). if b then suc (times xs n) else times xs n) is ∙ times_none xs n h
+    by : (b : Bool) → (x == n) ≡ b → (b || has_number xs n) ≡ false → (has_number xs n ≡ false → times xs n ≡ 0) → times (x ∷ xs) n ≡ 0
+    by true is h rest = absurd (false≢true (sym h))
+    by false is h rest = ap (λ (b : Bool). if b then suc (times xs n) else times xs n) is ∙ rest h
 
 times_push : (xs : List ℕ) (i n : ℕ) → times (xs ++ i ∷ []) n ≡ times xs n + times (i ∷ []) n
 times_push [] i n = refl
-times_push (x ∷ xs) i n = by (x == n) refl
+times_push (x ∷ xs) i n = by (x == n) refl (times_push xs i n)
   where
-    by : (b : Bool) → (x == n) ≡ b → times ((x ∷ xs) ++ i ∷ []) n ≡ times (x ∷ xs) n + times (i ∷ []) n
-    by true is =
-        let more = times_push xs i n in
+    by : (b : Bool) → (x == n) ≡ b → times (xs ++ i ∷ []) n ≡ times xs n + times (i ∷ []) n → times ((x ∷ xs) ++ i ∷ []) n ≡ times (x ∷ xs) n + times (i ∷ []) n
+    by true is more =
         let one : times ((x ∷ xs) ++ i ∷ []) n ≡ suc (times (xs ++ i ∷ []) n) = ap (λ (b : Bool). if b then suc (times (xs ++ i ∷ []) n) else times (xs ++ i ∷ []) n) is in
         let two : times (x ∷ xs) n ≡ suc (times xs n) = ap (λ (b : Bool). if b then suc (times xs n) else times xs n) is in
         omega (arith, more, one, two)
-    by false is =
-        let more = times_push xs i n in
+    by false is more =
         let one : times ((x ∷ xs) ++ i ∷ []) n ≡ times (xs ++ i ∷ []) n = ap (λ (b : Bool). if b then suc (times (xs ++ i ∷ []) n) else times (xs ++ i ∷ []) n) is in
         let two : times (x ∷ xs) n ≡ times xs n = ap (λ (b : Bool). if b then suc (times xs n) else times xs n) is in
         omega (arith, more, one, two)
@@ -218,6 +216,13 @@ pub asked_all : (links : Links) (paths : List ℕ) (marks : List Mark) (i : ℕ)
 asked_all links paths marks i each all p has =
     let place = place_of paths p has in
     subst (λ (q : ℕ). maker_seen marks (links.maker q)) place.2 (each place.0 (omega (arith, place.1, all)))
+
+-- the maker of an edge's next input was seen, where nothing of the edge was passed since then
+pub next_seen : (links now : Links) (marks : List Mark) (left after : List ℕ) (e p q : ℕ) → now ≡ links → after ≡ left → IsNext links (slice_index left e) e p → IsNext now (slice_index after e) e q → maker_seen marks (links.maker p)
+    → maker_seen marks (now.maker q)
+next_seen links now marks left after e p q same kept next other seen =
+    let there : IsNext links (slice_index left e) e q = subst (λ (l : List ℕ). IsNext links (slice_index l e) e q) kept (subst (λ (k : Links). IsNext k (slice_index after e) e q) same other) in
+    subst (λ (k : Links). maker_seen marks (k.maker q)) (sym same) (subst (λ (n : ℕ). maker_seen marks (links.maker n)) (sym next.is ∙ there.is) seen)
 
 module _ (links : Links) (paths order : List ℕ) (marks : List Mark) (left stack : List ℕ) (at : IsRiseAt links paths order marks left stack) where
   pub rise_open : (e : ℕ) → e < links.count → mark_at marks e ≡ Unseen → IsNeededFor links paths e → ((last : ℕ) → IsLast stack last → MakesInputOf links e last) → IsRiseAt links paths order (set marks e Open) left (stack ++ e ∷ [])
@@ -487,8 +492,8 @@ module _ (links : Links) (paths order : List ℕ) (marks : List Mark) (left stac
   ]
 
   needed_listed : length stack ≡ 0 → ((p : ℕ) → has_number paths p ≡ true → maker_seen marks (links.maker p)) → (e : ℕ) → IsNeededFor links paths e → has_number order e ≡ true
-  needed_listed empty asked e (Makes e p has makes) = all_listed empty e (subst (λ (o : Option ℕ). maker_seen marks o) makes (asked p has))
-  needed_listed empty asked e (Further e d p needed has makes) =
+  needed_listed empty asked e (Makes _ p has makes) = all_listed empty e (subst (λ (o : Option ℕ). maker_seen marks o) makes (asked p has))
+  needed_listed empty asked e (Further _ d p needed has makes) =
       let above = needed_listed empty asked d needed in
       let place = place_of (links.inputs d) p has in
       let seen : maker_seen marks (links.maker p) =

@@ -41,9 +41,9 @@ pub record AddsEither (listed : List (List ℕ)) (text : List ℕ) (old new : De
   pub kept : AddsJust old.kept new.kept (λ added. (added ≡ text) × (has listed text ≡ true))
 
 -- what is left is removed where no deps record lists it, and else kept
-pub record AreBuried (manifest : Manifest) (records : List Record) (deps : List DepsRecord) (dead kept : List (List ℕ)) : Type 0 where
-  pub dead : (text : List ℕ) → has dead text ≡ true ↔ (IsLeft manifest records text × (IsListed deps text → ⊥))
-  pub kept : (text : List ℕ) → has kept text ≡ true ↔ (IsLeft manifest records text × IsListed deps text)
+pub record AreBuried (manifest : Manifest) (records : List Record) (deps : List DepsRecord) (gone stays : List (List ℕ)) : Type 0 where
+  pub dead : (text : List ℕ) → has gone text ≡ true ↔ (IsLeft manifest records text × (IsListed deps text → ⊥))
+  pub kept : (text : List ℕ) → has stays text ≡ true ↔ (IsLeft manifest records text × IsListed deps text)
 
 -- the same of whatever the logs tell
 abbrev pub Buries : Graph → Records → (dead kept : List (List ℕ)) → Type 0

@@ -19,3 +19,12 @@ returns-in_err-push-in-Err g c = removes_one g.S.Texts.tells c.args.only_count c
 
 pub returns-in_ok-push-in-Err : goal.returns-in_ok-push-in-Err
 returns-in_ok-push-in-Err g c = removes_one g.S.Texts.tells c.args.only_count c.args.path.now (g.S.Texts.world c.args.site.now) (g.S.Texts.world c.stat.new.self) (g.S.Texts.world c.remove.new.self) c.if-only_count.false c.stat.ensures.looks c.in-Err.ensures.err
+
+pub returns-in_err-count : goal.returns-in_err-count
+returns-in_err-count g c = removes_nothing g.S.Texts.tells c.args.only_count c.args.path.now (g.S.Texts.world c.args.site.now) (g.S.Texts.world c.stat.new.self) c.stat.ensures.looks
+
+pub returns-then-only_count : goal.returns-then-only_count
+returns-then-only_count g c = removes_nothing g.S.Texts.tells c.args.only_count c.args.path.now (g.S.Texts.world c.args.site.now) (g.S.Texts.world c.stat.new.self) c.stat.ensures.looks
+
+pub returns-in_err-from_str-in-Err : goal.returns-in_err-from_str-in-Err
+returns-in_err-from_str-in-Err g c = removes_one g.S.Texts.tells c.args.only_count c.args.path.now (g.S.Texts.world c.args.site.now) (g.S.Texts.world c.stat.new.self) (g.S.Texts.world c.remove.new.self) c.if-only_count.false c.stat.ensures.looks c.in-Err.ensures.err

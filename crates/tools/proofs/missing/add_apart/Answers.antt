@@ -3,7 +3,7 @@ use Rattle.std.proofs.lemmas.Bool.{eqb-true}
 use Rattle.build_log.specs.Kept.{texts_at}
 use Rattle.tools.specs.Missing.{AddsDeps, IsUnmarked}
 use Rattle.tools.specs.declared.missing.MissingDep.{MissingDep}
-use Rattle.tools.proofs.Missed.{apart_all, apart_none, deps_empty}
+use Rattle.tools.proofs.Lacking.{apart_all, apart_none, deps_empty}
 use Rattle.tools.proofs.Putting.{on_ok}
 use Rattle.tools.proofs.missing.add_apart.Goals as goal
 

@@ -1,7 +1,7 @@
 use Rattle.std.proofs.Common.{ℕ, List, subst}
 use Rattle.build_log.specs.Kept.{texts_at}
 use Rattle.tools.specs.Missing.{AddsDeps, IsApart}
-use Rattle.tools.proofs.Missed.{missing_none, missing_some}
+use Rattle.tools.proofs.Lacking.{missing_none, missing_some}
 use Rattle.tools.proofs.Putting.{on_ok}
 use Rattle.tools.proofs.missing.add_missing.Goals as goal
 

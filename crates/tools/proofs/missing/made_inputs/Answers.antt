@@ -3,7 +3,7 @@ use Rattle.std.proofs.lemmas.List.{take_all}
 use Rattle.build_log.specs.Kept.{texts_at}
 use Rattle.tools.specs.Missing.{AddsDeps, IsMadeFor}
 use Rattle.tools.specs.declared.missing.MissingDep.{MissingDep}
-use Rattle.tools.proofs.Missed.{made_more, made_start}
+use Rattle.tools.proofs.Lacking.{made_more, made_start}
 use Rattle.tools.proofs.missing.made_inputs.Goals as goal
 
 pub loop-number-init : goal.loop-number-init

@@ -1,8 +1,9 @@
-use Rattle.std.proofs.Common.{◌≡◌, ◌<◌, ◌≤◌, ◌+◌, ◌||◌, true, arith, inl, inr, ℕ, Bool, List, false, get_or, length, take, ap, ◌∙◌, sym, subst}
+use Rattle.std.proofs.Common.{◌≡◌, ◌<◌, ◌≤◌, ◌+◌, ◌∷◌, ◌||◌, [], true, arith, inl, inr, ℕ, Bool, List, false, get_or, length, refl, take, ap, ◌∙◌, sym, subst}
+use Rattle.std.proofs.lemmas.List.{take_all}
 use Rattle.std.proofs.lemmas.Bool.{cases_lt}
 use Rattle.std.proofs.Math.ListN.{set}
 use Rattle.model.specs.Graph.{has_number}
-use Rattle.tools.proofs.NamedAbove.{mark_next, mark_past}
+use Rattle.tools.proofs.NamedAbove.{mark_next, mark_past, marks_first}
 use Rattle.tools.proofs.missing.mark.Goals as goal
 
 pub loop-path-preserved : goal.loop-path-preserved
@@ -22,3 +23,10 @@ loop-path-preserved c =
             (mark_past old now paths place path c.loop-path-test.true c.path-item.is c.loop-path.invariant.count (λ low. omega (arith, low, past, same)) c.loop-path.invariant.marked)
       ];
     }
+
+pub loop-path-init : goal.loop-path-init
+loop-path-init c = record { count = refl; marked = λ p low. marks_first (λ (n : ℕ). n ∷ []) c.args.paths.now p (get_or c.args.marks.now.items p false) }
+
+pub returns-clause-marks : goal.returns-clause-marks
+returns-clause-marks c = λ p low.
+    c.loop-path.invariant.marked p low ∙ ap (λ (l : List ℕ). get_or c.args.marks.now.items p false || has_number l p) (take_all c.loop-path.path-index c.args.paths.now c.loop-path-test.false)

@@ -1,8 +1,9 @@
-use Rattle.std.proofs.Common.{◌≡◌, ◌<◌, ◌≤◌, ◌+◌, ◌||◌, true, arith, inl, inr, ℕ, Bool, List, false, get_or, length, take, ap, ◌∙◌, sym, subst}
+use Rattle.std.proofs.Common.{◌≡◌, ◌<◌, ◌≤◌, ◌+◌, ◌∷◌, ◌||◌, [], true, arith, inl, inr, ℕ, Bool, List, false, get_or, length, refl, take, ap, ◌∙◌, sym, subst}
+use Rattle.std.proofs.lemmas.List.{take_all}
 use Rattle.std.proofs.lemmas.Bool.{cases_lt}
 use Rattle.std.proofs.Math.ListN.{set}
 use Rattle.model.specs.Graph.{has_number}
-use Rattle.tools.proofs.NamedAbove.{mark_next, mark_past}
+use Rattle.tools.proofs.NamedAbove.{mark_next, mark_past, marks_first}
 use Rattle.tools.proofs.missing.mark_edges.Goals as goal
 
 pub loop-edge-preserved : goal.loop-edge-preserved
@@ -22,3 +23,10 @@ loop-edge-preserved c =
             (mark_past old now edges place edge c.loop-edge-test.true c.edge-item.is c.loop-edge.invariant.count (λ low. omega (arith, low, past, same)) c.loop-edge.invariant.marked)
       ];
     }
+
+pub loop-edge-init : goal.loop-edge-init
+loop-edge-init c = record { count = refl; marked = λ p low. marks_first (λ (n : ℕ). n ∷ []) c.args.edges.now p (get_or c.args.marks.now.items p false) }
+
+pub returns-clause-marks : goal.returns-clause-marks
+returns-clause-marks c = λ p low.
+    c.loop-edge.invariant.marked p low ∙ ap (λ (l : List ℕ). get_or c.args.marks.now.items p false || has_number l p) (take_all c.loop-edge.edge-index c.args.edges.now c.loop-edge-test.false)

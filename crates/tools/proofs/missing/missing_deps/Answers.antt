@@ -3,7 +3,7 @@ use Rattle.std.proofs.lemmas.List.{take_all}
 use Rattle.tools.specs.Above.{AreNamedMade}
 use Rattle.tools.specs.Missing.{AddsDeps}
 use Rattle.tools.specs.declared.missing.MissingDep.{MissingDep}
-use Rattle.tools.proofs.Missed.{IsMissingOf, all_made, missing_all, missing_more, missing_start}
+use Rattle.tools.proofs.Lacking.{IsMissingOf, all_made, missing_all, missing_more, missing_start}
 use Rattle.tools.proofs.missing.missing_deps.Goals as goal
 
 pub loop-output-init : goal.loop-output-init

@@ -3,7 +3,7 @@ use Rattle.model.specs.declared.record.Record.{Record}
 use Rattle.model.specs.declared.record.DepsRecord.{DepsRecord}
 use Rattle.records.specs.Known.{Knows}
 use Rattle.tools.specs.Missing.{AddsDeps}
-use Rattle.tools.proofs.Missed.{IsMissingOf}
+use Rattle.tools.proofs.Lacking.{IsMissingOf}
 use Rattle.tools.proofs.missing.missing_deps.Given as goal
 
 abbrev pub invariant-loop-output : goal.invariant-loop-output

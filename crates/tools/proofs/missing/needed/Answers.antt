@@ -1,6 +1,6 @@
 use Rattle.std.proofs.Common.{ℕ, List, subst}
 use Rattle.tools.specs.Above.{MarksAlso}
-use Rattle.tools.proofs.Missed.{marks_needed}
+use Rattle.tools.proofs.Lacking.{marks_needed}
 use Rattle.tools.proofs.missing.needed.Goals as goal
 
 pub returns : goal.returns

@@ -1,5 +1,5 @@
 use Rattle.std.proofs.Common.{◌≡◌, ℕ, true, false, get_or, ap, sym, ◌∙◌}
-use Rattle.tools.proofs.Missed.{marked_none, unmarked_one}
+use Rattle.tools.proofs.Lacking.{marked_none, unmarked_one}
 use Rattle.tools.proofs.missing.push_if_unmarked.Goals as goal
 
 pub returns-then-is_marked : goal.returns-then-is_marked

@@ -1,7 +1,7 @@
 use Rattle.std.proofs.Common.{◌≢◌, slice_get, sym, ◌∙◌}
 use Rattle.std.proofs.lemmas.Bool.{false≢true}
 use Rattle.std.proofs.lemmas.Slice.Eq.{bytes_eq-Decides}
-use Rattle.tools.proofs.Missed.{made_file, made_past, made_push, made_source, made_unknown}
+use Rattle.tools.proofs.Lacking.{made_file, made_past, made_push, made_source, made_unknown}
 use Rattle.tools.proofs.missing.push_made.Goals as goal
 
 pub returns-in_default : goal.returns-in_default

@@ -2,7 +2,7 @@ use Rattle.std.proofs.Common.{List, subst}
 use Rattle.std.proofs.lemmas.List.{take_all}
 use Rattle.tools.specs.Missing.{AddsDeps, IsUnmarked}
 use Rattle.tools.specs.declared.missing.MissingDep.{MissingDep}
-use Rattle.tools.proofs.Missed.{unmarked_more, unmarked_start}
+use Rattle.tools.proofs.Lacking.{unmarked_more, unmarked_start}
 use Rattle.tools.proofs.missing.push_unmarked.Goals as goal
 
 pub loop-dep-init : goal.loop-dep-init

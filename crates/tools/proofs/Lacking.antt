@@ -41,10 +41,17 @@ pub one_none : (dep : MissingDep) → IsOneOf dep [] → ⊥
 one_none dep one = no_mid dep one.0 one.1 one.2
 
 one_cases : (old : List MissingDep) (d dep : MissingDep) (before after : List MissingDep) → old ++ d ∷ [] ≡ before ++ dep ∷ after → IsOneOf dep old ⊎ (dep ≡ d)
-one_cases [] d dep [] after is = inr (cc)
-one_cases [] d dep (b ∷ before) after is = let rest : [] ≡ before ++ dep ∷ after = cc in absurd (no_mid dep before after rest)
-one_cases (o ∷ old) d dep [] after is = let same : o ≡ dep = cc in inl ([], old, ap (λ (x : MissingDep). x ∷ old) same)
+one_cases [] d dep [] after is = let same : d ∷ [] ≡ dep ∷ after = is in inr (cc)
+one_cases [] d dep (b ∷ before) after is =
+    let same : d ∷ [] ≡ b ∷ (before ++ dep ∷ after) = is in
+    let rest : [] ≡ before ++ dep ∷ after = cc in
+    absurd (no_mid dep before after rest)
+one_cases (o ∷ old) d dep [] after is =
+    let all : o ∷ (old ++ d ∷ []) ≡ dep ∷ after = is in
+    let same : o ≡ dep = cc in
+    inl ([], old, ap (λ (x : MissingDep). x ∷ old) same)
 one_cases (o ∷ old) d dep (b ∷ before) after is =
+    let all : o ∷ (old ++ d ∷ []) ≡ b ∷ (before ++ dep ∷ after) = is in
     let rest : old ++ d ∷ [] ≡ before ++ dep ∷ after = cc in
     elim (one_cases old d dep before after rest) [
       | inl one ↦ inl (o ∷ one.0, one.1, ap (λ (l : List MissingDep). o ∷ l) one.2)
