@@ -14,7 +14,7 @@ use Rattle.build_log.proofs.Lookups.{got, told_place}
 use Rattle.build_log.proofs.InForce.{in_force_told}
 use Rattle.build_log.specs.declared.done.Done.{Done}
 
-has-filter : (test : List ℕ → Bool) (os : List (List ℕ)) (o : List ℕ) → has (filter test os) o ≡ (has os o && test o)
+pub has-filter : (test : List ℕ → Bool) (os : List (List ℕ)) (o : List ℕ) → has (filter test os) o ≡ (has os o && test o)
 has-filter test [] o = refl
 has-filter test (q ∷ os) o = go (test q) (bytes_eq q o) refl refl (has-filter test os o)
   where
@@ -62,7 +62,7 @@ module _ {T : Type 0} where
   pick p n held [] = held
   pick p n held (t ∷ ts) = pick p (n + 1) (cond (is_place n p) (Some t.1) held) ts
 
-  abbrev Names : Option ℕ → List ℕ → ℕ → List (Telling T) → Type 0
+  abbrev pub Names : Option ℕ → List ℕ → ℕ → List (Telling T) → Type 0
   Names p o n ts = (k : ℕ) → p ≡ Some (n + k) → has (outputs_at ts k) o ≡ true
 
   picks : (all : List (Saying T)) (o : List ℕ) (n : ℕ) (ts : List (Telling T)) (held : Option T) → Names (place_of all o) o n ts → told_from o held (map (λ (t : Telling T). (t.0, Some t.1)) (in_force_from all n ts)) ≡ pick (place_of all o) n held ts
@@ -112,7 +112,7 @@ module _ {T : Type 0} where
   picked None ts = pick_none 0 None ts
   picked (Some m) ts = pick_at m 0 m None ts (let same : m ≡ 0 + m = omega arith in same) ∙ or_none (slice_get (map (λ t. t.1) ts) m)
 
-  all_named : (all : List (Saying T)) (o : List ℕ) → Names (place_of all o) o 0 (tellings all)
+  pub all_named : (all : List (Saying T)) (o : List ℕ) → Names (place_of all o) o 0 (tellings all)
   all_named all o k e = elim (names_it all o None 0 (0 + k) e) [
     | inl none ↦ absurd (let clash : None ≡ Some (0 + k) = none in cc)
     | inr r ↦ ap (λ (m : ℕ). has (outputs_at (tellings all) m) o) (let at = r.1 in let same : k ≡ r.0 = omega arith in same) ∙ r.2

@@ -3,8 +3,9 @@
 ghost use Rattle.std.specs.Prelude.{◌≡◌, List, IfOk, OnOk, OnErr, length, slice_get};
 ghost use Rattle.model.specs.Records.{in_force};
 ghost use Rattle.build_log.specs.declared.form.Version.TheVariants.{Two};
-ghost use Rattle.build_log.specs.Kept.{IsTableOf, AreDistinct};
+ghost use Rattle.build_log.specs.Kept.{IsTableOf, AreDistinct, outputs_left};
 ghost use Rattle.build_log.specs.Keeping.{OfKept, OfTable, KeepsSame, KeepsAlso, IsParsed};
+ghost use Rattle.build_log.specs.Found.{texts_in};
 ghost use Rattle.build_log.specs.Written.{IsWritten};
 ghost use Rattle.build_log.specs.Record.{IsRecord, forms};
 ghost use Rattle.build_log.specs.Log.{Keeps, compaction, made_in, makings};
@@ -166,6 +167,20 @@ impl Log {
         ensures { OfKept Keeps self.now (λ all. made_in result ≡ slice_get (makings all) number) }
     {
         self.kept.at(number)
+    }
+
+    /// How many done records there are: their numbers are those below.
+    pub fn done_records(&self) -> usize
+        ensures { OfKept Keeps self.now (λ all. result ≡ length (makings all)) }
+    {
+        self.kept.tellings()
+    }
+
+    /// The outputs for which the done record with this number is in force.
+    pub fn outputs_at(&self, alloc: Global, number: usize) -> Result<Vec<&str>, AllocError>
+        ensures { IfOk result (λ outputs. OfTable self.now (λ all. texts_in outputs.items ≡ outputs_left all number)) }
+    {
+        self.kept.outputs_in_force(alloc, number)
     }
 
     /// How many records are in force, each for one of its outputs at least.

@@ -1,15 +1,16 @@
 -- From what stages give to what a build has come to.
 use Rattle.std.specs.Prelude.{OnOk, IfErr}
-use Rattle.std.proofs.Common.{Option, ◌≡◌, inr, ℕ, Bool, IsTrue, List, ◌++◌, Result, Ok, Err, ap, map, subst}
+use Rattle.std.proofs.Common.{Option, ◌≡◌, inr, ℕ, Bool, IsTrue, List, ◌++◌, Result, Ok, Err, ap, map, refl, subst, sym}
 use Rattle.std.specs.Result.{IsErrAnd}
 use Rattle.model.specs.declared.act.Act.{Act}
 use Rattle.model.specs.declared.event.Moment.{Moment}
 use Rattle.model.specs.declared.graph.BuildGraph.{BuildGraph}
 use Rattle.model.specs.declared.graph.Edge.{Edge}
 use Rattle.model.specs.declared.outcome.Outcome.{Outcome}
-use Rattle.model.specs.World.{World, View, IsIdle}
+use Rattle.model.specs.World.{World, View, IsIdle, view_of}
 use Rattle.model.specs.Calls.{OnlyLooks, HasCause}
 use Rattle.model.specs.Outcome.{Behaviour}
+use Rattle.model.specs.Records.{store_in}
 use Rattle.build_theory.proofs.Calls.{unrefused_call}
 use Rattle.deps_log.specs.Format.{HasFormat}
 use Rattle.depfile.specs.Depfile.{HasReading}
@@ -25,17 +26,32 @@ use Rattle.builder.specs.declared.asked.Asked.{Asked}
 use Rattle.builder.specs.declared.reading.Reading.{Reading}
 use Rattle.builder.specs.declared.report.Options.{Options}
 use Rattle.builder.specs.declared.report.Report.{Report}
+use Rattle.links.specs.declared.fault.GraphFault.{GraphFault}
+use Rattle.links.specs.Linked.{IsFaultOf}
+use Rattle.paths.specs.declared.manifest.Manifest.{Manifest}
 use Rattle.paths.specs.Told.{graph_of}
 use Rattle.builder.specs.Asked.{AreTargets, IsFolder}
 use Rattle.builder.specs.Build.{Builds, BuildsFor, IsBuild, IsUnread, WasRead, limits_of, unread}
 use Rattle.builder.specs.Loads.{ReadsDyndeps}
-use Rattle.builder.specs.Reports.{report_in}
-use Rattle.builder.proofs.Builds.{looked_nothing, idle_after, any_own, own_in, builds_grow}
+use Rattle.builder.specs.Parts.{IsReportOfNoGraph}
+use Rattle.builder.specs.Reports.{report_in, ungraphed}
+use Rattle.builder.proofs.Builds.{looked_nothing, idle_after, any_own, own_in, builds_grow, builds_ungraphed}
 
 -- the report of an exit by `?`
 pub told_by : (told : Report) (r : Result Report Report) → IsErrAnd r (λ report. report ≡ told) → report_in r ≡ told
 told_by told (Ok report) passed = absurd passed
 told_by told (Err report) passed = passed
+
+-- edges that are no graph have one report, whatever is asked of them
+pub ungraphed_always : (folder : List ℕ) (manifest : Manifest) (fault : GraphFault) → IsFaultOf folder (graph_of manifest).edges fault → IsReportOfNoGraph folder manifest (ungraphed fault)
+ungraphed_always folder manifest fault is = λ tells B format own limits given targets entry now idle looked.
+    builds_ungraphed tells B format own (graph_of manifest) folder limits given targets (store_in format own (view_of entry.history)) entry now (λ tell edits. refl) idle looked fault is
+
+-- the exit by `?` where they are none
+pub ungraphed_by : {T : Type 0} (folder : List ℕ) (manifest : Manifest) (fault : GraphFault) → IsFaultOf folder (graph_of manifest).edges fault
+    → (r : Result T Report) → IsErrAnd r (λ report. report ≡ ungraphed fault) → IfErr r (IsReportOfNoGraph folder manifest)
+ungraphed_by folder manifest fault is (Ok value) passed = tt
+ungraphed_by folder manifest fault is (Err report) passed = subst (λ (r : Report). IsReportOfNoGraph folder manifest r) (sym {A = Report} passed) (ungraphed_always folder manifest fault is)
 
 -- an exit by `?` before all was read
 pub unread_by : {T : Type 0} (tells : Bool) (name : List ℕ) (old new : World) (error : ReadError) → OnlyLooks tells old new → HasCause old new (site_part {T = BuildGraph} (Err error))

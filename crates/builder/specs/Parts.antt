@@ -1,15 +1,20 @@
 -- What building promises of what was read.
-use Rattle.std.specs.Prelude.{Bool, List, Result}
+use Rattle.std.specs.Prelude.{ℕ, Bool, List, Result}
 use Rattle.model.specs.declared.graph.BuildGraph.{BuildGraph}
 use Rattle.model.specs.declared.graph.Edge.{Edge}
-use Rattle.model.specs.World.{World}
+use Rattle.model.specs.World.{World, IsIdle}
+use Rattle.model.specs.Outcome.{Behaviour}
+use Rattle.model.specs.Records.{LogFormat, OwnFiles}
+use Rattle.build_theory.specs.Seen.{Looked}
+use Rattle.paths.specs.declared.manifest.Manifest.{Manifest}
 use Rattle.paths.specs.Told.{graph_of}
 use Rattle.links.specs.declared.graph.Graph.{Graph}
 use Rattle.links.specs.Told.{declared_by}
 use Rattle.builder.specs.declared.asked.Asked.{Asked}
+use Rattle.builder.specs.declared.asked.Limits.{Limits}
 use Rattle.builder.specs.declared.reading.Reading.{Reading}
 use Rattle.builder.specs.declared.report.Report.{Report}
-use Rattle.builder.specs.Build.{BuildsFor}
+use Rattle.builder.specs.Build.{Builds, BuildsFor}
 use Rattle.builder.specs.Reports.{report_in}
 
 -- what was asked for of this graph was built, with some edges at the end
@@ -23,3 +28,12 @@ BuildsReading tells reading old new report = BuildsAsked tells (graph_of reading
 -- the same of a graph in numbers, where a stage that ends the build gives its report as an error
 abbrev pub BuildsGraph : Bool → Graph → Asked → World → World → Result Report Report → Type 0
 BuildsGraph tells graph asked old new result = BuildsAsked tells (declared_by graph) asked old new (report_in result)
+
+-- Each build of what the manifest declares reports so, where own files lie in this folder: whatever is asked for and whenever, since its
+-- edges make no graph; from an entry on, since which there was only looked, and for whatever is behind the records of logs and the
+-- reading of other files.
+abbrev pub IsReportOfNoGraph : List ℕ → Manifest → Report → Type 0
+IsReportOfNoGraph folder manifest report =
+    (tells : Bool) (B : Behaviour) (format : LogFormat) (own : OwnFiles) (limits : Limits) (given targets : List (List ℕ)) (entry now : World)
+    → IsIdle entry.events → Looked tells entry now
+    → Builds tells B format own (graph_of manifest) folder limits given targets (graph_of manifest).edges entry now report

@@ -29,6 +29,7 @@ pub struct Asked<'a> {
 }
 
 impl<'a> Asked<'a> {
+    /// What these options and targets ask of build files that say this of `builddir`; no targets stand for the default ones.
     pub fn new(
         alloc: Global,
         options: &Options,
@@ -43,7 +44,7 @@ impl<'a> Asked<'a> {
         Ok(Asked {
             given,
             targets: canonical_paths(alloc, given)?,
-            folder: folder(alloc, builddir.as_str())?,
+            folder: own_folder(alloc, builddir.as_str())?,
             limits: Limits {
                 jobs: options.jobs,
                 keep: options.keep,
@@ -62,8 +63,8 @@ fn canonical_paths(alloc: Global, given: &[Text]) -> Result<Items<Path>, AllocEr
     Ok(paths)
 }
 
-/// The folder that `builddir` names; the empty path is the working folder.
-fn folder(alloc: Global, builddir: &str) -> Result<Path, AllocError>
+/// The folder of the program's own files, which `builddir` names; the empty path is the working folder.
+pub fn own_folder(alloc: Global, builddir: &str) -> Result<Path, AllocError>
     ensures { IfOk result (IsFolder builddir.now) }
 {
     let path = canonical_path(alloc, builddir)?;

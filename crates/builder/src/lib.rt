@@ -14,6 +14,7 @@ mod report;
 mod sources;
 mod stop;
 
-pub use one_build::{build, build_read};
+pub use asked::{Asked, Limits, own_folder};
+pub use one_build::{build, build_graph_read, build_read, link};
 pub use reading::{Reading, read};
 pub use report::{Missing, Options, Refusal, Report, Unfit};

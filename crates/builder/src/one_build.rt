@@ -1,6 +1,6 @@
 //! One build.
 
-ghost use Rattle.std.specs.Prelude.{◌≡◌, ◌<◌, ℕ, All, List, IfOk, IfErr, OnOk, false, vec_len, length};
+ghost use Rattle.std.specs.Prelude.{◌≡◌, ◌<◌, ℕ, All, List, [], IfOk, IfErr, OnOk, false, vec_len, length};
 ghost use Rattle.model.specs.declared.record.Record.{Record};
 ghost use Rattle.model.specs.declared.record.DepsRecord.{DepsRecord};
 ghost use Rattle.model.specs.declared.graph.Edge.{Edge};
@@ -12,13 +12,14 @@ ghost use Rattle.records.specs.Known.{AreKnown};
 ghost use Rattle.records.specs.Laws.{WereRead};
 ghost use Rattle.model.specs.Graph.{IsMadeOnce};
 ghost use Rattle.model.specs.SingleBuild.{NamesOther};
-ghost use Rattle.links.specs.Told.{declared_by};
+ghost use Rattle.links.specs.Occupying.{AreApart};
+ghost use Rattle.links.specs.Told.{declared_by, recorded_by};
 ghost use Rattle.manifest.specs.Answer.{IsGraph};
 ghost use Rattle.paths.specs.Told.{graph_of, text_at};
 ghost use Rattle.runner.specs.Course.{Course};
 ghost use Rattle.runner.specs.Ran.{AreEdgesOf};
 ghost use Rattle.builder.specs.Build.{limits_of, Builds, IsBuild};
-ghost use Rattle.builder.specs.Parts.{BuildsGraph, BuildsReading};
+ghost use Rattle.builder.specs.Parts.{BuildsAsked, BuildsGraph, BuildsReading, IsReportOfNoGraph};
 ghost use Rattle.model.specs.Phases.{Phase};
 ghost use Rattle.runner.specs.Going.{AreSet};
 ghost use Rattle.builder.specs.Going.{BeginsAt};
@@ -38,6 +39,7 @@ use display::Display;
 use dyndep_law::has_reading as has_dyndeps;
 use links::{Cone, ConeFault, Graph, lists_stand};
 use looks::Looks;
+use paths::Manifest;
 use plan::{Plan, task_of};
 use records::{Records, log_begins};
 use runner::{State, Summary};
@@ -95,6 +97,44 @@ pub fn build_read<S: Site>(
     }
 }
 
+/// The graph of what was read of build files, where the program's own files lie in the folder: its canonical path, which is empty for
+/// the working folder.
+///
+/// # Errors
+///
+/// The report of each build of it with own files in that folder, where its edges make no graph.
+pub fn link(alloc: Global, manifest: Manifest, folder: &str) -> Result<Graph, Report>
+    ensures manifest { IfOk result (λ graph. graph.manifest ≡ manifest) }
+    ensures once { OnOk result (IsMadeOnce (graph_of manifest).edges) }
+    ensures dyndep { OnOk result ((file : List ℕ) → NamesOther (graph_of manifest).edges file → ⊥) }
+    ensures apart { OnOk result (AreApart folder.now (graph_of manifest).edges) }
+    ensures recorded { IfOk result (λ graph. (i : ℕ) → recorded_by graph i ≡ []) }
+    ensures refused { IfErr result (IsReportOfNoGraph folder.now manifest) }
+{
+    Ok(Graph::build(alloc, manifest, folder)?)
+}
+
+/// Builds what is asked for of the graph of what was read ([`link`]), as [`build_read`] does: for somebody who has looked at that graph before. Nothing
+/// is recorded of it yet; then it has the recorded inputs that this build uses, and what dyndep files add.
+pub fn build_graph_read<S: Site>(
+    alloc: Global,
+    site: &mut S,
+    graph: &mut Graph,
+    asked: &Asked<'_>,
+    options: &Options,
+) -> Report
+    requires idle { IsIdle (S.world site.old).events }
+    requires running { (S.world site.old).stopped ≡ false }
+    requires formed { IsGraph (declared_by graph.old) }
+    requires linked { IsLinked graph.old }
+    ensures { BuildsAsked S.tells (declared_by graph.old) asked.now (S.world site.old) (S.world site.new) result }
+{
+    match build_linked(alloc, site, graph, asked, options) {
+        Ok(told) => told,
+        Err(told) => told,
+    }
+}
+
 /// The graph of what was read, and then the build of it: each stage goes on, or gives the report.
 fn link_and_build<S: Site>(
     alloc: Global,
@@ -108,7 +148,7 @@ fn link_and_build<S: Site>(
     ensures { BuildsReading S.tells reading.entry (S.world site.old) (S.world site.new) (report_in result) }
 {
     let Reading { manifest, asked } = reading;
-    let mut graph = Graph::build(alloc, manifest, asked.folder.as_str())?;
+    let mut graph = link(alloc, manifest, asked.folder.as_str())?;
     build_linked(alloc, site, &mut graph, &asked, options)
 }
 

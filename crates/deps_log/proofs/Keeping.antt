@@ -112,6 +112,13 @@ pub count_is : {table : Table Deps} (records : List DepsRecord) (keeps : Keeps r
 count_is {table = table} records keeps =
     sym (length-map keeps.all (over (told_in table.outputs))) ∙ (ap length (named table.outputs keeps.all records keeps.said) ∙ length-map records saying)
 
+-- each record tells something
+pub told_count : {table : Table Deps} (records : List DepsRecord) (keeps : Keeps records table) → length (tellings keeps.all) ≡ length (tolds records)
+told_count {table = table} records keeps =
+    sym (length-map (tellings keeps.all) (on (told_in table.outputs)))
+    ∙ (ap length (sym (tellings_over (told_in table.outputs) keeps.all) ∙ ap tellings (named table.outputs keeps.all records keeps.said))
+    ∙ (sym (length-map (tellings (map saying records)) (λ t. t.1)) ∙ ap length (tellings_said records)))
+
 in_force_is : {table : Table Deps} (records : List DepsRecord) (keeps : Keeps records table) → map (on (told_in table.outputs)) (in_force_of keeps.all) ≡ in_force_of (map saying records)
 in_force_is {table = table} records keeps =
     sym (in_force_over (told_in table.outputs) keeps.all) ∙ ap in_force_of (named table.outputs keeps.all records keeps.said)

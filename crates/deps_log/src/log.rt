@@ -186,6 +186,13 @@ impl Log {
         self.kept.at(number)
     }
 
+    /// How many records there are: their numbers are those below.
+    pub fn deps_records(&self) -> usize
+        ensures { OfKept Keeps self.now (λ all. result ≡ length (tolds all)) }
+    {
+        self.kept.tellings()
+    }
+
     /// The path with this number. It takes no memory.
     pub fn path(&self, number: usize) -> Option<&str>
         ensures { option_map (λ path. path.now) result ≡ slice_get self.now.outputs number }

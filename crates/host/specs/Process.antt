@@ -1,5 +1,5 @@
 -- What a command that runs is, as contracts see it, and what is handed over to start one.
-use Rattle.std.specs.Prelude.{◌≡◌, ℕ, ℤ, ◌<◌, ◌↔◌, List, [], ◌∷◌, ◌++◌, map, length, pos, codes, Option, Some, None, IfSome, IsTrue, slice_index_or}
+use Rattle.std.specs.Prelude.{◌≡◌, ℕ, ℤ, Bool, ◌<◌, ◌↔◌, List, [], ◌∷◌, ◌++◌, map, length, pos, codes, Option, Some, None, IfSome, IsTrue, slice_index_or}
 use Rattle.os.specs.Paths.{HasNoNul}
 use Rattle.host.specs.declared.commands.Running.{Running}
 use Rattle.host.specs.declared.commands.End.{End}
@@ -113,3 +113,9 @@ IsWell command = IsZero command.process.state
 pub record IsEndOf (command : Running) (end : End) : Type 0 where
   pub job : end.job ≡ command.job
   pub well : IsTrue end.ok ↔ IsWell command
+
+-- a command that has ended did so well just where this is so
+pub record EndedSo (ok : Bool) : Type 0 where
+  pub command : Running
+  pub ended : HasEnded command
+  pub well : IsTrue ok ↔ IsWell command

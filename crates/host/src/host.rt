@@ -4,6 +4,7 @@ ghost use Rattle.std.specs.Prelude.{◌≡◌, ◌≤◌, ℕ, [], true, false, 
 ghost use Rattle.model.specs.World.{file_at, runs, stamp_of};
 ghost use Rattle.model.specs.Calls.{HasCause, KeepsWait, NotesWait, OnlyLooks, Sees, Starts, StartsOrNot, Ticks, TicksOrNot};
 ghost use Rattle.host.specs.Clock.{IsStart, clock_after};
+ghost use Rattle.host.specs.Process.{EndedSo};
 ghost use Rattle.host.specs.World.{world_of, fresh};
 ghost use Rattle.host.specs.declared.clock.Touches.{Touches};
 
@@ -11,6 +12,7 @@ use crate::clock::Clock;
 use crate::disk::Disk;
 use crate::files::{Files, Made, Opened};
 use crate::jobs::Jobs;
+use crate::load::{LOAD, load_of};
 use crate::process::SHELL;
 use crate::trouble::Trouble;
 use crate::watch::Watch;
@@ -202,6 +204,83 @@ impl<'a, W: Write> Host<'a, W> {
             self.files.set_beside_left();
         }
         has_waited
+    }
+
+    /// Does what a user would do between two builds, in the user's place: writes the response file, if there is one, runs the command alone,
+    /// with the program's own input and output, and waits for it; where it ended well, the response file is removed. Answers whether it
+    /// did. It is none of the starts and finishes that are told, and what is written counts as written by others. As behind a build, it waits
+    /// before until what is written has a later stamp than each start (`wait_for_clock`).
+    pub fn run_for_user(&mut self, act: &Act) -> Result<bool, SiteFault>
+        ensures looks { OnlyLooks false (world_of self.old) (world_of self.new) }
+        ensures cause { HasCause (world_of self.old) (world_of self.new) result }
+        ensures waits { KeepsWait (world_of self.old) (world_of self.new) }
+        ensures ok { OnOk result (world_of self.new ≡ world_of self.old) }
+        ensures ended { IfOk result EndedSo }
+    {
+        // where the clock stands still for seconds there is nothing more to do about it
+        let _ = self.wait_for_clock();
+        self.put_response(act)?;
+        let ran = self.jobs.run_apart(
+            self.rt,
+            act.command.as_str(),
+            &mut self.watch,
+            &mut self.screen,
+        );
+        let ok = self.noted(SHELL, ran)?;
+        if ok {
+            self.remove_response(act)?;
+        }
+        Ok(ok)
+    }
+
+    /// Writes the response file of the act, if it has one.
+    fn put_response(&mut self, act: &Act) -> Result<(), SiteFault>
+        ensures looks { OnlyLooks false (world_of self.old) (world_of self.new) }
+        ensures cause { HasCause (world_of self.old) (world_of self.new) result }
+        ensures waits { KeepsWait (world_of self.old) (world_of self.new) }
+        ensures ok { OnOk result (world_of self.new ≡ world_of self.old) }
+    {
+        let path = act.response_path.as_str();
+        if path.is_empty() {
+            return Ok(());
+        }
+        let done = self
+            .disk
+            .write(path, act.response_content.as_str().as_bytes());
+        self.noted(path, done)
+    }
+
+    /// Removes the response file of the act, if it has one.
+    fn remove_response(&mut self, act: &Act) -> Result<(), SiteFault>
+        ensures looks { OnlyLooks false (world_of self.old) (world_of self.new) }
+        ensures cause { HasCause (world_of self.old) (world_of self.new) result }
+        ensures waits { KeepsWait (world_of self.old) (world_of self.new) }
+        ensures ok { OnOk result (world_of self.new ≡ world_of self.old) }
+    {
+        let path = act.response_path.as_str();
+        if path.is_empty() {
+            return Ok(());
+        }
+        let done = self.disk.remove(path);
+        self.noted(path, done)
+    }
+
+    /// Whether a command that was started has not ended, also if it was not taken in, and the load of the machine is above the limit. A
+    /// load that cannot be told is above none; that is no call that the device refused.
+    pub fn is_overloaded(&mut self, limit: f64) -> bool
+        ensures { world_of self.new ≡ world_of self.old }
+    {
+        self.jobs.some_go_on(self.rt) && self.load().is_some_and(|load| load > limit)
+    }
+
+    /// The load of the machine.
+    fn load(&mut self) -> Option<f64>
+        ensures { world_of self.new ≡ world_of self.old }
+    {
+        match self.disk.read(LOAD) {
+            Ok(Some(content)) => load_of(&content),
+            _ => None,
+        }
     }
 
     /// Waits until what is written from now on has a later stamp than each start, so that the next build sees it. To be called at the

@@ -2,6 +2,7 @@
 
 ghost use Rattle.std.specs.Prelude.{◌≡◌, ◌+◌, ◌<◌, ◌≤◌, ℕ, ◌++◌, ◌∷◌, [], true, false, IfOk, IfSome, IsSome, OnOk, OnErr, length, vec_capacity, vec_len};
 ghost use Rattle.model.specs.World.{runs};
+ghost use Rattle.host.specs.Process.{EndedSo};
 ghost use Rattle.host.specs.Told.{nothing_told, with_start, with_finish, restarted};
 
 use crate::commands;
@@ -9,7 +10,7 @@ use crate::commands::{End, Running};
 use crate::environment::variables;
 use crate::files::{Files, Opened, Taken};
 use crate::signals::tell_signal;
-use crate::waiting::{Round, wait_all, wait_first};
+use crate::waiting::{Round, some_runs, wait_all, wait_first};
 use crate::watch::Watch;
 use model::{Act, Event, Finished};
 use std::alloc::{AllocError, Global};
@@ -124,6 +125,31 @@ impl Jobs {
         !self.commands.is_empty()
     }
 
+    /// Whether a command runs that has not ended, also if it was not taken in.
+    pub fn some_go_on(&mut self, rt: &HostRuntime) -> bool
+        ensures { self.new ≡ self.old }
+    {
+        some_runs(rt, &mut self.commands)
+    }
+
+    /// Runs a command alone, with the program's own input and output, and answers whether it ended well. It is none of those that are told.
+    pub fn run_apart<W: Write>(
+        &mut self,
+        rt: &HostRuntime,
+        command: &str,
+        watch: &mut Watch<'_>,
+        screen: &mut Terminal<W>,
+    ) -> io::Result<bool>
+        ensures same { self.new ≡ self.old }
+        ensures ended { IfOk result EndedSo }
+    {
+        read_once(self.alloc, &mut self.environment)?;
+        let mut commands = start_alone(self.alloc, command, known(&self.environment))?;
+        let End { ok, signal, .. } = end_of(rt, &mut commands, watch, screen)?;
+        tell_signal(self.alloc, rt, signal, screen);
+        Ok(ok)
+    }
+
     /// Waits until all commands have ended. What was told so far is told of before, and no command runs.
     pub fn restart(&mut self, rt: &HostRuntime, watch: &mut Watch<'_>)
         ensures { self.new ≡ restarted self.old }
@@ -135,6 +161,38 @@ impl Jobs {
         );
         self.before = self.events.len();
     }
+}
+
+/// Starts a command with the program's own input and output.
+fn start_alone(alloc: Global, command: &str, environment: &[u8]) -> io::Result<Vec<Running>>
+    ensures { IfOk result (λ commands. 0 < vec_len commands) }
+{
+    let mut commands = Vec::new(alloc);
+    reserve(&mut commands, 1)?;
+    push_reserved(
+        &mut commands,
+        commands::start(alloc, 0, command, environment, &mut None)?,
+    );
+    Ok(commands)
+}
+
+/// Waits until one of the commands has ended, and takes it from them.
+fn end_of<W: Write>(
+    rt: &HostRuntime,
+    commands: &mut Vec<Running>,
+    watch: &mut Watch<'_>,
+    screen: &mut Terminal<W>,
+) -> io::Result<End>
+    requires { 0 < vec_len commands.old }
+    ensures { IfOk result (λ end. EndedSo end.ok) }
+{
+    let mut round = Round {
+        place: 0,
+        left: 0,
+        some_held: false,
+    };
+    let place = wait_first(rt, commands, &mut round, watch, screen)?;
+    Ok(commands.swap_remove(place).end())
 }
 
 /// Reads the variables that commands get, where they are not known yet. Once they are, they stay.

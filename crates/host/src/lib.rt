@@ -10,6 +10,7 @@ mod files;
 mod held;
 mod host;
 mod jobs;
+mod load;
 mod logs;
 mod number;
 mod process;

@@ -123,6 +123,18 @@ fn ask_at(rt: &HostRuntime, commands: &mut Vec<Running>, place: usize) -> io::Re
     commands[place].has_ended(rt)
 }
 
+/// Whether one of the commands has not ended. One of which nothing can be told has.
+pub fn some_runs(rt: &HostRuntime, commands: &mut Vec<Running>) -> bool
+    ensures jobs { jobs_of commands.new.items ≡ jobs_of commands.old.items }
+{
+    for place in 0..commands.len() {
+        if let Ok(false) = ask_at(rt, commands, place) {
+            return true;
+        }
+    }
+    false
+}
+
 /// Waits until all of the commands have ended, and removes the files into which they printed.
 pub fn wait_all(rt: &HostRuntime, commands: Vec<Running>, watch: &mut Watch<'_>) {
     for mut command in commands {

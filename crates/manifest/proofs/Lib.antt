@@ -11,6 +11,7 @@ pub mod Declaring
 pub mod DefaultLemmas
 pub mod DefaultsAll
 pub mod DepthLemmas
+pub mod Describing
 pub mod EdgeAll
 pub mod EdgeChecks
 pub mod EdgeCircles
@@ -36,6 +37,7 @@ pub mod ReadMain
 pub mod ReadTo
 pub mod ReaderLemmas
 pub mod RuleLemmas
+pub mod RuleNames
 pub mod SameEdges
 pub mod SameFiles
 pub mod SamePasts

@@ -23,3 +23,4 @@ pub mod BuildParts
 pub mod PathReading
 pub mod Expanding
 pub mod Naming
+pub mod Described

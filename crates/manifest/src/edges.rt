@@ -192,7 +192,7 @@ impl ReadEdge {
 }
 
 /// The paths of the line that a command shows.
-fn shown_of<'a>(
+pub(crate) fn shown_of<'a>(
     alloc: Global,
     table: &'a Table,
     lines: &Lines,

@@ -34,6 +34,7 @@ impl Declared {
         requires stated { IsStated self }
         ensures said { IsAnswerIn self AtEnd (in_texts result) }
         ensures graph { IfOk (in_texts result) IsGraph }
+        ensures lines { IfOk result (λ manifest. manifest.lines ≡ self.paths.lines) }
     {
         let Declared {
             scopes,
@@ -71,7 +72,8 @@ fn manifest_of(
     requires numbered { (p : ℕ) → has_number (all_paths lines) p ≡ nat_lt p named }
     requires known { AllByRecursion (λ number. number < named) defaults }
     requires dyndeps { AllByRecursion (λ action. dyndep_stop action ≤ length paths) actions }
-    ensures { graph_of result ≡ record { edges = edges_of paths lines actions; pools = pools; defaults = texts_at paths defaults; builddir = builddir } }
+    ensures lines { result.lines ≡ lines }
+    ensures graph { graph_of result ≡ record { edges = edges_of paths lines actions; pools = pools; defaults = texts_at paths defaults; builddir = builddir } }
 {
     Manifest {
         paths,

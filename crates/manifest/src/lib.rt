@@ -6,6 +6,7 @@ mod blocks;
 mod builds;
 mod declaration;
 mod defaults;
+mod described;
 mod edges;
 mod fault;
 mod graph;
@@ -20,8 +21,9 @@ mod reader;
 mod rules;
 mod values;
 
+pub use described::{Described, RuleTold};
 pub use fault::{FaultKind, FileFault, ReadError};
 pub use laws::{one_outcome, reads_longer};
 pub use model::SiteFault;
 pub use paths::Manifest;
-pub use reader::read;
+pub use reader::{read, read_described};

@@ -4,6 +4,7 @@ ghost use Rattle.std.specs.Prelude.{◌≡◌, ◌<◌, IfOk, OnOk, IsTrue, map}
 ghost use Rattle.lexer.specs.Said.{said_of, fragments_of, form_of};
 ghost use Rattle.model.specs.Calls.{OnlyLooks, HasCause};
 ghost use Rattle.manifest.specs.Answer.{site_part, in_texts, ReadsFile, IsGraph};
+ghost use Rattle.manifest.specs.Described.{manifest_in, DescribesLines};
 ghost use Rattle.manifest.specs.Files.{NameOf};
 ghost use Rattle.manifest.specs.Held.{KeepsScopes};
 ghost use Rattle.manifest.specs.Seen.{IsStated, HasCauseIn, Tells, Finds, if_no_line};
@@ -13,6 +14,7 @@ ghost use Rattle.manifest.specs.Places.{place_of, whole_file, IsFaultAt};
 ghost use Rattle.manifest.specs.Statements.{IsAnswerIn, KeepsFormed};
 
 use crate::blocks::{Group, split_block};
+use crate::described::Described;
 use crate::fault::{FaultKind, ReadError};
 use crate::kept::Declared;
 use crate::place::Place;
@@ -67,6 +69,38 @@ pub fn read<R: Texts>(alloc: Global, texts: &mut R, name: &str) -> Result<Manife
     // what is kept owns its characters
     drop(bytes);
     declared.finish(alloc)
+}
+
+/// The same, and what tools tell of build files beside that: of each edge the name of its rule, and whether it runs a generator.
+pub fn read_described<R: Texts>(
+    alloc: Global,
+    texts: &mut R,
+    name: &str,
+) -> Result<(Manifest, Described), ReadError>
+    ensures looks { OnlyLooks R.tells (R.world texts.old) (R.world texts.new) }
+    ensures cause { HasCause (R.world texts.old) (R.world texts.new) (site_part (manifest_in result)) }
+    ensures file { IsTrue R.tells → ReadsFile name.now (R.world texts.old).history (R.world texts.new).history (in_texts (manifest_in result)) }
+    ensures graph { IfOk (in_texts (manifest_in result)) IsGraph }
+    ensures described { IfOk result (λ both. DescribesLines both.0.lines both.1) }
+{
+    let content = texts.read(name)?;
+    let file = Rc::new(alloc, Text::from_str(alloc, name)?)?;
+    let Some(bytes) = content else {
+        return Err(absent(alloc, &file, name));
+    };
+    let mut declared = Declared::new(alloc)?;
+    read_bytes(
+        alloc,
+        texts,
+        &mut declared,
+        &file,
+        bytes.as_slice(),
+        DEEPEST,
+    )?;
+    // what is kept owns its characters
+    drop(bytes);
+    let described = Described::of(alloc, &declared)?;
+    described.beside(declared.finish(alloc))
 }
 
 /// The refusal of a main file that is not there.

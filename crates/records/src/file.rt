@@ -121,7 +121,7 @@ impl<L: Records> LogFile<L> {
     }
 
     /// What the log told when it was read.
-    pub(crate) fn log(&self) -> &L
+    pub fn log(&self) -> &L
         ensures { result.now ≡ self.now.log }
     {
         &self.log

@@ -1,31 +1,29 @@
-use Rattle.std.proofs.Common.{List, ℕ, refl, sym, ap, subst}
+use Rattle.std.proofs.Common.{List, ℕ, sym, ap, subst}
 use Rattle.model.specs.declared.graph.BuildGraph.{BuildGraph}
-use Rattle.model.specs.World.{view_of}
 use Rattle.model.specs.Graph.{IsMadeOnce}
-use Rattle.model.specs.Records.{store_in}
 use Rattle.model.specs.SingleBuild.{NamesOther}
-use Rattle.links.specs.Linked.{IsFaultOf}
 use Rattle.manifest.specs.Answer.{IsGraph}
 use Rattle.paths.specs.Told.{graph_of}
 use Rattle.builder.specs.declared.report.Report.{Report}
 use Rattle.builder.specs.Build.{Builds, BuildsFor}
+use Rattle.builder.specs.Parts.{IsReportOfNoGraph}
 use Rattle.builder.specs.Reports.{report_in}
-use Rattle.builder.proofs.Builds.{builds_ungraphed}
 use Rattle.builder.proofs.Stages.{told_by}
 use Rattle.builder.proofs.one_build.link_and_build.Goals as goal
 
 pub returns-in_err-graph : goal.returns-in_err-graph
 returns-in_err-graph g c =
     let tells = g.S.Texts.tells in
-    let graph = graph_of c.args.reading.manifest in
+    let manifest = c.args.reading.manifest in
+    let graph = graph_of manifest in
     let asked = c.args.reading.asked in
     let old = g.S.Texts.world c.args.site.now in
-    let report = report_in c.from_residual.result in (
+    let told = c.in_err-graph.field-0.0 in
+    let always = subst (λ (f : List ℕ). IsReportOfNoGraph f manifest told) c.as_str.ensures c.in_err-graph.ensures.refused in (
       graph.edges,
       λ B format own entry depfiles dyndeps reads owned idle looked.
-          subst (λ (r : Report). Builds tells B format own graph asked.folder asked.limits asked.given.now asked.targets graph.edges entry old r) (sym {A = Report} (told_by _ c.from_residual.result c.from_residual.ensures.1))
-          (builds_ungraphed tells B format own graph asked.folder asked.limits asked.given.now asked.targets (store_in format own (view_of entry.history)) entry old (λ tell edits. refl) idle
-          looked c.in_err-graph.field-0.0 (subst (λ (f : List ℕ). IsFaultOf f graph.edges c.in_err-graph.field-0.0) c.as_str.ensures c.in_err-graph.ensures.fault)),
+          subst (λ (r : Report). Builds tells B format own graph asked.folder asked.limits asked.given.now asked.targets graph.edges entry old r) (sym {A = Report} (told_by told c.from_residual.result c.from_residual.ensures.1))
+          (always tells B format own asked.limits asked.given.now asked.targets entry old idle looked),
     )
 
 -- the graph is that of what was read

@@ -35,9 +35,9 @@ pub returns-clause-said : goal.returns-clause-said
 returns-clause-said c = λ state at.
     goes_on (c.in_ok-actions.ensures.edges state.past state.pools state.builds at.scopes at.pools at.edges at.paths.lines)
     (goes_on (c.in_ok-defaults.ensures.said c.args.self.paths.table (named state.builds) state.defaults c.in_ok-actions.ensures.grows c.len-named.ensures.count at.paths.keys (rw c.as_slice.ensures.value at.defaults))
-    (ap (λ (graph : BuildGraph). Reached graph) c.manifest_of.ensures ∙ same_graph state _ _ _ _ _ refl (c.in_ok-pools.ensures ∙ at.pools) (c.in_ok-defaults.ensures.texts ∙ same_defaults _ _ (rw c.as_slice.ensures.value at.defaults)) (c.in_ok-builddir.ensures state.past at.scopes)))
+    (ap (λ (graph : BuildGraph). Reached graph) c.manifest_of.ensures.graph ∙ same_graph state _ _ _ _ _ refl (c.in_ok-pools.ensures ∙ at.pools) (c.in_ok-defaults.ensures.texts ∙ same_defaults _ _ (rw c.as_slice.ensures.value at.defaults)) (c.in_ok-builddir.ensures state.past at.scopes)))
 
 pub returns-clause-graph : goal.returns-clause-graph
 returns-clause-graph c =
-    subst (λ (graph : BuildGraph). AllByRecursion IsWellFormed graph.edges) (sym c.manifest_of.ensures)
+    subst (λ (graph : BuildGraph). AllByRecursion IsWellFormed graph.edges) (sym c.manifest_of.ensures.graph)
     (formed_edges c.args.self.paths.table _ c.args.self.paths.lines _ c.in_ok-actions.ensures.grows c.requires.formed.paths)

@@ -1,0 +1,16 @@
+//! Lines of what a tool prints.
+
+ghost use Rattle.std.specs.Prelude.{◌≡◌, ◌++◌, OnOk, flat_map, string_bytes};
+ghost use Rattle.tools.specs.Answers.{line};
+
+use std::alloc::AllocError;
+
+/// Puts the parts at the end of a text, and a newline behind them.
+pub fn push_line(text: &mut String, parts: &[&str]) -> Result<(), AllocError>
+    ensures { OnOk result (string_bytes text.new ≡ string_bytes text.old ++ line (flat_map (λ part. part.now) parts.now)) }
+{
+    for part in parts {
+        text.push_str(part)?;
+    }
+    text.push('\n')
+}
