@@ -22,6 +22,7 @@ pub mod Pausing
 pub mod Points
 pub mod Rounds
 pub mod Running
+pub mod Said
 pub mod Slices
 pub mod Stages
 pub mod StopCases
@@ -29,3 +30,4 @@ pub mod Stopping
 pub mod Stops
 pub mod Telling
 pub mod Unedited
+pub mod Dueing

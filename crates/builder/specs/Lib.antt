@@ -9,3 +9,4 @@ pub mod Recorded
 pub mod Reports
 pub mod Sources
 pub mod Reported
+pub mod Explained

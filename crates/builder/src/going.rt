@@ -111,7 +111,7 @@ fn run_to_load<S: Site>(
 }
 
 /// The dyndep file that is loaded next, if no edge makes it.
-fn source_to_load(graph: &Graph, plan: &Plan) -> Option<PathId>
+pub(crate) fn source_to_load(graph: &Graph, plan: &Plan) -> Option<PathId>
     ensures { MatchOption result (NoSourceIsDue graph.now plan.now) (λ file. IsOffered plan.now (step.Load file) × IsDueNext plan.now (step.Load file) × ((links_of graph.now).maker file ≡ None)) }
 {
     match plan.next() {

@@ -3,6 +3,8 @@
 
 mod asked;
 mod commands;
+mod explained;
+mod explaining;
 mod going;
 mod loads;
 mod names;
@@ -15,6 +17,8 @@ mod sources;
 mod stop;
 
 pub use asked::{Asked, Limits, own_folder};
+pub use explained::{Acts, Explained, Explanation};
+pub use explaining::{explain, explain_read};
 pub use one_build::{build, build_graph_read, build_read, link};
 pub use reading::{Reading, read};
 pub use report::{Missing, Options, Refusal, Report, Unfit};

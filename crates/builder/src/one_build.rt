@@ -176,7 +176,7 @@ fn build_linked<S: Site>(
 }
 
 /// Reads the logs, which lie in the folder of the program's own files.
-fn read_records<S: Site>(
+pub(crate) fn read_records<S: Site>(
     alloc: Global,
     site: &mut S,
     graph: &Graph,
@@ -220,7 +220,7 @@ fn build_graph<S: Site>(
 }
 
 /// A run of the cone in which nothing is judged yet.
-fn state_of<'a>(
+pub(crate) fn state_of<'a>(
     alloc: Global,
     graph: &Graph,
     cone: &Cone,
@@ -259,7 +259,7 @@ fn run_state<S: Site>(
 }
 
 /// The cone of what was asked for.
-fn cone_of(alloc: Global, graph: &Graph, asked: &Asked<'_>) -> Result<Cone, Report>
+pub(crate) fn cone_of(alloc: Global, graph: &Graph, asked: &Asked<'_>) -> Result<Cone, Report>
     ensures marks { IfOk result (λ cone. vec_len cone.marks ≡ length graph.now.manifest.lines) }
     ensures within { IfOk result (λ cone. All (λ e. e < length graph.now.manifest.lines) cone.order.items) }
     ensures cone { IfOk result (IsConeRecorded graph.now asked.now.targets) }

@@ -2,7 +2,7 @@
 
 ghost use Rattle.std.specs.Prelude.{◌≡◌, [], IfOk, IfErr, true, false, map};
 ghost use Rattle.clap.specs.Words.{HasKind, app_of, fault_of, found_of, kind_of, one_of, rows_of, rule_of, takes};
-ghost use Rattle.command_line.specs.Options.{AreAsked, AreGiven, IsNumber, bare, nj, folder_rule, file_rule, jobs_rule, keep_rule, verbose_rule, targets_rule};
+ghost use Rattle.command_line.specs.Options.{AreAsked, AreGiven, IsNumber, bare, nj, folder_rule, file_rule, jobs_rule, keep_rule, verbose_rule, why_rule, targets_rule};
 
 use crate::given::Options;
 use clap::error::ErrorKind;
@@ -21,6 +21,7 @@ const EXAMPLES: &str = "Examples:
   nj                   builds the default targets of build.ninja
   nj -C out -j8 all    builds `all` by out/build.ninja, with eight commands at once
   nj -k0 -v            goes on after failures, and shows commands
+  nj --why all         tells why commands are due of `all`, and starts nothing
 
 The logs of a build, .nj_log and .nj_deps, stand in the folder that the build file sets as
 `builddir`, else where commands run. NINJA_STATUS sets what stands in front of each
@@ -51,6 +52,7 @@ fn given<'a>(alloc: Global, matches: &ArgMatches<'a>) -> Result<Options<'a>, All
         jobs: number(matches, "jobs", JOBS),
         keep: number(matches, "keep", KEEP),
         verbose: matches.get_flag("verbose"),
+        why: matches.get_flag("why"),
         targets: Vec::from_slice(alloc, matches.get_strs("targets").unwrap_or(&[]))?,
     })
 }
@@ -72,6 +74,7 @@ fn command<'a>(alloc: Global) -> Result<Command<'a>, AllocError>
         .arg(jobs(alloc))?
         .arg(keep(alloc))?
         .arg(verbose(alloc))?
+        .arg(why(alloc))?
         .arg(targets(alloc))?;
     Ok(command)
 }
@@ -139,6 +142,16 @@ fn verbose<'a>(alloc: Global) -> Arg<'a>
         .short('v')
         .action(ArgAction::SetTrue)
         .help("Shows commands in place of descriptions")
+}
+
+fn why<'a>(alloc: Global) -> Arg<'a>
+    ensures rule { rule_of result ≡ why_rule }
+    ensures local { result.global ≡ false }
+{
+    Arg::new(alloc, "why")
+        .long("why")
+        .action(ArgAction::SetTrue)
+        .help("Tells which commands are due, and why; starts and writes nothing")
 }
 
 fn targets<'a>(alloc: Global) -> Arg<'a>

@@ -13,7 +13,7 @@ use Rattle.nj_run.specs.Alone.{BuildsAlone}
 use Rattle.nj_run.specs.Status.{status_of}
 use Rattle.nj_run.specs.Texts.{Adds, err_of, out_of}
 use Rattle.nj_run.proofs.Telling.{untouched}
-use Rattle.nj_run.specs.Ends.{AreDone, Built, Comes, Ending, Ends, EndsBy, EndsFor, EndsWell, Help, MayEnd, NoFolder, NoMemory, BadWords, exit_status}
+use Rattle.nj_run.specs.Ends.{AreDone, AsksWhy, Built, Comes, Ending, ToldWhy, Unexplained, Ends, EndsBy, EndsFor, EndsWell, Help, MayEnd, NoFolder, NoMemory, BadWords, exit_status}
 
 -- after a build the status is no 2
 pub built : {F : Type 0} (done told : Result ℕ F) (status : ℕ) → status ≡ result_unwrap_or told 1 → told ≡ done → IfOk done (λ given. given ≤ 1) → status ≡ 2 → ⊥
@@ -39,12 +39,28 @@ no_folder asked on_out on_err out old_err new_err folder (Err fault) is one = re
 
 -- what a build reported, and what was told of it
 pub reported : {W E F : Type 0} (asked : Options) (on_out : W → Option Text) (on_err : E → Option Text) (old_out shown new_out : W) (old_err new_err : E) (report : Report) (refused : Bool) (told : Result ℕ F)
-    → ((later : World) × BuildsAlone false any_outcome asked fresh later report) → IfOk told (λ status. status ≡ status_of report)
+    → ((asked.why ≡ false) × ((later : World) × BuildsAlone false any_outcome asked fresh later report)) → IfOk told (λ status. status ≡ status_of report)
     → OnOk told (Adds (on_out shown) (on_out new_out) (out_of report)) → OnOk told (Adds (on_err old_err) (on_err new_err) (err_of report refused))
     → Comes (EndsFor asked) on_out on_err old_out new_out old_err new_err told
 reported asked on_out on_err old_out shown new_out old_err new_err report refused (Ok status) so is out err =
     record { ending = Built report refused; may = so; tells = (is, record { shown = shown; before = tt; out = out; err = err }) }
 reported asked on_out on_err old_out shown new_out old_err new_err report refused (Err fault) so is out err = record { ending = Built report refused; may = so; tells = tt }
+
+-- why commands are due, which was told
+pub told_why : {W E F : Type 0} (asked : Options) (on_out : W → Option Text) (on_err : E → Option Text) (old_out shown new_out : W) (err : E) (told : Result ℕ F)
+    → AsksWhy asked → IfOk told (λ status. status ≡ 0) → Comes (EndsFor asked) on_out on_err old_out new_out err err told
+told_why asked on_out on_err old_out shown new_out err (Ok status) asks is =
+    record { ending = ToldWhy; may = asks; tells = (is, record { shown = shown; before = tt; out = tt; err = untouched (on_err err) }) }
+told_why asked on_out on_err old_out shown new_out err (Err fault) asks is = record { ending = ToldWhy; may = asks; tells = tt }
+
+-- or why that could not be told
+pub told_why_not : {W E F : Type 0} (asked : Options) (on_out : W → Option Text) (on_err : E → Option Text) (old_out shown new_out : W) (old_err new_err : E) (report : Report) (refused : Bool) (told : Result ℕ F)
+    → AsksWhy asked → IfOk told (λ status. status ≡ 1)
+    → OnOk told (Adds (on_out shown) (on_out new_out) (out_of report)) → OnOk told (Adds (on_err old_err) (on_err new_err) (err_of report refused))
+    → Comes (EndsFor asked) on_out on_err old_out new_out old_err new_err told
+told_why_not asked on_out on_err old_out shown new_out old_err new_err report refused (Ok status) asks is out err =
+    record { ending = Unexplained report refused; may = asks; tells = (is, record { shown = shown; before = tt; out = out; err = err }) }
+told_why_not asked on_out on_err old_out shown new_out old_err new_err report refused (Err fault) asks is out err = record { ending = Unexplained report refused; may = asks; tells = tt }
 
 -- what a run has come to, and its status
 pub ends : {W E F : Type 0} (words : List Text) (May : Ending → Type 0) (on_out : W → Option Text) (on_err : E → Option Text) (old_out new_out : W) (old_err new_err : E) (done told : Result ℕ F) (status : ℕ)
@@ -67,6 +83,8 @@ refused words error has BadWords so = record { kind = kind_of error; fault = amo
 refused words error has NoMemory so = tt
 refused words error has (NoFolder folder) so = absurd so
 refused words error has (Built report told) so = absurd so
+refused words error has ToldWhy so = absurd so
+refused words error has (Unexplained report told) so = absurd so
 
 -- words that ask for this
 pub done : (words : List Text) (asked : Options) → fault_of nj words ≡ [] → AreAsked words asked → (ending : Ending) → EndsFor asked ending → MayEnd words ending
@@ -75,9 +93,11 @@ done words asked faultless are BadWords so = absurd so
 done words asked faultless are NoMemory so = absurd so
 done words asked faultless are (NoFolder folder) so = record { faultless = faultless; asked = asked; are_asked = are; so = so }
 done words asked faultless are (Built report told) so = record { faultless = faultless; asked = asked; are_asked = are; so = so }
+done words asked faultless are ToldWhy so = record { faultless = faultless; asked = asked; are_asked = are; so = so }
+done words asked faultless are (Unexplained report told) so = record { faultless = faultless; asked = asked; are_asked = are; so = so }
 
 well_after : (words : List Text) (report : Report) (told : Bool) → AreDone words (Built report told) → 0 ≡ status_of report → EndsWell words
-well_after words (Success started) told done zero = inr (started, told, done)
+well_after words (Success started) told done zero = inr (inl (started, told, done))
 well_after words (Failed outputs) told done zero = absurd (omega (arith, zero))
 well_after words (Refused refusal) told done zero = absurd (omega (arith, zero))
 well_after words (Fault fault) told done zero = absurd (omega (arith, zero))
@@ -88,6 +108,8 @@ well_by words BadWords may zero = absurd (omega (arith, zero))
 well_by words NoMemory may zero = absurd (omega (arith, zero))
 well_by words (NoFolder folder) may zero = absurd (omega (arith, zero))
 well_by words (Built report told) may zero = well_after words report told may zero
+well_by words ToldWhy may zero = inr (inr may)
+well_by words (Unexplained report told) may zero = absurd (omega (arith, zero))
 
 -- where the status is 0, the run has ended well
 pub well : {W E : Type 0} (words : List Text) (on_out : W → Option Text) (on_err : E → Option Text) (old_out new_out : W) (old_err new_err : E) (status : ℕ)

@@ -8,6 +8,7 @@ use Rattle.model.specs.declared.graph.BuildGraph.{BuildGraph}
 use Rattle.model.specs.declared.graph.Edge.{Edge}
 use Rattle.model.specs.declared.outcome.Outcome.{Outcome}
 use Rattle.model.specs.World.{World, View, IsIdle}
+use Rattle.model.specs.Calls.{OnlyLooks}
 use Rattle.model.specs.Graph.{Addition}
 use Rattle.model.specs.Outcome.{Behaviour}
 use Rattle.model.specs.Records.{OwnFiles, IsOwnIn, file_in, build_log_name, deps_log_name}
@@ -26,7 +27,7 @@ use Rattle.builder.specs.declared.report.Report.{Report}
 use Rattle.builder.specs.Asked.{AreTargets}
 use Rattle.builder.specs.Build.{Builds, BuildsFor, IsBuild, WasRead, limits_of}
 use Rattle.builder.specs.Loads.{ReadsDyndeps}
-use Rattle.nj_run.specs.Alone.{IsBuiltAlone, Passes, WasReadAlone}
+use Rattle.nj_run.specs.Alone.{IsBuiltAlone, Passes, WasReadAlone, WasUnreadAlone}
 
 pub passes_none : (tells : Bool) (w : World) → Passes tells w w
 passes_none tells w = record { looks = looks_nothing tells w; failures = refl; stopped = refl; earlier = refl }
@@ -128,3 +129,14 @@ module _ (tells : Bool) (outcome : Act → View → Outcome) (options : Options)
 
   pub built_alone : HasFormat → HasReading → HasDyndeps → IsBuiltAlone tells outcome options given old new report
   built_alone logs depfiles dyndeps = record { entry = was.entry; before = was.before; built = is_build logs depfiles dyndeps }
+
+-- ---- what only looked
+
+-- where the file was not read, it was only looked
+pub unread_looks : (tells : Bool) (name : List ℕ) (old new : World) (report : Report) → WasUnreadAlone tells name old new report → OnlyLooks tells old new
+unread_looks tells name old new report was = looks_then tells old was.entry new was.before.looks was.unread.looks
+
+-- and where it was read, and only looked then
+pub explained_looks : (tells : Bool) (options : Options) (given : List (List ℕ)) (old read new : World) (reading : Reading) → WasReadAlone tells options given old read reading → OnlyLooks tells read new → OnlyLooks tells old new
+explained_looks tells options given old read new reading was looks =
+    looks_then tells old was.entry new was.before.looks (looks_then tells was.entry read new (passes_looked tells was.entry read (looked_passes tells was.entry was.read read was.was_read.looked was.since)).looks looks)

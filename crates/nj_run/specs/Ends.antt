@@ -1,8 +1,9 @@
 -- How a run of the program ends: why, with which status, and what it tells.
-use Rattle.std.specs.Prelude.{◌≡◌, ◌≢◌, ◌⊎◌, ℕ, Bool, false, List, [], Option, Some, None, Result, IfOk, ⊤}
+use Rattle.std.specs.Prelude.{◌≡◌, ◌≢◌, ◌⊎◌, ℕ, Bool, true, false, List, [], Option, Some, None, Result, IfOk, ⊤}
 use Rattle.clap.specs.Words.{IsAmong, Text, fault_of}
 use Rattle.clap.specs.declared.error.kind.ErrorKind.{ErrorKind}
 use Rattle.clap.specs.declared.error.kind.ErrorKind.TheVariants.{DisplayHelp, DisplayVersion, OutOfMemory}
+use Rattle.model.specs.Calls.{OnlyLooks}
 use Rattle.model.specs.World.{World}
 use Rattle.command_line.specs.Options.{AreAsked, Options, nj}
 use Rattle.builder.specs.declared.report.Report.{Report}
@@ -24,6 +25,10 @@ pub data Ending : Type 0 where
   NoFolder : Text → Ending
   -- a build was reported so, and whether it is told what the device refused last
   Built : Report → Bool → Ending
+  -- it was told why commands are due
+  ToldWhy : Ending
+  -- that could not be told, as is reported so, and whether it is told what the device refused last
+  Unexplained : Report → Bool → Ending
 
 abbrev pub exit_status : Ending → ℕ
 exit_status Help = 0
@@ -31,15 +36,19 @@ exit_status BadWords = 2
 exit_status NoMemory = 1
 exit_status (NoFolder folder) = 1
 exit_status (Built report refused) = status_of report
+exit_status ToldWhy = 0
+exit_status (Unexplained report refused) = 1
 
 -- What is told on the standard output, behind what the build showed there. Help is open (`None`): no contract of clap tells its
--- text.
+-- text. So is what is told of commands that are due: their paths stand in it.
 abbrev pub told_on_out : Ending → Option Text
 told_on_out Help = None
 told_on_out BadWords = Some []
 told_on_out NoMemory = Some []
 told_on_out (NoFolder folder) = Some []
 told_on_out (Built report refused) = out_of report
+told_on_out ToldWhy = None
+told_on_out (Unexplained report refused) = out_of report
 
 -- What is told on the standard error. Open is what clap says of bad words, and of a folder why the system refuses it: that
 -- stands behind the line of N60 and `nj: FOLDER: `.
@@ -49,6 +58,8 @@ told_on_err BadWords = None
 told_on_err NoMemory = Some no_memory
 told_on_err (NoFolder folder) = None
 told_on_err (Built report refused) = err_of report refused
+told_on_err ToldWhy = Some []
+told_on_err (Unexplained report refused) = err_of report refused
 
 -- help, or the version, which clap shows in the same way; `nj` has no word that asks for it
 abbrev pub IsShown : ErrorKind → Type 0
@@ -61,6 +72,14 @@ EndsBy kind BadWords = (¬ IsShown kind) × (kind ≢ OutOfMemory)
 EndsBy kind NoMemory = kind ≡ OutOfMemory
 EndsBy kind (NoFolder folder) = ⊥
 EndsBy kind (Built report refused) = ⊥
+EndsBy kind ToldWhy = ⊥
+EndsBy kind (Unexplained report refused) = ⊥
+
+-- it was asked why commands are due, and the site of real files was only looked at: nothing was started or written
+pub record AsksWhy (asked : Options) : Type 0 where
+  pub asks : asked.why ≡ true
+  pub later : World
+  pub looks : OnlyLooks false fresh later
 
 -- How a run ends where this is asked for: the folder could not be gone to; or there is a later world in which a build of just
 -- this, on the site of real files on which nothing had happened, is reported so.
@@ -74,7 +93,9 @@ EndsFor asked Help = ⊥
 EndsFor asked BadWords = ⊥
 EndsFor asked NoMemory = ⊥
 EndsFor asked (NoFolder folder) = asked.folder ≡ Some folder
-EndsFor asked (Built report refused) = (later : World) × BuildsAlone false any_outcome asked fresh later report
+EndsFor asked (Built report refused) = (asked.why ≡ false) × ((later : World) × BuildsAlone false any_outcome asked fresh later report)
+EndsFor asked ToldWhy = AsksWhy asked
+EndsFor asked (Unexplained report refused) = AsksWhy asked
 
 -- the words have a fault for which a run may end so
 pub record AreRefused (words : List Text) (ending : Ending) : Type 0 where
@@ -96,6 +117,8 @@ MayEnd words BadWords = AreRefused words BadWords
 MayEnd words NoMemory = ⊤
 MayEnd words (NoFolder folder) = AreDone words (NoFolder folder)
 MayEnd words (Built report refused) = AreDone words (Built report refused)
+MayEnd words ToldWhy = AreDone words ToldWhy
+MayEnd words (Unexplained report refused) = AreDone words (Unexplained report refused)
 
 -- What the standard output was where a build has ended. A build shows on it by way of the host, which keeps it as long as the
 -- build lasts, and of what `Site::show` shows contracts tell nothing: it may hold anything then. Where nothing is built, it is
@@ -106,6 +129,8 @@ ShownBefore BadWords old shown = shown ≡ old
 ShownBefore NoMemory old shown = shown ≡ old
 ShownBefore (NoFolder folder) old shown = shown ≡ old
 ShownBefore (Built report refused) old shown = ⊤
+ShownBefore ToldWhy old shown = ⊤
+ShownBefore (Unexplained report refused) old shown = ⊤
 
 -- all was told: on the standard output, behind what was shown there, and on the standard error
 pub record AllTold {W E : Type 0} (on_out : W → Option Text) (on_err : E → Option Text) (ending : Ending)
@@ -124,8 +149,8 @@ pub record Comes (May : Ending → Type 0) {W E F : Type 0} (on_out : W → Opti
       (status ≡ exit_status ending) × AllTold on_out on_err ending old_out new_out old_err new_err)
 
 -- A run of these words ends with this status: that of its ending, and all was told; or 1, since a text could not be written, a
--- cause of which the kit's `Write` tells nothing. So it is 0 only after a build that succeeded and after help, and 2 only where
--- the words have a fault.
+-- cause of which the kit's `Write` tells nothing. So it is 0 only after a build that succeeded, after help and after telling why
+-- commands are due, and 2 only where the words have a fault.
 pub record Ends (words : List Text) {W E : Type 0} (on_out : W → Option Text) (on_err : E → Option Text)
     (old_out new_out : W) (old_err new_err : E) (status : ℕ) : Type 0 where
   pub ending : Ending
@@ -138,7 +163,7 @@ abbrev pub EndsNoted : {W E : Type 0} → List Text → (W → Option Text) → 
 EndsNoted {W} {E} words on_out on_err old_out new_out old_err status =
     (told : E) × Ends words on_out on_err old_out new_out old_err told status
 
--- help was asked for, or what the words ask for was built, with success
+-- help was asked for, or what the words ask for was built, with success, or it was told why commands are due
 abbrev pub EndsWell : List Text → Type 0
 EndsWell words =
-    AreRefused words Help ⊎ ((started : ℕ) × (refused : Bool) × AreDone words (Built (Success started) refused))
+    AreRefused words Help ⊎ ((started : ℕ) × (refused : Bool) × AreDone words (Built (Success started) refused)) ⊎ AreDone words ToldWhy

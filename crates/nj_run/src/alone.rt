@@ -1,12 +1,13 @@
 //! A build in a folder in which others may build too.
 
 ghost use Rattle.std.specs.Prelude.{◌≡◌, false, IfOk, IfErr};
+ghost use Rattle.model.specs.Calls.{OnlyLooks};
 ghost use Rattle.model.specs.World.{IsIdle};
 ghost use Rattle.nj_run.specs.Alone.{IsBuiltAlone, Passes, WasReadAlone, WasUnreadAlone};
 
 use crate::named::names;
 use crate::noted::Noted;
-use builder::{Options, Reading, Report, build_read, read};
+use builder::{Explained, Options, Reading, Report, build_read, explain_read, read};
 use depfile::has_reading;
 use deps_log::has_format;
 use dyndep_law::has_reading as has_dyndeps;
@@ -82,6 +83,21 @@ pub fn build_alone<S: Alone>(
         }
         Err(report) => report,
     }
+}
+
+/// Why commands are due that [`build_alone`] would start, as [`builder::explain`] tells: once nobody else is at work in the folder. Nothing
+/// is started or written.
+pub fn explain_alone<S: Alone>(
+    alloc: Global,
+    site: &mut S,
+    options: &Options,
+    targets: &[Text],
+) -> Result<Explained, Report>
+    requires { IsIdle (S.world site.old).events }
+    ensures { OnlyLooks S.tells (S.world site.old) (S.world site.new) }
+{
+    let reading = read_alone(alloc, site, options, targets)?;
+    explain_read(alloc, site, reading, options)
 }
 
 /// Reads the build files, anew each time that somebody was waited for.

@@ -6,7 +6,8 @@ mod named;
 mod noted;
 mod program;
 mod told;
+mod whys;
 
-pub use alone::{Alone, build_alone};
+pub use alone::{Alone, build_alone, explain_alone};
 pub use noted::Noted;
-pub use program::{build_on, run, run_watched};
+pub use program::{build_on, explain_on, run, run_watched};

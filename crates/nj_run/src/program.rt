@@ -2,6 +2,7 @@
 
 ghost use Rattle.std.specs.Prelude.{◌≡◌, ◌≤◌, IfOk, true, false, map};
 ghost use Rattle.clap.specs.Words.{takes};
+ghost use Rattle.model.specs.Calls.{OnlyLooks};
 ghost use Rattle.model.specs.World.{World, IsIdle};
 ghost use Rattle.command_line.specs.Options.{nj};
 ghost use Rattle.host.specs.World.{any_outcome, fresh};
@@ -9,10 +10,10 @@ ghost use Rattle.nj_run.specs.Alone.{BuildsAlone};
 ghost use Rattle.nj_run.specs.Asked.{AreHandedOn, pattern_text};
 ghost use Rattle.nj_run.specs.Ends.{Comes, Ends, EndsFor, EndsNoted, EndsWell};
 
-use crate::alone::{Alone, build_alone};
+use crate::alone::{Alone, build_alone, explain_alone};
 use crate::noted::Noted;
-use crate::told;
-use builder::{Options, Report};
+use crate::{told, whys};
+use builder::{Explained, Options, Report};
 use command_line::{Options as Asked, options};
 use host::{Host, Trouble};
 use site::SiteFault;
@@ -98,8 +99,62 @@ fn build_asked<W: Write, E: Write>(
             return told::folder(folder, &reason, err);
         }
     }
+    if asked.why {
+        return explain_asked(asked, pattern, out, err, noted);
+    }
     let (report, trouble) = build_here(asked, pattern, out, noted);
     told::report(&report, trouble.as_ref(), out, err)
+}
+
+/// Tells why commands are due of what is asked for, or why that cannot be told.
+fn explain_asked<W: Write, E: Write>(
+    asked: &Asked<'_>,
+    pattern: Option<&str>,
+    out: &mut W,
+    err: &mut E,
+    noted: &mut Noted<'_>,
+) -> io::Result<u8>
+    requires { asked.now.why ≡ true }
+    ensures range { IfOk result (λ status. status ≤ 1) }
+    ensures comes { Comes (EndsFor asked.now) W.contents E.contents out.old out.new err.old err.new result }
+{
+    let (explained, trouble) = explain_here(asked, pattern, out, noted);
+    match explained {
+        Ok(explained) => whys::tell(noted.rt().alloc(), &explained, out),
+        Err(report) => told::refusal(&report, trouble.as_ref(), out, err),
+    }
+}
+
+/// Why commands are due of what is asked for in the working folder. With a fault of the site comes what the device refused last.
+fn explain_here<W: Write>(
+    asked: &Asked<'_>,
+    pattern: Option<&str>,
+    out: &mut W,
+    noted: &mut Noted<'_>,
+) -> (Result<Explained, Report>, Option<Trouble>)
+    ensures { (later : World) × OnlyLooks false fresh later }
+{
+    let rt = noted.rt();
+    let alloc = rt.alloc();
+    let mut host = Host::new(alloc, rt, out);
+    let explained = explain_on(alloc, &mut host, asked, pattern);
+    (explained, host.into_trouble())
+}
+
+/// Why commands are due on a site, of what is asked for, once nobody else is at work there. Nothing is started or written.
+pub fn explain_on<S: Alone>(
+    alloc: Global,
+    site: &mut S,
+    asked: &Asked<'_>,
+    pattern: Option<&str>,
+) -> Result<Explained, Report>
+    requires idle { IsIdle (S.world site.old).events }
+    ensures { OnlyLooks S.tells (S.world site.old) (S.world site.new) }
+{
+    match build_options(alloc, asked, pattern) {
+        Ok((options, targets)) => explain_alone(alloc, site, &options, targets.as_slice()),
+        Err(_) => Err(Report::Fault(SiteFault::Memory)),
+    }
 }
 
 /// Builds what is asked for in the working folder, and waits until what is written from now on is seen to be later than each start. With a

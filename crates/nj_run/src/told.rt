@@ -51,6 +51,21 @@ pub fn report<W: Write, E: Write>(
     }
 }
 
+/// Tells in the same way why it could not be told which commands are due. The status is 1.
+pub fn refusal<W: Write, E: Write>(
+    refusal: &Report,
+    trouble: Option<&Trouble>,
+    out: &mut W,
+    err: &mut E,
+) -> io::Result<u8>
+    ensures status { IfOk result (λ status. status ≡ 1) }
+    ensures out { OnOk result (Adds (W.contents out.old) (W.contents out.new) (out_of refusal.now)) }
+    ensures err { OnOk result (Adds (E.contents err.old) (E.contents err.new) (err_of refusal.now (is_some trouble.entry))) }
+{
+    report(refusal, trouble, out, err)?;
+    Ok(1)
+}
+
 /// Tells that there was nothing to do, where nothing was started.
 fn success<W: Write>(started: usize, out: &mut W) -> io::Result<()>
     ensures { OnOk result (Adds (W.contents out.old) (W.contents out.new) (Some (after_success started))) }

@@ -1,0 +1,20 @@
+use Rattle.std.proofs.Common.{◌≡◌, false, ℕ, List}
+use Rattle.model.specs.declared.graph.Edge.{Edge}
+use Rattle.model.specs.Calls.{OnlyLooks}
+use Rattle.model.specs.Phases.{Phase}
+use Rattle.links.specs.Told.{declared_by}
+use Rattle.runner.specs.Course.{Course}
+use Rattle.runner.specs.Going.{AreSet}
+use Rattle.builder.specs.Going.{BeginsAt, files_left}
+use Rattle.builder.proofs.explaining.load_sources.Given as goal
+
+abbrev pub invariant-sources : goal.invariant-sources
+invariant-sources g l = record {
+  looks : OnlyLooks g.S.Texts.tells (g.S.Texts.world l.fn.site) (g.S.Texts.world l.site);
+  running : (g.S.Texts.world l.site).stopped ≡ false;
+  begins : (tick : List ℕ) (course : Course) (edges : List Edge) (phases : List Phase) → BeginsAt g.S.Texts.tells tick course edges phases l.fn.graph l.fn.cone l.fn.state (g.S.Texts.world l.fn.site)
+      → (many : List Edge) × (more : List Phase) × BeginsAt g.S.Texts.tells tick course many more l.graph l.cone l.state (g.S.Texts.world l.site);
+}
+
+abbrev pub decreases-sources : goal.decreases-sources
+decreases-sources g l = files_left (declared_by l.graph).edges

@@ -1,0 +1,74 @@
+-- What is told of the commands that are due.
+use Rattle.std.specs.Prelude.{◌≡◌, Bool, List, ℕ, Option}
+use Rattle.std.specs.List.{AllZip}
+use Rattle.std.specs.Option.{option_map}
+use Rattle.model.specs.declared.graph.BuildGraph.{BuildGraph}
+use Rattle.model.specs.declared.graph.Edge.{Edge}
+use Rattle.model.specs.World.{World}
+use Rattle.model.specs.Calls.{OnlyLooks}
+use Rattle.model.specs.Phases.{Phase}
+use Rattle.paths.specs.Told.{text_at}
+use Rattle.links.specs.declared.cone.Cone.{Cone}
+use Rattle.links.specs.declared.graph.Graph.{Graph}
+use Rattle.looks.specs.declared.table.Looks.{Looks}
+use Rattle.plan.specs.declared.plan.Plan.{Plan}
+use Rattle.records.specs.declared.records.Records.{Records}
+use Rattle.dues.specs.Lacks.{HasDue}
+use Rattle.reasons.specs.declared.told.DueCommand.{DueCommand}
+use Rattle.reasons.specs.Why.{HasTold}
+use Rattle.runner.specs.declared.state.State.{State}
+use Rattle.runner.specs.Course.{Course}
+use Rattle.builder.specs.declared.asked.Asked.{Asked as Request}
+use Rattle.builder.specs.declared.explained.Explanation.{Explanation}
+use Rattle.builder.specs.Build.{asked_of}
+use Rattle.builder.specs.Going.{BeginsAt}
+use Rattle.builder.specs.Reports.{first_output_of}
+
+-- this is said of the command, in texts
+pub record IsSaid (graph : Graph) (command : DueCommand) (said : Explanation) : Type 0 where
+  pub edge : said.edge ≡ command.edge
+  pub output : said.output ≡ first_output_of graph.manifest command.edge
+  pub reason : said.reason ≡ command.reason
+  pub path : said.path ≡ option_map (text_at graph.manifest.paths) command.path
+  pub sure : said.is_sure ≡ command.is_sure
+
+-- of each of these commands, in their order
+abbrev pub AreSaid : Graph → List DueCommand → List Explanation → Type 0
+AreSaid graph told said = AllZip (IsSaid graph) told said
+
+-- This is said of just the commands of the cone with a flag, with why each is due.
+pub record SaysDue (tells : Bool) (graph : Graph) (cone : Cone) (records : Records) (due : List Bool) (old new : World) (before after : Looks) (said : List Explanation) : Type 0 where
+  pub told : List DueCommand
+  pub why : HasTold tells graph cone records due old new before after told
+  pub said_of : AreSaid graph told said
+
+-- It is said of just the due commands of the cone, where this is the plan and these are the records.
+pub record TellsDue (tells : Bool) (graph : Graph) (cone : Cone) (plan : Plan) (records : Records) (old new : World) (before after : Looks) (said : List Explanation) : Type 0 where
+  pub due : List Bool
+  pub mid : World
+  pub seen : Looks
+  pub has : HasDue tells graph records cone plan old mid before due
+  pub says : SaysDue tells graph cone records due mid new seen after said
+
+-- So it is where a phase of some build begins, up to which it was only looked.
+pub record Explains (tells : Bool) (tick : List ℕ) (course : Course) (old new : World) (said : List Explanation) : Type 0 where
+  pub edges : List Edge
+  pub phases : List Phase
+  pub graph : Graph
+  pub cone : Cone
+  pub state : State
+  pub begun : World
+  pub looks : OnlyLooks tells old begun
+  pub begins : BeginsAt tells tick course edges phases graph cone state begun
+  pub after : Looks
+  pub dues : TellsDue tells graph cone state.plan state.records begun new state.looks after said
+
+-- So it is of a build of what was asked over this graph, with what the loads add that it does before it starts anything, and for some files of
+-- its own, format of logs and reading of depfiles and dyndep files.
+pub record ExplainsBuild (tells : Bool) (graph : BuildGraph) (request : Request) (old new : World) (said : List Explanation) : Type 0 where
+  pub tick : List ℕ
+  pub course : Course
+  pub asked : course.asked ≡ asked_of graph request.folder request.limits request.targets
+  pub entry : World
+  pub looks : OnlyLooks tells old entry
+  pub explains : Explains tells tick course entry new said

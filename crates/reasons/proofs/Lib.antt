@@ -1,0 +1,4 @@
+pub mod Firsts
+pub mod Ordering
+pub mod Taking
+pub mod Telling

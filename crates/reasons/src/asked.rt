@@ -1,0 +1,64 @@
+//! Asking for what an edge names.
+
+ghost use Rattle.std.specs.Prelude.{◌≡◌, ◌<◌, ℕ, OnOk, true, false, length};
+ghost use Rattle.std.specs.List.{flat_map};
+ghost use Rattle.model.specs.Calls.{HasCause};
+ghost use Rattle.model.specs.Graph.{has_number};
+ghost use Rattle.links.specs.Links.{links_of};
+ghost use Rattle.looks.specs.Looking.{HasLooked};
+ghost use Rattle.reasons.specs.Why.{HaveAsked};
+
+use links::{Graph, lists_stand};
+use looks::{Looks, looks_follow};
+use model::SiteFault;
+use paths::EdgeId;
+use site::Site;
+
+/// Asks for what the edge makes, for the regular inputs of these edges, and for the recorded inputs of the edge, as far as that was not
+/// done yet.
+pub(crate) fn ask_for<S: Site>(
+    site: &mut S,
+    graph: &Graph,
+    looks: &mut Looks,
+    edges: &[EdgeId],
+    edge: EdgeId,
+) -> Result<(), SiteFault>
+    requires running { (S.world site.old).stopped ≡ false }
+    requires fits { length looks.old.seen.items ≡ length graph.now.manifest.paths }
+    requires within { edge < length graph.now.manifest.lines }
+    requires edges { (d : ℕ) → has_number edges.now d ≡ true → d < length graph.now.manifest.lines }
+    ensures looked { HasLooked S.tells graph.now (S.world site.old) (S.world site.new) looks.old looks.new }
+    ensures cause { HasCause (S.world site.old) (S.world site.new) result }
+    ensures outputs { OnOk result (HaveAsked looks.new.seen.items ((links_of graph.now).outputs edge)) }
+    ensures regular { OnOk result (HaveAsked looks.new.seen.items (flat_map (links_of graph.now).regular edges.now)) }
+    ensures recorded { OnOk result (HaveAsked looks.new.seen.items ((links_of graph.now).recorded edge)) }
+{
+    looks_follow();
+    lists_stand(graph);
+    looks.ask(site, graph, graph.outputs(edge))?;
+    ask_regular(site, graph, looks, edges)?;
+    looks.ask(site, graph, graph.recorded_inputs(edge))?;
+    Ok(())
+}
+
+/// Asks for the regular inputs of these edges.
+fn ask_regular<S: Site>(
+    site: &mut S,
+    graph: &Graph,
+    looks: &mut Looks,
+    edges: &[EdgeId],
+) -> Result<(), SiteFault>
+    requires running { (S.world site.old).stopped ≡ false }
+    requires fits { length looks.old.seen.items ≡ length graph.now.manifest.paths }
+    requires edges { (d : ℕ) → has_number edges.now d ≡ true → d < length graph.now.manifest.lines }
+    ensures looked { HasLooked S.tells graph.now (S.world site.old) (S.world site.new) looks.old looks.new }
+    ensures cause { HasCause (S.world site.old) (S.world site.new) result }
+    ensures regular { OnOk result (HaveAsked looks.new.seen.items (flat_map (links_of graph.now).regular edges.now)) }
+{
+    looks_follow();
+    lists_stand(graph);
+    for edge in edges {
+        looks.ask(site, graph, graph.regular_inputs(*edge))?;
+    }
+    Ok(())
+}
