@@ -49,7 +49,7 @@ pub fn start(
     Ok(Running {
         job,
         process,
-        printed: opened.take().map(|opened| opened.printed),
+        printed: opened.take().map(|opened| opened.into_printed()),
         held_since: None,
     })
 }
@@ -91,7 +91,7 @@ impl Running {
         ensures free { IsTrue result → HasLetGo self.new }
     {
         if let Some(printed) = &mut self.printed {
-            if !printed.is_let_go() {
+            if !printed.is_let_go(rt) {
                 if self.held_since.is_none() {
                     self.held_since = Instant::now(rt).ok();
                 }

@@ -1,6 +1,6 @@
 //! Real files, as a site needs them.
 
-ghost use Rattle.std.specs.Prelude.{◌≡◌, true, false};
+ghost use Rattle.std.specs.Prelude.{◌≡◌, ◌<◌, true, false, IsTrue};
 ghost use Rattle.std.specs.Fs.{asks_append, asks_truncate};
 
 use crate::clock::Touches;
@@ -12,7 +12,7 @@ use std::alloc::{AllocError, Global};
 use std::fs::{File, Metadata, OpenOptions};
 use std::io::{ErrorKind, Write};
 use std::os::unix::fs::{FileExt, MetadataExt};
-use std::time::Duration;
+use std::time::{Duration, Instant};
 use std::{fs, io, thread};
 use text::Bytes;
 
@@ -26,6 +26,9 @@ const REST: u64 = 4;
 
 /// So many rests are at most three seconds.
 const MOST_RESTS: u64 = 700;
+
+/// For so many milliseconds a log counts as seen at its path, while no other build may replace it.
+const SEEN: u128 = 10;
 
 /// How often it is tried to make a file anew, where others do the same.
 const TRIES: u32 = 20;
@@ -54,6 +57,8 @@ struct Kept {
 struct Appended {
     kept: Kept,
     identity: Identity,
+    /// When it was seen at its path, where it is a log that no other build may replace.
+    seen: Option<Instant>,
 }
 
 impl<'a> Disk<'a> {
@@ -141,7 +146,8 @@ impl<'a> Disk<'a> {
     }
 
     /// Puts the bytes behind what the file at the path holds. Where it fails, a beginning of them may stand there. A file that was put in
-    /// its place since the last time is seen, by one look at the path.
+    /// its place since the last time is seen, by one look at the path: at once, or within ten milliseconds where it is a log whose lock keeps
+    /// other builds from that.
     pub fn append(&mut self, path: &str, bytes: &[u8]) -> io::Result<()> {
         let mut appended = self.open_appended(path)?;
         if self.appended.len() >= MOST_KEPT {
@@ -157,14 +163,26 @@ impl<'a> Disk<'a> {
     /// The file at the path, as it was opened the last time, unless the path leads to another one now.
     fn open_appended(&mut self, path: &str) -> io::Result<Appended> {
         if let Some(appended) = self.take_appended(path) {
-            if !is_elsewhere(self.rt, path, appended.identity) {
+            let now = Instant::now(self.rt).ok();
+            if self.logs.are_guarded() && appended.is_seen(now) {
                 return Ok(appended);
             }
+            if !is_elsewhere(self.rt, path, appended.identity) {
+                return Ok(appended.looked_for(now));
+            }
             if is_log(path) {
+                self.look_again();
                 self.logs.hold(path)?;
             }
         }
         open_appended(self.alloc, self.rt, path)
+    }
+
+    /// No file that is appended to counts as seen at its path: another build may replace a log now.
+    fn look_again(&mut self) {
+        for appended in &mut self.appended {
+            appended.seen = None;
+        }
     }
 
     /// Puts the content in the place of what the file at the path holds, whole or not at all: it is written under the path
@@ -178,6 +196,7 @@ impl<'a> Disk<'a> {
     pub fn replace(&mut self, path: &str, content: &[u8]) -> io::Result<()> {
         self.close(path);
         if is_log(path) {
+            self.look_again();
             return self.logs.replace(path, content);
         }
         let new = format!(in self.alloc; "{path}.new")?;
@@ -283,6 +302,38 @@ impl<'a> Disk<'a> {
     }
 }
 
+impl Appended {
+    /// It was seen at its path.
+    fn looked_for(self, now: Option<Instant>) -> Appended {
+        let Appended { kept, identity, .. } = self;
+        let seen = if is_log(kept.path.as_str()) {
+            now
+        } else {
+            None
+        };
+        Appended {
+            kept,
+            identity,
+            seen,
+        }
+    }
+
+    /// Whether it counts as seen at its path.
+    fn is_seen(&self, now: Option<Instant>) -> bool {
+        match (self.seen, now) {
+            (Some(seen), Some(now)) => is_recent(now.duration_since(seen).as_millis()),
+            _ => false,
+        }
+    }
+}
+
+/// Whether a look that was so many milliseconds ago counts.
+fn is_recent(elapsed: u128) -> bool
+    ensures { IsTrue result → elapsed < 10 }
+{
+    elapsed < SEEN
+}
+
 fn is_empty_file(metadata: &Metadata) -> bool {
     metadata.is_file() && metadata.len() == 0
 }
@@ -320,6 +371,7 @@ fn open_appended(alloc: Global, rt: &HostRuntime, path: &str) -> io::Result<Appe
     Ok(Appended {
         kept: Kept { path, file },
         identity,
+        seen: None,
     })
 }
 

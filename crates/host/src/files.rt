@@ -13,7 +13,7 @@ ghost use Rattle.host.specs.Process.{IsAlone, IsLetGo, IsLocked};
 use crate::disk::{Disk, unless_absent, writing};
 use crate::held::{Lock, ask_shared};
 use crate::process::Streams;
-use locks::{INPUT, Identity, OUTPUT, has_outputs, is_at, mode_at, path_in};
+use locks::{INPUT, Identity, OUTPUT, Watch as Passed, has_outputs, is_at, mode_at, path_in};
 use std::alloc::{AllocError, Global};
 use std::fs::{File, OpenOptions, Permissions, TryLockError};
 use std::io::{ErrorKind, Read, Seek, SeekFrom};
@@ -34,6 +34,10 @@ const TRIES: u64 = 20;
 
 /// So many paths for a file to print into are tried, where something stands at each.
 const MOST_PATHS: u32 = 10_000;
+
+/// While so many commands print, a further one has its file put aside, and no more are kept for others: each opening that the program has
+/// is copied and closed at each start, and a system gives it a thousand.
+const MOST_OPEN: usize = 256;
 
 /// The files of a build for its commands.
 #[derive(Drop)]
@@ -64,8 +68,8 @@ struct Input {
 #[derive(Drop)]
 pub struct Printed {
     path: String,
-    /// For reading what was printed. A command has an opening of its own.
-    file: File,
+    /// For reading what was printed, unless it is put aside. A command has an opening of its own.
+    file: Option<File>,
     /// Which file it is.
     identity: Option<Identity>,
     hold: Hold,
@@ -100,7 +104,9 @@ pub struct Made {
 /// The files for a command that is to be started.
 #[derive(Drop)]
 pub struct Opened {
-    pub printed: Printed,
+    printed: Printed,
+    /// Whether that is put aside once the command is started.
+    is_aside: bool,
     /// The opening that it gets for its output and its errors.
     output: File,
     /// That for its input, which all commands share.
@@ -229,7 +235,7 @@ impl Files {
         let identity = Identity::of_file(&file);
         let printed = Printed {
             path,
-            file,
+            file: Some(file),
             identity,
             hold: Hold::Untold,
         };
@@ -248,6 +254,7 @@ impl Files {
                 };
                 Ok(Some(Opened {
                     printed,
+                    is_aside: false,
                     output: file,
                     input,
                 }))
@@ -298,6 +305,10 @@ impl Files {
     }
 
     fn keep(&mut self, rt: &HostRuntime, printed: Printed) {
+        if self.unused.len() >= MOST_OPEN {
+            printed.remove(rt);
+            return;
+        }
         match self.unused.reserve(1) {
             Ok(()) => {
                 let _ = self.unused.push(printed);
@@ -445,12 +456,58 @@ impl Opened {
         let output = self.output.as_raw_fd();
         [self.input, output, output]
     }
+
+    /// They are for a command that is started beside so many others: where many run, the file into which it prints is put aside then, if its
+    /// lock tells when it is let go.
+    pub fn set_beside(&mut self, running: usize) {
+        self.is_aside = running >= MOST_OPEN && self.printed.is_locked();
+    }
+
+    /// The file into which the command prints, which is started.
+    pub fn into_printed(self) -> Printed {
+        let Opened {
+            mut printed,
+            is_aside,
+            ..
+        } = self;
+        if is_aside {
+            printed.put_aside();
+        }
+        printed
+    }
 }
 
 impl Printed {
-    /// An opening of it for reading.
-    pub fn file(&self) -> &File {
-        &self.file
+    /// Passes on that the command waits, where it printed that.
+    pub fn pass_on(&self, rt: &HostRuntime, passed: &mut Passed) {
+        match &self.file {
+            Some(file) => passed.pass_on(rt, file),
+            None => {
+                if let Some(file) = self.open_again(rt) {
+                    passed.pass_on(rt, &file);
+                }
+            }
+        }
+    }
+
+    /// A new opening of it, if it stands at its path still.
+    fn open_again(&self, rt: &HostRuntime) -> Option<File> {
+        let mut how = OpenOptions::new();
+        how.read(true).append(true);
+        let file = how.open(rt, self.path.as_str()).ok()?;
+        if self.is_of(&file) { Some(file) } else { None }
+    }
+
+    /// Closes it, while its command runs.
+    fn put_aside(&mut self) {
+        self.file = None;
+    }
+
+    /// Takes it up again, where it was put aside.
+    fn take_up(&mut self, rt: &HostRuntime) {
+        if self.file.is_none() {
+            self.file = self.open_again(rt);
+        }
     }
 
     /// Which file it is, if that is known.
@@ -466,25 +523,34 @@ impl Printed {
     }
 
     /// Whether no other opening has the file locked, where there are locks. While one has, this asks for the whole lock by an opening of the
-    /// program's own, which a file has that was removed as well, and gives it back at once. What nobody has is not asked again.
-    pub fn is_let_go(&mut self) -> bool
+    /// program's own, which a file has that was removed as well, and gives it back at once. What nobody has is not asked again. Of a file that
+    /// was put aside, and was removed, it cannot be told.
+    pub fn is_let_go(&mut self, rt: &HostRuntime) -> bool
         ensures free { IsTrue result → IsLetGo self.new }
         ensures held { result ≡ false → IsLocked self.new }
         ensures kept { IsLetGo self.old → self.new ≡ self.old }
     {
         if self.is_locked() {
-            self.hold = asked(&self.file);
+            self.take_up(rt);
+            self.hold = asked_if_any(&self.file);
         }
         !self.is_locked()
     }
 
-    /// What the last command printed so far, and whether the file can be used for another one.
+    /// What the last command printed so far, and whether the file can be used for another one. Of a file that was put aside, and was removed,
+    /// nothing is known.
     pub fn take(&self, alloc: Global) -> io::Result<Taken>
         ensures { IfOk result (λ taken. IsTrue taken.is_unused → IsAlone self.now) }
     {
         let is_alone = matches!(self.hold, Hold::Alone);
-        let mut file = &self.file;
         let mut bytes = Vec::new(alloc);
+        let Some(file) = &self.file else {
+            return Ok(Taken {
+                output: Bytes::from_vec(bytes),
+                is_unused: false,
+            });
+        };
+        let mut file = file;
         let is_empty = file.seek(SeekFrom::End(0))? == 0;
         if !is_empty {
             file.seek(SeekFrom::Start(0))?;
@@ -507,6 +573,14 @@ impl Printed {
         if Identity::at(rt, self.path.as_str()) == self.identity {
             let _ = fs::remove_file(rt, self.path.as_str());
         }
+    }
+}
+
+/// Who has the file of this opening, if there is one.
+fn asked_if_any(file: &Option<File>) -> Hold {
+    match file {
+        Some(file) => asked(file),
+        None => Hold::Untold,
     }
 }
 

@@ -89,6 +89,7 @@ impl Jobs {
         reserve(&mut self.commands, 1)?;
         read_once(self.alloc, &mut self.environment)?;
         let environment = known(&self.environment);
+        set_beside(opened, self.commands.len());
         let command = commands::start(self.alloc, job, act.command.as_str(), environment, opened)?;
         push_reserved(&mut self.events, event);
         push_reserved(&mut self.commands, command);
@@ -214,6 +215,13 @@ fn known(environment: &Option<Vec<u8>>) -> &[u8]
     match environment {
         Some(variables) => variables.as_slice(),
         None => unreachable!(),
+    }
+}
+
+/// The files, if there are some, are for a command that is started beside so many others.
+fn set_beside(opened: &mut Option<Opened>, running: usize) {
+    if let Some(opened) = opened {
+        opened.set_beside(running);
     }
 }
 

@@ -35,6 +35,8 @@ pub struct Logs<'a> {
     alloc: Global,
     /// The opening of the build log that has the lock, from when there is such a log.
     guard: Option<File>,
+    /// Whether that opening has it: not where there are no locks, or another does not let go.
+    is_locked: bool,
     /// Whether another has the build log for itself, and did not let go in ten seconds.
     is_refused: bool,
     read: Vec<Log>,
@@ -95,6 +97,7 @@ impl<'a> Logs<'a> {
             rt,
             alloc,
             guard: None,
+            is_locked: false,
             is_refused: false,
             read: Vec::new(alloc),
         }
@@ -134,8 +137,14 @@ impl<'a> Logs<'a> {
 
     fn guard_by(&mut self, held: Held) {
         let Held { file, lock, .. } = held;
+        self.is_locked = lock == Lock::Shared;
         self.is_refused = lock == Lock::Refused;
         self.guard = Some(file);
+    }
+
+    /// Whether no other build may put another file in the place of a log, by the lock of the build log.
+    pub fn are_guarded(&self) -> bool {
+        self.guard.is_some() && self.is_locked
     }
 
     /// Keeps in mind which file was read, and how long it was.

@@ -85,7 +85,7 @@ impl<'a> Watch<'a> {
         }
         for command in commands {
             if let Some(printed) = command.printed() {
-                self.passed.pass_on(self.rt, printed.file());
+                printed.pass_on(self.rt, &mut self.passed);
             }
         }
     }
