@@ -16,7 +16,7 @@ use Rattle.stand_in.specs.declared.build.Ended.{Ended}
 use Rattle.stand_in.specs.declared.build.Next.{Next}
 use Rattle.stand_in.specs.declared.build.Next.TheVariants.{Build, ReadAnew, End as EndsBy}
 use Rattle.stand_in.specs.declared.build.Outcome.{Outcome as End}
-use Rattle.stand_in.specs.declared.build.Outcome.TheVariants.{Built, NotRebuilt, Refused, WouldRun}
+use Rattle.stand_in.specs.declared.build.Outcome.TheVariants.{Built}
 use Rattle.stand_in.proofs.Stages.{alone_looks, end_by, fault_end, next_by, prepared_at, prepared_by}
 
 module _ (tells : Bool) (outcome : Act → View → Outcome) (options : Options) where
@@ -42,10 +42,6 @@ module _ (tells : Bool) (outcome : Act → View → Outcome) (options : Options)
     none_ran new first next looked (inl is) none same = subst (λ (n : Next). IsNext tells outcome options entry old new (Ok n)) (sym is) (subst (λ (w : World). Looked tells w new) (same (none is)) looked)
     none_ran new first next looked (inr is) none same = subst (λ (n : Next). IsNext tells outcome options entry old new (Ok n)) (sym is) (turned new looked.looks)
 
-  -- what is told where nothing is run
-  pub said_end : (entry new : World) → IsPrepared tells outcome options entry new → OnlyLooks tells entry new → (end : End) → (end ≡ WouldRun) ⊎ (end ≡ Built (Success 0)) → IsEndOf tells outcome options entry new end
-  said_end entry new prepared looks end (inl is) = subst (λ (e : End). IsEndOf tells outcome options entry new e) (sym is) looks
-  said_end entry new prepared looks end (inr is) = subst (λ (e : End). IsEndOf tells outcome options entry new e) (sym is) (inr (refl, prepared))
-
+  -- an outcome that is known
   pub end_as : (entry new : World) (ended : Ended) (end : End) → ended.outcome ≡ end → IsEndOf tells outcome options entry new end → IsEndOf tells outcome options entry new (end_in (Ok ended))
   end_as entry new ended end is ends = subst (λ (e : End). IsEndOf tells outcome options entry new e) (sym is) ends

@@ -8,8 +8,5 @@ returns-in_err-declared g c =
     let report = c.in_err-declared.field-0.0 in
     end_by g.S.Texts.tells g.S.Site.outcome c.args.options.now old new report (unread_end g.S.Texts.tells g.S.Site.outcome c.args.options.now old new report c.requires c.in_err-declared.ensures.unread) c.from_residual.result c.from_residual.ensures.1
 
-pub returns-then-dry : goal.returns-then-dry
-returns-then-dry g c = c.only_say.ensures (g.S.Texts.world c.args.site.now) c.in_ok-declared.ensures.read
-
 pub returns : goal.returns
 returns g c = c.build_declared.ensures (g.S.Texts.world c.args.site.now) c.in_ok-declared.ensures.read
