@@ -195,7 +195,7 @@ fn is_same(first: Option<&&str>, second: Option<&&str>) -> bool {
 }
 
 /// The words but so many at the end.
-fn without_last<'a, 'b>(words: &'a [&'b str], count: usize) -> &'a [&'b str] {
+fn without_last<'a>(words: &'a [&'a str], count: usize) -> &'a [&'a str] {
     words
         .get(..words.len().saturating_sub(count))
         .unwrap_or(&[])

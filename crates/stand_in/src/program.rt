@@ -9,7 +9,7 @@ use crate::heading::{Heading, HeadingFault};
 use crate::patient::Patient;
 use crate::processors::default_jobs;
 use crate::screen::{Front, PATTERN, Screen};
-use crate::told;
+use crate::told::{self, Telling};
 use crate::tools_here::{Asking, NoAnswer, answer};
 use crate::words::asked;
 use builder::{Options, Report};
@@ -114,14 +114,8 @@ fn build_under<W: Write + Drop, E: Write>(
         }
     }
     let (ended, trouble) = build_in(rt, given, heading, out)?;
-    let telling = told::Telling {
-        file: given.file,
-        keep: given.keep,
-        shown: given.shown,
-        stats: given.stats,
-        trouble: trouble.as_ref(),
-    };
-    told::ended(&ended, telling, out, err)
+    let trouble = trouble.as_ref();
+    told::ended(&ended, Telling::new(given.file, given, trouble), out, err)
 }
 
 /// Tells what is due, and why, before anything runs. What is refused tells the build, where there is one.
@@ -174,11 +168,11 @@ fn tell_folder<W: Write>(given: &Given<'_>, out: &mut W) -> io::Result<()> {
 }
 
 /// Builds in the working folder. With a fault of the site comes what the device refused last.
-fn build_in<W: Write + Drop>(
-    rt: &HostRuntime,
+fn build_in<'a, W: Write + Drop>(
+    rt: &'a HostRuntime,
     given: &Given<'_>,
-    heading: &Heading,
-    out: &mut W,
+    heading: &'a Heading,
+    out: &'a mut W,
 ) -> io::Result<(Ended, Option<Trouble>)> {
     let alloc = rt.alloc();
     let jobs = given.jobs.unwrap_or_else(|| jobs_here(rt));
@@ -193,11 +187,11 @@ fn build_in<W: Write + Drop>(
 }
 
 /// What is due in the working folder. With a fault of the site comes what the device refused last.
-fn due_in<W: Write + Drop>(
-    rt: &HostRuntime,
+fn due_in<'a, W: Write + Drop>(
+    rt: &'a HostRuntime,
     given: &Given<'_>,
-    heading: &Heading,
-    out: &mut W,
+    heading: &'a Heading,
+    out: &'a mut W,
 ) -> io::Result<(Result<Due, NoAnswer>, Option<Trouble>)> {
     let alloc = rt.alloc();
     let options = build_options(alloc, given, 1)?;

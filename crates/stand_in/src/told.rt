@@ -5,7 +5,7 @@ ghost use Rattle.stand_in.specs.Ends.{why_stopped};
 
 use crate::build::{Ended, Outcome};
 use crate::due::Due;
-use crate::given::{Information, Shown, WordFault};
+use crate::given::{Information, Options, Shown, WordFault};
 use builder::{Explained, Report};
 use host::Trouble;
 use nj_run::tell_why;
@@ -138,6 +138,18 @@ pub struct Telling<'a> {
     /// Whether it is said how many commands were started.
     pub stats: bool,
     pub trouble: Option<&'a Trouble>,
+}
+
+impl<'a> Telling<'a> {
+    pub fn new(file: &'a str, given: &Options<'_>, trouble: Option<&'a Trouble>) -> Telling<'a> {
+        Telling {
+            file,
+            keep: given.keep,
+            shown: given.shown,
+            stats: given.stats,
+            trouble,
+        }
+    }
 }
 
 /// Tells how the whole ended, and answers the status.
