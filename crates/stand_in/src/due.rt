@@ -83,7 +83,7 @@ fn due_of<S: Site>(
 }
 
 /// Which commands are due of what is asked for beside what generators make, and why.
-#[tactic(auto, using(crate::proofs::Looking::looking))]
+#[tactic(auto, using(crate::proofs::Telling::telling))]
 fn explain_left<S: Site>(
     alloc: Global,
     site: &mut S,
