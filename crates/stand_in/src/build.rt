@@ -140,11 +140,15 @@ fn build_declared<S: Place>(
     ensures { EndsOnceRead S.tells S.outcome options.now declared.old (S.world site.old) (S.world site.new) (end_in result) }
 {
     let above = all_above(alloc, declared, options.file.as_str())?;
-    match before_build(alloc, site, declared, &above, options)? {
+    let next = before_build(alloc, site, declared, &above, options)?;
+    match next {
         Next::End(outcome) => Ok(Ended::by(outcome)),
         Next::Build => {
             let outcome = build_rest(alloc, site, given, options, declared, &above)?;
-            Ok(Ended::by(outcome))
+            Ok(Ended {
+                outcome,
+                old: false,
+            })
         }
         Next::ReadAnew { old } => {
             let outcome = build_anew(alloc, site, given, options)?;
@@ -264,11 +268,8 @@ fn build_rest<S: Place>(
     ensures { EndsOnceReady S.tells S.outcome options.now declared.old (S.world site.old) (S.world site.new) (outcome_in result) }
 {
     match left_targets(alloc, site, declared, given.words.as_slice(), above) {
-        Ok(Targets::Default) => build_these(alloc, site, options, declared, &[]),
-        Ok(Targets::Named(paths)) => {
-            build_these(alloc, site, options, declared, paths.as_slice())
-        }
         Ok(Targets::Nothing) => Ok(Outcome::Built(Report::Success { started: 0 })),
+        Ok(left) => build_these(alloc, site, options, declared, left.as_slice()),
         Err(Fault::Memory) => Err(Report::Fault(SiteFault::Memory)),
         Err(fault) => Ok(Outcome::Refused(fault)),
     }

@@ -8,7 +8,7 @@ use crate::above::{Above, all_above};
 use crate::build::{read_alone, read_here};
 use crate::given::Options as Given;
 use crate::regenerating::{show_command, would_run};
-use crate::targets::{Targets, left_targets};
+use crate::targets::left_targets;
 use crate::tools_here::NoAnswer;
 use builder::{Explained, Explanation, Options, Report, explain};
 use model::SiteFault;
@@ -96,14 +96,14 @@ fn explain_left<S: Site>(
     requires running { (S.world site.old).stopped ≡ false }
     ensures { OnlyLooks S.tells (S.world site.old) (S.world site.new) }
 {
-    match left_targets(alloc, site, declared, given.words.as_slice(), above)? {
-        Targets::Default => Ok(explain(alloc, site, options, &[])?),
-        Targets::Named(paths) => Ok(explain(alloc, site, options, paths.as_slice())?),
-        Targets::Nothing => Ok(Explained {
+    let left = left_targets(alloc, site, declared, given.words.as_slice(), above)?;
+    if left.is_nothing() {
+        return Ok(Explained {
             commands: Vec::new(alloc),
             unloaded: None,
-        }),
+        });
     }
+    Ok(explain(alloc, site, options, left.as_slice())?)
 }
 
 /// Shows a line of each of these commands, as if it had ended, where nothing is to be run.
