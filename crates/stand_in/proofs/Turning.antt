@@ -64,7 +64,8 @@ goes_by {A = A} (Ok value) fault is none so = absurd (ok_err value fault is)
   where
     ok_err : (value : A) (fault : Refusal) → Ok value ≡ Err fault → ⊥
     ok_err value fault is = cc
-goes_by {A = A} (Err told) fault is none so = so (err_same told fault is ∙ none)
+goes_by {A = A} (Err told) fault is none so = so (ap (err_of told) is ∙ none)
   where
-    err_same : (x y : Refusal) → Err {T = A} x ≡ Err y → x ≡ y
-    err_same x y is = cc
+    err_of : Refusal → Result A Refusal → Refusal
+    err_of other (Ok value) = other
+    err_of other (Err error) = error
