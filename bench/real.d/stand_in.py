@@ -72,6 +72,17 @@ class Twice:
             with self.at_home(program) as folder:
                 change(folder)
 
+    def keep(self):
+        """Keeps both copies as they are, with their stamps."""
+        for program in self.PROGRAMS:
+            shutil.copytree(self.copy_of(program), self.copy_of(program) + ".kept", symlinks=True)
+
+    def give_back(self):
+        """Makes both copies what was kept."""
+        for program in self.PROGRAMS:
+            shutil.rmtree(self.copy_of(program))
+            shutil.copytree(self.copy_of(program) + ".kept", self.copy_of(program), symlinks=True)
+
     def same_files(self, where, kept=()):
         """Both copies have the same files; but the stand-in may have left some."""
         files = [files_of(self.copy_of(program), PASSED_OVER) for program in self.PROGRAMS]
@@ -225,23 +236,22 @@ def cleaned(place, project):
     twice = Twice(place, f"cleans-{project.name}", fill_of(project))
     front = front_of(project)
     twice.both(front)
+    twice.keep()
     told = twice.one("ninja", [*front, "-t", "targets", "all"]).out
     rules = sorted({line.rsplit(": ", 1)[1] for line in told.splitlines()})
     some = [it for it in rules if it not in ("phony", "gn") and not re.search("RERUN|REGENERATE|CLEAN|HELP|GLOBS", it)][:2]
     target = project.deleted[0].split("/", 1)[1]
     read = os.path.join(project.build, project.words[1] if project.words else "build.ninja")
     for tool in (["clean"], ["cleandead"], ["clean", "-r", *some], ["clean", target], ["clean", target, some[0]], ["clean", "-g", target], ["clean", "-g"]):
-        twice.both(front)
+        twice.give_back()
         remove(place, twice, f"{project.name} {tool}", [*front, "-t", *tool], kept=(read,) if "-g" in tool else ())
-    dead(place, project)
+    twice.give_back()
+    dead(place, project, twice, front)
 
 
-def dead(place, project):
+def dead(place, project, twice, front):
     """Another name for a target: what was made by the old name is named by no line any more. Meson calls the tool itself, of ninja alone."""
     path = next(it for it in ("CMakeLists.txt", "meson.build", "BUILD.gn") if it in project.files)
-    twice = Twice(place, f"dead-{project.name}", fill_of(project))
-    front = front_of(project)
-    twice.both(front)
     twice.edit(lambda at: write(at, path, re.sub(r"\bapp\b", "other_app", project.files[path])))
     where = f"{project.name} with another name for a target"
     place.step(where)
@@ -257,6 +267,7 @@ def remove(place, twice, where, words, kept=()):
     told, wanted = twice.both(words)
     twice.same_files(where, kept)
     place.expect(told.status == wanted.status, where, f"status {told.status}, by ninja {wanted.status}: {told.out[:300]}")
+    place.expect("cleandead" in words or "Cleaning... 0 " not in wanted.out, where, "ninja removes nothing")
     if told.out != wanted.out:
         print(f"    differs: {told.out[:200]!r}\n      ninja: {wanted.out[:200]!r}")
 
@@ -272,23 +283,31 @@ def would_run(place, project):
     twice = Twice(place, f"dry-{project.name}", fill_of(project))
     front = front_of(project)
     read = project.words[1] if project.words else "build.ninja"
+    place.step(f"{project.name}: whether the build file is up to date")
+    both = twice.both([*front, "-n", read])
+    for who, told in zip(("stand-in", "ninja"), both):
+        place.expect(told.status == 0 and "no work to do" in told.out, f"{project.name}: -n {read}", f"{who} answers {told.out[:300]!r}")
     for edit in (None, *project.edits):
         if edit:
             twice.edit(lambda at, it=edit: replace(at, it[1], *it[2:]) if it[2:] else touch(at, it[1]))
         what = f"{project.name}, {edit[0] if edit else 'a first build'}"
+        listed = twice.both([*front, "-n", "-v"], heading=MARK)
+        if is_not_there(listed[0]):
+            place.leave_out(what, "-n is not there yet")
+            return
         place.step(f"{what}: what would run")
-        same_run(place, f"{what}: -n", twice.both([*front, "-n", "-v"], heading=MARK), project)
-        listed = twice.one("nj", [*front, "-n", "-v"], heading=MARK)
-        same_run(place, f"{what}: -n {read}", twice.both([*front, "-n", read], heading=MARK), project)
+        # by what no dyndep file tells yet, the list may go on otherwise
+        if edit or "fortran" not in project.name:
+            same_run(place, f"{what}: -n", listed, project)
         ran = twice.both([*front, "-d", "explain", "-v"], heading=MARK)
         if is_not_there(ran[0]):
-            same_run(place, f"{what}: -d explain", ran, project)
+            place.leave_out(what, "-d explain is not there yet")
             ran = twice.both([*front, "-v"], heading=MARK)
-        elif edit:
+        else:
             place.expect("explain" in ran[0].out, f"{what}: -d explain", f"nothing is explained: {ran[0].out[-300:]}")
         same_run(place, f"{what}: the build", ran, project)
-        if not is_not_there(listed):
-            missing = only_in(ran[0].commands, listed.commands)
+        if not project.terminal and (edit or "fortran" not in project.name):
+            missing = only_in(ran[0].commands, listed[0].commands)
             place.expect(not missing, f"{what}: -n", f"has not in it what was run: {in_short(missing)}")
 
 
@@ -299,8 +318,5 @@ def is_not_there(told):
 def same_run(place, where, both, project):
     """Both ran the same commands, or would. Where commands get the terminal, ninja does not show each."""
     told, wanted = both
-    if is_not_there(told):
-        place.leave_out(where, "it is not there yet")
-        return
     place.expect(told.status == wanted.status, where, f"status {told.status}, and by ninja {wanted.status}: {told.out[-600:]}")
     answered.same_list(place, where, told.commands, wanted.commands, project.terminal)
