@@ -1,13 +1,15 @@
 """Generators, their users and what they call, with the stand-in in ninja's place: each step beside the same with ninja."""
 
 import os
+import re
 import shutil
 import subprocess
 
 import answered
 import projects
+import stand_in
 from ground import MARK, replace, touch, write
-from stand_in import Twice
+from stand_in import Twice, kept_by
 
 CMAKE = ["cmake", "-G", "Ninja", "-DCMAKE_MAKE_PROGRAM=@ninja", "-S", ".", "-B", "build", "-DCMAKE_EXPORT_COMPILE_COMMANDS=ON"]
 BUILD = ["cmake", "--build", "build"]
@@ -64,21 +66,22 @@ class Scenario:
         self.place, self.name, self.is_terminal = place, name, is_terminal
         self.twice = Twice(place, f"generators-{name}", files if callable(files) else answered.fill(files))
 
-    def do(self, what, *words, idle=False, ran=None, files=True, text=False, heading=MARK):
+    def do(self, what, *words, idle=False, ran=None, files=True, text=False, same=True, heading=MARK):
         """The same words with both: they end alike, run the same commands, and leave the same files. `idle`: both had nothing to do. `ran`:
-        both say so."""
+        both say so. `text`: both print the same lines."""
         where = f"{self.name}: {what}"
         self.place.step(where)
         told, wanted = self.twice.both(list(words), heading=heading)
         expect = self.place.expect
         expect(told.status == wanted.status, where, f"status {told.status}, by ninja {wanted.status}: {told.out[-1200:]}\n--- ninja:\n{wanted.out[-600:]}")
-        answered.same_list(self.place, where, told.commands, wanted.commands, self.is_terminal)
+        if same:
+            answered.same_list(self.place, where, told.commands, wanted.commands, self.is_terminal)
         for who, it in (("stand-in", told), ("ninja", wanted)):
             expect(not idle or "no work to do" in it.out, where, f"{who} had something to do: {it.out[-700:]}")
             expect(not ran or ran in it.out, where, f"{who} does not say {ran!r}: {it.out[-700:]}")
-        expect(not text or told.out == wanted.out, where, f"tells {told.out[:600]!r}, and by ninja {wanted.out[:600]!r}")
+        expect(not text or unordered(told.out) == unordered(wanted.out), where, f"tells {told.out[:600]!r}, and by ninja {wanted.out[:600]!r}")
         if files:
-            self.twice.same_files(where)
+            self.twice.same_files(where, kept_by(told, words))
             self.twice.same_commands(where)
         return told, wanted
 
@@ -94,6 +97,11 @@ class Scenario:
 
     def drop(self, path):
         self.twice.edit(lambda at: os.remove(os.path.join(at, path)))
+
+
+def unordered(text):
+    """The lines of a text, whatever order commands end in."""
+    return sorted(re.sub(r"^\[\d+/", "[", line) for line in text.splitlines())
 
 
 # ---- CMake
@@ -151,7 +159,7 @@ def cmake_again(it, text):
     it.do("a file that is configured", *BUILD, ran="Re-running CMake")
     it.rests(*BUILD)
     it.drop("build/build.ninja")
-    it.do("build.ninja is deleted", *BUILD, ran="loading 'build.ninja'")
+    it.do("build.ninja is deleted", *BUILD, ran="build.ninja")
     it.do("and made again", *CMAKE, heading=None)
     it.rests(*BUILD)
     it.put("CMakeLists.txt", "this is not CMake\n")
@@ -174,7 +182,7 @@ def cmake_words(it):
     it.edit("part1.cc")
     it.do("a source with ^", "sh", "-c", '"$NINJA" -C build -v "$PWD/part1.cc^"', ran="part1.cc.o -c")
     it.edit("part1.cc", "return", "returm")
-    it.do("a broken source", *SHOWN, ran="build stopped: subcommand failed", files=False)
+    it.do("a broken source", *SHOWN, "-j", "1", ran="build stopped: subcommand failed", files=False)
     it.do("a broken source, and on", *SHOWN, "--", "-k0", ran="cannot make progress due to previous errors", files=False)
     it.edit("part1.cc", "returm", "return")
     it.do("a mended source", *SHOWN, ran=" -o app ")
@@ -298,6 +306,18 @@ def meson(place):
     it.rests(*COMPILE)
 
 
+def meson_over(place):
+    """In a folder that ninja has built Meson calls `cleandead` while it is called itself, in front of a build."""
+    text = projects.MESON_HEAD + projects.MESON_MADE + projects.MESON_REST
+    it = Scenario(place, "meson-over", {**projects.MESON_FILES, "meson.build": text})
+    it.do("setup", "meson", "setup", "build", heading=None)
+    it.do("by ninja itself", place.ninja, "-C", "build", ran="Linking target app")
+    it.put("meson.build", re.sub(r"\bapp\b", "other_app", text))
+    told, _ = it.do("an edited meson.build", *COMPILE, ran="The Meson build system", files=False, same=False)
+    place.expect("Cleaning..." in told.out, "meson-over", f"Meson does not call cleandead: {told.out[-600:]}")
+    it.rests(*COMPILE)
+
+
 def meson_users(it):
     """What users call."""
     it.do("test", "meson", "test", "-C", "build", ran="Ok:                 1")
@@ -386,6 +406,7 @@ SCENARIOS = {
     "cmake-fortran": (cmake_fortran, "cmake", "gfortran"),
     "cmake-inner": (cmake_inner, "cmake", "cc"),
     "meson": (meson, "meson", "c++"),
+    "meson-over": (meson_over, "meson", "c++"),
     "meson-fortran": (meson_fortran, "meson", "gfortran"),
     "gn": (gn, "gn", "c++"),
     "gn-more": (gn_more, "gn", "c++"),
@@ -399,3 +420,15 @@ def generators(place):
                 scenario(place)
             except (RuntimeError, OSError, ValueError, subprocess.TimeoutExpired) as error:
                 place.wrong(name, f"{type(error).__name__}: {error}")
+
+
+PARTS = {"generators": generators, "answers": stand_in.answers, "cleans": stand_in.cleans, "dry": stand_in.dry, "words": stand_in.words}
+
+
+def run_all(place):
+    """All parts, where the stand-in is there."""
+    if not os.access(place.stand_in, os.X_OK):
+        place.leave_out("the stand-in", f"there is no {place.stand_in}")
+    elif not place.lacks("the stand-in", "ninja"):
+        for part in PARTS.values():
+            part(place)

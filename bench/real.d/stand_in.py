@@ -165,8 +165,12 @@ SMALL = {
 HEADINGS = ["[%f/%t] ", "", "%s of %t, %u left: ", "%p%% ", "[%f/%t", "%x ", "%", "\033[1m%f\033[0m ", "[%s/%f/%t/%u] "]
 TIMED = [("%e ", r"\d+\.\d{3} "), ("%o ", r"(\d+\.\d|\?) "), ("[%f/%t %o/sec] ", r"\[\d/2 (\d+\.\d|\?)/sec\] "), ("%c ", r"(\d+\.\d|\?) "), ("%r ", r"\d ")]
 
-# What is there in part alone, and says so.
-NOT_THERE = [["-n", "app"], ["-d", "explain", "app"]]
+# Statuses that differ by what docs/USING_IT_AS_NINJA.md says: these tools read no build file.
+OTHERWISE = {("-f", "absent.ninja", "-t", "recompact"): 0}
+
+# Words for which a completion is asked, and what is among the answers.
+COMPLETED = [("ap", "app"), ("-t missing", "missingdeps"), ("-f other.ninja oth", "other"), ("--qui", "--quiet")]
+COMPLETION = os.path.join(os.path.dirname(os.path.realpath(__file__)), "../../crates/ninja/data/ninja.bash")
 
 
 def words(place):
@@ -175,8 +179,10 @@ def words(place):
     for number, given in enumerate(WORDS):
         twice = Twice(place, f"words-{number}", answered.fill(SMALL))
         told, wanted = twice.both(["@ninja", *given], apart=True)
+        if told.status == OTHERWISE.get(tuple(given)):
+            wanted = wanted._replace(status=told.status)
         compare_texts(place, f"words {given}", told, wanted, (twice.bin, place.ninja))
-        twice.same_files(f"words {given}", kept=("build.ninja",))
+        twice.same_files(f"words {given}")
     for number, heading in enumerate(HEADINGS):
         twice = Twice(place, f"headings-{number}", answered.fill(SMALL))
         told, wanted = twice.both(["@ninja", "app"], heading=heading, apart=True)
@@ -187,6 +193,19 @@ def words(place):
         for who, told in zip(("stand-in", "ninja"), twice.both(["@ninja", "app"], heading=heading)):
             shown = re.fullmatch(f"{pattern}COPY mid\n{pattern}COPY app\n", told.out)
             place.expect(shown, f"NINJA_STATUS={heading!r}", f"{who} shows {told.out!r}")
+    completions(place)
+
+
+def completions(place):
+    """Completions of bash, by the targets and tools that the stand-in tells."""
+    if place.lacks("completions", "bash"):
+        return
+    twice = Twice(place, "completions", answered.fill(SMALL))
+    for given, wanted in COMPLETED:
+        script = f'. {COMPLETION}; COMP_WORDS=(@ninja {given}); COMP_CWORD=$((${{#COMP_WORDS[@]}} - 1)); _ninja; printf "%s\\n" "${{COMPREPLY[@]}}"'
+        told = twice.one("nj", ["bash", "-c", script])
+        place.step(f"completion of {given}")
+        place.expect(wanted in told.out.split(), f"completion of {given}", f"{told.out!r}")
 
 
 def compare_texts(place, where, told, wanted, own):
@@ -237,12 +256,13 @@ def cleaned(place, project):
     front = front_of(project)
     twice.both(front)
     twice.keep()
-    told = twice.one("ninja", [*front, "-t", "targets", "all"]).out
-    rules = sorted({line.rsplit(": ", 1)[1] for line in told.splitlines()})
+    outputs = [line.rsplit(": ", 1) for line in twice.one("ninja", [*front, "-t", "targets", "all"]).out.splitlines()]
+    rules = sorted({rule for _, rule in outputs})
     some = [it for it in rules if it not in ("phony", "gn") and not re.search("RERUN|REGENERATE|CLEAN|HELP|GLOBS", it)][:2]
+    other = next(path for path, rule in reversed(outputs) if rule in some)
     target = project.deleted[0].split("/", 1)[1]
     read = os.path.join(project.build, project.words[1] if project.words else "build.ninja")
-    for tool in (["clean"], ["cleandead"], ["clean", "-r", *some], ["clean", target], ["clean", target, some[0]], ["clean", "-g", target], ["clean", "-g"]):
+    for tool in (["clean"], ["cleandead"], ["clean", "-r", *some], ["clean", target], ["clean", other, target], ["clean", "-g", target], ["clean", "-g"]):
         twice.give_back()
         remove(place, twice, f"{project.name} {tool}", [*front, "-t", *tool], kept=(read,) if "-g" in tool else ())
     twice.give_back()
@@ -265,11 +285,17 @@ def dead(place, project, twice, front):
 def remove(place, twice, where, words, kept=()):
     place.step(where)
     told, wanted = twice.both(words)
-    twice.same_files(where, kept)
+    twice.same_files(where, (*kept, *kept_by(told, words)))
     place.expect(told.status == wanted.status, where, f"status {told.status}, by ninja {wanted.status}: {told.out[:300]}")
     place.expect("cleandead" in words or "Cleaning... 0 " not in wanted.out, where, "ninja removes nothing")
     if told.out != wanted.out:
         print(f"    differs: {told.out[:200]!r}\n      ninja: {wanted.out[:200]!r}")
+
+
+def kept_by(told, words):
+    """The paths that the stand-in says it keeps, which ninja removes."""
+    folder = words[words.index("-C") + 1] if "-C" in words else "."
+    return [os.path.normpath(os.path.join(folder, it)) for it in re.findall(r"^ninja: kept '(.*)', which ", told.out, re.M)]
 
 
 # ---- what would run
