@@ -85,9 +85,9 @@ class Scenario:
             self.twice.same_commands(where)
         return told, wanted
 
-    def rests(self, *words):
+    def rests(self, *words, files=True):
         for _ in range(2):
-            self.do("nothing to do", *words, idle=True)
+            self.do("nothing to do", *words, idle=True, files=files)
 
     def edit(self, path, *texts):
         self.twice.edit(lambda at: replace(at, path, *texts) if texts else touch(at, path))
@@ -315,7 +315,8 @@ def meson_over(place):
     it.put("meson.build", re.sub(r"\bapp\b", "other_app", text))
     told, _ = it.do("an edited meson.build", *COMPILE, ran="The Meson build system", files=False, same=False)
     place.expect("Cleaning..." in told.out, "meson-over", f"Meson does not call cleandead: {told.out[-600:]}")
-    it.rests(*COMPILE)
+    # what ninja itself has made is in no log of the stand-in's, and stays
+    it.rests(*COMPILE, files=False)
 
 
 def meson_users(it):

@@ -163,7 +163,7 @@ SMALL = {
 
 # What stands in front of lines; times and rates are no two times the same.
 HEADINGS = ["[%f/%t] ", "", "%s of %t, %u left: ", "%p%% ", "[%f/%t", "%x ", "%", "\033[1m%f\033[0m ", "[%s/%f/%t/%u] "]
-TIMED = [("%e ", r"\d+\.\d{3} "), ("%o ", r"(\d+\.\d|\?) "), ("[%f/%t %o/sec] ", r"\[\d/2 (\d+\.\d|\?)/sec\] "), ("%c ", r"(\d+\.\d|\?) "), ("%r ", r"\d ")]
+TIMED = [("[%s/%t  %p :: %e] ", r"\[\d/2  +\d+% :: \d+\.\d{3}\] "), ("%e ", r"\d+\.\d{3} "), ("%o ", r"(\d+\.\d|\?) "), ("[%f/%t %o/sec] ", r"\[\d/2 (\d+\.\d|\?)/sec\] "), ("%c ", r"(\d+\.\d|\?) "), ("%r ", r"\d ")]
 
 # Statuses that differ by what docs/USING_IT_AS_NINJA.md says: these tools read no build file.
 OTHERWISE = {("-f", "absent.ninja", "-t", "recompact"): 0}
@@ -322,8 +322,9 @@ def would_run(place, project):
             place.leave_out(what, "-n is not there yet")
             return
         place.step(f"{what}: what would run")
-        # by what no dyndep file tells yet, the list may go on otherwise
-        if edit or "fortran" not in project.name:
+        # what is below a dyndep file that is yet to be made neither tells, or one of them alone
+        is_whole = "more may follow" not in listed[0].out and (edit or "fortran" not in project.name)
+        if is_whole:
             same_run(place, f"{what}: -n", listed, project)
         ran = twice.both([*front, "-d", "explain", "-v"], heading=MARK)
         if is_not_there(ran[0]):
@@ -332,7 +333,7 @@ def would_run(place, project):
         else:
             place.expect("explain" in ran[0].out, f"{what}: -d explain", f"nothing is explained: {ran[0].out[-300:]}")
         same_run(place, f"{what}: the build", ran, project)
-        if not project.terminal and (edit or "fortran" not in project.name):
+        if is_whole and not project.terminal:
             missing = only_in(ran[0].commands, listed[0].commands)
             place.expect(not missing, f"{what}: -n", f"has not in it what was run: {in_short(missing)}")
 
