@@ -92,10 +92,10 @@ def deps_of(text):
 
 
 def reads_it(place, where, both, path, deps):
-    """`PATH^` names an output that reads the path, of which there may be several: ninja takes the one that is logged first."""
-    for who, told in zip(("the stand-in", "ninja"), both):
-        output = told.out.split(":\n")[0]
-        place.expect(path in deps.get(output, []), where, f"{who} answers {told.out[:200]!r}")
+    """`PATH^` names an output that reads the path. Of several ninja takes the one that is logged first, unless a line names the path."""
+    told, wanted = both
+    output = told.out.split(":\n")[0]
+    place.expect(told.out == wanted.out or path in deps.get(output, []), where, f"answers {told.out[:200]!r}, and ninja {wanted.out[:200]!r}")
 
 
 def of_graph(place, twice, name, front, rules, some):
