@@ -59,6 +59,38 @@ add_dependencies(app inner)
 }
 
 
+# A generator that is a script: it has no terminal, a depfile, and an input that another command makes; and no line says `default`.
+BY_HAND = {
+    "configure": """\
+#!/bin/sh
+set -e
+echo "configuring for $(cat listed.txt | tr '\\n' ' ')"
+{
+  cat front.ninja
+  while read name; do echo "build $name.out: copy $name.txt"; done < listed.txt
+} > build.ninja.new
+mv build.ninja.new build.ninja
+echo "build.ninja: front.ninja" > build.ninja.d
+""",
+    "front.ninja": """\
+rule copy
+  command = cp $in $out
+  description = COPY $out
+rule sort
+  command = sort $in > $out
+rule configure
+  command = ./configure
+  depfile = build.ninja.d
+  generator = 1
+  description = CONFIGURE
+build listed.txt: sort names.txt
+build build.ninja: configure | configure listed.txt
+""",
+    "names.txt": "two\none\n",
+    **{f"{it}.txt": f"{it}\n" for it in ("one", "two", "three")},
+}
+
+
 class Scenario:
     """Steps of one tree, each done with the stand-in and with ninja."""
 
@@ -400,6 +432,33 @@ def gn_steps(it, folder, source, edit):
     it.rests(*build)
 
 
+# ---- a script
+
+def by_hand(place):
+    it = Scenario(place, "by-hand", BY_HAND)
+    it.do("the first time", "sh", "-c", "sort names.txt > listed.txt && ./configure")
+    it.do("build", "@ninja", ran="COPY one.out", same=False)
+    it.rests("@ninja")
+    it.put("names.txt", "two\none\nthree\n")
+    it.do("a name more", "@ninja", ran="COPY three.out")
+    it.rests("@ninja")
+    it.edit("front.ninja", "cp $in", "cat $in >")
+    it.do("what its depfile tells is edited", "@ninja", "-v", ran="cat one.txt > one.out")
+    it.rests("@ninja")
+    it.edit("configure", "set -e", "set -e; exit 3")
+    it.do("it fails", "@ninja", ran="rebuilding 'build.ninja'")
+    it.edit("configure", "set -e; exit 3", "set -e")
+    it.do("it is mended", "@ninja", ran="CONFIGURE")
+    it.rests("@ninja")
+    it.put("names.txt", "two\nthree\n")
+    it.do("a name less", "@ninja", "two.out", ran="CONFIGURE")
+    it.do("what is left of it", "@ninja", "-t", "cleandead")
+    it.rests("@ninja")
+    it.do("all is removed", "@ninja", "-t", "clean")
+    it.do("and built", "@ninja", ran="COPY two.out")
+    it.rests("@ninja")
+
+
 SCENARIOS = {
     "cmake": (cmake, "cmake", "c++"),
     "cmake-globs": (cmake_globs, "cmake", "c++"),
@@ -411,6 +470,7 @@ SCENARIOS = {
     "meson-fortran": (meson_fortran, "meson", "gfortran"),
     "gn": (gn, "gn", "c++"),
     "gn-more": (gn_more, "gn", "c++"),
+    "by-hand": (by_hand, "sort"),
 }
 
 
