@@ -3,7 +3,8 @@ use Rattle.std.specs.Map.Iter.{deref}
 use Rattle.build_log.specs.Kept.{Table}
 use Rattle.build_log.specs.Log.{Keeps, makings, saying}
 use Rattle.build_log.specs.declared.done.Done.{Done}
-use Rattle.tools.proofs.Burying.{IsLeftAt, buried, left_counted, left_start, left_texts}
+use Rattle.tools.proofs.Burying.{buried, left_counted, left_start, left_texts}
+use Rattle.tools.proofs.Forcing.{IsLeftAt}
 use Rattle.tools.proofs.dead.to_bury.Goals as goal
 
 pub loop-number-init : goal.loop-number-init

@@ -3,7 +3,7 @@ use Rattle.model.specs.declared.record.Record.{Record}
 use Rattle.build_log.specs.Log.{Keeps}
 use Rattle.tools.specs.Dead.{AddsLeft}
 use Rattle.tools.proofs.Adding.{IsBelow}
-use Rattle.tools.proofs.Burying.{IsLeftAt}
+use Rattle.tools.proofs.Forcing.{IsLeftAt}
 use Rattle.tools.proofs.dead.to_bury.Given as goal
 
 abbrev pub invariant-loop-number : goal.invariant-loop-number
