@@ -10,7 +10,7 @@ use Rattle.model.specs.declared.record.Record.{Record}
 use Rattle.model.specs.declared.record.DepsRecord.{DepsRecord}
 use Rattle.model.specs.Graph.{has}
 use Rattle.model.specs.Records.{Told}
-use Rattle.build_log.specs.Kept.{if_some, texts_at}
+use Rattle.build_log.specs.Kept.{if_some, outputs_left, texts_at}
 use Rattle.build_log.specs.Log.{makings, saying}
 use Rattle.deps_log.specs.Log.{Keeps as KeepsDeps, told_of_record, tolds as deps_tolds}
 use Rattle.deps_log.specs.declared.deps.Deps.{Deps}

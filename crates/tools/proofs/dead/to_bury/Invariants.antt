@@ -7,4 +7,4 @@ use Rattle.tools.proofs.Forcing.{IsLeftAt}
 use Rattle.tools.proofs.dead.to_bury.Given as goal
 
 abbrev pub invariant-loop-number : goal.invariant-loop-number
-invariant-loop-number l = (rs : List Record) → Keeps rs l.records.logs.build_log.log → AddsLeft l.declared.graph.manifest l.listed (IsBelow (IsLeftAt rs) l.number) (record { dead = []; kept = [] }) l.found
+invariant-loop-number l = (rs : List Record) → Keeps rs l.records.logs.build_log.log → AddsLeft l.declared.graph.manifest l.listed-inside (IsBelow (IsLeftAt rs) l.number) (record { dead = []; kept = [] }) l.found
