@@ -1,5 +1,5 @@
 -- What a build made once and no line names any more.
-use Rattle.std.proofs.Common.{◌≡◌, ◌↔◌, inl, inr, ℕ, ◌+◌, ◌<◌, Bool, true, false, List, [], ◌∷◌, ◌++◌, Option, None, Some, length, take, get_or, map, slice_get, refl, sym, ap, ◌∙◌, subst, arith, append-nil, append_assoc}
+use Rattle.std.proofs.Common.{◌≡◌, ◌↔◌, inl, inr, ℕ, ◌+◌, ◌<◌, Bool, true, false, List, [], ◌∷◌, ◌++◌, Option, None, Some, IsSome, length, take, get_or, map, slice_get, refl, sym, ap, ◌∙◌, subst, arith, append-nil, append_assoc}
 use Rattle.std.proofs.lemmas.Bool.{cases_Bool, false≢true}
 use Rattle.std.proofs.lemmas.List.{length-map, take_more}
 use Rattle.std.proofs.lemmas.Option.{get_or_from_slice_get, none-some, same_Some, slice_get-map, slice_get_within}
@@ -9,7 +9,7 @@ use denote.Ref.{Bor}
 use Rattle.model.specs.declared.record.Record.{Record}
 use Rattle.model.specs.declared.record.DepsRecord.{DepsRecord}
 use Rattle.model.specs.Graph.{has}
-use Rattle.model.specs.Records.{Told}
+use Rattle.model.specs.Records.{Told, in_force}
 use Rattle.build_log.specs.Kept.{if_some, outputs_left, texts_at}
 use Rattle.build_log.specs.Log.{makings, saying}
 use Rattle.deps_log.specs.Log.{Keeps as KeepsDeps, told_of_record, tolds as deps_tolds}
@@ -127,17 +127,24 @@ pub left_named : (manifest : Manifest) (listed : List (List ℕ)) (text : List �
 left_named manifest listed text n old is = left_none manifest listed (IsSame text) old (λ t same unnamed.
     false≢true (sym (subst (IsUnnamed manifest) (same ∙ sym (get_or_from_slice_get manifest.paths n text [] is.0)) unnamed) ∙ named_number manifest n is.1))
 
+-- the records below their number are all
+pub left_made : (manifest : Manifest) (listed : List (List ℕ)) (rs : List Record) (n : ℕ) (found : Dead) → n ≡ length (makings rs) → AddsLeft manifest listed (IsBelow (IsLeftAt rs) n) (record { dead = []; kept = [] }) found
+    → AddsLeft manifest listed (λ t. IsSome (in_force rs t)) (record { dead = []; kept = [] }) found
+left_made manifest listed rs n found all adds =
+    left_as manifest listed (IsBelow (IsLeftAt rs) n) (λ t. IsSome (in_force rs t)) (record { dead = []; kept = [] }) found (λ t below. force_of_left rs below.0 t below.2)
+    (λ t some. subst (λ (m : ℕ). IsBelow (IsLeftAt rs) m t) (sym all) (left_of_force rs t some)) adds
+
 -- all of a build log and of a deps log
-pub buried : (graph : Graph) (records : Records) (listed : List (List ℕ)) (n : ℕ) (found : Dead) (rs : List Record) (ds : List DepsRecord) → Knows graph records rs ds → n ≡ length (makings rs) → ListsAll records listed
-    → AddsLeft graph.manifest listed (IsBelow (IsLeftAt rs) n) (record { dead = []; kept = [] }) found → AreBuried graph.manifest rs ds found.dead found.kept
-buried graph records listed n found rs ds known all lists adds = record {
+pub buried : (graph : Graph) (records : Records) (listed : List (List ℕ)) (found : Dead) (rs : List Record) (ds : List DepsRecord) → Knows graph records rs ds → ListsAll records listed
+    → AddsLeft graph.manifest listed (λ t. IsSome (in_force rs t)) (record { dead = []; kept = [] }) found → AreBuried graph.manifest rs ds found.dead found.kept
+buried graph records listed found rs ds known lists adds = record {
   dead = λ t. (
     λ h. elim ((adds.dead t).0 h) [
       | inl none ↦ absurd (false≢true none)
       | inr one ↦ (left t one.0 one.1, λ is. false≢true (sym one.2 ∙ (lists ds t keeps).1 is))
     ],
     λ both. (adds.dead t).1 (inr (
-      below t both.0,
+      both.0.made,
       both.0.unnamed,
       elim (cases_Bool (has listed t)) [
         | inl is ↦ absurd (both.1 ((lists ds t keeps).0 is))
@@ -150,18 +157,15 @@ buried graph records listed n found rs ds known all lists adds = record {
       | inl none ↦ absurd (false≢true none)
       | inr one ↦ (left t one.0 one.1, (lists ds t keeps).0 one.2)
     ],
-    λ both. (adds.kept t).1 (inr (below t both.0, both.0.unnamed, (lists ds t keeps).1 both.1)),
+    λ both. (adds.kept t).1 (inr (both.0.made, both.0.unnamed, (lists ds t keeps).1 both.1)),
   );
 }
   where
     keeps : KeepsDeps ds records.logs.deps_log.log
     keeps = known.told.keeps
 
-    left : (t : List ℕ) → IsBelow (IsLeftAt rs) n t → IsUnnamed graph.manifest t → IsLeft graph.manifest rs t
-    left t made unnamed = record { made = force_of_left rs made.0 t made.2; unnamed = unnamed }
-
-    below : (t : List ℕ) → IsLeft graph.manifest rs t → IsBelow (IsLeftAt rs) n t
-    below t is = subst (λ (m : ℕ). IsBelow (IsLeftAt rs) m t) (sym all) (left_of_force rs t is.made)
+    left : (t : List ℕ) → IsSome (in_force rs t) → IsUnnamed graph.manifest t → IsLeft graph.manifest rs t
+    left t made unnamed = record { made = made; unnamed = unnamed }
 
 -- ---- what deps records list
 
