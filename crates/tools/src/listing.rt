@@ -216,8 +216,8 @@ struct Level<'a> {
 }
 
 impl<'a> Level<'a> {
-    /// The next path, and what is still to be shown behind it.
-    fn next(self) -> Option<(PathId, Level<'a>)>
+    /// The next path, and the place behind it.
+    fn next(self) -> Option<(PathId, usize)>
         ensures { IsGoneOn self.entry result }
     {
         if self.place >= self.paths.len() {
@@ -225,9 +225,16 @@ impl<'a> Level<'a> {
         }
         let path = self.paths[self.place];
         let place = self.place + 1;
-        let paths = self.paths;
-        Some((path, Level { paths, place }))
+        Some((path, place))
     }
+}
+
+/// The paths of a level from this place on.
+fn level_of<'a>(paths: &'a [PathId], place: usize) -> Level<'a>
+    ensures paths { result.paths.now ≡ paths.now }
+    ensures place { result.place ≡ place }
+{
+    Level { paths, place }
 }
 
 /// The outputs that no edge reads, each with what is above it to this depth.
@@ -269,7 +276,7 @@ fn show_all(
 {
     let mut told = String::new(alloc);
     let mut levels = Vec::new(alloc);
-    levels.push(Level { paths, place: 0 })?;
+    levels.push(level_of(paths, 0))?;
     'levels: while let Some(level) = levels.pop() {
         show_next(declared, depth, level, &mut levels, &mut told)?;
     }
@@ -287,11 +294,11 @@ fn show_next<'a>(
     requires { length levels.old.items < depth }
     ensures { OnOk result (Shows declared.now depth level.entry levels.old.items levels.new.items (string_bytes told.old) (string_bytes told.new)) }
 {
-    let Some((path, next)) = level.next() else {
+    let Some((path, place)) = level.next() else {
         return Ok(());
     };
     push_path(declared, path, levels.len(), told)?;
-    levels.push(next)?;
+    levels.push(level_of(level.paths, place))?;
     open_above(declared, depth, path, levels)
 }
 

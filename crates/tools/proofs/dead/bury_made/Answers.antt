@@ -24,6 +24,6 @@ loop-number-preserved c = λ rs keeps.
 pub returns : goal.returns
 returns c = λ rs keeps.
     let kept = subst (λ (t : Table Done). Keeps rs t) (sym c.log-log.ensures) keeps in
-    let all : c.done_records.result ≡ length (makings rs) = c.done_records.ensures rs kept in
+    let all : c.done_records-number-end.result ≡ length (makings rs) = c.done_records-number-end.ensures rs kept in
     let last : c.loop-number.number ≡ length (makings rs) = omega (arith, all) in
     left_made c.args.declared.now.graph.manifest c.args.listed.now rs c.loop-number.number c.loop-number.found last (c.loop-number.invariant rs keeps)
