@@ -1,6 +1,6 @@
 //! `-t targets`: outputs by depth, by rule, or all.
 
-ghost use Rattle.std.specs.Prelude.{◌≡◌, ◌<◌, ◌++◌, ◌∷◌, [], IfOk, None, OnOk, filter, flat_map, is_none, length, map, string_bytes};
+ghost use Rattle.std.specs.Prelude.{◌≡◌, ◌<◌, ◌+◌, ◌++◌, ◌∷◌, [], IfOk, None, OnOk, filter, flat_map, is_none, length, map, string_bytes};
 ghost use Rattle.std.specs.Map.Iter.{deref};
 ghost use Rattle.std.specs.Option.{option_map};
 ghost use Rattle.links.specs.Links.{links_of};
@@ -216,16 +216,25 @@ struct Level<'a> {
 }
 
 impl<'a> Level<'a> {
-    /// The next path, and the place behind it.
-    fn next(self) -> Option<(PathId, usize)>
+    /// The next path.
+    fn next(self) -> Option<PathId>
         ensures { IsGoneOn self.entry result }
     {
         if self.place >= self.paths.len() {
             return None;
         }
-        let path = self.paths[self.place];
-        let place = self.place + 1;
-        Some((path, place))
+        Some(self.paths[self.place])
+    }
+
+    /// What is left behind the next path. Where nothing is, that is nothing.
+    fn behind(self) -> Level<'a>
+        ensures paths { result.paths.now ≡ self.entry.paths.now }
+        ensures place { self.entry.place < length self.entry.paths.now → result.place ≡ self.entry.place + 1 }
+    {
+        if self.place >= self.paths.len() {
+            return self;
+        }
+        level_of(self.paths, self.place + 1)
     }
 }
 
@@ -294,11 +303,11 @@ fn show_next<'a>(
     requires { length levels.old.items < depth }
     ensures { OnOk result (Shows declared.now depth level.entry levels.old.items levels.new.items (string_bytes told.old) (string_bytes told.new)) }
 {
-    let Some((path, place)) = level.next() else {
+    let Some(path) = level.next() else {
         return Ok(());
     };
     push_path(declared, path, levels.len(), told)?;
-    levels.push(level_of(level.paths, place))?;
+    levels.push(level.behind())?;
     open_above(declared, depth, path, levels)
 }
 
