@@ -26,10 +26,10 @@ pub asked_first : (graph : Graph) (paths : List ℕ) → paths ≡ [] → AllZip
 asked_first graph paths none = subst (λ (l : List ℕ). AllZip (IsNamed graph) [] l) (sym none) tt
 
 -- where there is no word nothing is said
-pub none_asked : {T E : Type 0} (P : T → Type 0) (words : List (Bor (List ℕ))) (r : Result T E) → length words ≡ 0 → IfOk r (λ value. (map deref words ≡ [] → ⊥) → P value)
-none_asked P [] (Ok value) none = λ some. absurd (some refl)
-none_asked P [] (Err error) none = tt
-none_asked P (word ∷ words) r none = absurd (omega (arith, none))
+pub none_asked : {T E : Type 0} (words : List (Bor (List ℕ))) (r : Result T E) (P : T → Type 0) → length words ≡ 0 → IfOk r (λ (value : T). (map deref words ≡ [] → ⊥) → P value)
+none_asked [] (Ok value) P none = λ some. absurd (some refl)
+none_asked [] (Err error) P none = tt
+none_asked (word ∷ words) r P none = absurd (omega (arith, none))
 
 -- the first of these
 pub made_first : (graph : Graph) (q edge : ℕ) (o : Option ℕ) → slice_get (users_at graph q) 0 ≡ Some edge → o ≡ slice_get ((links_of graph).outputs edge) 0 → IfSome o (IsFirstMade graph q)

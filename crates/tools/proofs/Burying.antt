@@ -1,7 +1,7 @@
 -- What a build made once and no line names any more.
-use Rattle.std.proofs.Common.{◌≡◌, ◌↔◌, inl, inr, ℕ, zero, suc, ◌+◌, ◌<◌, ◌==◌, ◌&&◌, Bool, true, false, List, [], ◌∷◌, ◌++◌, Option, None, Some, IsSome, length, take, get_or, map, slice_get, refl, sym, ap, ◌∙◌, subst, arith}
-use Rattle.std.proofs.lemmas.Bool.{and_parts, cases_Bool, eq-eqb, eqb-true, false≢true}
-use Rattle.std.proofs.lemmas.List.{length-map}
+use Rattle.std.proofs.Common.{◌≡◌, ◌↔◌, inl, inr, ℕ, ◌+◌, ◌<◌, Bool, true, false, List, [], ◌∷◌, ◌++◌, Option, None, Some, IsSome, length, take, get_or, map, slice_get, refl, sym, ap, ◌∙◌, subst, arith, append-nil, append_assoc}
+use Rattle.std.proofs.lemmas.Bool.{cases_Bool, false≢true}
+use Rattle.std.proofs.lemmas.List.{length-map, take_more}
 use Rattle.std.proofs.lemmas.Option.{get_or_from_slice_get, none-some, same_Some, slice_get-map, slice_get_within}
 use Rattle.std.specs.Option.{option_map}
 use Rattle.std.specs.Map.Iter.{deref}
@@ -10,71 +10,21 @@ use Rattle.model.specs.declared.record.Record.{Record}
 use Rattle.model.specs.declared.record.DepsRecord.{DepsRecord}
 use Rattle.model.specs.Graph.{has}
 use Rattle.model.specs.Records.{Told, in_force}
-use Rattle.build_log.specs.Kept.{Saying, if_some, is_place, outputs_at, outputs_left, place_of, tellings, texts_at, told_of, tolds}
-use Rattle.build_log.specs.Log.{Keeps, made_of, makings, saying}
-use Rattle.build_log.specs.declared.done.Done.{Done}
-use Rattle.build_log.proofs.Compacting.{all_named, has-filter}
-use Rattle.build_log.proofs.InForce.{in_force_told}
-use Rattle.build_log.proofs.Lookups.{got, texts_next, told_place}
-use Rattle.deps_log.specs.Log.{Keeps as KeepsDeps, told_found, told_of_record, tolds as deps_tolds}
+use Rattle.build_log.specs.Kept.{if_some, outputs_left, texts_at}
+use Rattle.build_log.specs.Log.{makings, saying}
+use Rattle.deps_log.specs.Log.{Keeps as KeepsDeps, told_of_record, tolds as deps_tolds}
 use Rattle.deps_log.specs.declared.deps.Deps.{Deps}
 use Rattle.links.specs.declared.graph.Graph.{Graph}
-use Rattle.links.proofs.Named.{named_number}
 use Rattle.paths.specs.Numbers.{IsAdded}
 use Rattle.paths.specs.Told.{IsNamedNumber, IsUnnamed}
 use Rattle.paths.specs.declared.manifest.Manifest.{Manifest}
-use Rattle.records.specs.Known.{AreKnown, Knows}
+use Rattle.records.specs.Known.{Knows}
 use Rattle.records.specs.declared.records.Records.{Records}
 use Rattle.tools.specs.Clean.{AddsJust}
 use Rattle.tools.specs.Dead.{AddsEither, AddsLeft, AreBuried, IsLeft, IsListed, IsListedAt, ListsAll}
 use Rattle.tools.specs.declared.dead.Dead.{Dead}
 use Rattle.tools.proofs.Adding.{IsBelow, IsHad, IsSame, Or, adds_as, adds_none, adds_path, adds_then, below_back, below_on, deref_more, has_cases, has_either, has_left, has_new, has_old, has_right}
-
--- ---- which records are in force
-
--- the record with this number is in force for the text
-abbrev pub IsLeftAt : List Record → ℕ → List ℕ → Type 0
-IsLeftAt rs n t = has (outputs_left (map saying rs) n) t ≡ true
-
-left_is : (rs : List Record) (n : ℕ) (o : List ℕ) → has (outputs_left (map saying rs) n) o ≡ (has (outputs_at (tellings (map saying rs)) n) o && is_place n (place_of (map saying rs) o))
-left_is rs n o = has-filter (λ q. is_place n (place_of (map saying rs) q)) (outputs_at (tellings (map saying rs)) n) o
-
-force_is : (rs : List Record) (o : List ℕ) (p : Option ℕ) → place_of (map saying rs) o ≡ p → in_force rs o ≡ option_map made_of (got (tolds (map saying rs)) p)
-force_is rs o p is = in_force_told rs o ∙ (ap (option_map made_of) (told_place (map saying rs) o) ∙ ap (λ (q : Option ℕ). option_map made_of (got (tolds (map saying rs)) q)) is)
-
-counts_same : (rs : List Record) → length (makings rs) ≡ length (tolds (map saying rs))
-counts_same rs = length-map (tellings (map saying rs)) (λ t. made_of t.1) ∙ sym (length-map (tellings (map saying rs)) (λ t. t.1))
-
-place_is : (n : ℕ) (p : Option ℕ) → is_place n p ≡ true → p ≡ Some n
-place_is n None is = absurd (false≢true is)
-place_is n (Some m) is = ap (λ (k : ℕ). Some k) (eqb-true m n is)
-
-some_mapped : {A B : Type 0} (f : A → B) (found : Option A) → IsSome (option_map f found) → (x : A) × (found ≡ Some x)
-some_mapped f None some = absurd (false≢true some)
-some_mapped f (Some x) some = (x, refl)
-
-mapped_some : {A B : Type 0} (f : A → B) (xs : List A) (n : ℕ) → n < length xs → IsSome (option_map f (slice_get xs n))
-mapped_some f [] n low = absurd (omega (arith, low))
-mapped_some f (x ∷ xs) zero low = refl
-mapped_some f (x ∷ xs) (suc n) low = mapped_some f xs n (omega (arith, low))
-
--- what is in force for a text is told by a record that is in force for it
-left_of_force : (rs : List Record) (o : List ℕ) → IsSome (in_force rs o) → IsBelow (IsLeftAt rs) (length (makings rs)) o
-left_of_force rs o some = by (place_of (map saying rs) o) refl
-  where
-    by : (p : Option ℕ) → place_of (map saying rs) o ≡ p → IsBelow (IsLeftAt rs) (length (makings rs)) o
-    by None is = absurd (false≢true (subst IsSome (force_is rs o None is) some))
-    by (Some n) is =
-        let found = some_mapped made_of (slice_get (tolds (map saying rs)) n) (subst IsSome (force_is rs o (Some n) is) some) in
-        let low : n < length (makings rs) = subst (λ (m : ℕ). n < m) (sym (counts_same rs)) (slice_get_within (tolds (map saying rs)) n found.0 found.1) in
-        let same : n ≡ 0 + n = omega arith in
-        let named = all_named (map saying rs) o n (is ∙ ap (λ (m : ℕ). Some m) same) in
-        (n, low, left_is rs n o ∙ (ap (λ (b : Bool). b && is_place n (place_of (map saying rs) o)) named ∙ (ap (is_place n) is ∙ eq-eqb n n refl)))
-
-force_of_left : (rs : List Record) (n : ℕ) (o : List ℕ) → n < length (makings rs) → IsLeftAt rs n o → IsSome (in_force rs o)
-force_of_left rs n o low left =
-    let both = and_parts (has (outputs_at (tellings (map saying rs)) n) o) (is_place n (place_of (map saying rs) o)) (sym (left_is rs n o) ∙ left) in
-    subst IsSome (sym (force_is rs o (Some n) (place_is n (place_of (map saying rs) o) both.1))) (mapped_some made_of (tolds (map saying rs)) n (subst (λ (m : ℕ). n < m) (counts_same rs) low))
+use Rattle.tools.proofs.Forcing.{IsLeftAt, force_of_left, left_of_force, named_number}
 
 -- ---- what is added of what is left
 
@@ -177,17 +127,24 @@ pub left_named : (manifest : Manifest) (listed : List (List ℕ)) (text : List �
 left_named manifest listed text n old is = left_none manifest listed (IsSame text) old (λ t same unnamed.
     false≢true (sym (subst (IsUnnamed manifest) (same ∙ sym (get_or_from_slice_get manifest.paths n text [] is.0)) unnamed) ∙ named_number manifest n is.1))
 
+-- the records below their number are all
+pub left_made : (manifest : Manifest) (listed : List (List ℕ)) (rs : List Record) (n : ℕ) (found : Dead) → n ≡ length (makings rs) → AddsLeft manifest listed (IsBelow (IsLeftAt rs) n) (record { dead = []; kept = [] }) found
+    → AddsLeft manifest listed (λ t. IsSome (in_force rs t)) (record { dead = []; kept = [] }) found
+left_made manifest listed rs n found all adds =
+    left_as manifest listed (IsBelow (IsLeftAt rs) n) (λ t. IsSome (in_force rs t)) (record { dead = []; kept = [] }) found (λ t below. force_of_left rs below.0 t below.2)
+    (λ t some. subst (λ (m : ℕ). IsBelow (IsLeftAt rs) m t) (sym all) (left_of_force rs t some)) adds
+
 -- all of a build log and of a deps log
-pub buried : (graph : Graph) (records : Records) (listed : List (List ℕ)) (n : ℕ) (found : Dead) (rs : List Record) (ds : List DepsRecord) → Knows graph records rs ds → n ≡ length (makings rs) → ListsAll records listed
-    → AddsLeft graph.manifest listed (IsBelow (IsLeftAt rs) n) (record { dead = []; kept = [] }) found → AreBuried graph.manifest rs ds found.dead found.kept
-buried graph records listed n found rs ds known all lists adds = record {
+pub buried : (graph : Graph) (records : Records) (listed : List (List ℕ)) (found : Dead) (rs : List Record) (ds : List DepsRecord) → Knows graph records rs ds → ListsAll records listed
+    → AddsLeft graph.manifest listed (λ t. IsSome (in_force rs t)) (record { dead = []; kept = [] }) found → AreBuried graph.manifest rs ds found.dead found.kept
+buried graph records listed found rs ds known lists adds = record {
   dead = λ t. (
     λ h. elim ((adds.dead t).0 h) [
       | inl none ↦ absurd (false≢true none)
       | inr one ↦ (left t one.0 one.1, λ is. false≢true (sym one.2 ∙ (lists ds t keeps).1 is))
     ],
     λ both. (adds.dead t).1 (inr (
-      below t both.0,
+      both.0.made,
       both.0.unnamed,
       elim (cases_Bool (has listed t)) [
         | inl is ↦ absurd (both.1 ((lists ds t keeps).0 is))
@@ -200,18 +157,15 @@ buried graph records listed n found rs ds known all lists adds = record {
       | inl none ↦ absurd (false≢true none)
       | inr one ↦ (left t one.0 one.1, (lists ds t keeps).0 one.2)
     ],
-    λ both. (adds.kept t).1 (inr (below t both.0, both.0.unnamed, (lists ds t keeps).1 both.1)),
+    λ both. (adds.kept t).1 (inr (both.0.made, both.0.unnamed, (lists ds t keeps).1 both.1)),
   );
 }
   where
     keeps : KeepsDeps ds records.logs.deps_log.log
     keeps = known.told.keeps
 
-    left : (t : List ℕ) → IsBelow (IsLeftAt rs) n t → IsUnnamed graph.manifest t → IsLeft graph.manifest rs t
-    left t made unnamed = record { made = force_of_left rs made.0 t (subst (λ (m : ℕ). made.0 < m) all made.1) made.2; unnamed = unnamed }
-
-    below : (t : List ℕ) → IsLeft graph.manifest rs t → IsBelow (IsLeftAt rs) n t
-    below t is = subst (λ (m : ℕ). IsBelow (IsLeftAt rs) m t) (sym all) (left_of_force rs t is.made)
+    left : (t : List ℕ) → IsSome (in_force rs t) → IsUnnamed graph.manifest t → IsLeft graph.manifest rs t
+    left t made unnamed = record { made = made; unnamed = unnamed }
 
 -- ---- what deps records list
 
@@ -272,10 +226,14 @@ pub or_at : (found : Option (List ℕ)) (t : List ℕ) → Some t ≡ found → 
 or_at None t is = absurd (none-some t (sym is))
 or_at (Some u) t is = subst (λ (v : List ℕ). has (v ∷ []) t ≡ true) (same_Some t u is) (has_new [] t)
 
+texts_push : (texts : List (List ℕ)) (numbers : List ℕ) (n : ℕ) → texts_at texts (numbers ++ n ∷ []) ≡ texts_at texts numbers ++ if_some (slice_get texts n)
+texts_push texts [] n = append-nil (if_some (slice_get texts n))
+texts_push texts (m ∷ numbers) n =
+    ap (λ (l : List (List ℕ)). if_some (slice_get texts m) ++ l) (texts_push texts numbers n) ∙ sym (append_assoc (if_some (slice_get texts m)) (texts_at texts numbers) (if_some (slice_get texts n)))
+
 -- one number more of a deps record
 pub texts_more : (texts : List (List ℕ)) (numbers : List ℕ) (i number : ℕ) → i < length numbers → number ≡ get_or numbers i 0 → texts_at texts (take i numbers) ++ if_some (slice_get texts number) ≡ texts_at texts (take (i + 1) numbers)
-texts_more texts numbers i number low is =
-    texts_next texts numbers i (texts_at texts (take i numbers)) (texts_at texts (take i numbers) ++ if_some (slice_get texts number)) low refl (ap (λ (n : ℕ). texts_at texts (take i numbers) ++ if_some (slice_get texts n)) is)
+texts_more texts numbers i number low is = sym (ap (texts_at texts) (take_more numbers i 0 low ∙ ap (λ (m : ℕ). take i numbers ++ m ∷ []) (sym is)) ∙ texts_push texts (take i numbers) number)
 
 pub numbers_more : (texts : List (List ℕ)) (numbers : List ℕ) (i number : ℕ) (old mid new : List (List ℕ)) → i < length numbers → number ≡ get_or numbers i 0
     → AddsJust old mid (λ t. has (texts_at texts (take i numbers)) t ≡ true) → AddsJust mid new (λ t. Some t ≡ slice_get texts number) → AddsJust old new (λ t. has (texts_at texts (take (i + 1) numbers)) t ≡ true)

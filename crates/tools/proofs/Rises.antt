@@ -58,7 +58,10 @@ times_none (x ∷ xs) n none = by (x == n) refl none (times_none xs n)
     by false is h rest = ap (λ (b : Bool). if b then suc (times xs n) else times xs n) is ∙ rest h
 
 times_push : (xs : List ℕ) (i n : ℕ) → times (xs ++ i ∷ []) n ≡ times xs n + times (i ∷ []) n
-times_push [] i n = refl
+times_push [] i n = zero_plus (times (i ∷ []) n)
+  where
+    zero_plus : (k : ℕ) → k ≡ 0 + k
+    zero_plus k = omega arith
 times_push (x ∷ xs) i n = by (x == n) refl (times_push xs i n)
   where
     by : (b : Bool) → (x == n) ≡ b → times (xs ++ i ∷ []) n ≡ times xs n + times (i ∷ []) n → times ((x ∷ xs) ++ i ∷ []) n ≡ times (x ∷ xs) n + times (i ∷ []) n

@@ -1,5 +1,5 @@
 -- What `-t cleandead` removes, and what it keeps.
-use Rattle.std.specs.Prelude.{◌≡◌, ℕ, true, false, List, ◌↔◌, IsSome, Some, slice_get}
+use Rattle.std.specs.Prelude.{◌≡◌, ℕ, true, false, List, [], ◌↔◌, IsSome, Some, slice_get}
 use Rattle.model.specs.declared.record.Record.{Record}
 use Rattle.model.specs.declared.record.DepsRecord.{DepsRecord}
 use Rattle.model.specs.Graph.{has}
@@ -7,6 +7,7 @@ use Rattle.model.specs.Records.{in_force}
 use Rattle.paths.specs.Told.{IsUnnamed}
 use Rattle.paths.specs.declared.manifest.Manifest.{Manifest}
 use Rattle.links.specs.declared.graph.Graph.{Graph}
+use Rattle.build_log.specs.Log.{Keeps as KeepsMade}
 use Rattle.deps_log.specs.Log.{Keeps}
 use Rattle.records.specs.Known.{Knows}
 use Rattle.records.specs.declared.records.Records.{Records}
@@ -34,6 +35,10 @@ ListsAll records listed = (ds : List DepsRecord) (text : List ℕ) → Keeps ds 
 pub record AddsLeft (manifest : Manifest) (listed : List (List ℕ)) (made : List ℕ → Type 0) (old new : Dead) : Type 0 where
   pub dead : AddsJust old.dead new.dead (λ text. made text × IsUnnamed manifest text × (has listed text ≡ false))
   pub kept : AddsJust old.kept new.kept (λ text. made text × IsUnnamed manifest text × (has listed text ≡ true))
+
+-- the same of all texts for which a record of the build log is in force, whatever it tells: nothing was there before
+abbrev pub BuriesMade : Manifest → Records → (listed : List (List ℕ)) → Dead → Type 0
+BuriesMade manifest records listed found = (rs : List Record) → KeepsMade rs records.logs.build_log.log → AddsLeft manifest listed (λ text. IsSome (in_force rs text)) (record { dead = []; kept = [] }) found
 
 -- the text was added to the dead ones, or, where it is listed, to those that are kept
 pub record AddsEither (listed : List (List ℕ)) (text : List ℕ) (old new : Dead) : Type 0 where

@@ -47,17 +47,15 @@ pub record Shows (declared : Declared) (depth : ℕ) (level : Level) (old new : 
   pub nearer : to_show declared depth new < to_show declared depth (old ++ level ∷ [])
   pub fits : length new ≤ depth
 
--- So the level goes on: its next path, and the level behind that.
-pub record Goes (level : Level) (next : ℕ × Level) : Type 0 where
+-- So the level goes on: this is its next path.
+pub record Goes (level : Level) (path : ℕ) : Type 0 where
   pub within : level.place < length level.paths.now
-  pub path : next.0 ≡ get_or level.paths.now level.place next.0
-  pub paths : next.1.paths.now ≡ level.paths.now
-  pub place : next.1.place ≡ level.place + 1
+  pub is : path ≡ get_or level.paths.now level.place path
 
 -- nothing of a level is left, or it goes on so
-abbrev pub IsGoneOn : Level → Option (ℕ × Level) → Type 0
+abbrev pub IsGoneOn : Level → Option ℕ → Type 0
 IsGoneOn level None = length level.paths.now ≤ level.place
-IsGoneOn level (Some next) = Goes level next
+IsGoneOn level (Some path) = Goes level path
 
 -- ---- texts, each once
 

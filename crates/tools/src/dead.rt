@@ -7,7 +7,7 @@ ghost use Rattle.build_log.specs.Keeping.{OfKept};
 ghost use Rattle.build_log.specs.Kept.{texts_at};
 ghost use Rattle.deps_log.specs.Log.{Keeps};
 ghost use Rattle.tools.specs.Clean.{AddsJust};
-ghost use Rattle.tools.specs.Dead.{AddsEither, AddsLeft, Buries, IsListedAt, ListsAll};
+ghost use Rattle.tools.specs.Dead.{AddsEither, AddsLeft, Buries, BuriesMade, IsListedAt, ListsAll};
 
 use crate::declared::Declared;
 use paths::Paths;
@@ -28,13 +28,25 @@ pub fn to_bury(alloc: Global, declared: &Declared, records: &Records) -> Result<
     ensures { IfOk result (λ found. Buries declared.now.graph records.now found.dead found.kept) }
 {
     let listed = listed(alloc, records)?;
+    bury_made(alloc, declared, records, &listed)
+}
+
+/// The same, where it is known which paths deps records list.
+fn bury_made(
+    alloc: Global,
+    declared: &Declared,
+    records: &Records,
+    listed: &Paths,
+) -> Result<Dead, AllocError>
+    ensures { IfOk result (BuriesMade declared.now.graph.manifest records.now listed.now) }
+{
     let dead = Paths::new(alloc);
     let kept = Paths::new(alloc);
     let mut found = Dead { dead, kept };
     let log = records.logs.build_log.log();
     for number in 0..log.done_records() {
         let outputs = log.outputs_at(alloc, number)?;
-        add_all(alloc, declared, &listed, outputs.as_slice(), &mut found)?;
+        add_all(alloc, declared, listed, outputs.as_slice(), &mut found)?;
     }
     Ok(found)
 }

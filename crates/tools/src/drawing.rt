@@ -33,8 +33,11 @@ pub fn graph(alloc: Global, declared: &Declared, paths: &[PathId]) -> Result<Str
         told: String::from_str(alloc, FRONT)?,
     };
     drawing.push_reversed(paths)?;
-    while let Some(path) = drawing.open.pop() {
-        drawing.draw(alloc, declared, path)?;
+    for _ in 0..usize::MAX {
+        match drawing.open.pop() {
+            Some(path) => drawing.draw(alloc, declared, path)?,
+            None => break,
+        }
     }
     drawing.told.push_str("}\n")?;
     let Drawing { told, .. } = drawing;

@@ -9,8 +9,16 @@ use std::alloc::AllocError;
 pub fn push_line(text: &mut String, parts: &[&str]) -> Result<(), AllocError>
     ensures { OnOk result (string_bytes text.new ≡ string_bytes text.old ++ line (flat_map (λ part. part.now) parts.now)) }
 {
+    push_parts(text, parts)?;
+    text.push('\n')
+}
+
+/// Puts the parts at the end of a text.
+fn push_parts(text: &mut String, parts: &[&str]) -> Result<(), AllocError>
+    ensures { OnOk result (string_bytes text.new ≡ string_bytes text.old ++ flat_map (λ part. part.now) parts.now) }
+{
     for part in parts {
         text.push_str(part)?;
     }
-    text.push('\n')
+    Ok(())
 }

@@ -1,6 +1,6 @@
 //! `-t targets`: outputs by depth, by rule, or all.
 
-ghost use Rattle.std.specs.Prelude.{◌≡◌, ◌<◌, ◌++◌, ◌∷◌, [], IfOk, None, OnOk, filter, flat_map, is_none, length, map, string_bytes};
+ghost use Rattle.std.specs.Prelude.{◌≡◌, ◌<◌, ◌+◌, ◌++◌, ◌∷◌, [], IfOk, None, OnOk, filter, flat_map, is_none, length, map, string_bytes};
 ghost use Rattle.std.specs.Map.Iter.{deref};
 ghost use Rattle.std.specs.Option.{option_map};
 ghost use Rattle.links.specs.Links.{links_of};
@@ -216,18 +216,34 @@ struct Level<'a> {
 }
 
 impl<'a> Level<'a> {
-    /// The next path, and what is still to be shown behind it.
-    fn next(self) -> Option<(PathId, Level<'a>)>
+    /// The next path.
+    fn next(self) -> Option<PathId>
         ensures { IsGoneOn self.entry result }
     {
         if self.place >= self.paths.len() {
             return None;
         }
-        let path = self.paths[self.place];
-        let place = self.place + 1;
-        let paths = self.paths;
-        Some((path, Level { paths, place }))
+        Some(self.paths[self.place])
     }
+
+    /// What is left behind the next path. Where nothing is, that is nothing.
+    fn behind(self) -> Level<'a>
+        ensures paths { result.paths.now ≡ self.entry.paths.now }
+        ensures place { self.entry.place < length self.entry.paths.now → result.place ≡ self.entry.place + 1 }
+    {
+        if self.place >= self.paths.len() {
+            return self;
+        }
+        level_of(self.paths, self.place + 1)
+    }
+}
+
+/// The paths of a level from this place on.
+fn level_of<'a>(paths: &'a [PathId], place: usize) -> Level<'a>
+    ensures paths { result.paths.now ≡ paths.now }
+    ensures place { result.place ≡ place }
+{
+    Level { paths, place }
 }
 
 /// The outputs that no edge reads, each with what is above it to this depth.
@@ -269,7 +285,7 @@ fn show_all(
 {
     let mut told = String::new(alloc);
     let mut levels = Vec::new(alloc);
-    levels.push(Level { paths, place: 0 })?;
+    levels.push(level_of(paths, 0))?;
     'levels: while let Some(level) = levels.pop() {
         show_next(declared, depth, level, &mut levels, &mut told)?;
     }
@@ -287,11 +303,11 @@ fn show_next<'a>(
     requires { length levels.old.items < depth }
     ensures { OnOk result (Shows declared.now depth level.entry levels.old.items levels.new.items (string_bytes told.old) (string_bytes told.new)) }
 {
-    let Some((path, next)) = level.next() else {
+    let Some(path) = level.next() else {
         return Ok(());
     };
     push_path(declared, path, levels.len(), told)?;
-    levels.push(next)?;
+    levels.push(level.behind())?;
     open_above(declared, depth, path, levels)
 }
 

@@ -8,7 +8,7 @@ pub returns-then-is_empty : goal.returns-then-is_empty
 returns-then-is_empty c =
     let told = string_bytes c.args.told.now in
     let none : length c.args.edges.now ≡ 0 = eqb-true _ 0 (sym c.is_empty.ensures ∙ c.if-is_empty.true) in
-    subst (Puts told told) (sym (if_some_none c.args.edges.now _ none)) (puts_none told)
+    subst (Puts told told) (sym (if_some_none c.args.edges.now (codes "  validation for:" ∷ outputs_of c.args.declared.now c.args.edges.now) none)) (puts_none told)
 
 pub returns : goal.returns
 returns c =

@@ -16,6 +16,6 @@ loop-number-preserved c = λ ds keeps. adds_counted (IsListedAt ds) c.loop-numbe
 pub returns : goal.returns
 returns c = λ ds text keeps.
     let kept = subst (λ (t : Table Deps). Keeps ds t) (sym c.log-log.ensures) keeps in
-    let all : c.deps_records.result ≡ length (tolds ds) = c.deps_records.ensures ds kept in
+    let all : c.deps_records-number-end.result ≡ length (tolds ds) = c.deps_records-number-end.ensures ds kept in
     let last : c.loop-number.number ≡ length (tolds ds) = omega (arith, all) in
     lists_all ds c.loop-number.number c.loop-number.listed text last (c.loop-number.invariant ds keeps)

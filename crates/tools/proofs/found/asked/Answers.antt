@@ -11,7 +11,7 @@ use Rattle.tools.proofs.found.asked.Goals as goal
 pub returns-then-is_empty : goal.returns-then-is_empty
 returns-then-is_empty c =
     let none : length c.args.words.now ≡ 0 = eqb-true _ 0 (sym c.is_empty.ensures ∙ c.if-is_empty.true) in
-    none_asked (λ paths. AllZip (IsNamed c.args.graph.now) (map deref c.args.words.now) paths.items) c.args.words.now c.defaults.result none
+    none_asked c.args.words.now c.defaults.result (λ paths. AllZip (IsNamed c.args.graph.now) (map deref c.args.words.now) paths.items) none
 
 pub loop-word-init : goal.loop-word-init
 loop-word-init c = asked_first c.args.graph.now c.in_ok-paths.paths.items c.in_ok-paths.ensures.items

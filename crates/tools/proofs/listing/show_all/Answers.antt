@@ -7,7 +7,7 @@ use Rattle.tools.proofs.listing.show_all.Goals as goal
 
 pub levels-init : goal.levels-init
 levels-init c = record {
-  same = shown_first c.args.declared.now c.args.depth c.new-levels.result.items c.push.new.self.items _ c.args.paths.now (string_bytes c.new-told.result) c.new-told.ensures.bytes c.new-levels.ensures.items c.in_ok-push.ensures.items refl refl;
+  same = shown_first c.args.declared.now c.args.depth c.new-levels.result.items c.push.new.self.items c.level_of.result c.args.paths.now (string_bytes c.new-told.result) c.new-told.ensures.bytes c.new-levels.ensures.items c.in_ok-push.ensures.items c.level_of.ensures.paths c.level_of.ensures.place;
   fits = omega (arith, c.in_ok-push.ensures.len, c.new-levels.ensures.len, c.push.new.self.ok.0, c.requires);
 }
 

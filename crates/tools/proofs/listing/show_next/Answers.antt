@@ -24,7 +24,7 @@ returns c =
     let count : c.len.result ≡ length old = omega (arith, c.len.ensures, c.args.levels.now.ok.0) in
     let goes = c.in-Some.ensures in
     on_ok c.open_above.result
-    (λ opens. shows_one declared depth c.args.level c.in-Some.next old new c.requires path told more goes.within goes.path goes.paths goes.place
+    (λ opens. shows_one declared depth c.args.level c.behind.result old new c.requires path told more goes.within goes.is c.behind.ensures.paths (c.behind.ensures.place goes.within)
     (subst (λ (l : List Level). Opens declared depth path l new) c.in_ok-push.ensures.items opens)
     (subst (λ (n : ℕ). Puts told more (head_line declared n path ((links_of declared.graph).maker path) ∷ [])) count c.in_ok-push_path.ensures))
     c.open_above.ensures

@@ -1,4 +1,4 @@
-use Rattle.std.proofs.Common.{◌≡◌, [], Bool, List, length, subst, sym, ◌∙◌}
+use Rattle.std.proofs.Common.{◌≡◌, [], Bool, List, length, vec_len, subst, sym, ◌∙◌, arith}
 use Rattle.std.proofs.lemmas.Bool.{eqb-true}
 use Rattle.build_log.specs.Kept.{texts_at}
 use Rattle.tools.specs.Missing.{AddsDeps, IsUnmarked}
@@ -11,7 +11,9 @@ pub returns-then-is_empty : goal.returns-then-is_empty
 returns-then-is_empty c =
     let texts = texts_at c.args.logged.records.now.logs.deps_log.log.outputs c.args.numbers.now in
     let made = c.in_ok-made.made.items in
-    let none : made ≡ [] = deps_empty made (eqb-true (length made) 0 (sym c.is_empty.ensures ∙ c.if-is_empty.true)) in
+    let empty : vec_len c.in_ok-made.made ≡ 0 = eqb-true _ 0 (sym c.is_empty.ensures ∙ c.if-is_empty.true) in
+    let count : length made ≡ 0 = omega (arith, empty, c.in_ok-made.made.ok.0) in
+    let none : made ≡ [] = deps_empty made count in
     apart_none c.args.logged.declared.now.graph c.args.output c.args.file.now texts made c.args.missing.now.items none c.in_ok-made.ensures
 
 pub returns : goal.returns

@@ -11,7 +11,7 @@ returns-in_err-build_log-clause-memory g c = if_err_each c.from_residual.result 
 
 pub returns-in_err-read-clause-memory : goal.returns-in_err-read-clause-memory
 returns-in_err-read-clause-memory g c =
-    memory_goes_on (g.S.Texts.world c.args.site.now) (g.S.Texts.world c.read.new.site) c.in_err-read.field-0 c.from_residual-in_err-read.result c.in_err-read.ensures.cause c.from_residual-in_err-read.ensures.1
+    memory_goes_on (g.S.Texts.world c.args.site.now) (g.S.Texts.world c.read.new.site) c.in_err-read.field-0.0 c.from_residual-in_err-read.result c.in_err-read.ensures.cause c.from_residual-in_err-read.ensures.1
 
 pub returns-clause-looked : goal.returns-clause-looked
 returns-clause-looked g c = record { looks = c.read.ensures.looks; unrefused = unrefused_call (g.S.Texts.world c.args.site.now) (g.S.Texts.world c.read.new.site) c.in_ok-read.field-0 c.in_ok-read.ensures.cause }
