@@ -35,7 +35,7 @@ enum Taken {
 }
 
 /// What these words ask for, without the name of the program: options and targets in any order, up to `-t TOOL`, behind which all are
-/// the tool's. Of an option that is given twice the last counts. What is only told ends the words where it stands.
+/// the tool's, and in front of which targets count for nothing. Of an option that is given twice the last counts. What is only told ends the words where it stands.
 pub fn asked<'a>(alloc: Global, words: &[&'a str]) -> Result<Asked<'a>, WordFault<'a>> {
     let mut options = Options::new(alloc);
     let mut place = 0usize;
@@ -45,6 +45,7 @@ pub fn asked<'a>(alloc: Global, words: &[&'a str]) -> Result<Asked<'a>, WordFaul
             Taken::Told(information) => return Ok(Asked::Told(information)),
             Taken::Tool(tool, count) => {
                 let behind = place.saturating_add(count);
+                options.words = Vec::new(alloc);
                 push_words(words.get(behind..).unwrap_or(&[]), &mut options)?;
                 return Ok(Asked::Tool(tool, options));
             }
