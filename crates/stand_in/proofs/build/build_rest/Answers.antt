@@ -4,8 +4,8 @@ use Rattle.stand_in.proofs.Stages.{idle_then, memory_end, prepared_then, ready_p
 use Rattle.stand_in.proofs.Turning.{goes_by}
 use Rattle.stand_in.proofs.build.build_rest.Goals as goal
 
-pub left_targets-requires-clause-running : goal.left_targets-requires-clause-running
-left_targets-requires-clause-running g c = c.requires.ready.1.since.unrefused.goes_on
+pub left_targets-requires : goal.left_targets-requires
+left_targets-requires g c = record { running = c.requires.ready.1.since.unrefused.goes_on }
 
 pub build_these-requires-clause-idle : goal.build_these-requires-clause-idle
 build_these-requires-clause-idle g c = idle_then g.S.Texts.tells (g.S.Texts.world c.args.site.now) (g.S.Texts.world c.left_targets.new.site) c.left_targets.ensures.looks c.requires.idle
