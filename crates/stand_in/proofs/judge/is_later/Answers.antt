@@ -11,4 +11,4 @@ pub returns-in-None : goal.returns-in-None
 returns-in-None g c = asks_so g.S.Texts.tells (λ (o : Option ℕ). IsSome o) (λ (b : Bool). b ≡ false) (g.S.Texts.world c.args.site.now) (g.S.Texts.world c.stamp.new.site) c.in_ok-stamp.field-0 true c.in_ok-stamp.ensures (λ is. absurd (true≢false is))
 
 pub returns-in-Some : goal.returns-in-Some
-returns-in-Some g c = asks_so g.S.Texts.tells (λ (o : Option ℕ). IsSome o) (λ (b : Bool). b ≡ false) (g.S.Texts.world c.args.site.now) (g.S.Texts.world c.stamp.new.site) c.in_ok-stamp.field-0 _ c.in_ok-stamp.ensures (λ is. subst (λ (o : Option ℕ). IsSome o) (sym c.in-Some.is) tt)
+returns-in-Some g c = asks_so g.S.Texts.tells (λ (o : Option ℕ). IsSome o) (λ (b : Bool). b ≡ false) (g.S.Texts.world c.args.site.now) (g.S.Texts.world c.stamp.new.site) c.in_ok-stamp.field-0 _ c.in_ok-stamp.ensures (λ is. subst (λ (o : Option ℕ). IsSome o) (sym c.in-Some.is) refl)
