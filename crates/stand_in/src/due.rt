@@ -137,13 +137,8 @@ fn show_all<S: Site>(
 {
     let mut shown = 0usize;
     for explanation in commands {
+        let counts = counts_behind(shown, commands.len());
         shown = shown.saturating_add(1);
-        let counts = Counts {
-            started: shown,
-            total: commands.len(),
-            running: 0,
-            finished: shown,
-        };
         show_one(
             alloc,
             site,
@@ -153,6 +148,17 @@ fn show_all<S: Site>(
         )?;
     }
     Ok(())
+}
+
+/// How far it has come with one command more than these.
+fn counts_behind(done: usize, total: usize) -> Counts {
+    let shown = done.saturating_add(1);
+    Counts {
+        started: shown,
+        total: total.max(shown),
+        running: 0,
+        finished: shown,
+    }
 }
 
 /// Shows the line of a command, if there is one.

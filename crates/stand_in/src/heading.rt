@@ -3,7 +3,7 @@
 ghost use Rattle.std.specs.Prelude.{◌≡◌, ◌<◌, ◌++◌, length, IfOk, IfSome};
 ghost use Rattle.stand_in.specs.Heading.{IsHeadingOf, letter, spelled};
 
-use std::alloc::{AllocError, Global};
+use std::alloc::{AllocError, AllocFailed, Global};
 
 /// What a field shows.
 #[derive(Clone, Copy, Debug, PartialEq, Eq)]
@@ -58,6 +58,12 @@ impl From<AllocError> for HeadingFault {
     }
 }
 
+impl<T: Drop> From<AllocFailed<T>> for HeadingFault {
+    fn from(_: AllocFailed<T>) -> HeadingFault {
+        HeadingFault::Memory
+    }
+}
+
 /// How far a build has come, as a heading shows it.
 #[derive(Clone, Copy, Debug, PartialEq, Eq)]
 pub struct Moment {
@@ -108,7 +114,7 @@ impl Heading {
         let mut rest = text.as_bytes();
         'parts: while !rest.is_empty() {
             let (part, behind) = split_part(rest)?;
-            parts.push(part).map_err(AllocError::from)?;
+            parts.push(part)?;
             rest = behind;
         }
         Ok(Heading { parts })

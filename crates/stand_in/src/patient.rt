@@ -1,15 +1,19 @@
 //! A site that starts nothing while the machine has too much to do.
 
-ghost use Rattle.std.specs.Prelude.{◌≡◌};
+ghost use Rattle.std.specs.Prelude.{◌≡◌, IfOk};
+ghost use Rattle.host.specs.World.{world_of, fresh};
 
 use crate::place::Place;
+use crate::screen::{Front, Screen};
+use host::Host;
 use model::{Act, Event, Finished, SiteFault};
 use nj_run::Alone;
 use paths::Manifest;
 use site::{Site, Texts};
 use std::alloc::Global;
-use std::thread;
+use std::io::Write;
 use std::time::Duration;
+use std::{io, thread};
 use text::Bytes;
 
 /// How long it is waited between two looks, in thousandths of a second.
@@ -27,8 +31,25 @@ pub struct Patient<'a, S> {
     limit: Option<f64>,
 }
 
+/// The working folder, where no command was started, and what is shown goes to the writer.
+pub fn site_here<'x, W: Write + Drop>(
+    alloc: Global,
+    rt: &'x HostRuntime,
+    out: &'x mut W,
+    front: Front<'x>,
+    limit: Option<f64>,
+) -> io::Result<Patient<'x, Host<'x, Screen<'x, W>>>>
+    ensures { IfOk result (λ patient. world_of patient.site ≡ fresh) }
+{
+    let screen = Screen::new(rt, alloc, out, front)?;
+    let host = Host::new(alloc, rt, screen);
+    Ok(Patient::new(rt, host, limit))
+}
+
 impl<'a, S: Place> Patient<'a, S> {
-    pub fn new(rt: &'a HostRuntime, site: S, limit: Option<f64>) -> Patient<'a, S> {
+    pub fn new(rt: &'a HostRuntime, site: S, limit: Option<f64>) -> Patient<'a, S>
+        ensures { result.site ≡ site }
+    {
         Patient {
             rt,
             site,

@@ -6,9 +6,9 @@ use crate::build::{Ended, build_here};
 use crate::due::{Due, due_here};
 use crate::given::{Asked, Options as Given, Shown};
 use crate::heading::{Heading, HeadingFault};
-use crate::patient::Patient;
+use crate::patient::site_here;
 use crate::processors::default_jobs;
-use crate::screen::{Front, PATTERN, Screen};
+use crate::screen::{Front, PATTERN};
 use crate::told::{self, Telling};
 use crate::tools_here::{Asking, NoAnswer, answer};
 use crate::words::asked;
@@ -177,8 +177,8 @@ fn build_in<'a, W: Write + Drop>(
     let alloc = rt.alloc();
     let jobs = given.jobs.unwrap_or_else(|| jobs_here(rt));
     let options = build_options(alloc, given, jobs)?;
-    let screen = Screen::new(rt, alloc, out, front_of(given, heading, jobs))?;
-    let mut site = Patient::new(rt, Host::new(alloc, rt, screen), given.load);
+    let front = front_of(given, heading, jobs);
+    let mut site = site_here(alloc, rt, out, front, given.load)?;
     let ended = build_here(alloc, &mut site, given, &options);
     let mut host = site.into_site();
     // where the clock stands still for seconds there is nothing more to do about it
@@ -195,9 +195,10 @@ fn due_in<'a, W: Write + Drop>(
 ) -> io::Result<(Result<Due, NoAnswer>, Option<Trouble>)> {
     let alloc = rt.alloc();
     let options = build_options(alloc, given, 1)?;
-    let screen = Screen::new(rt, alloc, out, front_of(given, heading, 1))?;
-    let mut host = Host::new(alloc, rt, screen);
-    let due = due_here(alloc, &mut host, given, &options);
+    let front = front_of(given, heading, 1);
+    let mut site = site_here(alloc, rt, out, front, None)?;
+    let due = due_here(alloc, &mut site, given, &options);
+    let host = site.into_site();
     Ok((due, host.into_trouble()))
 }
 

@@ -89,18 +89,41 @@ pub fn answer<S: Alone>(
     requires running { (S.world site.old).stopped ≡ false }
     ensures looks { removes asking.entry.tool ≡ false → OnlyLooks S.tells (S.world site.old) (S.world site.new) }
 {
-    let file = asking.options.file;
     match asking.tool {
         Tool::Restat | Tool::Recompact => Ok(Answer::well(String::new(alloc))),
-        Tool::Clean | Tool::CleanDead => {
-            let mut declared = read_alone(alloc, site, file)?;
-            answer_read(alloc, site, asking, folder, &mut declared)
-        }
-        _ => {
-            let mut declared = read_here(alloc, site, file)?;
-            answer_read(alloc, site, asking, folder, &mut declared)
-        }
+        Tool::Clean | Tool::CleanDead => answer_alone(alloc, site, asking, folder),
+        _ => answer_here(alloc, site, asking, folder),
     }
+}
+
+/// What a tool answers once nobody else is at work in the folder.
+#[tactic(auto, using(crate::proofs::Looking::looking))]
+fn answer_alone<S: Alone>(
+    alloc: Global,
+    site: &mut S,
+    asking: Asking<'_>,
+    folder: &str,
+) -> Result<Answer, NoAnswer>
+    ensures looks { removes asking.entry.tool ≡ false → OnlyLooks S.tells (S.world site.old) (S.world site.new) }
+{
+    let file = asking.options.file;
+    let mut declared = read_alone(alloc, site, file)?;
+    answer_read(alloc, site, asking, folder, &mut declared)
+}
+
+/// What a tool answers of the build files as they are now.
+#[tactic(auto, using(crate::proofs::Looking::looking))]
+fn answer_here<S: Site>(
+    alloc: Global,
+    site: &mut S,
+    asking: Asking<'_>,
+    folder: &str,
+) -> Result<Answer, NoAnswer>
+    ensures looks { removes asking.entry.tool ≡ false → OnlyLooks S.tells (S.world site.old) (S.world site.new) }
+{
+    let file = asking.options.file;
+    let mut declared = read_here(alloc, site, file)?;
+    answer_read(alloc, site, asking, folder, &mut declared)
 }
 
 /// What a tool answers of what was read.

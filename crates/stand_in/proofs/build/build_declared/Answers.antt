@@ -31,8 +31,8 @@ returns-in_err-outcome-in-Build g c = λ entry was.
     let new = g.S.Texts.world c.before_build.new.site in
     end_by g.S.Texts.tells g.S.Site.outcome c.args.options.now entry (g.S.Texts.world c.build_rest.new.site) c.in_err-outcome-in-Build.field-0.0 (c.in_err-outcome-in-Build.ensures entry (ready_at g.S.Texts.tells g.S.Site.outcome c.args.options.now entry now new c.args.declared.now was (next_build g.S.Texts.tells g.S.Site.outcome c.args.options.now entry now new _ c.in-Build.is (c.in_ok-next.ensures.next entry was)))) c.from_residual-in_err-outcome-in-Build.result c.from_residual-in_err-outcome-in-Build.ensures.1
 
-pub returns-in_ok-outcome-in-Build : goal.returns-in_ok-outcome-in-Build
-returns-in_ok-outcome-in-Build g c = λ entry was.
+pub returns-in-Build : goal.returns-in-Build
+returns-in-Build g c = λ entry was.
     let now = g.S.Texts.world c.args.site.now in
     let new = g.S.Texts.world c.before_build.new.site in
     c.in_ok-outcome-in-Build.ensures entry (ready_at g.S.Texts.tells g.S.Site.outcome c.args.options.now entry now new c.args.declared.now was (next_build g.S.Texts.tells g.S.Site.outcome c.args.options.now entry now new _ c.in-Build.is (c.in_ok-next.ensures.next entry was)))
@@ -43,8 +43,8 @@ returns-in_err-outcome-in-ReadAnew g c = λ entry was.
     let mid = g.S.Texts.world c.before_build.new.site in
     end_by g.S.Texts.tells g.S.Site.outcome c.args.options.now entry (g.S.Texts.world c.build_anew.new.site) c.in_err-outcome-in-ReadAnew.field-0.0 (c.in_err-outcome-in-ReadAnew.ensures entry (next_anew g.S.Texts.tells g.S.Site.outcome c.args.options.now entry now mid _ _ c.in-ReadAnew.is (c.in_ok-next.ensures.next entry was))) c.from_residual-in_err-outcome-in-ReadAnew.result c.from_residual-in_err-outcome-in-ReadAnew.ensures.1
 
-pub returns-in_ok-outcome-in-ReadAnew : goal.returns-in_ok-outcome-in-ReadAnew
-returns-in_ok-outcome-in-ReadAnew g c = λ entry was.
+pub returns : goal.returns
+returns g c = λ entry was.
     let now = g.S.Texts.world c.args.site.now in
     let mid = g.S.Texts.world c.before_build.new.site in
     c.in_ok-outcome-in-ReadAnew.ensures entry (next_anew g.S.Texts.tells g.S.Site.outcome c.args.options.now entry now mid _ _ c.in-ReadAnew.is (c.in_ok-next.ensures.next entry was))
