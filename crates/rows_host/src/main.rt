@@ -12,6 +12,7 @@ mod host_commands;
 mod nj_rows;
 mod nj_runs;
 mod places;
+mod stand_in_runs;
 
 use places::Places;
 use std::io;

@@ -5,6 +5,7 @@ use crate::answers::{number, plain};
 use crate::documented::{push_documented, push_version};
 use crate::folder::Folder;
 use crate::nj_runs::{Ran, push_front, push_ran, push_status, run_of};
+use crate::stand_in_runs::stand_in_run_of;
 use std::alloc::{AllocError, Global};
 use std::path::PathBuf;
 use std::{fs, io};
@@ -105,8 +106,33 @@ impl<'a> Rows<'a> {
             "help" => push_help(&run_of(&self.folder, None, "--help")?, rest, told),
             "same" => self.push_same(alloc, rest, told),
             "documented" | "version" => self.push_page(alloc, first, rest, told),
+            "ninja" | "status_ninja" | "under_ninja" => {
+                self.push_stand_in(alloc, first, rest, told)
+            }
             _ => self.push_file(alloc, first, rest, told),
         }
+    }
+
+    /// `ninja WORDS`: runs the stand-in for ninja in the folder, and tells what it came to. `status_ninja WORDS` tells the status alone, and
+    /// `under_ninja TEXT WORDS` is under this `NINJA_STATUS`.
+    fn push_stand_in(
+        &self,
+        alloc: Global,
+        first: &str,
+        rest: &str,
+        told: &mut String,
+    ) -> Result<(), AllocError> {
+        if first == "under_ninja" {
+            let (heading, words) = word(rest);
+            let heading = plain(alloc, heading)?;
+            let ran = stand_in_run_of(&self.folder, Some(heading.as_str()), words)?;
+            return push_ran(&ran, told);
+        }
+        let ran = stand_in_run_of(&self.folder, None, rest)?;
+        if first == "status_ninja" {
+            return push_status(ran.status, told);
+        }
+        push_ran(&ran, told)
     }
 
     /// `documented PAGE`: the options of the help, where the page has the same. `version PAGE`: the version of the help, where the page has

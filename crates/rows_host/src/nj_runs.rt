@@ -30,7 +30,7 @@ pub fn run_of(folder: &Folder<'_>, pattern: Option<&str>, words: &str) -> Result
 }
 
 /// The words, with a blank between, of a text.
-fn words_of(folder: &Folder<'_>, text: &str) -> Result<Vec<String>, AllocError> {
+pub fn words_of(folder: &Folder<'_>, text: &str) -> Result<Vec<String>, AllocError> {
     let alloc = folder.alloc();
     let mut words = Vec::new(alloc);
     for word in text.split(' ') {

@@ -1,0 +1,10 @@
+pub mod Calls
+pub mod Claimed
+pub mod Gathering
+pub mod Headings
+pub mod Looking
+pub mod Opening
+pub mod Ready
+pub mod Stages
+pub mod Telling
+pub mod Turning

@@ -1,0 +1,12 @@
+use Rattle.std.proofs.Common.{ℕ, Bool, true, false, Option, None, Some, Result, Ok, Err, IsSome, ◌≡◌, refl, sym, ap, ◌∙◌}
+use Rattle.stand_in.proofs.Calls.{asks_call, still_memory, still_nothing}
+use Rattle.stand_in.proofs.regenerating.show_failure.Goals as goal
+
+pub returns-in_err-outputs : goal.returns-in_err-outputs
+returns-in_err-outputs g c = still_memory g.S.Texts.tells (λ (u : Unit {0}). Unit {0}) (g.S.Texts.world c.args.site.now) (g.S.Texts.world c.args.site.now) c.from_residual.result (still_nothing g.S.Texts.tells (g.S.Texts.world c.args.site.now)) c.from_residual.ensures.1
+
+pub returns-in_err-push_failed : goal.returns-in_err-push_failed
+returns-in_err-push_failed g c = still_memory g.S.Texts.tells (λ (u : Unit {0}). Unit {0}) (g.S.Texts.world c.args.site.now) (g.S.Texts.world c.args.site.now) c.from_residual-in_err-push_failed.result (still_nothing g.S.Texts.tells (g.S.Texts.world c.args.site.now)) c.from_residual-in_err-push_failed.ensures.1
+
+pub returns : goal.returns
+returns g c = asks_call g.S.Texts.tells (λ (u : Unit {0}). Unit {0}) (g.S.Texts.world c.args.site.now) (g.S.Texts.world c.show.new.self) c.show.result c.show.ensures.looks c.show.ensures.cause

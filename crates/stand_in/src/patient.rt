@@ -1,0 +1,171 @@
+//! A site that starts nothing while the machine has too much to do.
+
+ghost use Rattle.std.specs.Prelude.{◌≡◌, IfOk};
+ghost use Rattle.host.specs.World.{world_of, fresh};
+
+use crate::place::Place;
+use crate::screen::{Front, Screen};
+use host::Host;
+use model::{Act, Event, Finished, SiteFault};
+use nj_run::Alone;
+use paths::Manifest;
+use site::{Site, Texts};
+use std::alloc::Global;
+use std::io::Write;
+use std::time::Duration;
+use std::{io, thread};
+use text::Bytes;
+
+/// How long it is waited between two looks, in thousandths of a second.
+const REST: u64 = 50;
+
+/// So often the load is looked at before a start, which is no limit.
+const MOST_LOOKS: u64 = 1 << 62;
+
+/// A site that waits with a start while the load is above a limit and a command that was started has not ended.
+#[derive(Drop)]
+pub struct Patient<'a, S> {
+    rt: &'a HostRuntime,
+    site: S,
+    /// The limit; none is none, and so is one that is not above zero.
+    limit: Option<f64>,
+}
+
+/// The working folder, where no command was started, and what is shown goes to the writer.
+pub fn site_here<'x, W: Write + Drop>(
+    alloc: Global,
+    rt: &'x HostRuntime,
+    out: &'x mut W,
+    front: Front<'x>,
+    limit: Option<f64>,
+) -> io::Result<Patient<'x, Host<'x, Screen<'x, W>>>>
+    ensures { IfOk result (λ patient. world_of patient.site ≡ fresh) }
+{
+    let screen = Screen::new(rt, alloc, out, front)?;
+    let host = Host::new(alloc, rt, screen);
+    Ok(Patient::new(rt, host, limit))
+}
+
+impl<'a, S: Place> Patient<'a, S> {
+    pub fn new(rt: &'a HostRuntime, site: S, limit: Option<f64>) -> Patient<'a, S>
+        ensures { result.site ≡ site }
+    {
+        Patient {
+            rt,
+            site,
+            limit: limit.filter(|limit| *limit > 0.0),
+        }
+    }
+
+    /// Gives the site back.
+    pub fn into_site(self) -> S {
+        let Patient { site, .. } = self;
+        site
+    }
+
+    /// Waits until the load is not above the limit, or each command that was started has ended.
+    fn wait_for_rest(&mut self)
+        ensures { S.world self.new.site ≡ S.world self.old.site }
+    {
+        let Some(limit) = self.limit else {
+            return;
+        };
+        for _ in 0..MOST_LOOKS {
+            if !self.site.should_wait(limit) {
+                return;
+            }
+            thread::sleep(self.rt, Duration::from_millis(REST));
+        }
+    }
+}
+
+impl<'a, S: Place> Texts for Patient<'a, S> {
+    ghost tells = { S.tells };
+
+    ghost world = { λ patient. S.world patient.site };
+
+    fn read(&mut self, path: &str) -> Result<Option<Bytes>, SiteFault> {
+        self.site.read(path)
+    }
+
+    fn failures(&self) -> u64 {
+        self.site.failures()
+    }
+}
+
+impl<'a, S: Place> Site for Patient<'a, S> {
+    ghost outcome = { S.outcome };
+
+    fn stat(&mut self, path: &str) -> Result<Option<u64>, SiteFault> {
+        self.site.stat(path)
+    }
+
+    fn tick(&mut self, path: &str) -> Result<u64, SiteFault> {
+        self.site.tick(path)
+    }
+
+    fn append(&mut self, path: &str, bytes: &[u8]) -> Result<(), SiteFault> {
+        self.site.append(path, bytes)
+    }
+
+    fn replace(&mut self, path: &str, content: &[u8]) -> Result<(), SiteFault> {
+        self.site.replace(path, content)
+    }
+
+    fn write(&mut self, path: &str, content: &[u8]) -> Result<(), SiteFault> {
+        self.site.write(path, content)
+    }
+
+    fn remove(&mut self, path: &str) -> Result<(), SiteFault> {
+        self.site.remove(path)
+    }
+
+    fn make_dirs(&mut self, path: &str) -> Result<(), SiteFault> {
+        self.site.make_dirs(path)
+    }
+
+    fn start(&mut self, job: usize, act: &Act, console: bool) -> Result<(), SiteFault> {
+        self.wait_for_rest();
+        self.site.start(job, act, console)
+    }
+
+    fn wait_any(&mut self) -> Result<Finished, SiteFault> {
+        self.site.wait_any()
+    }
+
+    fn show(&mut self, text: &[u8]) -> Result<(), SiteFault> {
+        self.site.show(text)
+    }
+
+    fn restart(&mut self) {
+        self.site.restart()
+    }
+
+    fn events(&self) -> &[Event] {
+        self.site.events()
+    }
+}
+
+impl<'a, S: Place> Alone for Patient<'a, S> {
+    fn enter(&mut self) {
+        self.site.enter()
+    }
+
+    fn has_waited(&mut self, folder: &str) -> bool {
+        self.site.has_waited(folder)
+    }
+
+    fn learn(&mut self, alloc: Global, manifest: &Manifest, verbose: bool) {
+        self.site.learn(alloc, manifest, verbose)
+    }
+}
+
+impl<'a, S: Place> Place for Patient<'a, S> {
+    fn run_generator(&mut self, act: &Act) -> Result<bool, SiteFault> {
+        self.site.run_generator(act)
+    }
+
+    fn should_wait(&mut self, limit: f64) -> bool {
+        self.site.should_wait(limit)
+    }
+}

@@ -1,0 +1,300 @@
+//! The run of the program.
+
+ghost use Rattle.std.specs.Prelude.{◌≤◌, IfOk};
+
+use crate::build::{Ended, build_here};
+use crate::due::{Due, due_here};
+use crate::given::{Asked, Options as Given, Shown};
+use crate::heading::{Heading, HeadingFault};
+use crate::patient::site_here;
+use crate::processors::default_jobs;
+use crate::screen::{Front, PATTERN};
+use crate::told::{self, Telling};
+use crate::tools_here::{Asking, NoAnswer, answer};
+use crate::words::asked;
+use builder::{Options, Report};
+use host::{Host, Trouble};
+use site::SiteFault;
+use status::Pattern;
+use std::alloc::{AllocError, Global};
+use std::io::Write;
+use std::{env, io};
+use text::Text;
+use tools::{Fault, Switches, Tool, Usage, split_switches};
+
+/// The whole program: does what the words ask for, without the program's name among them, and answers the exit status: 0 after a
+/// success, 3 where dependencies are missing, else 1. `heading` is what the environment has as `NINJA_STATUS`.
+pub fn run<W: Write + Drop, E: Write>(
+    rt: &HostRuntime,
+    words: &[&str],
+    heading: Option<&str>,
+    out: &mut W,
+    err: &mut E,
+) -> u8
+    ensures { result ≤ 3 }
+{
+    let done = match asked(rt.alloc(), words) {
+        Ok(Asked::Told(information)) => {
+            let jobs = jobs_here(rt);
+            told::information(information, jobs, out, err)
+        }
+        Ok(Asked::Build(given)) => run_build(rt, &given, heading, out, err),
+        Ok(Asked::Tool(tool, given)) => run_tool(rt, tool, &given, out, err),
+        Err(fault) => {
+            let jobs = jobs_here(rt);
+            told::words(&fault, jobs, err)
+        }
+    };
+    done.unwrap_or(1)
+}
+
+/// How many commands run at once on this machine where nothing is said.
+fn jobs_here(rt: &HostRuntime) -> u32 {
+    let alloc = rt.alloc();
+    let mut host = Host::new(alloc, rt, Vec::new(alloc));
+    let jobs = default_jobs(alloc, &mut host);
+    let _ = host.into_trouble();
+    jobs
+}
+
+/// Goes to the folder that was named, if one was.
+fn enter<E: Write>(rt: &HostRuntime, given: &Given<'_>, err: &mut E) -> io::Result<bool> {
+    let Some(folder) = given.folder else {
+        return Ok(true);
+    };
+    match env::set_current_dir(rt, folder) {
+        Ok(()) => Ok(true),
+        Err(reason) => {
+            told::folder(folder, &reason, err)?;
+            Ok(false)
+        }
+    }
+}
+
+fn run_build<W: Write + Drop, E: Write>(
+    rt: &HostRuntime,
+    given: &Given<'_>,
+    heading: Option<&str>,
+    out: &mut W,
+    err: &mut E,
+) -> io::Result<u8>
+    ensures { IfOk result (λ status. status ≤ 3) }
+{
+    match Heading::parse(rt.alloc(), heading.unwrap_or(Heading::DEFAULT)) {
+        Ok(heading) => build_under(rt, given, &heading, out, err),
+        Err(HeadingFault::Memory) => told::error("N61: out of memory", err),
+        Err(HeadingFault::Unknown(letter)) => unknown_field(letter, err),
+    }
+}
+
+/// Builds in the folder that was named, with this heading in front of lines.
+fn build_under<W: Write + Drop, E: Write>(
+    rt: &HostRuntime,
+    given: &Given<'_>,
+    heading: &Heading,
+    out: &mut W,
+    err: &mut E,
+) -> io::Result<u8>
+    ensures { IfOk result (λ status. status ≤ 3) }
+{
+    if given.shown != Shown::Printed {
+        tell_folder(given, out)?;
+    }
+    if !enter(rt, given, err)? {
+        return Ok(1);
+    }
+    if given.keeps {
+        writeln!(out, "ninja: -d keepdepfile and -d keeprsp do nothing here")?;
+        out.flush()?;
+    }
+    if given.dry || given.explain {
+        let status = tell_due(rt, given, heading, out, err)?;
+        if given.dry {
+            return Ok(status);
+        }
+    }
+    let (ended, trouble) = build_in(rt, given, heading, out)?;
+    let trouble = trouble.as_ref();
+    told::ended(&ended, Telling::new(given.file, given, trouble), out, err)
+}
+
+/// Tells what is due, and why, before anything runs. What is refused tells the build, where there is one.
+fn tell_due<W: Write + Drop, E: Write>(
+    rt: &HostRuntime,
+    given: &Given<'_>,
+    heading: &Heading,
+    out: &mut W,
+    err: &mut E,
+) -> io::Result<u8>
+    ensures { IfOk result (λ status. status ≤ 3) }
+{
+    let (due, trouble) = due_in(rt, given, heading, out)?;
+    let due = match due {
+        Ok(due) => due,
+        Err(fault) => {
+            if !given.dry {
+                return Ok(1);
+            }
+            return no_answer(&fault, trouble.as_ref(), err);
+        }
+    };
+    if given.explain {
+        told::why(rt.alloc(), &due, given.file, err)?;
+    }
+    if !given.dry {
+        return Ok(0);
+    }
+    told::would_run(&due, given.file, given.shown, out)
+}
+
+fn unknown_field<E: Write>(letter: u8, err: &mut E) -> io::Result<u8>
+    ensures { IfOk result (λ status. status ≤ 3) }
+{
+    let letter = char::from(letter);
+    writeln!(
+        err,
+        "ninja: fatal: unknown placeholder '%{letter}' in $NINJA_STATUS"
+    )?;
+    err.flush()?;
+    Ok(1)
+}
+
+fn tell_folder<W: Write>(given: &Given<'_>, out: &mut W) -> io::Result<()> {
+    if let Some(folder) = given.folder {
+        writeln!(out, "ninja: Entering directory `{folder}'")?;
+        out.flush()?;
+    }
+    Ok(())
+}
+
+/// Builds in the working folder. With a fault of the site comes what the device refused last.
+fn build_in<'a, W: Write + Drop>(
+    rt: &'a HostRuntime,
+    given: &Given<'_>,
+    heading: &'a Heading,
+    out: &'a mut W,
+) -> io::Result<(Ended, Option<Trouble>)> {
+    let alloc = rt.alloc();
+    let jobs = given.jobs.unwrap_or_else(|| jobs_here(rt));
+    let options = build_options(alloc, given, jobs)?;
+    let front = front_of(given, heading, jobs);
+    let mut site = site_here(alloc, rt, out, front, given.load)?;
+    let ended = build_here(alloc, &mut site, given, &options);
+    let mut host = site.into_site();
+    // where the clock stands still for seconds there is nothing more to do about it
+    let _ = host.wait_for_clock();
+    Ok((ended, host.into_trouble()))
+}
+
+/// What is due in the working folder. With a fault of the site comes what the device refused last.
+fn due_in<'a, W: Write + Drop>(
+    rt: &'a HostRuntime,
+    given: &Given<'_>,
+    heading: &'a Heading,
+    out: &'a mut W,
+) -> io::Result<(Result<Due, NoAnswer>, Option<Trouble>)> {
+    let alloc = rt.alloc();
+    let options = build_options(alloc, given, 1)?;
+    let front = front_of(given, heading, 1);
+    let mut site = site_here(alloc, rt, out, front, None)?;
+    let due = due_here(alloc, &mut site, given, &options);
+    let host = site.into_site();
+    Ok((due, host.into_trouble()))
+}
+
+fn front_of<'a>(given: &Given<'_>, heading: &'a Heading, jobs: u32) -> Front<'a> {
+    Front {
+        heading,
+        shown: given.shown,
+        jobs,
+    }
+}
+
+fn build_options(alloc: Global, given: &Given<'_>, jobs: u32) -> Result<Options, AllocError> {
+    Ok(Options {
+        file: Text::from_str(alloc, given.file)?,
+        jobs,
+        keep: given.keep,
+        verbose: given.shown == Shown::Commands,
+        pattern: Pattern::parse(alloc, PATTERN)?,
+    })
+}
+
+fn run_tool<W: Write, E: Write>(
+    rt: &HostRuntime,
+    tool: Tool,
+    given: &Given<'_>,
+    out: &mut W,
+    err: &mut E,
+) -> io::Result<u8>
+    ensures { IfOk result (λ status. status ≤ 3) }
+{
+    let alloc = rt.alloc();
+    if !enter(rt, given, err)? {
+        return Ok(1);
+    }
+    match switches_of(alloc, tool, given.words.as_slice()) {
+        Ok(found) => answer_in(rt, Asking::new(tool, given, &found), out, err),
+        Err(Usage::Memory) => told::error("N61: out of memory", err),
+        Err(usage) => {
+            if let Usage::Letter(letter) = usage {
+                let letter = char::from(letter);
+                writeln!(err, "ninja: invalid option -- '{letter}'")?;
+                err.flush()?;
+            }
+            write!(out, "{}", tool.usage())?;
+            out.flush()?;
+            Ok(1)
+        }
+    }
+}
+
+/// The words of a tool, taken apart where it has letters.
+fn switches_of<'a>(alloc: Global, tool: Tool, words: &[&'a str]) -> Result<Switches<'a>, Usage> {
+    if tool.has_letters() {
+        return split_switches(alloc, tool.letters(), words);
+    }
+    Ok(Switches {
+        letters: Vec::new(alloc),
+        words: Vec::from_slice(alloc, words)?,
+    })
+}
+
+/// What the tool answers in the working folder.
+fn answer_in<W: Write, E: Write>(
+    rt: &HostRuntime,
+    asking: Asking<'_>,
+    out: &mut W,
+    err: &mut E,
+) -> io::Result<u8>
+    ensures { IfOk result (λ status. status ≤ 3) }
+{
+    let alloc = rt.alloc();
+    let folder = env::current_dir(rt)?;
+    let mut host = Host::new(alloc, rt, Vec::new(alloc));
+    let answered = answer(alloc, &mut host, asking, folder.as_str());
+    let trouble = host.into_trouble();
+    match answered {
+        Ok(answer) => {
+            out.write_all(answer.text.as_bytes())?;
+            out.flush()?;
+            Ok(answer.status)
+        }
+        Err(fault) => no_answer(&fault, trouble.as_ref(), err),
+    }
+}
+
+fn no_answer<E: Write>(fault: &NoAnswer, trouble: Option<&Trouble>, err: &mut E) -> io::Result<u8>
+    ensures { IfOk result (λ status. status ≤ 3) }
+{
+    match fault {
+        NoAnswer::Unread(Report::Refused(refusal)) => writeln!(err, "ninja: error: {refusal}")?,
+        NoAnswer::Unread(Report::Fault(SiteFault::Memory)) | NoAnswer::Fault(Fault::Memory) => {
+            writeln!(err, "ninja: error: N61: out of memory")?
+        }
+        NoAnswer::Unread(_) | NoAnswer::Fault(Fault::Site(_)) => told::failed_site(trouble, err)?,
+        NoAnswer::Fault(fault) => writeln!(err, "ninja: error: {fault}")?,
+    }
+    err.flush()?;
+    Ok(1)
+}

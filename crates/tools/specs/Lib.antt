@@ -1,0 +1,13 @@
+pub mod Above
+pub mod Rising
+pub mod Roots
+pub mod Found
+pub mod Missing
+pub mod Files
+pub mod Clean
+pub mod Dead
+pub mod Answers
+pub mod Showing
+pub mod Moves
+pub mod Joined
+pub mod Told

@@ -1,0 +1,153 @@
+//! `-t cleandead`: what a build made once and no line names any more.
+
+ghost use Rattle.std.specs.Prelude.{◌≡◌, IfOk, OnOk, map, slice_get, Some, true};
+ghost use Rattle.std.specs.Map.Iter.{deref};
+ghost use Rattle.model.specs.Graph.{has};
+ghost use Rattle.build_log.specs.Keeping.{OfKept};
+ghost use Rattle.build_log.specs.Kept.{texts_at};
+ghost use Rattle.deps_log.specs.Log.{Keeps};
+ghost use Rattle.tools.specs.Clean.{AddsJust};
+ghost use Rattle.tools.specs.Dead.{AddsEither, AddsLeft, Buries, BuriesMade, IsListedAt, ListsAll};
+
+use crate::declared::Declared;
+use paths::Paths;
+use records::Records;
+use std::alloc::{AllocError, Global};
+
+/// The outputs of the build log that no line names.
+#[derive(Drop)]
+pub struct Dead {
+    /// Those that no deps record lists. They are removed.
+    pub dead: Paths,
+    /// Those that some deps record lists. They may have become sources, and are kept.
+    pub kept: Paths,
+}
+
+/// The outputs of the build log that no line names, by whether a deps record lists them.
+pub fn to_bury(alloc: Global, declared: &Declared, records: &Records) -> Result<Dead, AllocError>
+    ensures { IfOk result (λ found. Buries declared.now.graph records.now found.dead found.kept) }
+{
+    let listed = listed(alloc, records)?;
+    bury_made(alloc, declared, records, &listed)
+}
+
+/// The same, where it is known which paths deps records list.
+fn bury_made(
+    alloc: Global,
+    declared: &Declared,
+    records: &Records,
+    listed: &Paths,
+) -> Result<Dead, AllocError>
+    ensures { IfOk result (BuriesMade declared.now.graph.manifest records.now listed.now) }
+{
+    let dead = Paths::new(alloc);
+    let kept = Paths::new(alloc);
+    let mut found = Dead { dead, kept };
+    let log = records.logs.build_log.log();
+    for number in 0..log.done_records() {
+        let outputs = log.outputs_at(alloc, number)?;
+        add_all(alloc, declared, listed, outputs.as_slice(), &mut found)?;
+    }
+    Ok(found)
+}
+
+/// Adds those of the outputs that no line names.
+fn add_all(
+    alloc: Global,
+    declared: &Declared,
+    listed: &Paths,
+    outputs: &[&str],
+    found: &mut Dead,
+) -> Result<(), AllocError>
+    ensures { OnOk result (AddsLeft declared.now.graph.manifest listed.now (λ text. has (map deref outputs.now) text ≡ true) found.old found.new) }
+{
+    for output in outputs {
+        add(alloc, declared, listed, output, found)?;
+    }
+    Ok(())
+}
+
+/// Adds an output, unless a line names it.
+fn add(
+    alloc: Global,
+    declared: &Declared,
+    listed: &Paths,
+    output: &str,
+    found: &mut Dead,
+) -> Result<(), AllocError>
+    ensures { OnOk result (AddsLeft declared.now.graph.manifest listed.now (λ text. text ≡ output.now) found.old found.new) }
+{
+    match declared.graph.manifest.number_of(output) {
+        Some(_) => Ok(()),
+        None => bury(alloc, listed, output, found),
+    }
+}
+
+/// Adds it to those that are kept where it is listed, and else to those that are removed.
+fn bury(alloc: Global, listed: &Paths, output: &str, found: &mut Dead) -> Result<(), AllocError>
+    ensures { OnOk result (AddsEither listed.now output.now found.old found.new) }
+{
+    let Some(_) = listed.number_of(output) else {
+        found.dead.add(alloc, output)?;
+        return Ok(());
+    };
+    found.kept.add(alloc, output)?;
+    Ok(())
+}
+
+/// The paths that deps records list.
+fn listed(alloc: Global, records: &Records) -> Result<Paths, AllocError>
+    ensures { IfOk result (λ listed. ListsAll records.now listed) }
+{
+    let mut listed = Paths::new(alloc);
+    let log = records.logs.deps_log.log();
+    for number in 0..log.deps_records() {
+        add_record(alloc, records, number, &mut listed)?;
+    }
+    Ok(listed)
+}
+
+/// Adds the paths that the deps record with this number lists, if there is one.
+fn add_record(
+    alloc: Global,
+    records: &Records,
+    number: usize,
+    listed: &mut Paths,
+) -> Result<(), AllocError>
+    ensures { OnOk result (OfKept Keeps records.now.logs.deps_log.log (λ all. AddsJust listed.old listed.new (IsListedAt all number))) }
+{
+    let Some(deps) = records.logs.deps_log.log().deps_at(number) else {
+        return Ok(());
+    };
+    add_listed(alloc, records, deps.paths.as_slice(), listed)
+}
+
+fn add_listed(
+    alloc: Global,
+    records: &Records,
+    numbers: &[usize],
+    listed: &mut Paths,
+) -> Result<(), AllocError>
+    ensures { OnOk result (AddsJust listed.old listed.new (λ text. has (texts_at records.now.logs.deps_log.log.outputs numbers.now) text ≡ true)) }
+{
+    for number in numbers {
+        add_number(alloc, records, *number, listed)?;
+    }
+    Ok(())
+}
+
+/// Adds the path that deps records name by this number, if there is one.
+fn add_number(
+    alloc: Global,
+    records: &Records,
+    number: usize,
+    listed: &mut Paths,
+) -> Result<(), AllocError>
+    ensures { OnOk result (AddsJust listed.old listed.new (λ text. Some text ≡ slice_get records.now.logs.deps_log.log.outputs number)) }
+{
+    let Some(path) = records.deps_path(number) else {
+        return Ok(());
+    };
+    listed.add(alloc, path)?;
+    Ok(())
+}
