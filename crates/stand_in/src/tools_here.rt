@@ -244,7 +244,7 @@ fn queried<S: Site>(
     ensures { OnlyLooks S.tells (S.world site.old) (S.world site.new) }
 {
     if words.is_empty() {
-        return Err(Fault::Expected("expected a target to query"));
+        return Err(Fault::NoPath);
     }
     let paths = asked_in_logs(alloc, declared, records, words)?;
     let mut edges = Vec::new(alloc);
@@ -419,7 +419,7 @@ fn cleaned<S: Site>(
     let file = asking.options.file;
     let paths = if asking.switches.has(b'r') {
         if words.is_empty() {
-            return Err(NoAnswer::Fault(Fault::Expected("expected a rule to clean")));
+            return Err(NoAnswer::Fault(Fault::NoRule));
         }
         to_clean(alloc, declared, Cleaning::Rules(words), generated, file)?
     } else if words.is_empty() {

@@ -51,7 +51,7 @@ pub fn compdb_targets(
     words: &[&str],
 ) -> Result<String, Fault> {
     if words.is_empty() {
-        return Err(Fault::Expected("compdb-targets expects the name of at least one target"));
+        return Err(Fault::NoTargets);
     }
     let mut paths = Vec::new(alloc);
     for word in words {

@@ -10,7 +10,7 @@ use text::Text;
 #[derive(Debug, Drop)]
 pub enum Near {
     Nothing,
-    /// A path that is much like it.
+    /// A path or word that is much like it.
     Path(Text),
     /// The tool that removes outputs.
     Clean,
@@ -35,10 +35,14 @@ pub enum Fault {
     NotMade(Text),
     /// There is no rule of this name.
     UnknownRule(Text),
-    /// A mode that the tool `targets` does not have.
-    UnknownMode(Text, Option<&'static str>),
-    /// A word is missing.
-    Expected(&'static str),
+    /// A mode that the tool `targets` does not have, and the one that is much like it.
+    UnknownMode(Text, Near),
+    /// `compdb-targets` has no word.
+    NoTargets,
+    /// `query` has no word.
+    NoPath,
+    /// `clean -r` has no word.
+    NoRule,
 }
 
 impl fmt::Display for Fault {
@@ -58,12 +62,18 @@ impl fmt::Display for Fault {
                 "'{path}' is not a target (i.e. it is not an output of any `build` statement)"
             ),
             Fault::UnknownRule(rule) => write!(f, "unknown rule '{rule}'"),
-            Fault::UnknownMode(mode, None) => write!(f, "unknown target tool mode '{mode}'"),
-            Fault::UnknownMode(mode, Some(near)) => write!(
-                f,
-                "unknown target tool mode '{mode}', did you mean '{near}'?"
-            ),
-            Fault::Expected(what) => write!(f, "{what}"),
+            Fault::UnknownMode(mode, near) => {
+                write!(f, "unknown target tool mode '{mode}'")?;
+                write_near(f, near)
+            }
+            Fault::NoTargets => {
+                write!(
+                    f,
+                    "compdb-targets expects the name of at least one target"
+                )
+            }
+            Fault::NoPath => write!(f, "expected a target to query"),
+            Fault::NoRule => write!(f, "expected a rule to clean"),
         }
     }
 }

@@ -11,7 +11,7 @@ ghost use Rattle.tools.specs.declared.listing.Wanted.TheVariants as wanted;
 
 use crate::access::{inputs_at, outputs_at, text_at};
 use crate::declared::Declared;
-use crate::fault::Fault;
+use crate::fault::{Fault, Near};
 use crate::lines::push_line;
 use crate::near::near_word;
 use crate::unread::roots;
@@ -45,7 +45,10 @@ pub fn read_mode<'a>(alloc: Global, words: &[&'a str]) -> Result<Wanted<'a>, Fau
         ["depth", depth, ..] => Ok(Wanted::Depth(number(depth))),
         ["all", ..] => Ok(Wanted::All),
         [mode, ..] => {
-            let near = near_word(alloc, MODES.as_slice(), mode)?;
+            let near = match near_word(alloc, MODES.as_slice(), mode)? {
+                Some(near) => Near::Path(Text::from_str(alloc, near)?),
+                None => Near::Nothing,
+            };
             Err(Fault::UnknownMode(Text::from_str(alloc, mode)?, near))
         }
     }
