@@ -67,10 +67,7 @@ impl fmt::Display for Fault {
                 write_near(f, near)
             }
             Fault::NoTargets => {
-                write!(
-                    f,
-                    "compdb-targets expects the name of at least one target"
-                )
+                write!(f, "compdb-targets expects the name of at least one target")
             }
             Fault::NoPath => write!(f, "expected a target to query"),
             Fault::NoRule => write!(f, "expected a rule to clean"),

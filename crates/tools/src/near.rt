@@ -40,12 +40,7 @@ fn near_path(alloc: Global, paths: &Paths, target: &str) -> Result<Near, AllocEr
 }
 
 /// How many edits lead from one text to the other, or more than are a slip, also where too few pairs of bytes are left to be compared.
-fn edits(
-    alloc: Global,
-    one: &str,
-    other: &str,
-    pairs: &mut usize,
-) -> Result<usize, AllocError> {
+fn edits(alloc: Global, one: &str, other: &str, pairs: &mut usize) -> Result<usize, AllocError> {
     if one.len().abs_diff(other.len()) > MOST_EDITS * 4 {
         return Ok(usize::MAX);
     }
