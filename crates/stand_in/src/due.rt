@@ -22,8 +22,9 @@ use tools::Declared;
 /// What is due of what is asked for.
 #[derive(Debug, Drop)]
 pub enum Due {
-    /// A generator of the file that was read: what else is due is known once it has run.
-    Generator,
+    /// A generator of the file that was read: what else is due is known once it has run. Where commands are run, these are due by the file
+    /// as it is.
+    Generator(Option<Explained>),
     /// These commands.
     Commands(Explained),
 }
@@ -75,11 +76,34 @@ fn due_of<S: Site>(
 {
     let above = all_above(alloc, declared, options.file.as_str())?;
     if would_run(alloc, site, declared, &above)? {
-        return Ok(Due::Generator);
+        return Ok(Due::Generator(due_beside(alloc, site, given, options, declared, &above)));
     }
     let explained = explain_left(alloc, site, given, options, declared, &above)?;
     show_dry(alloc, site, given, options, declared, &explained)?;
     Ok(Due::Commands(explained))
+}
+
+/// What is due beside a generator, by the file as it is, where commands are run. What is not to be had is told by the build itself.
+#[tactic(auto, using(crate::proofs::Looking::looking))]
+fn due_beside<S: Site>(
+    alloc: Global,
+    site: &mut S,
+    given: &Given<'_>,
+    options: &Options,
+    declared: &mut Declared,
+    above: &Above,
+) -> Option<Explained>
+    requires idle { IsIdle (S.world site.old).events }
+    requires running { (S.world site.old).stopped ≡ false }
+    ensures { OnlyLooks S.tells (S.world site.old) (S.world site.new) }
+{
+    if given.dry {
+        return None;
+    }
+    match explain_left(alloc, site, given, options, declared, above) {
+        Ok(explained) => Some(explained),
+        Err(_) => None,
+    }
 }
 
 /// Which commands are due of what is asked for beside what generators make, and why.

@@ -225,10 +225,15 @@ fn built<W: Write, E: Write>(
 /// Tells why commands are due, before they run.
 pub fn why<E: Write>(alloc: Global, due: &Due, file: &str, err: &mut E) -> io::Result<()> {
     match due {
-        Due::Generator => writeln!(
-            err,
-            "ninja explain: {file}: it is out of date, and made by a generator"
-        )?,
+        Due::Generator(explained) => {
+            writeln!(
+                err,
+                "ninja explain: {file}: it is out of date, and made by a generator"
+            )?;
+            if let Some(explained) = explained {
+                whys(alloc, explained, err)?;
+            }
+        }
         Due::Commands(explained) => whys(alloc, explained, err)?,
     }
     err.flush()
@@ -247,7 +252,7 @@ pub fn would_run<W: Write>(due: &Due, file: &str, shown: Shown, out: &mut W) -> 
     ensures { IfOk result (λ status. status ≤ 1) }
 {
     match due {
-        Due::Generator => writeln!(out, "ninja: '{file}' would be rebuilt")?,
+        Due::Generator(_) => writeln!(out, "ninja: '{file}' would be rebuilt")?,
         Due::Commands(explained) => rest(explained, shown, out)?,
     }
     out.flush()?;

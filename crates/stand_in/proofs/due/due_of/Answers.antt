@@ -5,8 +5,14 @@ use Rattle.stand_in.proofs.due.due_of.Goals as goal
 pub returns-in_err-would_run : goal.returns-in_err-would_run
 returns-in_err-would_run g c = c.in_err-would_run.ensures.0
 
+pub due_beside-requires-clause-idle : goal.due_beside-requires-clause-idle
+due_beside-requires-clause-idle g c = idle_then g.S.Texts.tells (g.S.Texts.world c.args.site.now) (g.S.Texts.world c.would_run.new.site) c.in_ok-would_run.ensures.0 c.requires.idle
+
+pub due_beside-requires-clause-running : goal.due_beside-requires-clause-running
+due_beside-requires-clause-running g c = (c.in_ok-would_run.ensures.1 c.requires.running).0
+
 pub returns-then-branch : goal.returns-then-branch
-returns-then-branch g c = c.in_ok-would_run.ensures.0
+returns-then-branch g c = looks_then g.S.Texts.tells (g.S.Texts.world c.args.site.now) (g.S.Texts.world c.would_run.new.site) (g.S.Texts.world c.due_beside.new.site) c.in_ok-would_run.ensures.0 c.due_beside.ensures
 
 pub explain_left-requires-clause-idle : goal.explain_left-requires-clause-idle
 explain_left-requires-clause-idle g c = idle_then g.S.Texts.tells (g.S.Texts.world c.args.site.now) (g.S.Texts.world c.would_run.new.site) c.in_ok-would_run.ensures.0 c.requires.idle
