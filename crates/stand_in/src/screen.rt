@@ -51,15 +51,27 @@ pub struct Front<'a> {
 }
 
 impl Front<'_> {
-    /// How the terminal looks, where rows are drawn on it. Lines that show commands stay; where no lines are shown, no rows are.
+    /// How the terminal looks, where rows are drawn on it.
     pub fn look(&self) -> Option<Look> {
         match self.output {
-            Output::Drawn { colours } if self.shown != Shown::Printed => Some(Look {
-                colours,
-                keeps_lines: self.shown == Shown::Commands,
-            }),
-            _ => None,
+            Output::Drawn { colours } => look_of(colours, self.shown),
+            Output::Plain | Output::Coloured => None,
         }
+    }
+}
+
+/// How a terminal looks on which so much is shown. Lines that show commands stay; where no lines are shown, no rows are.
+fn look_of(colours: bool, shown: Shown) -> Option<Look> {
+    match shown {
+        Shown::Printed => None,
+        Shown::Lines => Some(Look {
+            colours,
+            keeps_lines: false,
+        }),
+        Shown::Commands => Some(Look {
+            colours,
+            keeps_lines: true,
+        }),
     }
 }
 
