@@ -1,5 +1,5 @@
 -- Texts without escapes, and what is left of others.
-use Rattle.std.proofs.Common.{◌≡◌, ◌×◌, ◌==◌, ◌||◌, ℕ, Bool, true, false, List, [], ◌∷◌, ◌++◌, if◌then◌else◌, refl, sym, ap, ◌∙◌, absurd}
+use Rattle.std.proofs.Common.{◌≡◌, ◌==◌, ◌||◌, ℕ, Bool, true, false, List, [], ◌∷◌, ◌++◌, if◌then◌else◌, refl, sym, ap, ◌∙◌}
 use Rattle.std.specs.List.{list_any}
 use Rattle.std.proofs.lemmas.List.Folds.{list_any-append}
 use Rattle.std.proofs.lemmas.Bool.{false≢true}
@@ -49,8 +49,8 @@ one_kept Opened x = one_opened (x == 27) (x == 91) x refl
 one_kept Inside x = refl
 
 neither : (a b : Bool) → a ≡ false → b ≡ false → (a || b) ≡ false
-neither true b no none = no
-neither false b no none = none
+neither true b left_no right_no = left_no
+neither false b left_no right_no = right_no
 
 pub none_left : (escape : Escape) (text : List ℕ) → has_escape (left escape text) ≡ false
 none_left escape [] = refl

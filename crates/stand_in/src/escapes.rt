@@ -1,6 +1,6 @@
 //! Escapes of a terminal, which are left out of what commands print.
 
-ghost use Rattle.std.specs.Prelude.{◌≡◌, ◌++◌, ◌∷◌, ℕ, List, [], codes, false, IfOk, OnOk, ◌==◌};
+ghost use Rattle.std.specs.Prelude.{◌≡◌, ◌++◌, ◌∷◌, ℕ, List, [], codes, false, IfOk, OnOk, ◌==◌, if◌then◌else◌};
 ghost use Rattle.std.specs.List.{list_any};
 ghost use Rattle.stand_in.specs.Escapes.{behind, behind_all, kept, left};
 
