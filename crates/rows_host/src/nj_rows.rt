@@ -6,6 +6,7 @@ use crate::documented::{push_documented, push_version};
 use crate::folder::Folder;
 use crate::nj_runs::{Ran, push_front, push_ran, push_status, run_of};
 use crate::stand_in_runs::stand_in_run_of;
+use stand_in::{Around, Output};
 use std::alloc::{AllocError, Global};
 use std::path::PathBuf;
 use std::{fs, io};
@@ -106,7 +107,7 @@ impl<'a> Rows<'a> {
             "help" => push_help(&run_of(&self.folder, None, "--help")?, rest, told),
             "same" => self.push_same(alloc, rest, told),
             "documented" | "version" => self.push_page(alloc, first, rest, told),
-            "ninja" | "status_ninja" | "under_ninja" => {
+            "ninja" | "status_ninja" | "under_ninja" | "forced_ninja" | "drawn_ninja" => {
                 self.push_stand_in(alloc, first, rest, told)
             }
             _ => self.push_file(alloc, first, rest, told),
@@ -114,7 +115,8 @@ impl<'a> Rows<'a> {
     }
 
     /// `ninja WORDS`: runs the stand-in for ninja in the folder, and tells what it came to. `status_ninja WORDS` tells the status alone, and
-    /// `under_ninja TEXT WORDS` is under this `NINJA_STATUS`.
+    /// `under_ninja TEXT WORDS` is under this `NINJA_STATUS`. The output of `forced_ninja WORDS` takes escapes, and that of
+    /// `drawn_ninja WORDS` is a terminal on which rows are drawn.
     fn push_stand_in(
         &self,
         alloc: Global,
@@ -125,10 +127,17 @@ impl<'a> Rows<'a> {
         if first == "under_ninja" {
             let (heading, words) = word(rest);
             let heading = plain(alloc, heading)?;
-            let ran = stand_in_run_of(&self.folder, Some(heading.as_str()), words)?;
-            return push_ran(&ran, told);
+            let around = Around {
+                heading: Some(heading.as_str()),
+                output: Output::Plain,
+            };
+            return push_ran(&stand_in_run_of(&self.folder, around, words)?, told);
         }
-        let ran = stand_in_run_of(&self.folder, None, rest)?;
+        let around = Around {
+            heading: None,
+            output: output_of(first),
+        };
+        let ran = stand_in_run_of(&self.folder, around, rest)?;
         if first == "status_ninja" {
             return push_status(ran.status, told);
         }
@@ -223,6 +232,15 @@ impl Rows<'_> {
         }
         self.push_run(alloc, first, rest, told)?;
         Ok(true)
+    }
+}
+
+/// What the output is of the stand-in that a row of this name runs.
+fn output_of(name: &str) -> Output {
+    match name {
+        "forced_ninja" => Output::Coloured,
+        "drawn_ninja" => Output::Drawn { colours: true },
+        _ => Output::Plain,
     }
 }
 

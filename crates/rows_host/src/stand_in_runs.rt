@@ -2,13 +2,14 @@
 
 use crate::folder::Folder;
 use crate::nj_runs::{Ran, words_of};
-use stand_in::run;
+use stand_in::{Around, run};
 use std::alloc::{AllocError, Global};
 
-/// Runs the stand-in in the folder, where `NINJA_STATUS` is this text, or is not set. In what is told `@` stands for the folder.
+/// Runs the stand-in in the folder, with this around it. In what is told `@` stands for the folder, and `^[` for
+/// the byte by which escapes begin.
 pub fn stand_in_run_of(
     folder: &Folder<'_>,
-    heading: Option<&str>,
+    around: Around<'_>,
     words: &str,
 ) -> Result<Ran, AllocError> {
     let alloc = folder.alloc();
@@ -17,7 +18,7 @@ pub fn stand_in_run_of(
     let words = borrowed(alloc, given.as_slice())?;
     let mut out = Vec::new(alloc);
     let mut err = Vec::new(alloc);
-    let status = run(folder.rt, words.as_slice(), heading, &mut out, &mut err);
+    let status = run(folder.rt, words.as_slice(), around, &mut out, &mut err);
     Ok(Ran {
         status,
         out: told_of(folder, out.as_slice())?,
@@ -42,10 +43,21 @@ fn told_of(folder: &Folder<'_>, bytes: &[u8]) -> Result<String, AllocError> {
         let Some((before, behind)) = rest.split_once(folder.path.as_str()) else {
             break;
         };
-        told.push_str(before)?;
+        push_seen(&mut told, before)?;
         told.push('@')?;
         rest = behind;
     }
-    told.push_str(rest)?;
+    push_seen(&mut told, rest)?;
     Ok(told)
+}
+
+/// Puts a text behind another, with the bytes by which escapes begin to be seen.
+fn push_seen(told: &mut String, text: &str) -> Result<(), AllocError> {
+    for (place, part) in text.split('\u{1b}').enumerate() {
+        if place > 0 {
+            told.push_str("^[")?;
+        }
+        told.push_str(part)?;
+    }
+    Ok(())
 }

@@ -2,6 +2,7 @@ pub mod Calls
 pub mod Claimed
 pub mod Gathering
 pub mod Headings
+pub mod Leaving
 pub mod Looking
 pub mod Opening
 pub mod Ready

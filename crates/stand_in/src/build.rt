@@ -275,8 +275,24 @@ fn build_rest<S: Place>(
     }
 }
 
-/// Builds these targets of what was read, or the default ones where there are none.
+/// Builds these targets of what was read, or the default ones where there are none, with its names for a screen that shows what runs.
 fn build_these<S: Place>(
+    alloc: Global,
+    site: &mut S,
+    options: &Options,
+    declared: &mut Declared,
+    targets: &[Text],
+) -> Result<Outcome, Report>
+    requires idle { IsIdle (S.world site.old).events }
+    requires ready { (old : World) × IsReady S.tells S.outcome options.now old (S.world site.old) declared.old }
+    ensures { EndsOnceReady S.tells S.outcome options.now declared.old (S.world site.old) (S.world site.new) (outcome_in result) }
+{
+    site.learn(alloc, &declared.graph.manifest, options.verbose);
+    build_named(alloc, site, options, declared, targets)
+}
+
+/// Builds these targets of what was read, or the default ones where there are none.
+fn build_named<S: Place>(
     alloc: Global,
     site: &mut S,
     options: &Options,

@@ -100,6 +100,19 @@ impl Field {
             _ => None,
         }
     }
+
+    /// The letter of a field that `nj` has, too.
+    fn counted(self) -> Option<u8> {
+        match self {
+            Field::Started => Some(b's'),
+            Field::Total => Some(b't'),
+            Field::Running => Some(b'r'),
+            Field::Unstarted => Some(b'u'),
+            Field::Finished => Some(b'f'),
+            Field::Percentage => Some(b'p'),
+            _ => None,
+        }
+    }
 }
 
 impl Heading {
@@ -120,6 +133,21 @@ impl Heading {
         Ok(Heading { parts })
     }
 
+    /// The front of a heading that a screen reads along a line: up to the first field that `nj` has not.
+    pub fn counted(&self, alloc: Global) -> Result<Vec<u8>, AllocError> {
+        let mut text = Vec::new(alloc);
+        for part in self.parts.as_slice() {
+            match part {
+                Part::Plain(byte) => push_plain(&mut text, *byte)?,
+                Part::Field(field) => match field.counted() {
+                    Some(letter) => text.extend_from_slice(&[b'%', letter])?,
+                    None => return Ok(text),
+                },
+            }
+        }
+        Ok(text)
+    }
+
     /// Puts what stands in front of a line behind a text.
     pub fn push(
         &self,
@@ -138,6 +166,15 @@ impl Heading {
         }
         Ok(())
     }
+}
+
+/// Puts a byte behind a text as it is spelled in a heading: a percent sign twice.
+fn push_plain(text: &mut Vec<u8>, byte: u8) -> Result<(), AllocError> {
+    if byte == b'%' {
+        text.push(b'%')?;
+    }
+    text.push(byte)?;
+    Ok(())
 }
 
 /// The first part of a text, and what stands behind it. A text without a part ends within a field.

@@ -4,6 +4,7 @@
 mod above;
 mod build;
 mod due;
+mod escapes;
 mod given;
 mod heading;
 mod judge;
@@ -20,11 +21,13 @@ mod tools_here;
 mod words;
 
 pub use above::{Above, all_above};
+pub use escapes::escapes_are_left_out;
 pub use given::{Asked, Information, Options, Shown, WordFault};
 pub use heading::Heading;
 pub use laws::runs_are_as_claimed;
 pub use place::Place;
 pub use processors::default_jobs;
-pub use program::run;
+pub use program::{Around, run};
 pub use regenerating::{Regenerated, regenerate};
+pub use screen::Output;
 pub use words::asked;

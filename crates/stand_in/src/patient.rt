@@ -1,4 +1,4 @@
-//! A site that starts nothing while the machine has too much to do.
+//! The site of the stand-in: it starts nothing while the machine has too much to do, and shows lines as ninja does.
 
 ghost use Rattle.std.specs.Prelude.{◌≡◌, IfOk};
 ghost use Rattle.host.specs.World.{world_of, fresh};
@@ -13,7 +13,7 @@ use site::{Site, Texts};
 use std::alloc::Global;
 use std::io::Write;
 use std::time::Duration;
-use std::{io, thread};
+use std::{io, str, thread};
 use text::Bytes;
 
 /// How long it is waited between two looks, in thousandths of a second.
@@ -22,37 +22,51 @@ const REST: u64 = 50;
 /// So often the load is looked at before a start, which is no limit.
 const MOST_LOOKS: u64 = 1 << 62;
 
-/// A site that waits with a start while the load is above a limit and a command that was started has not ended.
+/// A site that waits with a start while the load is above a limit and a command that was started has not ended, and that shows what is
+/// made of texts by a [`Screen`].
 #[derive(Drop)]
 pub struct Patient<'a, S> {
     rt: &'a HostRuntime,
     site: S,
+    screen: Screen<'a>,
     /// The limit; none is none, and so is one that is not above zero.
     limit: Option<f64>,
 }
 
-/// The working folder, where no command was started, and what is shown goes to the writer.
+/// The working folder, where no command was started. What is shown goes to the writer, with rows below it where that is a terminal on which
+/// they are drawn.
 pub fn site_here<'x, W: Write + Drop>(
     alloc: Global,
     rt: &'x HostRuntime,
     out: &'x mut W,
     front: Front<'x>,
     limit: Option<f64>,
-) -> io::Result<Patient<'x, Host<'x, Screen<'x, W>>>>
+) -> io::Result<Patient<'x, Host<'x, &'x mut W>>>
     ensures { IfOk result (λ patient. world_of patient.site ≡ fresh) }
 {
-    let screen = Screen::new(rt, alloc, out, front)?;
-    let host = Host::new(alloc, rt, screen);
-    Ok(Patient::new(rt, host, limit))
+    let screen = Screen::new(rt, alloc, front)?;
+    let pattern = front.heading.counted(alloc)?;
+    let mut host = Host::new(alloc, rt, out);
+    host.draw(
+        front.look(),
+        str::from_utf8(pattern.as_slice()).unwrap_or(""),
+    );
+    Ok(Patient::new(rt, host, screen, limit))
 }
 
 impl<'a, S: Place> Patient<'a, S> {
-    pub fn new(rt: &'a HostRuntime, site: S, limit: Option<f64>) -> Patient<'a, S>
+    pub fn new(
+        rt: &'a HostRuntime,
+        site: S,
+        screen: Screen<'a>,
+        limit: Option<f64>,
+    ) -> Patient<'a, S>
         ensures { result.site ≡ site }
     {
         Patient {
             rt,
             site,
+            screen,
             limit: limit.filter(|limit| *limit > 0.0),
         }
     }
@@ -133,8 +147,12 @@ impl<'a, S: Place> Site for Patient<'a, S> {
         self.site.wait_any()
     }
 
+    /// Where there is no memory for what is made of it, the text goes out as it is.
     fn show(&mut self, text: &[u8]) -> Result<(), SiteFault> {
-        self.site.show(text)
+        match self.screen.shown(text) {
+            Ok(shown) => self.site.show(shown.as_slice()),
+            Err(_) => self.site.show(text),
+        }
     }
 
     fn restart(&mut self) {

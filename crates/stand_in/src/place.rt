@@ -24,7 +24,9 @@ pub trait Place: Alone {
 }
 
 impl<'a, W: Write> Place for Host<'a, W> {
+    /// It has the terminal to itself: rows are taken away before, and the line that passed stays.
     fn run_generator(&mut self, act: &Act) -> Result<bool, SiteFault> {
+        self.finish_screen();
         self.run_for_user(act)
     }
 

@@ -2,13 +2,13 @@
 
 ghost use Rattle.std.specs.Prelude.{◌≤◌, IfOk};
 
-use crate::build::{Ended, build_here};
+use crate::build::{Ended, Outcome, build_here};
 use crate::due::{Due, due_here};
 use crate::given::{Asked, Options as Given, Shown};
 use crate::heading::{Heading, HeadingFault};
 use crate::patient::site_here;
 use crate::processors::default_jobs;
-use crate::screen::{Front, PATTERN};
+use crate::screen::{Front, Output, PATTERN};
 use crate::told::{self, Telling};
 use crate::tools_here::{Asking, NoAnswer, answer};
 use crate::words::asked;
@@ -22,12 +22,28 @@ use std::{env, io};
 use text::Text;
 use tools::{Fault, Switches, Tool, Usage, split_switches};
 
+/// What the program finds around it.
+#[derive(Clone, Copy)]
+pub struct Around<'a> {
+    /// What the environment has as `NINJA_STATUS`, if it has that.
+    pub heading: Option<&'a str>,
+    /// What its standard output is.
+    pub output: Output,
+}
+
+/// How lines are shown, and where.
+#[derive(Clone, Copy)]
+struct Lines<'a> {
+    heading: &'a Heading,
+    output: Output,
+}
+
 /// The whole program: does what the words ask for, without the program's name among them, and answers the exit status: 0 after a
-/// success, 3 where dependencies are missing, else 1. `heading` is what the environment has as `NINJA_STATUS`.
+/// success, 3 where dependencies are missing, else 1.
 pub fn run<W: Write + Drop, E: Write>(
     rt: &HostRuntime,
     words: &[&str],
-    heading: Option<&str>,
+    around: Around<'_>,
     out: &mut W,
     err: &mut E,
 ) -> u8
@@ -38,7 +54,7 @@ pub fn run<W: Write + Drop, E: Write>(
             let jobs = jobs_here(rt);
             told::information(information, jobs, out, err)
         }
-        Ok(Asked::Build(given)) => run_build(rt, &given, heading, out, err),
+        Ok(Asked::Build(given)) => run_build(rt, &given, around, out, err),
         Ok(Asked::Tool(tool, given)) => run_tool(rt, tool, &given, out, err),
         Err(fault) => {
             let jobs = jobs_here(rt);
@@ -74,24 +90,30 @@ fn enter<E: Write>(rt: &HostRuntime, given: &Given<'_>, err: &mut E) -> io::Resu
 fn run_build<W: Write + Drop, E: Write>(
     rt: &HostRuntime,
     given: &Given<'_>,
-    heading: Option<&str>,
+    around: Around<'_>,
     out: &mut W,
     err: &mut E,
 ) -> io::Result<u8>
     ensures { IfOk result (λ status. status ≤ 3) }
 {
-    match Heading::parse(rt.alloc(), heading.unwrap_or(Heading::DEFAULT)) {
-        Ok(heading) => build_under(rt, given, &heading, out, err),
+    match Heading::parse(rt.alloc(), around.heading.unwrap_or(Heading::DEFAULT)) {
+        Ok(heading) => {
+            let lines = Lines {
+                heading: &heading,
+                output: around.output,
+            };
+            build_under(rt, given, lines, out, err)
+        }
         Err(HeadingFault::Memory) => told::error("N61: out of memory", err),
         Err(HeadingFault::Unknown(letter)) => unknown_field(letter, err),
     }
 }
 
-/// Builds in the folder that was named, with this heading in front of lines.
+/// Builds in the folder that was named, and shows lines so.
 fn build_under<W: Write + Drop, E: Write>(
     rt: &HostRuntime,
     given: &Given<'_>,
-    heading: &Heading,
+    lines: Lines<'_>,
     out: &mut W,
     err: &mut E,
 ) -> io::Result<u8>
@@ -108,12 +130,12 @@ fn build_under<W: Write + Drop, E: Write>(
         out.flush()?;
     }
     if given.dry || given.explain {
-        let status = tell_due(rt, given, heading, out, err)?;
+        let status = tell_due(rt, given, lines, out, err)?;
         if given.dry {
             return Ok(status);
         }
     }
-    let (ended, trouble) = build_in(rt, given, heading, out)?;
+    let (ended, trouble) = build_in(rt, given, lines, out)?;
     let trouble = trouble.as_ref();
     told::ended(&ended, Telling::new(given.file, given, trouble), out, err)
 }
@@ -122,13 +144,13 @@ fn build_under<W: Write + Drop, E: Write>(
 fn tell_due<W: Write + Drop, E: Write>(
     rt: &HostRuntime,
     given: &Given<'_>,
-    heading: &Heading,
+    lines: Lines<'_>,
     out: &mut W,
     err: &mut E,
 ) -> io::Result<u8>
     ensures { IfOk result (λ status. status ≤ 3) }
 {
-    let (due, trouble) = due_in(rt, given, heading, out)?;
+    let (due, trouble) = due_in(rt, given, lines, out)?;
     let due = match due {
         Ok(due) => due,
         Err(fault) => {
@@ -171,40 +193,55 @@ fn tell_folder<W: Write>(given: &Given<'_>, out: &mut W) -> io::Result<()> {
 fn build_in<'a, W: Write + Drop>(
     rt: &'a HostRuntime,
     given: &Given<'_>,
-    heading: &'a Heading,
+    lines: Lines<'a>,
     out: &'a mut W,
 ) -> io::Result<(Ended, Option<Trouble>)> {
     let alloc = rt.alloc();
     let jobs = given.jobs.unwrap_or_else(|| jobs_here(rt));
     let options = build_options(alloc, given, jobs)?;
-    let front = front_of(given, heading, jobs);
+    let front = front_of(given, lines, lines.output, jobs);
     let mut site = site_here(alloc, rt, out, front, given.load)?;
     let ended = build_here(alloc, &mut site, given, &options);
     let mut host = site.into_site();
+    host.finish_screen();
+    recall(&mut host, given.keep, &ended);
     // where the clock stands still for seconds there is nothing more to do about it
     let _ = host.wait_for_clock();
     Ok((ended, host.into_trouble()))
 }
 
-/// What is due in the working folder. With a fault of the site comes what the device refused last.
+/// Tells once more which outputs failed, where rows are drawn and more than one command may fail.
+fn recall<W: Write>(host: &mut Host<'_, W>, keep: u32, ended: &Ended) {
+    if keep == 1 {
+        return;
+    }
+    if let Outcome::Built(Report::Failed { outputs }) = &ended.outcome {
+        for output in outputs.as_slice() {
+            host.recall(output.as_str());
+        }
+    }
+}
+
+/// What is due in the working folder; rows are drawn for nobody. With a fault of the site comes what the device refused last.
 fn due_in<'a, W: Write + Drop>(
     rt: &'a HostRuntime,
     given: &Given<'_>,
-    heading: &'a Heading,
+    lines: Lines<'a>,
     out: &'a mut W,
 ) -> io::Result<(Result<Due, NoAnswer>, Option<Trouble>)> {
     let alloc = rt.alloc();
     let options = build_options(alloc, given, 1)?;
-    let front = front_of(given, heading, 1);
+    let front = front_of(given, lines, lines.output.undrawn(), 1);
     let mut site = site_here(alloc, rt, out, front, None)?;
     let due = due_here(alloc, &mut site, given, &options);
     let host = site.into_site();
     Ok((due, host.into_trouble()))
 }
 
-fn front_of<'a>(given: &Given<'_>, heading: &'a Heading, jobs: u32) -> Front<'a> {
+fn front_of<'a>(given: &Given<'_>, lines: Lines<'a>, output: Output, jobs: u32) -> Front<'a> {
     Front {
-        heading,
+        heading: lines.heading,
+        output,
         shown: given.shown,
         jobs,
     }

@@ -1,27 +1,17 @@
-use Rattle.model.specs.declared.fault.SiteFault.TheVariants.{Memory}
-use Rattle.builder.specs.declared.report.Report.TheVariants.{Fault}
-use Rattle.stand_in.proofs.Ready.{ready_built}
-use Rattle.stand_in.proofs.Stages.{memory_end, outcome_by, prepared_then}
+use Rattle.std.proofs.Common.{subst, sym}
+use Rattle.model.specs.World.{World, IsIdle}
+use Rattle.stand_in.specs.Moves.{EndsOnceReady, IsReady, outcome_in}
 use Rattle.stand_in.proofs.build.build_these.Goals as goal
 
-pub returns-in_err-asked : goal.returns-in_err-asked
-returns-in_err-asked g c = λ entry ready.
-    let now = g.S.Texts.world c.args.site.now in
-    let looked = ready.since in
-    outcome_by g.S.Texts.tells g.S.Site.outcome c.args.options.now entry now (Fault Memory)
-    (memory_end g.S.Texts.tells g.S.Site.outcome c.args.options.now entry now (prepared_then g.S.Texts.tells g.S.Site.outcome c.args.options.now entry ready.read now (prepared_then g.S.Texts.tells g.S.Site.outcome c.args.options.now entry ready.entry ready.read ready.prepared ready.was_read.looked.looks) looked.looks) looked.unrefused.goes_on)
-    c.from_residual.result c.from_residual.ensures.1
+-- names change nothing in the world
 
-pub build_graph_read-requires-clause-running : goal.build_graph_read-requires-clause-running
-build_graph_read-requires-clause-running g c = c.requires.ready.1.since.unrefused.goes_on
+pub build_named-requires-clause-idle : goal.build_named-requires-clause-idle
+build_named-requires-clause-idle g c = subst (λ (w : World). IsIdle w.events) (sym c.learn.ensures) c.requires.idle
 
-pub build_graph_read-requires-clause-formed : goal.build_graph_read-requires-clause-formed
-build_graph_read-requires-clause-formed g c = c.requires.ready.1.was_read.formed
-
-pub build_graph_read-requires-clause-linked : goal.build_graph_read-requires-clause-linked
-build_graph_read-requires-clause-linked g c = c.requires.ready.1.was_read.linked
+pub build_named-requires-clause-ready : goal.build_named-requires-clause-ready
+build_named-requires-clause-ready g c =
+    subst (λ (w : World). (old : World) × IsReady g.S.Texts.tells g.S.Site.outcome c.args.options.now old w c.args.declared.now) (sym c.learn.ensures) c.requires.ready
 
 pub returns : goal.returns
-returns g c = λ entry ready.
-    ready_built g.S.Texts.tells g.S.Site.outcome c.args.options.now c.args.targets.now entry (g.S.Texts.world c.args.site.now) (g.S.Texts.world c.build_graph_read.new.site) c.requires.idle c.args.declared.now ready c.in_ok-asked.asked c.in_ok-asked.ensures.given c.in_ok-asked.ensures.targets
-    c.in_ok-asked.ensures.folder c.in_ok-asked.ensures.limits c.build_graph_read.result c.build_graph_read.ensures.0 c.build_graph_read.ensures.1 c.has_format.ensures c.has_reading.ensures c.has_reading-2.ensures
+returns g c =
+    subst (λ (w : World). EndsOnceReady g.S.Texts.tells g.S.Site.outcome c.args.options.now c.args.declared.now w (g.S.Texts.world c.build_named.new.site) (outcome_in c.build_named.result)) c.learn.ensures c.build_named.ensures

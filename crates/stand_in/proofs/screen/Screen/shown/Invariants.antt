@@ -1,5 +1,5 @@
 use Rattle.std.proofs.Common.{length}
-use Rattle.stand_in.proofs.screen.ScreenWrite.write.Given as goal
+use Rattle.stand_in.proofs.screen.Screen.shown.Given as goal
 
 abbrev pub decreases-lines : goal.decreases-lines
 decreases-lines g l = length l.rest
