@@ -157,10 +157,10 @@ impl<'a> Screen<'a> {
         counts: Counts,
         said: &[u8],
     ) -> Result<(), AllocError> {
+        end_line(text)?;
         if self.front.shown == Shown::Printed {
             return Ok(());
         }
-        end_line(text)?;
         let moment = self.moment(counts)?;
         self.front.heading.push(self.alloc, text, &moment)?;
         text.extend_from_slice(said)
