@@ -10,7 +10,7 @@ use std::alloc::AllocError;
 const ESC: u8 = 27;
 
 /// How far an escape has come.
-#[derive(Clone, Copy, Debug, PartialEq, Eq)]
+#[derive(Clone, Copy)]
 pub enum Escape {
     /// No escape has begun that has not ended.
     Outside,
