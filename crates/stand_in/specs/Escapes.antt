@@ -1,5 +1,5 @@
 -- What is left of a text without the escapes of a terminal, as ninja leaves them out (its `StripAnsiEscapeCodes`).
-use Rattle.std.specs.Prelude.{ℕ, Bool, List, [], ◌∷◌, ◌++◌, ◌==◌, ◌||◌, if◌then◌else◌}
+use Rattle.std.specs.Prelude.{ℕ, List, [], ◌∷◌, ◌++◌, ◌==◌, ◌||◌, if◌then◌else◌}
 use Rattle.std.specs.Char.{is_ascii_alphabetic}
 use Rattle.stand_in.specs.declared.escapes.Escape.{Escape}
 use Rattle.stand_in.specs.declared.escapes.Escape.TheVariants.{Outside, Opened, Inside}

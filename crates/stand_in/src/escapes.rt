@@ -10,7 +10,7 @@ use std::alloc::AllocError;
 const ESC: u8 = 27;
 
 /// How far an escape has come.
-#[derive(Clone, Copy, Debug, PartialEq, Eq)]
+#[derive(Clone, Copy)]
 pub enum Escape {
     /// No escape has begun that has not ended.
     Outside,
@@ -62,20 +62,21 @@ fn push_each(text: &mut Vec<u8>, escape: Escape, printed: &[u8]) -> Result<Escap
 fn push_kept(text: &mut Vec<u8>, escape: Escape, byte: u8) -> Result<(), AllocError>
     ensures { OnOk result (text.new.items ≡ text.old.items ++ kept escape byte) }
 {
-    if is_kept(escape, byte) {
-        text.push(byte)?;
+    if is_part(escape, byte) {
+        return Ok(());
     }
+    text.push(byte)?;
     Ok(())
 }
 
-/// Whether a byte is no part of an escape that has come so far.
-fn is_kept(escape: Escape, byte: u8) -> bool
-    ensures { kept escape byte ≡ (if result then byte ∷ [] else []) }
+/// Whether a byte is a part of an escape that has come so far.
+fn is_part(escape: Escape, byte: u8) -> bool
+    ensures { kept escape byte ≡ (if result then [] else byte ∷ []) }
 {
     match escape {
-        Escape::Outside => byte != ESC,
-        Escape::Opened => byte != ESC && byte != b'[',
-        Escape::Inside => false,
+        Escape::Outside => byte == ESC,
+        Escape::Opened => byte == ESC || byte == b'[',
+        Escape::Inside => true,
     }
 }
 
@@ -84,19 +85,42 @@ fn behind(escape: Escape, byte: u8) -> Escape
     ensures { result ≡ behind escape byte }
 {
     match escape {
-        Escape::Outside => begun(byte, Escape::Outside),
-        Escape::Opened if byte == b'[' => Escape::Inside,
-        Escape::Opened => begun(byte, Escape::Outside),
-        Escape::Inside if byte.is_ascii_alphabetic() => Escape::Outside,
-        Escape::Inside => Escape::Inside,
+        Escape::Outside => behind_none(byte),
+        Escape::Opened => behind_first(byte),
+        Escape::Inside => behind_bracket(byte),
     }
 }
 
-/// What a byte begins, or else the other.
-fn begun(byte: u8, other: Escape) -> Escape
-    ensures { result ≡ (if byte == 27 then Escape.Opened else other) }
+fn behind_none(byte: u8) -> Escape
+    ensures { result ≡ behind Escape.Outside byte }
 {
-    if byte == ESC { Escape::Opened } else { other }
+    if byte == ESC {
+        Escape::Opened
+    } else {
+        Escape::Outside
+    }
+}
+
+fn behind_first(byte: u8) -> Escape
+    ensures { result ≡ behind Escape.Opened byte }
+{
+    if byte == ESC {
+        Escape::Opened
+    } else if byte == b'[' {
+        Escape::Inside
+    } else {
+        Escape::Outside
+    }
+}
+
+fn behind_bracket(byte: u8) -> Escape
+    ensures { result ≡ behind Escape.Inside byte }
+{
+    if byte.is_ascii_alphabetic() {
+        Escape::Outside
+    } else {
+        Escape::Inside
+    }
 }
 
 /// A text without ESC is left as it is; of any other no ESC is left.

@@ -20,7 +20,7 @@ pub const PATTERN: &str = "\u{1f}%s/%t/%r/%u/%f\u{1f}";
 const MOST_RECENT: usize = 64;
 
 /// Where what is shown goes to.
-#[derive(Clone, Copy, Debug, PartialEq, Eq)]
+#[derive(Clone, Copy)]
 pub enum Output {
     /// A pipe, a file, or a terminal that can do nothing: it takes no escapes.
     Plain,
@@ -157,10 +157,10 @@ impl<'a> Screen<'a> {
         counts: Counts,
         said: &[u8],
     ) -> Result<(), AllocError> {
+        end_line(text)?;
         if self.front.shown == Shown::Printed {
             return Ok(());
         }
-        end_line(text)?;
         let moment = self.moment(counts)?;
         self.front.heading.push(self.alloc, text, &moment)?;
         text.extend_from_slice(said)
@@ -173,11 +173,13 @@ impl<'a> Screen<'a> {
         escape: Escape,
         printed: &[u8],
     ) -> Result<Escape, AllocError> {
-        if self.front.output == Output::Plain {
-            return push_left(text, escape, printed);
+        match self.front.output {
+            Output::Plain => push_left(text, escape, printed),
+            Output::Coloured | Output::Drawn { .. } => {
+                text.extend_from_slice(printed)?;
+                Ok(escape)
+            }
         }
-        text.extend_from_slice(printed)?;
-        Ok(escape)
     }
 
     /// The moment at which these counts are shown.
