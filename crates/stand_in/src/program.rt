@@ -196,18 +196,41 @@ fn build_in<'a, W: Write + Drop>(
     lines: Lines<'a>,
     out: &'a mut W,
 ) -> io::Result<(Ended, Option<Trouble>)> {
+    let options = build_options(rt.alloc(), given, jobs_of(rt, given))?;
+    build_with(rt, given, &options, lines, out)
+}
+
+/// How many commands run at once: so many as are given, else what this machine has.
+fn jobs_of(rt: &HostRuntime, given: &Given<'_>) -> u32 {
+    match given.jobs {
+        Some(jobs) => jobs,
+        None => jobs_here(rt),
+    }
+}
+
+/// The same with these options.
+fn build_with<'a, W: Write + Drop>(
+    rt: &'a HostRuntime,
+    given: &Given<'_>,
+    options: &Options,
+    lines: Lines<'a>,
+    out: &'a mut W,
+) -> io::Result<(Ended, Option<Trouble>)> {
     let alloc = rt.alloc();
-    let jobs = given.jobs.unwrap_or_else(|| jobs_here(rt));
-    let options = build_options(alloc, given, jobs)?;
-    let front = front_of(given, lines, lines.output, jobs);
+    let front = front_of(given, lines, lines.output, options.jobs);
     let mut site = site_here(alloc, rt, out, front, given.load)?;
-    let ended = build_here(alloc, &mut site, given, &options);
+    let ended = build_here(alloc, &mut site, given, options);
     let mut host = site.into_site();
+    finish(&mut host, given.keep, &ended);
+    Ok((ended, host.into_trouble()))
+}
+
+/// Ends the screen, and waits until what is written from now on is seen to be later than each start.
+fn finish<W: Write>(host: &mut Host<'_, W>, keep: u32, ended: &Ended) {
     host.finish_screen();
-    recall(&mut host, given.keep, &ended);
+    recall(host, keep, ended);
     // where the clock stands still for seconds there is nothing more to do about it
     let _ = host.wait_for_clock();
-    Ok((ended, host.into_trouble()))
 }
 
 /// Tells once more which outputs failed, where rows are drawn and more than one command may fail.
