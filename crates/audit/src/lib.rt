@@ -1,0 +1,12 @@
+//! What of that which a command did breaks a premise of the theorem.
+#![tactic(auto)]
+
+mod finding;
+mod place;
+mod seen;
+mod used;
+
+pub use finding::{Finding, findings};
+pub use place::{Around, Lists, Place, place_of};
+pub use seen::{Seen, Uses, canonical_at, uses_of};
+pub use used::Use;

@@ -1,0 +1,239 @@
+//! What an audit finds, once a build has ended: each command that was started in it has left a trace.
+
+use crate::around::Names;
+use crate::listed::lists_of;
+use audit::{Finding, Lists, Seen, Use, Uses, findings, place_of, uses_of};
+use builder::{Options, Reading};
+use host::Host;
+use links::Graph;
+use model::Event;
+use paths::EdgeId;
+use records::Records;
+use site::{Site, Texts};
+use std::alloc::{AllocError, Global};
+use std::io::Write;
+use text::{Path, Text};
+use trace::{Told, read};
+
+/// What an audit has found: how many commands there are, of how many a trace was understood, how many of these keep all premises, and the
+/// lines that tell what the others did.
+#[derive(Drop)]
+pub struct Tally {
+    pub commands: usize,
+    pub looked: usize,
+    pub kept: usize,
+    pub lines: String,
+}
+
+/// What is looked at, all of it as it is after the build.
+#[derive(Drop)]
+struct Looking {
+    alloc: Global,
+    graph: Graph,
+    records: Records,
+    names: Names,
+}
+
+/// Looks at all commands that were started and ended well. The folder is the working one, from the root. None where the build files or the
+/// logs cannot be read any more, or there is no memory.
+pub fn look<W: Write>(
+    alloc: Global,
+    host: &mut Host<'_, W>,
+    options: &Options,
+    targets: &[Text],
+    folder: &str,
+) -> Option<Tally> {
+    let Reading { manifest, asked } = builder::read(alloc, host, options, targets).ok()?;
+    let logs = asked.folder.as_str();
+    let log = own_path(alloc, logs, ".nj_log").ok()?;
+    let deps_log = own_path(alloc, logs, ".nj_deps").ok()?;
+    let graph = Graph::build(alloc, manifest, logs).ok()?;
+    let records = Records::read(alloc, host, &graph, log, deps_log).ok()?;
+    let mut tally = Tally {
+        commands: commands_in(alloc, &graph, asked.targets.as_slice())?,
+        looked: 0,
+        kept: 0,
+        lines: String::new(alloc),
+    };
+    let names = Names::of(alloc, &graph, folder).ok()?;
+    let looking = Looking {
+        alloc,
+        graph,
+        records,
+        names,
+    };
+    for job in ended_well(alloc, host).ok()? {
+        look_at(host, &looking, job, &mut tally)?;
+    }
+    Some(tally)
+}
+
+/// The path of a file of the program's own.
+fn own_path(alloc: Global, folder: &str, name: &str) -> Result<String, AllocError> {
+    match folder {
+        "" => String::from_str(alloc, name),
+        _ => format!(in alloc; "{folder}/{name}"),
+    }
+}
+
+/// How many commands the targets need.
+fn commands_in(alloc: Global, graph: &Graph, targets: &[Path]) -> Option<usize> {
+    let cone = graph.cone(alloc, targets).ok()?;
+    let mut count = 0usize;
+    for edge in &cone.order {
+        if !graph.is_phony(*edge) {
+            count = count.saturating_add(1);
+        }
+    }
+    Some(count)
+}
+
+/// The jobs that ended well.
+fn ended_well<W: Write>(alloc: Global, host: &Host<'_, W>) -> Result<Vec<usize>, AllocError> {
+    let mut jobs = Vec::new(alloc);
+    for event in host.events() {
+        if let Event::Finish { job, ok } = event {
+            if *ok {
+                jobs.push(*job)?;
+            }
+        }
+    }
+    Ok(jobs)
+}
+
+/// Looks at one command by its trace, which is removed.
+fn look_at<W: Write>(
+    host: &mut Host<'_, W>,
+    looking: &Looking,
+    job: usize,
+    tally: &mut Tally,
+) -> Option<()> {
+    let path = host.trace_of(job).ok()?;
+    let trace = host.read(path.as_str()).ok()?;
+    let _ = host.remove(path.as_str());
+    let edge = EdgeId::at(job.saturating_sub(1))?;
+    let understood = match trace {
+        Some(trace) => told_in(looking, trace.as_slice()).ok()?,
+        None => None,
+    };
+    match understood {
+        Some(uses) => judge(looking, edge, &uses, tally).ok(),
+        None => looking.tell_not_understood(edge, tally).ok(),
+    }
+}
+
+/// What a trace tells of a command, if it is understood.
+fn told_in(looking: &Looking, trace: &[u8]) -> Result<Option<Uses>, AllocError> {
+    let folder = looking.names.folder();
+    match read(looking.alloc, folder.as_bytes(), trace)? {
+        Told::Facts(facts) => uses_of(looking.alloc, facts.as_slice()),
+        Told::NotUnderstood => Ok(None),
+    }
+}
+
+/// Tells what breaks a premise of that which the command of the edge did.
+fn judge(
+    looking: &Looking,
+    edge: EdgeId,
+    uses: &Uses,
+    tally: &mut Tally,
+) -> Result<(), AllocError> {
+    tally.looked = tally.looked.saturating_add(1);
+    let lists = lists_of(
+        looking.alloc,
+        &looking.graph,
+        &looking.records,
+        &looking.names,
+        edge,
+    )?;
+    let mut found = 0usize;
+    for seen in &uses.seen {
+        let count = looking.judge_at(edge, &lists, seen, tally)?;
+        found = found.saturating_add(count);
+    }
+    for output in lists.outputs.as_slice() {
+        if uses.at(output.as_str()).is_none() {
+            let count = looking.judge_path(edge, &lists, output, Use::none(), tally)?;
+            found = found.saturating_add(count);
+        }
+    }
+    if uses.connects {
+        looking.tell_note(edge, "connects to a server, and what that does is not seen", tally)?;
+    }
+    if found == 0 {
+        tally.kept = tally.kept.saturating_add(1);
+    }
+    Ok(())
+}
+
+impl Looking {
+    /// Tells what breaks a premise at one path: how much it was. Of a path that counts for nothing that counts by which the kernel had the
+    /// file.
+    fn judge_at(
+        &self,
+        edge: EdgeId,
+        lists: &Lists,
+        seen: &Seen,
+        tally: &mut Tally,
+    ) -> Result<usize, AllocError> {
+        if let Some(real) = &seen.real {
+            if !self.names.counts(seen.path.as_str()) {
+                return self.judge_path(edge, lists, real, seen.used, tally);
+            }
+        }
+        self.judge_path(edge, lists, &seen.path, seen.used, tally)
+    }
+
+    fn judge_path(
+        &self,
+        edge: EdgeId,
+        lists: &Lists,
+        path: &Path,
+        used: Use,
+        tally: &mut Tally,
+    ) -> Result<usize, AllocError> {
+        let around = self.names.around(self.alloc, &self.graph, edge, path.as_str())?;
+        let found = findings(self.alloc, place_of(lists, around, path), used)?;
+        for finding in found.as_slice() {
+            self.tell(edge, *finding, path.as_str(), tally)?;
+        }
+        Ok(found.len())
+    }
+
+    /// Tells one thing that breaks a premise.
+    fn tell(
+        &self,
+        edge: EdgeId,
+        finding: Finding,
+        path: &str,
+        tally: &mut Tally,
+    ) -> Result<(), AllocError> {
+        let name = self.name_of(edge);
+        let path = self.names.short(path);
+        let verb = finding.verb();
+        let why = finding.why();
+        let premise = finding.premise();
+        let line = format!(in self.alloc; "{name}: {verb} {path}{why} (a command {premise})\n")?;
+        tally.lines.push_str(line.as_str())
+    }
+
+    fn tell_note(&self, edge: EdgeId, note: &str, tally: &mut Tally) -> Result<(), AllocError> {
+        let name = self.name_of(edge);
+        let line = format!(in self.alloc; "note: {name}: {note}\n")?;
+        tally.lines.push_str(line.as_str())
+    }
+
+    fn tell_not_understood(&self, edge: EdgeId, tally: &mut Tally) -> Result<(), AllocError> {
+        let name = self.name_of(edge);
+        let line = format!(in self.alloc; "{name}: its trace is not understood\n")?;
+        tally.lines.push_str(line.as_str())
+    }
+
+    /// The first output of an edge.
+    fn name_of(&self, edge: EdgeId) -> &str {
+        match self.graph.outputs(edge).first() {
+            Some(output) => self.graph.text(*output),
+            None => "",
+        }
+    }
+}

@@ -1,0 +1,18 @@
+//! Traces: what the processes of a command did to files, by what `strace` tells of their calls.
+#![tactic(auto)]
+
+mod arguments;
+mod calls;
+mod ending;
+mod fact;
+mod facts;
+mod hex;
+mod lines;
+mod marks;
+mod parts;
+mod processes;
+mod reading;
+mod steps;
+
+pub use fact::{Deed, Fact};
+pub use reading::{Told, read};
