@@ -1,6 +1,7 @@
 //! A run that audits: a build in which each command is traced, and what is told of that.
 
-ghost use Rattle.std.specs.Prelude.{◌≤◌, IfOk};
+ghost use Rattle.std.specs.Prelude.{◌≡◌, ◌≤◌, IfOk, true};
+ghost use Rattle.nj_run.specs.Ends.{Comes, EndsFor};
 
 use crate::looked::{Tally, look};
 use crate::noted::Noted;
@@ -36,7 +37,9 @@ pub fn audit_asked<W: Write, E: Write>(
     err: &mut E,
     noted: &mut Noted<'_>,
 ) -> io::Result<u8>
+    requires { asked.now.audit ≡ true }
     ensures range { IfOk result (λ status. status ≤ 1) }
+    ensures comes { Comes (EndsFor asked.now) W.contents E.contents out.old out.new err.old err.new result }
 {
     let Some(program) = tracer(noted.rt()) else {
         writeln!(err, "{NO_TRACER}")?;

@@ -3,7 +3,7 @@
 -- A line is the number of a process, blanks, and what the process did: a call `NAME(ARGUMENTS) = ANSWER`, which is written once it has
 -- ended; or its beginning, where another process comes between, and later its end; or that a signal came; or that the process has ended.
 -- Each call tells what it did at its paths; of one that is not known nothing can be told, and then nothing is told of the trace.
-use Rattle.std.specs.Prelude.{◌≡◌, ℕ, List, [], ◌∷◌, ◌++◌, Option, Some, None, option_map, option_and_then, codes, if◌then◌else◌}
+use Rattle.std.specs.Prelude.{◌≡◌, ℕ, List, [], ◌∷◌, ◌++◌, ◌&&◌, not, Bool, true, false, Option, Some, None, option_map, option_and_then, codes, if◌then◌else◌}
 use Rattle.trace.specs.declared.fact.Fact.{Fact}
 use Rattle.trace.specs.declared.processes.Known.{Known}
 use Rattle.trace.specs.declared.steps.Step.{Step}
@@ -14,7 +14,7 @@ use Rattle.trace.specs.Marks.{cut, skip_blanks}
 use Rattle.trace.specs.Arguments.{is_nothing}
 use Rattle.trace.specs.Calls.{begins}
 use Rattle.trace.specs.Facts.{call_of}
-use Rattle.trace.specs.Processes.{is_none, known_or_new, put, with_child, without}
+use Rattle.trace.specs.Processes.{is_calling, is_none, known_or_new, put, with_child, without}
 use Rattle.trace.specs.Steps.{step_of}
 
 abbrev pub nothing_yet : Reached
@@ -68,11 +68,20 @@ after_text reached known body =
     if begins (codes "<... ") body then option_and_then (after_call reached known) (whole known.begun body)
     else after_whole reached known body (cut (codes " <unfinished ...>") body)
 
+-- A process has ended. Where it was in a call that was not written to its end, what that did is open.
+abbrev pub after_end : Reached → List ℕ → Option Reached
+after_end reached number =
+    if is_calling number reached.processes then None else Some (record reached { processes = without number reached.processes })
+
 abbrev pub after_body : List ℕ → Reached → List ℕ × List ℕ → Option Reached
 after_body start reached parts =
-    if begins (codes "+++ exited with ") parts.1 then Some (record reached { processes = without parts.0 reached.processes })
+    if begins (codes "+++ exited with ") parts.1 then after_end reached parts.0
     else (if begins (codes "--- ") parts.1 then Some reached
     else after_text reached (known_or_new start parts.0 reached.processes) parts.1)
+
+abbrev pub is_undone : List Fact → Bool
+is_undone [] = true
+is_undone (fact ∷ facts) = false
 
 -- what is reached by a line, if it is understood
 abbrev pub after : List ℕ → Reached → List ℕ → Option Reached
@@ -97,9 +106,9 @@ after_all start reached (line ∷ lines) = option_and_then (λ next. after_all s
 abbrev pub after_text_of : List ℕ → Reached → List ℕ → Option Reached
 after_text_of start reached text = option_and_then (after_all start reached) (lines_of text)
 
--- what was done, once each process has ended
+-- what was done, once each process has ended; a command does something at least, as its shell is run
 abbrev pub all_done : Reached → Option (List Fact)
-all_done reached = if is_none reached.processes then Some reached.facts else None
+all_done reached = if is_none reached.processes && not (is_undone reached.facts) then Some reached.facts else None
 
 -- what a trace tells of a command that began in this folder, if all of it is understood and nothing is cut off
 abbrev pub told : List ℕ → List ℕ → Option (List Fact)

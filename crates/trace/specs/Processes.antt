@@ -17,6 +17,14 @@ abbrev pub without : List ℕ → List Known → List Known
 without number [] = []
 without number (known ∷ processes) = if bytes_eq known.number number then processes else known ∷ without number processes
 
+abbrev pub is_calling_so : Option Known → Bool
+is_calling_so None = false
+is_calling_so (Some known) = is_some known.begun
+
+-- the process with this number is in a call that was not written to its end
+abbrev pub is_calling : List ℕ → List Known → Bool
+is_calling number processes = is_calling_so (known_of number processes)
+
 abbrev pub put : Known → List Known → List Known
 put known processes = without known.number processes ++ known ∷ []
 

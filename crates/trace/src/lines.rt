@@ -2,7 +2,7 @@
 
 ghost use Rattle.std.specs.Prelude.{◌≡◌, ◌++◌, [], IfOk, OnOk, Some, None, option_map, if◌then◌else◌};
 ghost use Rattle.trace.specs.Marks.{both};
-ghost use Rattle.trace.specs.Lines.{after, after_body, after_call, after_step, after_text, begins_call, numbered, nothing_yet, whole};
+ghost use Rattle.trace.specs.Lines.{after, after_body, after_call, after_end, after_step, after_text, begins_call, numbered, nothing_yet, whole};
 
 use crate::fact::Fact;
 use crate::marks::{cut, skip_blanks};
@@ -64,14 +64,24 @@ impl Reached {
         ensures { IfOk result (λ is. after_body start.now self.old (number.now, body.now) ≡ (if is then Some self.new else None)) }
     {
         if body.starts_with(b"+++ exited with ") {
-            self.processes.forget(number);
-            return Ok(true);
+            return Ok(self.take_end(number));
         }
         if body.starts_with(b"--- ") {
             return Ok(true);
         }
         let known = self.processes.known(alloc, start, number)?;
         self.take_text(alloc, known, body)
+    }
+
+    /// Notes that a process has ended: whether it was in no call.
+    fn take_end(&mut self, number: &[u8]) -> bool
+        ensures { after_end self.old number.now ≡ (if result then Some self.new else None) }
+    {
+        if self.processes.is_calling(number) {
+            return false;
+        }
+        self.processes.forget(number);
+        true
     }
 
     /// Reads what a line tells of a call, begins to tell or ends to tell.

@@ -45,7 +45,7 @@ pub fn skip_blanks(text: &[u8]) -> &[u8]
     ensures { result.now ≡ skip_blanks text.now }
 {
     let mut rest = text;
-    while let [b' ', next @ ..] = rest {
+    'blanks: while let [b' ', next @ ..] = rest {
         rest = next;
     }
     rest

@@ -1,7 +1,7 @@
 //! The processes that run, as far as a trace has come.
 
-ghost use Rattle.std.specs.Prelude.{◌≡◌, [], IfOk, OnOk, option_map};
-ghost use Rattle.trace.specs.Processes.{all_start_as, begins_to_start, first_forking, fresh, is_forking, is_none, is_same, known_of, known_or_new, lends_place, newcomer, parent_of, put, starts_as, with_child, without};
+ghost use Rattle.std.specs.Prelude.{◌≡◌, ◌<◌, [], IfOk, IfSome, IfNone, OnOk, length, option_map, remove};
+ghost use Rattle.trace.specs.Processes.{all_start_as, begins_to_start, first_forking, fresh, is_calling, is_forking, is_none, is_same, known_of, known_or_new, lends_place, newcomer, parent_of, put, starts_as, with_child, without};
 
 use crate::marks::has;
 use std::alloc::{AllocError, Global};
@@ -134,91 +134,34 @@ impl Processes {
         self.known.is_empty()
     }
 
-    /// What is known of the process with this number, if it was seen.
-    pub fn find(&self, number: &[u8]) -> Option<&Known>
-        ensures { option_map (λ known. known.now) result ≡ known_of number.now self.now }
-    {
-        for known in &self.known {
-            if known.number.as_slice() == number {
-                return Some(known);
-            }
-        }
-        None
-    }
-
     /// What is known of the process with this number: what was seen of it, else what is known of the one that starts it. The first of all is
     /// in the folder where the trace begins.
     pub fn known(&self, alloc: Global, start: &[u8], number: &[u8]) -> Result<Known, AllocError>
         ensures { IfOk result (λ known. known ≡ known_or_new start.now number.now self.now) }
     {
-        match self.find(number) {
+        let processes = self.known.as_slice();
+        match find(processes, number) {
             Some(known) => known.copy(),
-            None => self.newcomer(alloc, start, number),
+            None => newcomer(alloc, start, number, processes),
         }
     }
 
-    /// What is known of a process that was not seen yet.
-    fn newcomer(&self, alloc: Global, start: &[u8], number: &[u8]) -> Result<Known, AllocError>
-        ensures { IfOk result (λ known. known ≡ newcomer start.now number.now self.now) }
+    /// Whether the process with this number is in a call that was not written to its end.
+    pub fn is_calling(&self, number: &[u8]) -> bool
+        ensures { result ≡ is_calling number.now self.now }
     {
-        let number = Bytes::from_slice(alloc, number)?;
-        if self.known.is_empty() {
-            let folder = Some(Bytes::from_slice(alloc, start)?);
-            return Ok(Known::new(number, folder, false));
+        match find(self.known.as_slice(), number) {
+            Some(known) => known.begun.is_some(),
+            None => false,
         }
-        match self.parent() {
-            Some(parent) => {
-                let folder = copied(&parent.folder)?;
-                Ok(Known::new(number, folder, parent.lends_place()))
-            }
-            None => Ok(Known::new(number, None, false)),
-        }
-    }
-
-    /// A process that has begun to start another one, where all that have lead to the same.
-    fn parent(&self) -> Option<&Known>
-        ensures { option_map (λ known. known.now) result ≡ parent_of self.now }
-    {
-        let first = self.first_forking()?;
-        if self.all_start_as(first) {
-            return Some(first);
-        }
-        None
-    }
-
-    /// The first process that has begun to start another one.
-    fn first_forking(&self) -> Option<&Known>
-        ensures { option_map (λ known. known.now) result ≡ first_forking self.now }
-    {
-        for known in &self.known {
-            if known.is_forking() {
-                return Some(known);
-            }
-        }
-        None
-    }
-
-    /// Whether what each starts is where that is which this one starts.
-    fn all_start_as(&self, first: &Known) -> bool
-        ensures { result ≡ all_start_as first.now self.now }
-    {
-        for known in &self.known {
-            if known.is_forking() && !known.starts_as(first) {
-                return false;
-            }
-        }
-        true
     }
 
     /// Forgets the process with this number.
     pub fn forget(&mut self, number: &[u8])
         ensures { self.new ≡ without number.now self.old }
     {
-        for place in 0..self.known.len() {
-            if self.known[place].number.as_slice() == number {
-                let _ = self.known.remove(place);
-                return;
-            }
+        if let Some(place) = place_of(self.known.as_slice(), number) {
+            let _ = self.known.remove(place);
         }
     }
 
@@ -235,9 +178,93 @@ impl Processes {
     pub fn add(&mut self, known: Known) -> Result<(), AllocError>
         ensures { OnOk result (self.new ≡ with_child known self.old) }
     {
-        if self.find(known.number.as_slice()).is_none() {
+        if find(self.known.as_slice(), known.number.as_slice()).is_none() {
             self.known.push(known)?;
         }
         Ok(())
     }
+}
+
+/// What is known of the process with this number, if it was seen.
+fn find<'k>(processes: &'k [Known], number: &[u8]) -> Option<&'k Known>
+    ensures { option_map (λ known. known.now) result ≡ known_of number.now processes.now }
+{
+    for known in processes {
+        if known.number.as_slice() == number {
+            return Some(known);
+        }
+    }
+    None
+}
+
+/// The place of the process with this number.
+fn place_of(processes: &[Known], number: &[u8]) -> Option<usize>
+    ensures within { IfSome result (λ place. place < length processes.now) }
+    ensures found { IfSome result (λ place. without number.now processes.now ≡ remove processes.now place) }
+    ensures none { IfNone result (without number.now processes.now ≡ processes.now) }
+{
+    for (place, known) in processes.iter().enumerate() {
+        if known.number.as_slice() == number {
+            return Some(place);
+        }
+    }
+    None
+}
+
+/// What is known of a process that was not seen yet.
+fn newcomer(
+    alloc: Global,
+    start: &[u8],
+    number: &[u8],
+    processes: &[Known],
+) -> Result<Known, AllocError>
+    ensures { IfOk result (λ known. known ≡ newcomer start.now number.now processes.now) }
+{
+    let number = Bytes::from_slice(alloc, number)?;
+    if processes.is_empty() {
+        let folder = Some(Bytes::from_slice(alloc, start)?);
+        return Ok(Known::new(number, folder, false));
+    }
+    match parent_of(processes) {
+        Some(parent) => {
+            let folder = copied(&parent.folder)?;
+            Ok(Known::new(number, folder, parent.lends_place()))
+        }
+        None => Ok(Known::new(number, None, false)),
+    }
+}
+
+/// A process that has begun to start another one, where all that have lead to the same.
+fn parent_of(processes: &[Known]) -> Option<&Known>
+    ensures { option_map (λ known. known.now) result ≡ parent_of processes.now }
+{
+    let first = first_forking(processes)?;
+    if all_start_as(first, processes) {
+        return Some(first);
+    }
+    None
+}
+
+/// The first process that has begun to start another one.
+fn first_forking(processes: &[Known]) -> Option<&Known>
+    ensures { option_map (λ known. known.now) result ≡ first_forking processes.now }
+{
+    for known in processes {
+        if known.is_forking() {
+            return Some(known);
+        }
+    }
+    None
+}
+
+/// Whether what each starts is where that is which this one starts.
+fn all_start_as(first: &Known, processes: &[Known]) -> bool
+    ensures { result ≡ all_start_as first.now processes.now }
+{
+    for known in processes {
+        if known.is_forking() && !known.starts_as(first) {
+            return false;
+        }
+    }
+    true
 }

@@ -28,7 +28,7 @@ pub fn read(alloc: Global, start: &[u8], trace: &[u8]) -> Result<Told, AllocErro
         return Ok(Told::NotUnderstood);
     }
     let Reached { processes, facts } = reached;
-    if !processes.is_empty() {
+    if !processes.is_empty() || facts.is_empty() {
         return Ok(Told::NotUnderstood);
     }
     Ok(Told::Facts(facts))

@@ -1,0 +1,4 @@
+pub mod Cutting
+pub mod Names
+pub mod Running
+pub mod Rows
