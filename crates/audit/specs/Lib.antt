@@ -1,4 +1,5 @@
 pub mod Uses
 pub mod Places
 pub mod Findings
+pub mod SeenPaths
 pub mod Seen

@@ -8,5 +8,5 @@ mod used;
 
 pub use finding::{Finding, findings};
 pub use place::{Around, Lists, Place, place_of};
-pub use seen::{Seen, Uses, canonical_at, uses_of};
+pub use seen::{Seen, Uses, Whole, canonical_at, connects, uses_of, wholes_of};
 pub use used::Use;

@@ -1,17 +1,27 @@
 //! What a command did, path by path.
 
-ghost use Rattle.std.specs.Prelude.{◌≡◌, IfOk, IfSome, Some, None};
-ghost use Rattle.audit.specs.Seen.{AreUses, IsWhole};
+ghost use Rattle.std.specs.Prelude.{◌≡◌, ◌≢◌, [], IfOk, IfSome, OnOk};
+ghost use Rattle.audit.specs.Seen.{AreWhole, IsPath, IsWhole, IsWholeOf, add_whole, other_name, uses_in};
 
 use crate::used::Use;
 use indexmap::IndexSet;
 use lexer::{ReadFault, canonical};
 use std::alloc::{AllocError, Global};
+use std::marker::Model;
 use std::str::from_utf8;
-use text::Path;
+use text::{Bytes, Items, Path};
 use trace::{Deed, Fact};
 
-/// What a command did at a path, which begins at the root and is canonical.
+/// What was done at a path, which is canonical. Where it is one of the build, it begins at the root.
+#[derive(Debug, Drop)]
+pub struct Whole {
+    pub deed: Deed,
+    pub path: Path,
+    /// By which path the kernel has the file, where the trace tells it.
+    pub real: Option<Path>,
+}
+
+/// What a command did at a path, in sum.
 #[derive(Debug, Drop)]
 pub struct Seen {
     pub path: Path,
@@ -20,23 +30,119 @@ pub struct Seen {
     pub used: Use,
 }
 
-/// What a command did, path by path, in the order in which it came to each.
+/// The facts with their paths in canonical form; none where a path is no text.
+pub fn wholes_of(alloc: Global, facts: &[Fact]) -> Result<Option<Items<Whole>>, AllocError>
+    ensures { IfOk result (λ found. IfSome found (AreWhole facts.now)) }
+{
+    let mut wholes = Items::new(alloc);
+    for fact in facts {
+        let Some(whole) = whole_of(alloc, fact)? else {
+            return Ok(None);
+        };
+        wholes.push(whole)?;
+    }
+    Ok(Some(wholes))
+}
+
+/// A fact with its paths in canonical form; none where a path is no text.
+fn whole_of(alloc: Global, fact: &Fact) -> Result<Option<Whole>, AllocError>
+    ensures { IfOk result (λ found. IfSome found (IsWholeOf fact.now)) }
+{
+    let Some(path) = path_of(alloc, &fact.path)? else {
+        return Ok(None);
+    };
+    let deed = fact.deed;
+    let Some(real) = &fact.real else {
+        return Ok(Some(Whole {
+            deed,
+            path,
+            real: None,
+        }));
+    };
+    match path_of(alloc, real)? {
+        Some(real) => Ok(Some(Whole {
+            deed,
+            path,
+            real: Some(real),
+        })),
+        None => Ok(None),
+    }
+}
+
+/// The canonical path of these bytes, if they are a text. The empty one has none.
+fn path_of(alloc: Global, path: &Bytes) -> Result<Option<Path>, AllocError>
+    ensures { IfOk result (λ found. IfSome found (IsPath path.now)) }
+{
+    let Ok(path) = from_utf8(path.as_slice()) else {
+        return Ok(None);
+    };
+    match canonical(alloc, path) {
+        Ok(path) => Ok(Some(Path::from_string(path))),
+        Err(ReadFault::EmptyPath) => Ok(None),
+        Err(ReadFault::Memory) => Err(AllocError),
+    }
+}
+
+/// The canonical path from the root of a path of the build, whose folder is this one.
+pub fn canonical_at(alloc: Global, folder: &str, path: &str) -> Result<Path, AllocError>
+    ensures { IfOk result (IsWhole folder.now path.now) }
+{
+    if path.as_bytes().starts_with(b"/") {
+        return canonical_of(alloc, path);
+    }
+    let mut whole = String::from_str(alloc, folder)?;
+    whole.push('/')?;
+    whole.push_str(path)?;
+    canonical_of(alloc, whole.as_str())
+}
+
+/// The canonical path of a text that begins with a slash or has one.
+fn canonical_of(alloc: Global, path: &str) -> Result<Path, AllocError>
+    requires { path.now ≢ [] }
+    ensures { IfOk result (IsPath path.now) }
+{
+    match canonical(alloc, path) {
+        Ok(path) => Ok(Path::from_string(path)),
+        Err(ReadFault::EmptyPath) => unreachable!(),
+        Err(ReadFault::Memory) => Err(AllocError),
+    }
+}
+
+/// What a command did, path by path, in the order in which it came to each. Contracts see a list.
 #[derive(Drop)]
 pub struct Uses {
     paths: IndexSet<String>,
-    pub seen: Vec<Seen>,
-    /// Whether it connected to a server.
-    pub connects: bool,
+    seen: Vec<Seen>,
+}
+
+impl Model for Uses {
+    ghost use Rattle.std.specs.Prelude.{◌≡◌, List, map, string_bytes};
+    ghost use Rattle.audit.specs.declared.seen.Seen.{Seen};
+    ghost use Rattle.audit.specs.SeenPaths.{path_of_seen};
+
+    ghost Value = { List Seen };
+
+    ghost view = { λ uses. uses.seen.items };
+
+    ghost invariant = { λ uses. map string_bytes uses.paths.keys ≡ map path_of_seen uses.seen.items };
 }
 
 impl Uses {
     /// Nothing. This takes no memory.
-    pub fn none(alloc: Global) -> Uses {
+    fn none(alloc: Global) -> Uses
+        ensures { result ≡ [] }
+    {
         Uses {
             paths: IndexSet::new(alloc),
             seen: Vec::new(alloc),
-            connects: false,
         }
+    }
+
+    /// What was done, path by path.
+    pub fn as_slice(&self) -> &[Seen]
+        ensures { result.now ≡ self.now }
+    {
+        self.seen.as_slice()
     }
 
     /// What was done at the path, if something was.
@@ -44,101 +150,65 @@ impl Uses {
         self.seen.get(self.paths.get_index_of(path)?)
     }
 
-    /// Takes in one thing more that was done. Whether its paths are texts.
-    fn take(&mut self, alloc: Global, fact: &Fact) -> Result<bool, AllocError> {
-        if fact.deed == Deed::Connected {
-            self.connects = true;
-            return Ok(true);
-        }
-        let Some(path) = canonical_of(alloc, fact.path.as_slice())? else {
-            return Ok(false);
-        };
-        let real = match &fact.real {
-            Some(real) => match canonical_of(alloc, real.as_slice())? {
-                Some(real) => Some(real),
-                None => return Ok(false),
-            },
-            None => None,
-        };
-        self.add(alloc, path, real, fact.deed)?;
-        Ok(true)
-    }
-
-    fn add(
-        &mut self,
-        alloc: Global,
-        path: String,
-        real: Option<String>,
-        deed: Deed,
-    ) -> Result<(), AllocError> {
-        let real = match real {
-            Some(real) if real.as_str() != path.as_str() => Some(Path::from_string(real)),
-            _ => None,
-        };
-        let place = self.place_of(alloc, path)?;
-        if place < self.seen.len() {
-            let seen = &mut self.seen[place];
-            seen.used = seen.used.with(deed);
-            if seen.real.is_none() {
-                seen.real = real;
+    /// Takes in one thing more that was done.
+    fn take(&mut self, alloc: Global, whole: &Whole) -> Result<(), AllocError>
+        ensures { OnOk result (self.new ≡ add_whole self.old whole.now) }
+    {
+        let real = other_name(whole)?;
+        match self.paths.get_index_of(whole.path.as_str()) {
+            Some(place) => {
+                if place < self.seen.len() {
+                    let seen = &mut self.seen[place];
+                    seen.used = seen.used.with(whole.deed);
+                    if seen.real.is_none() {
+                        seen.real = real;
+                    }
+                }
+            }
+            None => {
+                let path = whole.path.clone()?;
+                let used = Use::none().with(whole.deed);
+                self.paths.insert(String::from_str(alloc, path.as_str())?)?;
+                self.seen.push(Seen { path, real, used })?;
             }
         }
         Ok(())
     }
-
-    /// Where the path stands, which is put behind the others if it is new.
-    fn place_of(&mut self, alloc: Global, path: String) -> Result<usize, AllocError> {
-        if let Some(place) = self.paths.get_index_of(path.as_str()) {
-            return Ok(place);
-        }
-        let place = self.seen.len();
-        self.seen.push(Seen {
-            path: Path::from_str(alloc, path.as_str())?,
-            real: None,
-            used: Use::none(),
-        })?;
-        self.paths.insert(path)?;
-        Ok(place)
-    }
 }
 
-/// The canonical path of these bytes, if they are a text. The empty one has none.
-fn canonical_of(alloc: Global, path: &[u8]) -> Result<Option<String>, AllocError> {
-    let Ok(path) = from_utf8(path) else {
-        return Ok(None);
-    };
-    match canonical(alloc, path) {
-        Ok(path) => Ok(Some(path)),
-        Err(ReadFault::EmptyPath) => Ok(None),
-        Err(ReadFault::Memory) => Err(AllocError),
-    }
-}
-
-/// The canonical path from the root of a path of the build, whose folder is this one. The empty path has none, and gives the folder.
-pub fn canonical_at(alloc: Global, folder: &str, path: &str) -> Result<Path, AllocError>
-    ensures { IfOk result (IsWhole folder.now path.now) }
+/// By which other path the kernel has the file.
+fn other_name(whole: &Whole) -> Result<Option<Path>, AllocError>
+    ensures { IfOk result (λ other. other ≡ other_name whole.now) }
 {
-    let whole = if path.as_bytes().starts_with(b"/") {
-        String::from_str(alloc, path)?
-    } else {
-        format!(in alloc; "{folder}/{path}")?
-    };
-    match canonical(alloc, whole.as_str()) {
-        Ok(path) => Ok(Path::from_string(path)),
-        Err(ReadFault::EmptyPath) => Ok(Path::new(alloc)),
-        Err(ReadFault::Memory) => Err(AllocError),
+    match &whole.real {
+        Some(real) => {
+            if *real == whole.path {
+                Ok(None)
+            } else {
+                Ok(Some(real.clone()?))
+            }
+        }
+        None => Ok(None),
     }
 }
 
-/// What a command did by these facts, path by path; none where a path is no text.
-pub fn uses_of(alloc: Global, facts: &[Fact]) -> Result<Option<Uses>, AllocError>
-    ensures { IfOk result (λ uses. IfSome uses (λ uses. AreUses facts.now uses.seen.items)) }
+/// What a command did, path by path.
+pub fn uses_of(alloc: Global, wholes: &[Whole]) -> Result<Uses, AllocError>
+    ensures { IfOk result (λ uses. uses ≡ uses_in [] wholes.now) }
 {
     let mut uses = Uses::none(alloc);
-    for fact in facts {
-        if !uses.take(alloc, fact)? {
-            return Ok(None);
+    for whole in wholes {
+        uses.take(alloc, whole)?;
+    }
+    Ok(uses)
+}
+
+/// Whether a server was asked.
+pub fn connects(wholes: &[Whole]) -> bool {
+    for whole in wholes {
+        if whole.deed == Deed::Connected {
+            return true;
         }
     }
-    Ok(Some(uses))
+    false
 }

@@ -50,27 +50,43 @@ impl Use {
     pub fn with(self, deed: Deed) -> Use
         ensures { result ≡ with_deed self deed }
     {
-        let mut new = self;
         match deed {
-            Deed::Read => new.reads = self.reads || !self.writes,
-            Deed::Asked => new.asks = self.asks || !self.writes,
-            Deed::Missed => new.misses = true,
-            Deed::Listed => new.lists = self.lists || !self.made_folder,
-            Deed::Wrote => {
-                new.writes = true;
-                new.gone = false;
-            }
-            Deed::Removed => {
-                new.removes = self.removes || !self.writes;
-                new.gone = true;
-            }
-            Deed::Folder => new.is_folder = true,
-            Deed::Made => {
-                new.is_folder = true;
-                new.made_folder = true;
-            }
-            Deed::Connected => {}
+            Deed::Read => Use {
+                reads: self.reads || !self.writes,
+                ..self
+            },
+            Deed::Asked => Use {
+                asks: self.asks || !self.writes,
+                ..self
+            },
+            Deed::Missed => Use {
+                misses: true,
+                ..self
+            },
+            Deed::Listed => Use {
+                lists: self.lists || !self.made_folder,
+                ..self
+            },
+            Deed::Wrote => Use {
+                writes: true,
+                gone: false,
+                ..self
+            },
+            Deed::Removed => Use {
+                removes: self.removes || !self.writes,
+                gone: true,
+                ..self
+            },
+            Deed::Folder => Use {
+                is_folder: true,
+                ..self
+            },
+            Deed::Made => Use {
+                is_folder: true,
+                made_folder: true,
+                ..self
+            },
+            Deed::Connected => self,
         }
-        new
     }
 }

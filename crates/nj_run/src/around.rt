@@ -1,6 +1,7 @@
 //! What a path is to a build, apart from the edge that is looked at.
 
 use audit::{Around, canonical_at};
+use build_log::Log;
 use indexmap::IndexMap;
 use links::Graph;
 use paths::{EdgeId, PathId};
@@ -12,14 +13,22 @@ pub struct Names {
     /// The working folder, from the root.
     folder: String,
     makers: IndexMap<String, Option<EdgeId>>,
+    /// The build log, if it is there.
+    log: Option<Log>,
 }
 
 impl Names {
     /// The paths of this graph.
-    pub fn of(alloc: Global, graph: &Graph, folder: &str) -> Result<Names, AllocError> {
+    pub fn of(
+        alloc: Global,
+        graph: &Graph,
+        folder: &str,
+        log: Option<Log>,
+    ) -> Result<Names, AllocError> {
         let mut names = Names {
             folder: String::from_str(alloc, folder)?,
             makers: IndexMap::new(alloc),
+            log,
         };
         for place in 0..graph.paths() {
             if let Some(path) = PathId::at(place) {
@@ -61,6 +70,19 @@ impl Names {
         below(self.folder.as_str(), path).is_some() || self.makers.get(path).is_some()
     }
 
+    /// Whether a build line names the path.
+    pub fn is_named(&self, path: &str) -> bool {
+        self.makers.get(path).is_some()
+    }
+
+    /// Whether a record in force names the path as an output.
+    fn is_recorded(&self, path: &str) -> bool {
+        match &self.log {
+            Some(log) => log.lookup(self.short(path)).is_some(),
+            None => false,
+        }
+    }
+
     /// What the path is to the build, seen from this edge.
     pub fn around(
         &self,
@@ -79,7 +101,7 @@ impl Names {
             made: maker.is_some(),
             above,
             named: named.is_some(),
-            recorded: false,
+            recorded: self.is_recorded(path),
             inside: below(self.folder.as_str(), path).is_some(),
             own: is_own(path),
         })

@@ -2,7 +2,8 @@
 
 use crate::around::Names;
 use crate::listed::lists_of;
-use audit::{Finding, Lists, Seen, Use, Uses, findings, place_of, uses_of};
+use audit::{Finding, Lists, Seen, Use, Whole, connects, findings, place_of, uses_of, wholes_of};
+use build_log::Log;
 use builder::{Options, Reading};
 use host::Host;
 use links::Graph;
@@ -12,7 +13,7 @@ use records::Records;
 use site::{Site, Texts};
 use std::alloc::{AllocError, Global};
 use std::io::Write;
-use text::{Path, Text};
+use text::{Items, Path, Text};
 use trace::{Told, read};
 
 /// What an audit has found: how many commands there are, of how many a trace was understood, how many of these keep all premises, and the
@@ -55,7 +56,8 @@ pub fn look<W: Write>(
         kept: 0,
         lines: String::new(alloc),
     };
-    let names = Names::of(alloc, &graph, folder).ok()?;
+    let log = logged(alloc, host, logs)?;
+    let names = Names::of(alloc, &graph, folder, log).ok()?;
     let looking = Looking {
         alloc,
         graph,
@@ -66,6 +68,18 @@ pub fn look<W: Write>(
         look_at(host, &looking, job, &mut tally)?;
     }
     Some(tally)
+}
+
+/// The build log as it is now.
+fn logged<W: Write>(alloc: Global, host: &mut Host<'_, W>, folder: &str) -> Option<Option<Log>> {
+    let path = own_path(alloc, folder, ".nj_log").ok()?;
+    match host.read(path.as_str()).ok()? {
+        Some(bytes) => {
+            let (log, _) = Log::parse(alloc, bytes.as_slice()).ok()?;
+            Some(Some(log))
+        }
+        None => Some(None),
+    }
 }
 
 /// The path of a file of the program's own.
@@ -117,16 +131,16 @@ fn look_at<W: Write>(
         None => None,
     };
     match understood {
-        Some(uses) => judge(looking, edge, &uses, tally).ok(),
+        Some(wholes) => judge(looking, edge, wholes.as_slice(), tally).ok(),
         None => looking.tell_not_understood(edge, tally).ok(),
     }
 }
 
 /// What a trace tells of a command, if it is understood.
-fn told_in(looking: &Looking, trace: &[u8]) -> Result<Option<Uses>, AllocError> {
+fn told_in(looking: &Looking, trace: &[u8]) -> Result<Option<Items<Whole>>, AllocError> {
     let folder = looking.names.folder();
     match read(looking.alloc, folder.as_bytes(), trace)? {
-        Told::Facts(facts) => uses_of(looking.alloc, facts.as_slice()),
+        Told::Facts(facts) => wholes_of(looking.alloc, facts.as_slice()),
         Told::NotUnderstood => Ok(None),
     }
 }
@@ -135,10 +149,11 @@ fn told_in(looking: &Looking, trace: &[u8]) -> Result<Option<Uses>, AllocError> 
 fn judge(
     looking: &Looking,
     edge: EdgeId,
-    uses: &Uses,
+    wholes: &[Whole],
     tally: &mut Tally,
 ) -> Result<(), AllocError> {
     tally.looked = tally.looked.saturating_add(1);
+    let uses = uses_of(looking.alloc, wholes)?;
     let lists = lists_of(
         looking.alloc,
         &looking.graph,
@@ -147,7 +162,7 @@ fn judge(
         edge,
     )?;
     let mut found = 0usize;
-    for seen in &uses.seen {
+    for seen in uses.as_slice() {
         let count = looking.judge_at(edge, &lists, seen, tally)?;
         found = found.saturating_add(count);
     }
@@ -157,13 +172,39 @@ fn judge(
             found = found.saturating_add(count);
         }
     }
-    if uses.connects {
+    looking.tell_looked(edge, &lists, uses.as_slice(), tally)?;
+    if connects(wholes) {
         looking.tell_note(edge, "connects to a server, and what that does is not seen", tally)?;
     }
     if found == 0 {
         tally.kept = tally.kept.saturating_add(1);
     }
     Ok(())
+}
+
+/// Whether a file was looked for, was not there, and was not made.
+fn is_missing(used: Use) -> bool {
+    used.misses && !used.reads && !used.asks && !used.writes && !used.is_folder
+}
+
+/// The first path that was read and reported, with the same name.
+fn first_of_name<'s>(uses: &'s [Seen], lists: &Lists, path: &str) -> Option<&'s Path> {
+    for seen in uses {
+        if seen.used.reads && name_in(seen.path.as_str()) == name_in(path) {
+            if lists.reported.as_slice().contains(&seen.path) {
+                return Some(&seen.path);
+            }
+        }
+    }
+    None
+}
+
+/// The last part of a path.
+fn name_in(path: &str) -> &str {
+    match path.rsplit_once('/') {
+        Some((_, name)) => name,
+        None => path,
+    }
 }
 
 impl Looking {
@@ -180,8 +221,65 @@ impl Looking {
             if !self.names.counts(seen.path.as_str()) {
                 return self.judge_path(edge, lists, real, seen.used, tally);
             }
+            if self.names.is_named(seen.path.as_str()) && self.names.is_named(real.as_str()) {
+                self.tell_two_names(edge, &seen.path, real, tally)?;
+                let count = self.judge_path(edge, lists, &seen.path, seen.used, tally)?;
+                return Ok(count.saturating_add(1));
+            }
         }
         self.judge_path(edge, lists, &seen.path, seen.used, tally)
+    }
+
+    /// Notes of each file that was looked for and is not there, where a reported one of the same name was read after it: made later, it
+    /// would change the outcome.
+    fn tell_looked(
+        &self,
+        edge: EdgeId,
+        lists: &Lists,
+        uses: &[Seen],
+        tally: &mut Tally,
+    ) -> Result<(), AllocError> {
+        for (place, missed) in uses.iter().enumerate() {
+            if is_missing(missed.used) && self.names.counts(missed.path.as_str()) {
+                if let Some(read) = first_of_name(&uses[place..], lists, missed.path.as_str()) {
+                    self.tell_first(edge, &missed.path, read, tally)?;
+                }
+            }
+        }
+        Ok(())
+    }
+
+    fn tell_first(
+        &self,
+        edge: EdgeId,
+        missed: &Path,
+        read: &Path,
+        tally: &mut Tally,
+    ) -> Result<(), AllocError> {
+        let missed = self.names.short(missed.as_str());
+        let read = self.names.short(read.as_str());
+        let note = format!(
+            in self.alloc;
+            "looks for {missed}, which is not there, before {read}: made later, it would change the outcome"
+        )?;
+        self.tell_note(edge, note.as_str(), tally)
+    }
+
+    fn tell_two_names(
+        &self,
+        edge: EdgeId,
+        path: &Path,
+        real: &Path,
+        tally: &mut Tally,
+    ) -> Result<(), AllocError> {
+        let name = self.name_of(edge);
+        let path = self.names.short(path.as_str());
+        let real = self.names.short(real.as_str());
+        let line = format!(
+            in self.alloc;
+            "{name}: opens {path}, which is {real} (a path is the only name of its file)\n"
+        )?;
+        tally.lines.push_str(line.as_str())
     }
 
     fn judge_path(

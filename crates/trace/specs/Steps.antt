@@ -29,7 +29,7 @@ started known call =
 -- a server was asked, unless there is none
 abbrev pub connected : Known → Seen → Step
 connected known call =
-    if not (is_missing (ending_of call.answer)) then record (still known) { facts = fact Connected [] ∷ [] } else still known
+    if not (is_missing (ending_of call.answer)) then record (still known) { facts = fact Connected (codes "/") ∷ [] } else still known
 
 -- the process has gone to another folder
 abbrev pub has_gone : Seen → Bool

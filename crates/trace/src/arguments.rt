@@ -84,7 +84,7 @@ fn resolved(
     folder: Option<&Bytes>,
     name: &[u8],
 ) -> Result<Option<Bytes>, AllocError>
-    ensures { IfOk result (λ path. path ≡ resolved (option_map (λ folder. folder.now) folder) name.now) }
+    ensures { IfOk result (λ path. path ≡ resolved (option_map (λ folder. folder.now) folder.entry) name.now) }
 {
     if is_rooted(name) {
         return Ok(Some(Bytes::from_slice(alloc, name)?));
@@ -102,7 +102,7 @@ pub fn path_at(
     folder: Option<&Bytes>,
     arguments: &[u8],
 ) -> Result<Option<Bytes>, AllocError>
-    ensures { IfOk result (λ path. path ≡ path_at form (option_map (λ folder. folder.now) folder) arguments.now) }
+    ensures { IfOk result (λ path. path ≡ path_at form (option_map (λ folder. folder.now) folder.entry) arguments.now) }
 {
     let (first, rest) = first_argument(arguments);
     match form {
@@ -122,7 +122,7 @@ fn named(
     folder: Option<&Bytes>,
     name: Option<Bytes>,
 ) -> Result<Option<Bytes>, AllocError>
-    ensures { IfOk result (λ path. path ≡ named (option_map (λ folder. folder.now) folder) name) }
+    ensures { IfOk result (λ path. path ≡ named (option_map (λ folder. folder.now) folder.entry) name) }
 {
     match name {
         Some(name) => resolved(alloc, folder, name.as_slice()),

@@ -21,7 +21,7 @@ pub enum Deed {
     Folder,
     /// It made a folder.
     Made,
-    /// It connected to a server. The path is empty.
+    /// It connected to a server. The path says nothing.
     Connected,
 }
 

@@ -26,7 +26,7 @@ pub fn paths_of(
     call: &Call<'_>,
     folder: Option<&Bytes>,
 ) -> Result<Option<Paths>, AllocError>
-    ensures { IfOk result (λ paths. paths ≡ paths_of (call_seen call.now) (option_map (λ folder. folder.now) folder)) }
+    ensures { IfOk result (λ paths. paths ≡ paths_of (call_seen call.now) (option_map (λ folder. folder.now) folder.entry)) }
 {
     let arguments = arguments_for(call.row.does, call.arguments);
     let form = call.row.form;

@@ -84,7 +84,7 @@ fn connected(alloc: Global, known: &Known, call: &Call<'_>) -> Result<Step, Allo
     if !ending_of(call.answer).is_missing() {
         step.facts.push(Fact {
             deed: Deed::Connected,
-            path: Bytes::new(alloc),
+            path: Bytes::from_slice(alloc, b"/")?,
             real: None,
         })?;
     }
