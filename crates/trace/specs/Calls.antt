@@ -5,9 +5,9 @@ use Rattle.std.specs.Option.{option_or}
 use Rattle.std.specs.List.{starts_with}
 use Rattle.trace.specs.declared.calls.Row.{Row}
 use Rattle.trace.specs.declared.calls.Does.{Does}
-use Rattle.trace.specs.declared.calls.Does.TheVariants as does
+use Rattle.trace.specs.declared.calls.Does.TheVariants as doing
 use Rattle.trace.specs.declared.calls.Form.{Form}
-use Rattle.trace.specs.declared.calls.Form.TheVariants as form
+use Rattle.trace.specs.declared.calls.Form.TheVariants as by
 use Rattle.trace.specs.declared.ending.End.{End}
 use Rattle.trace.specs.declared.ending.End.TheVariants as ending
 
@@ -15,7 +15,7 @@ abbrev pub begins : List ℕ → List ℕ → Bool
 begins start text = starts_with nat_eq text start
 
 -- how a call ended, by what stands behind the sign of equality
-abbrev pub ending_of : List ℕ → End
+unfoldable pub ending_of : List ℕ → End
 ending_of text =
     if begins (codes "-1 ENOENT ") text || begins (codes "-1 ENOTDIR ") text then ending.Missing
     else (if begins (codes "-1 EFAULT ") text || begins (codes "-1 EBADF ") text then ending.Void
@@ -43,33 +43,33 @@ is_open _ = false
 
 -- its first argument is no path of a file that it works on
 abbrev pub leads : Does → Bool
-leads does.Leads = true
+leads doing.Leads = true
 leads _ = false
 
 -- it works on two paths
 abbrev pub has_two : Does → Bool
-has_two does.Moves = true
-has_two does.Links = true
+has_two doing.Moves = true
+has_two doing.Links = true
 has_two _ = false
 
 abbrev pub is_of_folders : Does → Bool
-is_of_folders does.Folders = true
+is_of_folders doing.Folders = true
 is_of_folders _ = false
 
 abbrev pub goes : Does → Bool
-goes does.Goes = true
+goes doing.Goes = true
 goes _ = false
 
 abbrev pub begins_one : Does → Bool
-begins_one does.Starts = true
+begins_one doing.Starts = true
 begins_one _ = false
 
 abbrev pub connects : Does → Bool
-connects does.Connects = true
+connects doing.Connects = true
 connects _ = false
 
 abbrev pub passes : Does → Bool
-passes does.Passes = true
+passes doing.Passes = true
 passes _ = false
 
 -- ---- which calls are known
@@ -111,48 +111,48 @@ starts name =
 abbrev pub when : Bool → Does → Form → Option Row
 when is does form = if is then Some (record { does = does; form = form }) else None
 
-abbrev pub row_of_look : List ℕ → Option Row
+unfoldable pub row_of_look : List ℕ → Option Row
 row_of_look name =
     option_or (option_or (option_or (option_or
-    (when (looks name) does.Looks form.Name)
-    (when (looks_at name) does.Looks form.At))
-    (when (bytes_eq name (codes "open")) does.Opens form.Name))
-    (when (bytes_eq name (codes "openat")) does.Opens form.At))
-    (when (lists name) does.Lists form.Opened)
+    (when (looks name) doing.Looks by.Name)
+    (when (looks_at name) doing.Looks by.At))
+    (when (bytes_eq name (codes "open")) doing.Opens by.Name))
+    (when (bytes_eq name (codes "openat")) doing.Opens by.At))
+    (when (lists name) doing.Lists by.Opened)
 
-abbrev pub row_of_change : List ℕ → Option Row
+unfoldable pub row_of_change : List ℕ → Option Row
 row_of_change name =
     option_or (option_or (option_or (option_or (option_or (option_or (option_or
-    (when (bytes_eq name (codes "creat")) does.Creates form.Name)
-    (when (changes name) does.Changes form.Name))
-    (when (changes_at name) does.Changes form.At))
-    (when (bytes_eq name (codes "mkdir")) does.Folders form.Name))
-    (when (bytes_eq name (codes "mkdirat")) does.Folders form.At))
-    (when (bytes_eq name (codes "rmdir")) does.Clears form.Name))
-    (when (bytes_eq name (codes "unlink")) does.Removes form.Name))
-    (when (bytes_eq name (codes "unlinkat")) does.Removes form.At)
+    (when (bytes_eq name (codes "creat")) doing.Creates by.Name)
+    (when (changes name) doing.Changes by.Name))
+    (when (changes_at name) doing.Changes by.At))
+    (when (bytes_eq name (codes "mkdir")) doing.Folders by.Name))
+    (when (bytes_eq name (codes "mkdirat")) doing.Folders by.At))
+    (when (bytes_eq name (codes "rmdir")) doing.Clears by.Name))
+    (when (bytes_eq name (codes "unlink")) doing.Removes by.Name))
+    (when (bytes_eq name (codes "unlinkat")) doing.Removes by.At)
 
-abbrev pub row_of_two : List ℕ → Option Row
+unfoldable pub row_of_two : List ℕ → Option Row
 row_of_two name =
     option_or (option_or (option_or (option_or (option_or
-    (when (bytes_eq name (codes "rename")) does.Moves form.Name)
-    (when (moves_at name) does.Moves form.At))
-    (when (bytes_eq name (codes "link")) does.Links form.Name))
-    (when (bytes_eq name (codes "linkat")) does.Links form.At))
-    (when (bytes_eq name (codes "symlink")) does.Leads form.Name))
-    (when (bytes_eq name (codes "symlinkat")) does.Leads form.At)
+    (when (bytes_eq name (codes "rename")) doing.Moves by.Name)
+    (when (moves_at name) doing.Moves by.At))
+    (when (bytes_eq name (codes "link")) doing.Links by.Name))
+    (when (bytes_eq name (codes "linkat")) doing.Links by.At))
+    (when (bytes_eq name (codes "symlink")) doing.Leads by.Name))
+    (when (bytes_eq name (codes "symlinkat")) doing.Leads by.At)
 
-abbrev pub row_of_process : List ℕ → Option Row
+unfoldable pub row_of_process : List ℕ → Option Row
 row_of_process name =
     option_or (option_or (option_or (option_or (option_or (option_or
-    (when (bytes_eq name (codes "execve")) does.Runs form.Name)
-    (when (bytes_eq name (codes "execveat")) does.Runs form.At))
-    (when (bytes_eq name (codes "chdir")) does.Goes form.Name))
-    (when (bytes_eq name (codes "fchdir")) does.Goes form.Opened))
-    (when (starts name) does.Starts form.Name))
-    (when (bytes_eq name (codes "connect")) does.Connects form.Opened))
-    (when (bytes_eq name (codes "getcwd")) does.Passes form.Name)
+    (when (bytes_eq name (codes "execve")) doing.Runs by.Name)
+    (when (bytes_eq name (codes "execveat")) doing.Runs by.At))
+    (when (bytes_eq name (codes "chdir")) doing.Goes by.Name))
+    (when (bytes_eq name (codes "fchdir")) doing.Goes by.Opened))
+    (when (starts name) doing.Starts by.Name))
+    (when (bytes_eq name (codes "connect")) doing.Connects by.Opened))
+    (when (bytes_eq name (codes "getcwd")) doing.Passes by.Name)
 
 -- What is known of the call with this name. Of others it is not known what they do: `io_uring_setup`, `open_by_handle_at`, `mount`.
-abbrev pub row_named : List ℕ → Option Row
+unfoldable pub row_named : List ℕ → Option Row
 row_named name = option_or (option_or (option_or (row_of_look name) (row_of_change name)) (row_of_two name)) (row_of_process name)

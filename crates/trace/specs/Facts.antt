@@ -3,7 +3,7 @@ use Rattle.std.specs.Prelude.{ℕ, ◌&&◌, ◌||◌, not, Bool, List, [], ◌�
 use Rattle.std.specs.Str.{is_utf8}
 use Rattle.trace.specs.declared.calls.Row.{Row}
 use Rattle.trace.specs.declared.calls.Does.{Does}
-use Rattle.trace.specs.declared.calls.Does.TheVariants as does
+use Rattle.trace.specs.declared.calls.Does.TheVariants as doing
 use Rattle.trace.specs.declared.calls.Form.{Form}
 use Rattle.trace.specs.declared.ending.End.{End}
 use Rattle.trace.specs.declared.ending.End.TheVariants as ending
@@ -92,7 +92,7 @@ removed arguments = if has (codes "AT_REMOVEDIR") arguments then Folder else Rem
 
 -- What a file is opened for by these flags. What is put behind what a file holds, or written over a part of it by who may read it too,
 -- depends on what it held.
-abbrev pub deeds : List ℕ → Deed × Option Deed
+unfoldable pub deeds : List ℕ → Deed × Option Deed
 deeds arguments =
     if has (codes "O_DIRECTORY") arguments || has (codes "O_TMPFILE") arguments then (Folder, None)
     else (if has (codes "O_PATH") arguments then (Asked, None)
@@ -109,22 +109,22 @@ opened arguments path real = told (deeds arguments).0 path real ∷ at_second (d
 
 -- what a call did that ended well
 abbrev pub done_by : Does → Seen → Paths → List Fact
-done_by does.Looks call paths = fact (looked call.arguments) paths.path ∷ []
-done_by does.Opens call paths = opened call.arguments paths.path (descriptor call.answer)
-done_by does.Creates call paths = fact Wrote paths.path ∷ []
-done_by does.Runs call paths = fact Read paths.path ∷ []
-done_by does.Goes call paths = fact Folder paths.path ∷ []
-done_by does.Lists call paths = fact Listed paths.path ∷ []
-done_by does.Folders call paths = fact Made paths.path ∷ []
-done_by does.Clears call paths = fact Folder paths.path ∷ []
-done_by does.Removes call paths = fact (removed call.arguments) paths.path ∷ []
-done_by does.Moves call paths = fact Read paths.path ∷ fact Removed paths.path ∷ fact Wrote paths.other ∷ []
-done_by does.Links call paths = fact Read paths.path ∷ told Wrote paths.other (Some paths.path) ∷ []
-done_by does.Leads call paths = fact Wrote paths.path ∷ []
-done_by does.Changes call paths = fact Wrote paths.path ∷ []
-done_by does.Starts call paths = []
-done_by does.Connects call paths = []
-done_by does.Passes call paths = []
+done_by doing.Looks call paths = fact (looked call.arguments) paths.path ∷ []
+done_by doing.Opens call paths = opened call.arguments paths.path (descriptor call.answer)
+done_by doing.Creates call paths = fact Wrote paths.path ∷ []
+done_by doing.Runs call paths = fact Read paths.path ∷ []
+done_by doing.Goes call paths = fact Folder paths.path ∷ []
+done_by doing.Lists call paths = fact Listed paths.path ∷ []
+done_by doing.Folders call paths = fact Made paths.path ∷ []
+done_by doing.Clears call paths = fact Folder paths.path ∷ []
+done_by doing.Removes call paths = fact (removed call.arguments) paths.path ∷ []
+done_by doing.Moves call paths = fact Read paths.path ∷ fact Removed paths.path ∷ fact Wrote paths.other ∷ []
+done_by doing.Links call paths = fact Read paths.path ∷ told Wrote paths.other (Some paths.path) ∷ []
+done_by doing.Leads call paths = fact Wrote paths.path ∷ []
+done_by doing.Changes call paths = fact Wrote paths.path ∷ []
+done_by doing.Starts call paths = []
+done_by doing.Connects call paths = []
+done_by doing.Passes call paths = []
 
 abbrev pub done : Seen → Paths → List Fact
 done call paths = done_by call.row.does call paths

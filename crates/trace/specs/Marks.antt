@@ -30,11 +30,11 @@ abbrev pub behind_front : List ℕ → List ℕ × List ℕ → List ℕ × List
 behind_front front parts = (front, parts.0, parts.1)
 
 abbrev pub cut_behind : List ℕ → List ℕ × List ℕ → Option (List ℕ × List ℕ × List ℕ)
-cut_behind close parts = option_map (behind_front parts.0) (cut close parts.1)
+cut_behind second parts = option_map (behind_front parts.0) (cut second parts.1)
 
 -- what stands before the first of these marks, between it and the first of those behind it, and behind that
 abbrev pub between : List ℕ → List ℕ → List ℕ → Option (List ℕ × List ℕ × List ℕ)
-between open_mark close_mark text = option_and_then (cut_behind close_mark) (cut open_mark text)
+between first second text = option_and_then (cut_behind second) (cut first text)
 
 -- the text without the blanks in front
 abbrev pub skip_blanks : List ℕ → List ℕ

@@ -112,6 +112,7 @@ fn when(is: bool, does: Does, form: Form) -> Option<Row>
 }
 
 /// What is known of the call with this name. Of others it is not known what they do.
+#[tactic(auto, unfolding(crate::specs::Calls::row_named))]
 pub fn row_named(name: &str) -> Option<Row>
     ensures { result ≡ row_named name.now }
 {
@@ -122,6 +123,7 @@ pub fn row_named(name: &str) -> Option<Row>
 }
 
 /// Calls that look.
+#[tactic(auto, unfolding(crate::specs::Calls::row_of_look))]
 fn row_of_look(name: &str) -> Option<Row>
     ensures { result ≡ row_of_look name.now }
 {
@@ -133,6 +135,7 @@ fn row_of_look(name: &str) -> Option<Row>
 }
 
 /// Calls that change one file.
+#[tactic(auto, unfolding(crate::specs::Calls::row_of_change))]
 fn row_of_change(name: &str) -> Option<Row>
     ensures { result ≡ row_of_change name.now }
 {
@@ -147,6 +150,7 @@ fn row_of_change(name: &str) -> Option<Row>
 }
 
 /// Calls that name two paths.
+#[tactic(auto, unfolding(crate::specs::Calls::row_of_two))]
 fn row_of_two(name: &str) -> Option<Row>
     ensures { result ≡ row_of_two name.now }
 {
@@ -159,6 +163,7 @@ fn row_of_two(name: &str) -> Option<Row>
 }
 
 /// Calls of processes.
+#[tactic(auto, unfolding(crate::specs::Calls::row_of_process))]
 fn row_of_process(name: &str) -> Option<Row>
     ensures { result ≡ row_of_process name.now }
 {

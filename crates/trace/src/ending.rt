@@ -45,6 +45,7 @@ impl End {
 }
 
 /// How a call ended, by what stands behind the sign of equality.
+#[tactic(auto, unfolding(crate::specs::Calls::ending_of))]
 pub fn ending_of(answer: &[u8]) -> End
     ensures { result ≡ ending_of answer.now }
 {

@@ -186,6 +186,7 @@ fn push_opened(
 }
 
 /// What a file is opened for by these flags: one thing, or two. What is put behind what a file holds depends on that.
+#[tactic(auto, unfolding(crate::specs::Facts::deeds))]
 fn deeds(arguments: &[u8]) -> (Deed, Option<Deed>)
     ensures { result ≡ deeds arguments.now }
 {

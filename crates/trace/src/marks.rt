@@ -28,15 +28,15 @@ pub fn has(text: &[u8], mark: &[u8]) -> bool
 /// What stands before the first of these marks, between it and the first of those behind it, and behind that.
 pub fn between<'a>(
     text: &'a [u8],
-    open: &[u8],
-    close: &[u8],
+    first: &[u8],
+    second: &[u8],
 ) -> Option<(&'a [u8], &'a [u8], &'a [u8])>
-    requires open { 0 < length open.now }
-    requires close { 0 < length close.now }
-    ensures { option_map three result ≡ between open.now close.now text.entry.now }
+    requires first { 0 < length first.now }
+    requires second { 0 < length second.now }
+    ensures { option_map three result ≡ between first.now second.now text.entry.now }
 {
-    let (front, after) = cut(text, open)?;
-    let (inside, rest) = cut(after, close)?;
+    let (front, after) = cut(text, first)?;
+    let (inside, rest) = cut(after, second)?;
     Some((front, inside, rest))
 }
 
