@@ -7,12 +7,19 @@ use std::{env, fs, io};
 /// The name of the program.
 const NAME: &str = "strace";
 
+/// Where it is looked for where `PATH` is not set.
+const FOLDERS: &str = "/usr/bin:/bin";
+
 /// The path of the first `strace` in `PATH`, if it traces a program here: not where there is none, and not where nothing may be traced, as
 /// below another tracer.
 pub fn tracer(rt: &HostRuntime) -> Option<String> {
     let alloc = rt.alloc();
-    let path = env::var(rt, "PATH").ok()?;
-    for folder in path.as_str().split(':') {
+    let path = env::var(rt, "PATH");
+    let folders = match &path {
+        Ok(path) => path.as_str(),
+        Err(_) => FOLDERS,
+    };
+    for folder in folders.split(':') {
         let program = format!(in alloc; "{folder}/{NAME}").ok()?;
         if folder.as_bytes().starts_with(b"/") && is_file(rt, program.as_str()) {
             return traces(alloc, rt, program.as_str())
