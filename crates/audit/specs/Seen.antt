@@ -1,10 +1,12 @@
 -- What a command did, path by path.
 use Rattle.std.specs.Prelude.{◌≡◌, ℕ, List, [], ◌∷◌, ◌++◌, Option, Some, None, if◌then◌else◌, codes, nat_eq, bytes_eq, ⊤}
 use Rattle.std.specs.List.{AllZip, starts_with}
-use Rattle.std.specs.Option.{option_or}
 use Rattle.lexer.specs.Path.{IsCanonical}
 use Rattle.trace.specs.declared.fact.Fact.{Fact}
-use Rattle.audit.specs.declared.seen.Seen.{Seen}
+use Rattle.model.specs.Graph.{has}
+use Rattle.trace.specs.declared.fact.Deed.{Deed}
+use Rattle.audit.specs.declared.seen.Uses.{Uses}
+use Rattle.audit.specs.declared.used.Use.{Use}
 use Rattle.audit.specs.declared.seen.Whole.{Whole}
 use Rattle.audit.specs.Uses.{unused, with_deed}
 
@@ -38,26 +40,31 @@ AreWhole = AllZip IsWholeOf
 
 -- ---- path by path
 
-abbrev pub other_of : List ℕ → Option (List ℕ) → Option (List ℕ)
-other_of path None = None
-other_of path (Some real) = if bytes_eq real path then None else Some real
+-- the paths at which something was done, in the order in which each comes first, and what was done there in sum
+pub record Sums : Type 0 where
+  pub paths : List (List ℕ)
+  pub uses : List Use
 
--- by which other path the kernel has the file
-abbrev pub other_name : Whole → Option (List ℕ)
-other_name whole = other_of whole.path whole.real
+abbrev pub no_sums : Sums
+no_sums = record { paths = []; uses = [] }
 
-abbrev pub seen_first : Whole → Seen
-seen_first whole = record { path = whole.path; real = other_name whole; used = with_deed unused whole.deed }
+abbrev pub sums_in : Uses → Sums
+sums_in uses = record { paths = uses.paths; uses = uses.uses.items }
 
-abbrev pub seen_again : Seen → Whole → Seen
-seen_again seen whole = record { path = seen.path; real = option_or seen.real (other_name whole); used = with_deed seen.used whole.deed }
+-- the use at this path becomes one with this deed more
+abbrev pub use_again : List (List ℕ) → List Use → List ℕ → Deed → List Use
+use_again [] uses path deed = uses
+use_again (other ∷ paths) [] path deed = []
+use_again (other ∷ paths) (used ∷ uses) path deed =
+    if bytes_eq other path then with_deed used deed ∷ uses else used ∷ use_again paths uses path deed
 
 -- one thing more was done: at a path at which something was done before, or at another one, which goes last
-abbrev pub add_whole : List Seen → Whole → List Seen
-add_whole [] whole = seen_first whole ∷ []
-add_whole (seen ∷ all) whole = if bytes_eq seen.path whole.path then seen_again seen whole ∷ all else seen ∷ add_whole all whole
+abbrev pub add_whole : Sums → Whole → Sums
+add_whole sums whole =
+    if has sums.paths whole.path then record { paths = sums.paths; uses = use_again sums.paths sums.uses whole.path whole.deed }
+    else record { paths = sums.paths ++ whole.path ∷ []; uses = sums.uses ++ with_deed unused whole.deed ∷ [] }
 
--- what was done, path by path, in the order in which each path comes first
-abbrev pub uses_in : List Seen → List Whole → List Seen
-uses_in so_far [] = so_far
-uses_in so_far (whole ∷ wholes) = uses_in (add_whole so_far whole) wholes
+-- these things were done, one after another
+abbrev pub add_wholes : Sums → List Whole → Sums
+add_wholes sums [] = sums
+add_wholes sums (whole ∷ wholes) = add_wholes (add_whole sums whole) wholes

@@ -8,5 +8,5 @@ mod used;
 
 pub use finding::{Finding, findings};
 pub use place::{Around, Lists, Place, place_of};
-pub use seen::{Seen, Uses, Whole, canonical_at, connects, uses_of, wholes_of};
+pub use seen::{Uses, Whole, canonical_at, connects, other_name, uses_of, wholes_of};
 pub use used::Use;

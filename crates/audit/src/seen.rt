@@ -1,13 +1,12 @@
 //! What a command did, path by path.
 
-ghost use Rattle.std.specs.Prelude.{◌≡◌, ◌≢◌, [], IfOk, IfSome, OnOk};
-ghost use Rattle.audit.specs.Seen.{AreWhole, IsPath, IsWhole, IsWholeOf, add_whole, other_name, uses_in};
+ghost use Rattle.std.specs.Prelude.{◌≡◌, ◌≢◌, [], IfOk, IfSome, OnOk, length, vec_len};
+ghost use Rattle.audit.specs.Seen.{AreWhole, IsPath, IsWhole, IsWholeOf, add_whole, add_wholes, no_sums, sums_in};
 
 use crate::used::Use;
-use indexmap::IndexSet;
 use lexer::{ReadFault, canonical};
+use paths::Paths;
 use std::alloc::{AllocError, Global};
-use std::marker::Model;
 use std::str::from_utf8;
 use text::{Bytes, Items, Path};
 use trace::{Deed, Fact};
@@ -19,15 +18,6 @@ pub struct Whole {
     pub path: Path,
     /// By which path the kernel has the file, where the trace tells it.
     pub real: Option<Path>,
-}
-
-/// What a command did at a path, in sum.
-#[derive(Debug, Drop)]
-pub struct Seen {
-    pub path: Path,
-    /// By which other path the kernel had the file, where it had it by another one.
-    pub real: Option<Path>,
-    pub used: Use,
 }
 
 /// The facts with their paths in canonical form; none where a path is no text.
@@ -108,99 +98,92 @@ fn canonical_of(alloc: Global, path: &str) -> Result<Path, AllocError>
     }
 }
 
-/// What a command did, path by path, in the order in which it came to each. Contracts see a list.
+/// What a command did, path by path, in the order in which it came to each: the paths, and at the same place of the other list what was done
+/// there in sum.
 #[derive(Drop)]
 pub struct Uses {
-    paths: IndexSet<String>,
-    seen: Vec<Seen>,
-}
-
-impl Model for Uses {
-    ghost use Rattle.std.specs.Prelude.{◌≡◌, List, map, string_bytes};
-    ghost use Rattle.audit.specs.declared.seen.Seen.{Seen};
-    ghost use Rattle.audit.specs.SeenPaths.{path_of_seen};
-
-    ghost Value = { List Seen };
-
-    ghost view = { λ uses. uses.seen.items };
-
-    ghost invariant = { λ uses. map string_bytes uses.paths.keys ≡ map path_of_seen uses.seen.items };
+    pub paths: Paths,
+    pub uses: Vec<Use>,
 }
 
 impl Uses {
     /// Nothing. This takes no memory.
     fn none(alloc: Global) -> Uses
-        ensures { result ≡ [] }
+        ensures { sums_in result ≡ no_sums }
     {
         Uses {
-            paths: IndexSet::new(alloc),
-            seen: Vec::new(alloc),
+            paths: Paths::new(alloc),
+            uses: Vec::new(alloc),
         }
     }
 
-    /// What was done, path by path.
-    pub fn as_slice(&self) -> &[Seen]
-        ensures { result.now ≡ self.now }
-    {
-        self.seen.as_slice()
+    /// What was done at the path.
+    pub fn at(&self, path: &str) -> Use {
+        match self.paths.number_of(path) {
+            Some(number) => self.at_place(number.index()),
+            None => Use::none(),
+        }
     }
 
-    /// What was done at the path, if something was.
-    pub fn at(&self, path: &str) -> Option<&Seen> {
-        self.seen.get(self.paths.get_index_of(path)?)
+    /// What was done at the path in this place.
+    pub fn at_place(&self, place: usize) -> Use {
+        self.uses.get(place).copied().unwrap_or(Use::none())
     }
 
     /// Takes in one thing more that was done.
     fn take(&mut self, alloc: Global, whole: &Whole) -> Result<(), AllocError>
-        ensures { OnOk result (self.new ≡ add_whole self.old whole.now) }
+        requires { length self.old.paths ≡ vec_len self.old.uses }
+        ensures sums { OnOk result (sums_in self.new ≡ add_whole (sums_in self.old) whole.now) }
+        ensures fits { OnOk result (length self.new.paths ≡ vec_len self.new.uses) }
     {
-        let real = other_name(whole)?;
-        match self.paths.get_index_of(whole.path.as_str()) {
-            Some(place) => {
-                if place < self.seen.len() {
-                    let seen = &mut self.seen[place];
-                    seen.used = seen.used.with(whole.deed);
-                    if seen.real.is_none() {
-                        seen.real = real;
-                    }
+        match self.paths.number_of(whole.path.as_str()) {
+            Some(number) => {
+                let place = number.index();
+                if place < self.uses.len() {
+                    self.uses[place] = self.uses[place].with(whole.deed);
                 }
             }
             None => {
-                let path = whole.path.clone()?;
-                let used = Use::none().with(whole.deed);
-                self.paths.insert(String::from_str(alloc, path.as_str())?)?;
-                self.seen.push(Seen { path, real, used })?;
+                self.paths.add(alloc, whole.path.as_str())?;
+                self.uses.push(Use::none().with(whole.deed))?;
             }
+        }
+        Ok(())
+    }
+
+    /// Takes in all of these.
+    fn take_all(&mut self, alloc: Global, wholes: &[Whole]) -> Result<(), AllocError>
+        requires { length self.old.paths ≡ vec_len self.old.uses }
+        ensures { OnOk result (sums_in self.new ≡ add_wholes (sums_in self.old) wholes.now) }
+    {
+        for whole in wholes {
+            self.take(alloc, whole)?;
         }
         Ok(())
     }
 }
 
-/// By which other path the kernel has the file.
-fn other_name(whole: &Whole) -> Result<Option<Path>, AllocError>
-    ensures { IfOk result (λ other. other ≡ other_name whole.now) }
-{
-    match &whole.real {
-        Some(real) => {
-            if *real == whole.path {
-                Ok(None)
-            } else {
-                Ok(Some(real.clone()?))
-            }
-        }
-        None => Ok(None),
-    }
-}
-
 /// What a command did, path by path.
 pub fn uses_of(alloc: Global, wholes: &[Whole]) -> Result<Uses, AllocError>
-    ensures { IfOk result (λ uses. uses ≡ uses_in [] wholes.now) }
+    ensures { IfOk result (λ uses. sums_in uses ≡ add_wholes no_sums wholes.now) }
 {
     let mut uses = Uses::none(alloc);
-    for whole in wholes {
-        uses.take(alloc, whole)?;
-    }
+    uses.take_all(alloc, wholes)?;
     Ok(uses)
+}
+
+/// The path by which the kernel had the file that was opened by this one, where it is another.
+pub fn other_name<'w>(wholes: &'w [Whole], path: &str) -> Option<&'w Path> {
+    for whole in wholes {
+        if whole.path.as_str() == path {
+            if let Some(real) = &whole.real {
+                if *real != whole.path {
+                    return Some(real);
+                }
+            }
+        }
+    }
+    None
 }
 
 /// Whether a server was asked.

@@ -2,13 +2,15 @@
 
 use crate::around::Names;
 use crate::listed::lists_of;
-use audit::{Finding, Lists, Seen, Use, Whole, connects, findings, place_of, uses_of, wholes_of};
+use audit::{
+    Finding, Lists, Use, Uses, Whole, connects, findings, other_name, place_of, uses_of, wholes_of,
+};
 use build_log::Log;
 use builder::{Options, Reading};
 use host::Host;
 use links::Graph;
 use model::Event;
-use paths::EdgeId;
+use paths::{EdgeId, PathId};
 use records::Records;
 use site::{Site, Texts};
 use std::alloc::{AllocError, Global};
@@ -162,17 +164,17 @@ fn judge(
         edge,
     )?;
     let mut found = 0usize;
-    for seen in uses.as_slice() {
-        let count = looking.judge_at(edge, &lists, seen, tally)?;
+    for place in 0..uses.uses.len() {
+        let count = looking.judge_at(edge, &lists, wholes, &uses, place, tally)?;
         found = found.saturating_add(count);
     }
     for output in lists.outputs.as_slice() {
-        if uses.at(output.as_str()).is_none() {
+        if uses.paths.number_of(output.as_str()).is_none() {
             let count = looking.judge_path(edge, &lists, output, Use::none(), tally)?;
             found = found.saturating_add(count);
         }
     }
-    looking.tell_looked(edge, &lists, uses.as_slice(), tally)?;
+    looking.tell_looked(edge, &lists, &uses, tally)?;
     if connects(wholes) {
         looking.tell_note(edge, "connects to a server, and what that does is not seen", tally)?;
     }
@@ -187,16 +189,15 @@ fn is_missing(used: Use) -> bool {
     used.misses && !used.reads && !used.asks && !used.writes && !used.is_folder
 }
 
-/// The first path that was read and reported, with the same name.
-fn first_of_name<'s>(uses: &'s [Seen], lists: &Lists, path: &str) -> Option<&'s Path> {
-    for seen in uses {
-        if seen.used.reads && name_in(seen.path.as_str()) == name_in(path) {
-            if lists.reported.as_slice().contains(&seen.path) {
-                return Some(&seen.path);
-            }
-        }
+/// The path in this place.
+fn path_in(alloc: Global, uses: &Uses, place: usize) -> Result<Option<Path>, AllocError> {
+    match PathId::at(place) {
+        Some(number) => match uses.paths.get(number) {
+            Some(path) => Ok(Some(Path::from_str(alloc, path)?)),
+            None => Ok(None),
+        },
+        None => Ok(None),
     }
-    None
 }
 
 /// The last part of a path.
@@ -208,26 +209,33 @@ fn name_in(path: &str) -> &str {
 }
 
 impl Looking {
-    /// Tells what breaks a premise at one path: how much it was. Of a path that counts for nothing that counts by which the kernel had the
-    /// file.
+    /// Tells what breaks a premise at the path in this place: how much it was. Of a path that counts for nothing that counts by which the
+    /// kernel had the file.
     fn judge_at(
         &self,
         edge: EdgeId,
         lists: &Lists,
-        seen: &Seen,
+        wholes: &[Whole],
+        uses: &Uses,
+        place: usize,
         tally: &mut Tally,
     ) -> Result<usize, AllocError> {
-        if let Some(real) = &seen.real {
-            if !self.names.counts(seen.path.as_str()) {
-                return self.judge_path(edge, lists, real, seen.used, tally);
-            }
-            if self.names.is_named(seen.path.as_str()) && self.names.is_named(real.as_str()) {
-                self.tell_two_names(edge, &seen.path, real, tally)?;
-                let count = self.judge_path(edge, lists, &seen.path, seen.used, tally)?;
-                return Ok(count.saturating_add(1));
-            }
+        let Some(path) = path_in(self.alloc, uses, place)? else {
+            return Ok(0);
+        };
+        let used = uses.at_place(place);
+        let Some(real) = other_name(wholes, path.as_str()) else {
+            return self.judge_path(edge, lists, &path, used, tally);
+        };
+        if !self.names.counts(path.as_str()) {
+            return self.judge_path(edge, lists, real, used, tally);
         }
-        self.judge_path(edge, lists, &seen.path, seen.used, tally)
+        let count = self.judge_path(edge, lists, &path, used, tally)?;
+        if self.names.is_named(path.as_str()) && self.names.is_named(real.as_str()) {
+            self.tell_two_names(edge, &path, real, tally)?;
+            return Ok(count.saturating_add(1));
+        }
+        Ok(count)
     }
 
     /// Notes of each file that was looked for and is not there, where a reported one of the same name was read after it: made later, it
@@ -236,13 +244,39 @@ impl Looking {
         &self,
         edge: EdgeId,
         lists: &Lists,
-        uses: &[Seen],
+        uses: &Uses,
         tally: &mut Tally,
     ) -> Result<(), AllocError> {
-        for (place, missed) in uses.iter().enumerate() {
-            if is_missing(missed.used) && self.names.counts(missed.path.as_str()) {
-                if let Some(read) = first_of_name(&uses[place..], lists, missed.path.as_str()) {
-                    self.tell_first(edge, &missed.path, read, tally)?;
+        for place in 0..uses.uses.len() {
+            if is_missing(uses.at_place(place)) {
+                if let Some(missed) = path_in(self.alloc, uses, place)? {
+                    self.tell_looked_at(edge, lists, uses, place, &missed, tally)?;
+                }
+            }
+        }
+        Ok(())
+    }
+
+    fn tell_looked_at(
+        &self,
+        edge: EdgeId,
+        lists: &Lists,
+        uses: &Uses,
+        place: usize,
+        missed: &Path,
+        tally: &mut Tally,
+    ) -> Result<(), AllocError> {
+        if !self.names.counts(missed.as_str()) {
+            return Ok(());
+        }
+        for later in place..uses.uses.len() {
+            if uses.at_place(later).reads {
+                if let Some(read) = path_in(self.alloc, uses, later)? {
+                    if name_in(read.as_str()) == name_in(missed.as_str())
+                        && lists.reported.as_slice().contains(&read)
+                    {
+                        return self.tell_first(edge, missed, &read, tally);
+                    }
                 }
             }
         }
