@@ -6,3 +6,4 @@ pub mod Facts
 pub mod Processes
 pub mod Steps
 pub mod Lines
+pub mod Kept

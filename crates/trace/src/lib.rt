@@ -7,6 +7,7 @@ mod ending;
 mod fact;
 mod facts;
 mod hex;
+mod laws;
 mod lines;
 mod marks;
 mod parts;
@@ -15,4 +16,5 @@ mod reading;
 mod steps;
 
 pub use fact::{Deed, Fact};
+pub use laws::each_line_is_told;
 pub use reading::{Told, read};
