@@ -66,8 +66,8 @@ pub fn look<W: Write>(
         records,
         names,
     };
-    for job in ended_well(alloc, host).ok()? {
-        look_at(host, &looking, job, &mut tally)?;
+    for (job, ok) in ended(alloc, host).ok()? {
+        look_at(host, &looking, job, ok, &mut tally)?;
     }
     Some(tally)
 }
@@ -104,29 +104,34 @@ fn commands_in(alloc: Global, graph: &Graph, targets: &[Path]) -> Option<usize> 
     Some(count)
 }
 
-/// The jobs that ended well.
-fn ended_well<W: Write>(alloc: Global, host: &Host<'_, W>) -> Result<Vec<usize>, AllocError> {
+/// The jobs that ended, and whether they ended well.
+fn ended<W: Write>(
+    alloc: Global,
+    host: &Host<'_, W>,
+) -> Result<Vec<(usize, bool)>, AllocError> {
     let mut jobs = Vec::new(alloc);
     for event in host.events() {
         if let Event::Finish { job, ok } = event {
-            if *ok {
-                jobs.push(*job)?;
-            }
+            jobs.push((*job, *ok))?;
         }
     }
     Ok(jobs)
 }
 
-/// Looks at one command by its trace, which is removed.
+/// Looks at one command by its trace, which is removed. One that failed is not looked at.
 fn look_at<W: Write>(
     host: &mut Host<'_, W>,
     looking: &Looking,
     job: usize,
+    ok: bool,
     tally: &mut Tally,
 ) -> Option<()> {
     let path = host.trace_of(job).ok()?;
     let trace = host.read(path.as_str()).ok()?;
     let _ = host.remove(path.as_str());
+    if !ok {
+        return Some(());
+    }
     let edge = EdgeId::at(job.saturating_sub(1))?;
     let understood = match trace {
         Some(trace) => told_in(looking, trace.as_slice()).ok()?,
