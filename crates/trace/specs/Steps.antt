@@ -49,11 +49,15 @@ walked_at known call paths =
     if has_gone call && known.shares then None
     else Some (record { folder = folder_after known call paths; shares = known.shares; child = None; facts = facts_of call paths })
 
+-- it gives a file another path in a way that is not told here: two files each other's, or with something left behind
+abbrev pub swaps : Seen → Bool
+swaps call = has (codes "RENAME_EXCHANGE") call.arguments || has (codes "RENAME_WHITEOUT") call.arguments
+
 -- What a call of a process did. None where that cannot be told: its process ended in it, or it names no path that can be read.
 abbrev pub step_of : Known → Seen → Option Step
 step_of known call =
     if passes call.row.does || is_void (ending_of call.answer) then Some (still known)
-    else (if is_open (ending_of call.answer) then None
+    else (if is_open (ending_of call.answer) || swaps call then None
     else (if begins_one call.row.does then Some (started known call)
     else (if connects call.row.does then Some (connected known call)
     else option_and_then (walked_at known call) (paths_of call known.folder))))

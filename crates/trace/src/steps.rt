@@ -2,7 +2,7 @@
 
 ghost use Rattle.std.specs.Prelude.{◌≡◌, IfOk};
 ghost use Rattle.trace.specs.Facts.{call_seen};
-ghost use Rattle.trace.specs.Steps.{connected, folder_told, has_gone, started, step_of, still, walked_at};
+ghost use Rattle.trace.specs.Steps.{connected, folder_told, has_gone, started, step_of, still, swaps, walked_at};
 
 use crate::arguments::{descriptor, first_argument};
 use crate::ending::ending_of;
@@ -34,7 +34,7 @@ pub fn step_of(alloc: Global, known: &Known, call: &Call<'_>) -> Result<Option<S
     if call.row.does.passes() || end.is_void() {
         return Ok(Some(still(alloc, known)?));
     }
-    if end.is_open() {
+    if end.is_open() || swaps(call) {
         return Ok(None);
     }
     if call.row.does.begins_one() {
@@ -47,6 +47,13 @@ pub fn step_of(alloc: Global, known: &Known, call: &Call<'_>) -> Result<Option<S
         Some(paths) => walked(alloc, known, call, &paths),
         None => Ok(None),
     }
+}
+
+/// Whether it gives a file another path in a way that is not told here: two files each other's, or with something left behind.
+fn swaps(call: &Call<'_>) -> bool
+    ensures { result ≡ swaps (call_seen call.now) }
+{
+    has(call.arguments, b"RENAME_EXCHANGE") || has(call.arguments, b"RENAME_WHITEOUT")
 }
 
 /// Nothing was done.
