@@ -83,6 +83,7 @@ impl Finding {
 }
 
 /// What a command did at a path that breaks a premise, by what the path is to it.
+#[tactic(auto, unfolding(crate::specs::Findings::findings))]
 pub fn findings(alloc: Global, place: Place, used: Use) -> Result<Items<Finding>, AllocError>
     ensures { IfOk result (λ found. found ≡ findings place used) }
 {
@@ -109,6 +110,7 @@ fn push_if(
 }
 
 /// What breaks a premise by being read.
+#[tactic(auto, unfolding(crate::specs::Findings::found_read))]
 fn push_read(found: &mut Items<Finding>, place: Place, used: Use) -> Result<(), AllocError>
     ensures { OnOk result (found.new ≡ found.old ++ found_read place used) }
 {
@@ -120,6 +122,7 @@ fn push_read(found: &mut Items<Finding>, place: Place, used: Use) -> Result<(), 
 }
 
 /// What breaks a premise by being written.
+#[tactic(auto, unfolding(crate::specs::Findings::found_written))]
 fn push_written(found: &mut Items<Finding>, place: Place, used: Use) -> Result<(), AllocError>
     ensures { OnOk result (found.new ≡ found.old ++ found_written place used) }
 {
@@ -134,6 +137,7 @@ fn push_written(found: &mut Items<Finding>, place: Place, used: Use) -> Result<(
 }
 
 /// What breaks a premise by being removed.
+#[tactic(auto, unfolding(crate::specs::Findings::found_removed))]
 fn push_removed(found: &mut Items<Finding>, place: Place, used: Use) -> Result<(), AllocError>
     ensures { OnOk result (found.new ≡ found.old ++ found_removed place used) }
 {
@@ -143,6 +147,7 @@ fn push_removed(found: &mut Items<Finding>, place: Place, used: Use) -> Result<(
 }
 
 /// Whether the path counts: it is below the folder, or a build line names it, and it is no file of the program's own.
+#[tactic(auto, unfolding(crate::specs::Findings::counts))]
 fn counts(place: Place) -> bool
     ensures { result ≡ counts place }
 {
@@ -150,12 +155,14 @@ fn counts(place: Place) -> bool
 }
 
 /// Whether a file was read or asked for.
+#[tactic(auto, unfolding(crate::specs::Findings::looks))]
 fn looks(used: Use) -> bool
     ensures { result ≡ looks used }
 {
     (used.reads || used.asks) && !used.is_folder
 }
 
+#[tactic(auto, unfolding(crate::specs::Findings::is_unreported))]
 fn is_unreported(place: Place, used: Use) -> bool
     ensures { result ≡ is_unreported place used }
 {
@@ -166,6 +173,7 @@ fn is_unreported(place: Place, used: Use) -> bool
         && !place.order_only
 }
 
+#[tactic(auto, unfolding(crate::specs::Findings::is_order_only))]
 fn is_order_only(place: Place, used: Use) -> bool
     ensures { result ≡ is_order_only place used }
 {
@@ -182,12 +190,14 @@ fn is_read_itself(place: Place, used: Use) -> bool
     place.output && used.reads
 }
 
+#[tactic(auto, unfolding(crate::specs::Findings::is_not_above))]
 fn is_not_above(place: Place, used: Use) -> bool
     ensures { result ≡ is_not_above place used }
 {
     looks(used) && place.around.made && !place.around.above
 }
 
+#[tactic(auto, unfolding(crate::specs::Findings::is_listed))]
 fn is_listed(place: Place, used: Use) -> bool
     ensures { result ≡ is_listed place used }
 {
@@ -195,30 +205,35 @@ fn is_listed(place: Place, used: Use) -> bool
 }
 
 /// Whether the path counts, and the command has no right to write there.
+#[tactic(auto, unfolding(crate::specs::Findings::is_strange))]
 fn is_strange(place: Place) -> bool
     ensures { result ≡ is_strange place }
 {
     counts(place) && !(place.output || place.side)
 }
 
+#[tactic(auto, unfolding(crate::specs::Findings::spoils_made))]
 fn spoils_made(place: Place) -> bool
     ensures { result ≡ spoils_made place }
 {
     is_strange(place) && place.around.made
 }
 
+#[tactic(auto, unfolding(crate::specs::Findings::spoils_known))]
 fn spoils_known(place: Place) -> bool
     ensures { result ≡ spoils_known place }
 {
     is_strange(place) && !place.around.made && (place.around.named || place.around.recorded)
 }
 
+#[tactic(auto, unfolding(crate::specs::Findings::spoils_stray))]
 fn spoils_stray(place: Place) -> bool
     ensures { result ≡ spoils_stray place }
 {
     is_strange(place) && !place.around.made && !(place.around.named || place.around.recorded)
 }
 
+#[tactic(auto, unfolding(crate::specs::Findings::is_unwritten))]
 fn is_unwritten(place: Place, used: Use) -> bool
     ensures { result ≡ is_unwritten place used }
 {
