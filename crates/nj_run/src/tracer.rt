@@ -44,6 +44,8 @@ fn traces(alloc: Global, rt: &HostRuntime, program: &str) -> io::Result<bool> {
     command.arg("--seccomp-bpf")?;
     command.arg("-o")?;
     command.arg("/dev/null")?;
+    command.arg("/bin/sh")?;
+    command.arg("-c")?;
     command.arg("true")?;
     command.stdin(Stdio::null());
     command.stdout(Stdio::null());
